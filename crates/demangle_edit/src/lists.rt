@@ -1,0 +1,10 @@
+//! Texts that follow one another.
+
+use demangle_text::Piece;
+
+/// A part of a text: bytes, or the text of a piece.
+#[derive(Clone, Copy)]
+pub enum Glue<'a> {
+    Text(&'a [u8]),
+    Piece(Piece),
+}
