@@ -1,0 +1,6 @@
+pub mod Scalars
+pub mod Forms
+pub mod Tree
+pub mod Grammar
+pub mod Reading
+pub mod Outcome

@@ -1,0 +1,7 @@
+//! Demangles C++ symbols of the Itanium C++ ABI.
+#![tactic(auto)]
+
+mod context;
+mod forms;
+mod reader;
+pub mod scalar;
