@@ -232,3 +232,10 @@ pub fn name_quals(bytes: &[u8]) -> (Quals, &[u8])
     let (reference, rest) = ref_qualifier(rest);
     (Quals { reference, ..words }, rest)
 }
+
+/// Whether the first component of a `<nested-name>` is saved.
+pub fn saves_first(form: FirstForm) -> bool
+    ensures value { result ≡ spec.saves_first form }
+{
+    matches!(form, FirstForm::ParameterFirst | FirstForm::NameFirst)
+}

@@ -3,5 +3,6 @@
 
 mod context;
 mod forms;
+mod names;
 mod reader;
 pub mod scalar;

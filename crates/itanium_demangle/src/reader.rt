@@ -22,13 +22,12 @@ pub struct Reader<'a> {
 
 #[tactic(auto, using(demangle_text::proofs::Laws::laws, demangle_text::proofs::Laws::runs))]
 impl<'a> Reader<'a> {
-    /// Goes past n bytes, which stand there.
+    /// Goes past n bytes, or to the end.
     pub fn skip(&mut self, n: usize)
-        requires there { n ≤ length self.old.rest.now }
         ensures state { state self.new ≡ spec.skip n (state self.old) }
         ensures buffer { self.new.buffer ≡ self.old.buffer }
     {
-        self.rest = &self.rest[n..];
+        self.rest = if n <= self.rest.len() { &self.rest[n..] } else { &[] };
     }
 
     /// Goes past the `M` of a data member's initializer, where one stands.
