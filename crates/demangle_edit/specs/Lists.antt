@@ -2,9 +2,11 @@
 use Rattle.std.specs.Prelude.{ℕ, List, [], ◌∷◌, ◌++◌, map, codes}
 use Rattle.std.specs.List.{concat}
 use Rattle.demangle_text.specs.declared.shape.Piece.{Piece}
+use Rattle.demangle_text.specs.declared.buffer.Buffer.{Buffer}
 use Rattle.demangle_text.specs.Shape.{Shape, text, plain_shape}
-use Rattle.demangle_edit.specs.declared.lists.Glue.{Glue}
-use Rattle.demangle_edit.specs.declared.lists.Glue.TheVariants.{Text, Piece as Part}
+use Rattle.demangle_text.specs.State.{IsLiving}
+use Rattle.demangle_edit.specs.declared.parts.Glue.{Glue}
+use Rattle.demangle_edit.specs.declared.parts.Glue.TheVariants.{Text, Piece as Part}
 
 -- the texts, with a comma and a space between them
 abbrev pub listed : List (List ℕ) → List ℕ
@@ -20,3 +22,8 @@ glued texts = plain_shape (concat texts)
 abbrev pub part_text : (Piece → Shape) → Glue → List ℕ
 part_text shape_of (Text bytes) = bytes.now
 part_text shape_of (Part piece) = text (shape_of piece)
+
+-- a part that is a piece lives
+abbrev pub IsLivingPart : Buffer → Glue → Type 0
+IsLivingPart buf (Text bytes) = Unit {0}
+IsLivingPart buf (Part piece) = IsLiving buf piece

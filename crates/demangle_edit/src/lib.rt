@@ -3,8 +3,10 @@
 
 mod lists;
 mod names;
+mod parts;
 mod quals;
 
-pub use crate::lists::Glue;
-pub use crate::names::qualify;
+pub use crate::lists::glue;
+pub use crate::names::{apply_name_qualifiers, attach_template_args, qualify, qualify_ctor};
+pub use crate::parts::Glue;
 pub use crate::quals::{Pointer, Quals, Reference};
