@@ -1,1 +1,3 @@
 pub mod Numerals
+pub mod Shorter
+pub mod Opens

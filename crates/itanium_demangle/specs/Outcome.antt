@@ -34,3 +34,12 @@ Bounds slack (Ok true) before after =
     × (length before.scopes ≤ length after.scopes)
 Bounds slack (Ok false) before after = after.entered + slack ≤ before.entered + 2 * length before.rest + 2
 Bounds slack (Err e) before after = Unit {0}
+
+-- the same of what may be left out: it may take no byte
+abbrev pub OptionalBounds : Result Bool AllocError → State → State → Type 0
+OptionalBounds (Ok true) before after =
+    (length after.rest ≤ length before.rest)
+    × (after.entered + 2 * length after.rest ≤ before.entered + 2 * length before.rest)
+    × (length before.scopes ≤ length after.scopes)
+OptionalBounds (Ok false) before after = after.entered ≤ before.entered + 2 * length before.rest + 1
+OptionalBounds (Err e) before after = Unit {0}

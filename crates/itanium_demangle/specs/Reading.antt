@@ -108,11 +108,15 @@ unfoldable pub read_components : ℕ → Bool → Shape → Reads Shape
 read_components zero takes name s = None
 read_components (suc n) takes name s = component_as (component_form s.rest) takes name (read_components n true) s
 
+-- the later components up to the E
+abbrev pub read_prefix : Bool → Shape → Reads Shape
+read_prefix takes name s = read_components (length s.rest) takes name s
+
 -- what is behind the N of a nested name
 unfoldable pub read_nested : Context → Reads Shape
 read_nested x s =
     first_as (first_form (past_name_quals s.rest)) (at (past_name_quals s.rest) s) >>= λ first.
-    read_components (length first.1.rest) (saves_first (first_form (past_name_quals s.rest))) first.0 (past_initializer first.1) >>= λ name.
+    read_prefix (saves_first (first_form (past_name_quals s.rest))) first.0 (past_initializer first.1) >>= λ name.
     Some (name_qualified name.0 (name_quals s.rest) x.shown, name.1)
 
 abbrev pub name_as : NameForm → Context → Reads Shape

@@ -1,5 +1,5 @@
 //! Which case of a production the next bytes begin. Of several cases the first one that fits holds.
-ghost use Rattle.std.specs.Prelude.{◌≡◌};
+ghost use Rattle.std.specs.Prelude.{◌≡◌, ◌≤◌, length};
 ghost use Rattle.itanium_demangle.specs.Forms as spec;
 
 use demangle_edit::{Quals, Reference};
@@ -145,6 +145,7 @@ pub fn tag_form(bytes: &[u8]) -> TagForm
 /// Past the `L` of an internal name, which a digit follows.
 pub fn past_internal(bytes: &[u8]) -> &[u8]
     ensures rest { result.now ≡ spec.past_internal bytes.now }
+    ensures within { length result.now ≤ length bytes.now }
 {
     match bytes {
         [b'L', rest @ ..] => match rest {
@@ -158,6 +159,7 @@ pub fn past_internal(bytes: &[u8]) -> &[u8]
 /// Past the `M` of a data member's initializer, where one stands.
 pub fn past_member(bytes: &[u8]) -> &[u8]
     ensures rest { result.now ≡ spec.past_member bytes.now }
+    ensures within { length result.now ≤ length bytes.now }
 {
     match bytes {
         [b'M', rest @ ..] => rest,
@@ -168,6 +170,7 @@ pub fn past_member(bytes: &[u8]) -> &[u8]
 /// Past one byte that stands there, or none.
 fn past_letter(letter: u8, bytes: &[u8]) -> &[u8]
     ensures rest { result.now ≡ spec.past_letter letter bytes.now }
+    ensures within { length result.now ≤ length bytes.now }
 {
     match bytes {
         [first, rest @ ..] if *first == letter => rest,
@@ -189,6 +192,7 @@ pub fn source_text(name: &[u8]) -> &[u8]
 pub fn cv_quals(bytes: &[u8]) -> (Quals, &[u8])
     ensures quals { result.0 ≡ spec.cv_quals bytes.now }
     ensures rest { result.1.now ≡ spec.past_cv bytes.now }
+    ensures within { length result.1.now ≤ length bytes.now }
 {
     let volatile = past_letter(b'r', bytes);
     let constant = past_letter(b'V', volatile);
@@ -205,6 +209,7 @@ pub fn cv_quals(bytes: &[u8]) -> (Quals, &[u8])
 pub fn ref_qualifier(bytes: &[u8]) -> (Option<Reference>, &[u8])
     ensures reference { result.0 ≡ spec.reference_of bytes.now }
     ensures rest { result.1.now ≡ spec.past_reference bytes.now }
+    ensures within { length result.1.now ≤ length bytes.now }
 {
     match bytes {
         [b'R', rest @ ..] => (Some(Reference::Left), rest),
@@ -218,6 +223,7 @@ pub fn ref_qualifier(bytes: &[u8]) -> (Option<Reference>, &[u8])
 pub fn name_quals(bytes: &[u8]) -> (Quals, &[u8])
     ensures quals { result.0 ≡ spec.name_quals bytes.now }
     ensures rest { result.1.now ≡ spec.past_name_quals bytes.now }
+    ensures within { length result.1.now ≤ length bytes.now }
 {
     if let [b'H', rest @ ..] = bytes {
         let none = Quals {

@@ -2,8 +2,8 @@
 ghost use Rattle.std.specs.Prelude.{◌≡◌, ◌<◌, length, option_map, IfSome, OnOk, true};
 ghost use Rattle.demangle_text.specs.State.{IsLiving, shape, Lives, IsEdit, IsRun, SameFrame, saved};
 ghost use Rattle.itanium_demangle.specs.Reading as spec;
-ghost use Rattle.itanium_demangle.specs.Forms.{tag_form};
-ghost use Rattle.itanium_demangle.specs.Outcome.{state, Gives, OnRead, HasRoom, Bounds};
+ghost use Rattle.itanium_demangle.specs.Forms.{tag_form, list_form, first_form, saves_first};
+ghost use Rattle.itanium_demangle.specs.Outcome.{state, Gives, OnRead, HasRoom, Bounds, OptionalBounds};
 
 use crate::context::Context;
 use crate::forms::{
@@ -39,6 +39,7 @@ impl<'a> Reader<'a> {
         ensures reads { Gives result self.new
             (spec.tagged_as (tag_form self.old.rest.now) (shape self.old.buffer name) (state self.old)) }
         ensures kept { OnRead result (SameFrame self.old.buffer self.new.buffer) }
+        ensures bounds { OptionalBounds result (state self.old) (state self.new) }
     {
         match tag_form(self.rest) {
             TagForm::NoTag => {
@@ -50,6 +51,7 @@ impl<'a> Reader<'a> {
     }
 
     /// `<unqualified-name> ::= [L] <source-name> [<abi-tags>]`, in the scope that stands in front of it, if one does.
+    #[tactic(auto, using(demangle_text::proofs::Laws::laws, demangle_text::proofs::Laws::runs, crate::proofs::Opens::unqualified_opens, crate::proofs::Opens::kept_scope))]
     fn read_unqualified(&mut self, scope: Option<Piece>) -> Result<bool, AllocError>
         requires scope { IfSome scope (IsLiving self.old.buffer) }
         ensures reads { Gives result self.new
@@ -78,7 +80,7 @@ impl<'a> Reader<'a> {
         requires living { IsLiving self.old.buffer first }
         requires saved { takes ≡ true → 0 < length (saved self.old.buffer) }
         ensures reads { Gives result self.new
-            (spec.read_components (length self.old.rest.now) takes (shape self.old.buffer first) (state self.old)) }
+            (spec.read_prefix takes (shape self.old.buffer first) (state self.old)) }
         ensures run { OnRead result (IsRun self.old.buffer self.new.buffer) }
         ensures bounds { Bounds 1 result (state self.old) (state self.new) }
     {
@@ -107,13 +109,14 @@ impl<'a> Reader<'a> {
     }
 
     /// The first component of a `<nested-name>`.
-    fn read_first(&mut self, form: FirstForm) -> Result<bool, AllocError>
-        ensures reads { Gives result self.new (spec.first_as form (state self.old)) }
+    #[tactic(auto, using(demangle_text::proofs::Laws::laws, demangle_text::proofs::Laws::runs, crate::proofs::Shorter::forms))]
+    fn read_first(&mut self) -> Result<bool, AllocError>
+        ensures reads { Gives result self.new (spec.first_as (first_form self.old.rest.now) (state self.old)) }
         ensures run { OnRead result (IsRun self.old.buffer self.new.buffer) }
-        ensures saved { OnRead result (saves_first form ≡ true → 0 < length (saved self.new.buffer)) }
+        ensures saved { OnRead result (saves_first (first_form self.old.rest.now) ≡ true → 0 < length (saved self.new.buffer)) }
         ensures bounds { Bounds 2 result (state self.old) (state self.new) }
     {
-        match form {
+        match first_form(self.rest) {
             FirstForm::StdFirst => {
                 self.skip(2);
                 self.found = self.buffer.push(b"std")?;
@@ -123,7 +126,9 @@ impl<'a> Reader<'a> {
                 if !self.read_unqualified(None)? {
                     return Ok(false);
                 }
-                self.save(self.found)?;
+                let name = self.found;
+                self.save(name)?;
+                self.found = name;
                 Ok(true)
             }
             FirstForm::ParameterFirst | FirstForm::SubstitutionFirst => Ok(false),
@@ -131,6 +136,7 @@ impl<'a> Reader<'a> {
     }
 
     /// `<nested-name> ::= N [<CV-qualifiers>] [<ref-qualifier>] <prefix> <unqualified-name> E`, behind its `N`.
+    #[tactic(auto, using(demangle_text::proofs::Laws::laws, demangle_text::proofs::Laws::runs, crate::proofs::Opens::nested_opens))]
     fn read_nested(&mut self, context: Context) -> Result<bool, AllocError>
         ensures reads { Gives result self.new (spec.read_nested context (state self.old)) }
         ensures run { OnRead result (IsRun self.old.buffer self.new.buffer) }
@@ -138,12 +144,13 @@ impl<'a> Reader<'a> {
     {
         let (quals, rest) = name_quals(self.rest);
         self.rest = rest;
-        let form = first_form(self.rest);
-        if !self.read_first(form)? {
+        let takes = saves_first(first_form(self.rest));
+        if !self.read_first()? {
             return Ok(false);
         }
+        let first = self.found;
         self.skip_initializer();
-        if !self.read_components(saves_first(form), self.found)? {
+        if !self.read_components(takes, first)? {
             return Ok(false);
         }
         self.found = apply_name_qualifiers(&mut self.buffer, self.found, quals, context.shown)?;
@@ -156,6 +163,7 @@ impl<'a> Reader<'a> {
         ensures reads { Gives result self.new
             (spec.listed_as (list_form self.old.rest.now) (shape self.old.buffer name) (state self.old)) }
         ensures run { OnRead result (IsRun self.old.buffer self.new.buffer) }
+        ensures bounds { OptionalBounds result (state self.old) (state self.new) }
     {
         match list_form(self.rest) {
             ListForm::NoList => {
@@ -167,6 +175,7 @@ impl<'a> Reader<'a> {
     }
 
     /// `<unscoped-name> ::= [St] <unqualified-name>`, and `<template-args>` behind it or none.
+    #[tactic(auto, using(demangle_text::proofs::Laws::laws, demangle_text::proofs::Laws::runs, crate::proofs::Opens::unscoped_opens))]
     fn read_unscoped(&mut self) -> Result<bool, AllocError>
         ensures reads { Gives result self.new (spec.read_unscoped (state self.old)) }
         ensures run { OnRead result (IsRun self.old.buffer self.new.buffer) }
@@ -192,6 +201,7 @@ impl<'a> Reader<'a> {
     }
 
     /// `<name> ::= <nested-name> | <unscoped-name>`, within `depth` open productions.
+    #[tactic(auto, using(demangle_text::proofs::Laws::laws, demangle_text::proofs::Laws::runs, crate::proofs::Opens::name_opens, crate::proofs::Opens::no_name))]
     pub fn read_name(&mut self, depth: usize, context: Context) -> Result<bool, AllocError>
         requires room { HasRoom 1 (state self.old) }
         ensures reads { Gives result self.new (spec.read_name depth context (state self.old)) }

@@ -33,6 +33,7 @@ impl<'a> Reader<'a> {
     /// Goes past the `M` of a data member's initializer, where one stands.
     pub fn skip_initializer(&mut self)
         ensures state { state self.new ≡ spec.past_initializer (state self.old) }
+        ensures within { length self.new.rest.now ≤ length self.old.rest.now }
         ensures buffer { self.new.buffer ≡ self.old.buffer }
     {
         self.rest = past_member(self.rest);
@@ -42,6 +43,7 @@ impl<'a> Reader<'a> {
     pub fn save(&mut self, piece: Piece) -> Result<(), AllocError>
         requires living { IsLiving self.old.buffer piece }
         ensures state { OnOk result (state self.new ≡ spec.save (shape self.old.buffer piece) (state self.old)) }
+        ensures some { OnOk result (0 < length (saved self.new.buffer)) }
         ensures kept { OnOk result (SameFrame self.old.buffer self.new.buffer) }
     {
         self.buffer.save(piece)?;
