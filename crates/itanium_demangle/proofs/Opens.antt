@@ -9,8 +9,8 @@ use Rattle.itanium_demangle.proofs.Shorter.{end_shorter}
 use Rattle.itanium_demangle.specs.declared.context.Context.{Context}
 use Rattle.itanium_demangle.specs.declared.forms.ComponentForm.TheVariants.{LastComponent, ListComponent, NameComponent}
 use Rattle.demangle_edit.specs.Names.{name_qualified}
-use Rattle.itanium_demangle.specs.Forms.{name_form, component_form, unqualified_form, unscoped_form, first_form, past_internal, past_name_quals, name_quals, saves_first}
-use Rattle.itanium_demangle.specs.Reading.{State, ◌>>=◌, enter, at, save, skip, first_as, read_nested, unqualified_as, unscoped_as, read_unscoped, taken_back, past_initializer, read_unqualified, read_components, read_prefix, component_as, read_name, name_as}
+use Rattle.itanium_demangle.specs.Forms.{symbol_form, name_form, component_form, unqualified_form, unscoped_form, first_form, past_internal, past_name_quals, name_quals, saves_first}
+use Rattle.itanium_demangle.specs.Reading.{State, ◌>>=◌, enter, at, save, skip, first_as, read_nested, unqualified_as, unscoped_as, read_unscoped, taken_back, past_initializer, read_unqualified, read_components, read_prefix, component_as, read_name, name_as, read_symbol, symbol_as}
 
 pub name_opens : (d : ℕ) (x : Context) (s : State) → 0 < d → read_name d x s ≡ name_as (name_form s.rest) x (enter s)
 unfolding read_name
@@ -29,6 +29,10 @@ unqualified_opens scope s = refl
 pub unscoped_opens : (s : State) → read_unscoped s ≡ unscoped_as (unscoped_form s.rest) s
 unfolding read_unscoped
 unscoped_opens s = refl
+
+pub symbol_opens : (d : ℕ) (x : Context) (s : State) → read_symbol d x s ≡ symbol_as (symbol_form s.rest) d x s
+unfolding read_symbol
+symbol_opens d x s = refl
 
 pub nested_opens : (x : Context) (s : State) → read_nested x s
     ≡ (first_as (first_form (past_name_quals s.rest)) (at (past_name_quals s.rest) s) >>= λ first.

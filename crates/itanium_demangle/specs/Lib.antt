@@ -4,3 +4,5 @@ pub mod Tree
 pub mod Grammar
 pub mod Reading
 pub mod Outcome
+pub mod Answer
+pub mod Kept

@@ -40,6 +40,10 @@ pub record State : Type 0 where
 abbrev pub Reads : Type 0 → Type 0
 Reads A = State → Option (A × State)
 
+-- the state at the start of a symbol
+abbrev pub begun : List ℕ → State
+begun bytes = record { rest = bytes; saved = []; scopes = []; entered = 0; most_saved = 0 }
+
 abbrev pub at : List ℕ → State → State
 at bytes s = record s { rest = bytes }
 

@@ -2,7 +2,10 @@
 #![tactic(auto)]
 
 mod context;
+mod demangler;
 mod forms;
 mod names;
 mod reader;
 pub mod scalar;
+
+pub use crate::demangler::{Demangler, MAX_DEPTH};

@@ -7,8 +7,8 @@ ghost use Rattle.itanium_demangle.specs.Outcome.{state, Gives, OnRead, HasRoom, 
 
 use crate::context::Context;
 use crate::forms::{
-    ComponentForm, FirstForm, ListForm, NameForm, TagForm, UnqualifiedForm, UnscopedForm, component_form, first_form,
-    list_form, name_form, name_quals, past_internal, saves_first, tag_form, unqualified_form, unscoped_form,
+    ComponentForm, FirstForm, ListForm, NameForm, SymbolForm, TagForm, UnqualifiedForm, UnscopedForm, component_form, first_form,
+    list_form, name_form, name_quals, past_internal, saves_first, symbol_form, tag_form, unqualified_form, unscoped_form,
 };
 use crate::reader::Reader;
 use demangle_edit::{apply_name_qualifiers, qualify};
@@ -219,6 +219,19 @@ impl<'a> Reader<'a> {
             }
             NameForm::LocalName => Ok(false),
             NameForm::UnscopedName => self.read_unscoped(),
+        }
+    }
+
+    /// What follows the prefix of a symbol, within `depth` open productions: a name, without its parameters.
+    #[tactic(auto, using(demangle_text::proofs::Laws::laws, demangle_text::proofs::Laws::runs, crate::proofs::Opens::symbol_opens))]
+    pub fn read_symbol(&mut self, depth: usize, context: Context) -> Result<bool, AllocError>
+        requires room { HasRoom 1 (state self.old) }
+        ensures reads { Gives result self.new (spec.read_symbol depth context (state self.old)) }
+        ensures bounds { Bounds 1 result (state self.old) (state self.new) }
+    {
+        match symbol_form(self.rest) {
+            SymbolForm::SpecialSymbol => Ok(false),
+            SymbolForm::NameSymbol => self.read_name(depth, context),
         }
     }
 }

@@ -1,5 +1,5 @@
 //! What the readers share: the bytes that are left, the buffer with what was saved, and the piece that was found.
-ghost use Rattle.std.specs.Prelude.{◌≡◌, ◌<◌, ◌≤◌, OnOk, length, true};
+ghost use Rattle.std.specs.Prelude.{◌≡◌, ◌<◌, ◌≤◌, IfOk, OnOk, length, true};
 ghost use Rattle.demangle_text.specs.State.{IsLiving, shape, SameFrame, saved};
 ghost use Rattle.itanium_demangle.specs.Reading as spec;
 ghost use Rattle.itanium_demangle.specs.Outcome.{state, Gives, OnRead, Bounds};
@@ -22,6 +22,22 @@ pub struct Reader<'a> {
 
 #[tactic(auto, using(demangle_text::proofs::Laws::laws, demangle_text::proofs::Laws::runs))]
 impl<'a> Reader<'a> {
+    /// A reader at the front of the bytes, over a buffer that is cleared.
+    pub fn new(buffer: Buffer, bytes: &'a [u8]) -> Result<Self, AllocError>
+        ensures state { IfOk result (λ reader. state reader ≡ spec.begun bytes.entry.now) }
+    {
+        let mut buffer = buffer;
+        buffer.clear();
+        let found = buffer.push(b"")?;
+        Ok(Reader {
+            rest: bytes,
+            buffer,
+            found,
+            entered: 0,
+            most_saved: 0,
+        })
+    }
+
     /// Goes past n bytes, or to the end.
     pub fn skip(&mut self, n: usize)
         ensures state { state self.new ≡ spec.skip n (state self.old) }
