@@ -1,2 +1,4 @@
 pub mod Appends
 pub mod Listed
+pub mod Declarators
+pub mod Cuts

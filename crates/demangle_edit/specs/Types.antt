@@ -2,7 +2,8 @@
 use Rattle.std.specs.Prelude.{ℕ, ◌+◌, ◌<◌, List, [], ◌∷◌, ◌++◌, length, map, take, drop, codes, Bool, true, false, not, ◌&&◌, ◌||◌, if◌then◌else◌, Option, Some, None, unwrap_or, nat_eq, decimal}
 use Rattle.std.specs.List.{ends_with}
 use Rattle.demangle_text.specs.declared.shape.Kind.TheVariants.{Array, Function}
-use Rattle.demangle_text.specs.declared.shape.Place.TheVariants.{Close, Suffix}
+use Rattle.demangle_text.specs.declared.shape.Place.{Place}
+use Rattle.demangle_text.specs.declared.shape.Place.TheVariants.{Close, Suffix, End}
 use Rattle.demangle_text.specs.Shape.{Shape, Form, Plain, Declared, form_text, text, text_len, plain_shape, appended, inserted, shortened, opened_group, declared_at, moved, whole_shape, is_plain}
 use Rattle.demangle_edit.specs.declared.quals.Quals.{Quals}
 use Rattle.demangle_edit.specs.declared.quals.Pointer.{Pointer}
@@ -37,16 +38,17 @@ wrapped Star s = pointed (pointer_text Star) s
 wrapped Left s = unwrap_or (collapsed false s) (pointed (pointer_text Left) s)
 wrapped Right s = unwrap_or (collapsed true s) (pointed (pointer_text Right) s)
 
--- words at the end of the group, of what is before an array's dimensions, or of the text
-abbrev pub worded_in : Form → List ℕ → Shape → Shape
-worded_in (Plain t) words s = appended words s
-worded_in (Declared Array before None after) words s = inserted Suffix words s
-worded_in (Declared Function before None after) words s = appended words s
-worded_in (Declared k before (Some group) after) words s = inserted Close words s
+-- where the words of qualifiers go: the end of the group, of what is before an array's dimensions, or of
+-- the text
+abbrev pub cv_place : Form → Place
+cv_place (Plain t) = End
+cv_place (Declared k before (Some group) after) = Close
+cv_place (Declared Array before None after) = Suffix
+cv_place (Declared Function before None after) = End
 
 -- the type with the words of its qualifiers
 abbrev pub cv_wrapped : Quals → Shape → Shape
-cv_wrapped quals s = worded_in s.form (words_text quals) s
+cv_wrapped quals s = inserted (cv_place s.form) (words_text quals) s
 
 -- `[n]`, or `[]` where the dimension isn't known
 abbrev pub dimension : Option ℕ → List ℕ
