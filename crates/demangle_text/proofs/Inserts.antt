@@ -49,12 +49,12 @@ IsMarked-marks_for f own templ ctor ordered within = record {
 }
 
 -- a range stays a range
-moved_ordered : (at n : ℕ) (own : ℕ × ℕ) → own.0 ≤ own.1 → (moved at n own).0 ≤ (moved at n own).1
+pub moved_ordered : (at n : ℕ) (own : ℕ × ℕ) → own.0 ≤ own.1 → (moved at n own).0 ≤ (moved at n own).1
 moved_ordered at n own h =
     elim (leb at own.0) as (λ b. (if b then (own.0 + n, own.1 + n) else (if leb own.1 at then own else (own.0, own.1 + n))).0 ≤ (if b then (own.0 + n, own.1 + n) else (if leb own.1 at then own else (own.0, own.1 + n))).1)
     [ true ↦ omega arith | false ↦ elim (leb own.1 at) as (λ b. (if b then own else (own.0, own.1 + n)).0 ≤ (if b then own else (own.0, own.1 + n)).1) [ true ↦ h | false ↦ omega arith ] ]
 
-moved_within : (at n len : ℕ) (own : ℕ × ℕ) → own.1 ≤ len → (moved at n own).1 ≤ len + n
+pub moved_within : (at n len : ℕ) (own : ℕ × ℕ) → own.1 ≤ len → (moved at n own).1 ≤ len + n
 moved_within at n len own h =
     elim (leb at own.0) as (λ b. (if b then (own.0 + n, own.1 + n) else (if leb own.1 at then own else (own.0, own.1 + n))).1 ≤ len + n)
     [ true ↦ omega arith | false ↦ elim (leb own.1 at) as (λ b. (if b then own else (own.0, own.1 + n)).1 ≤ len + n) [ true ↦ omega arith | false ↦ omega arith ] ]
@@ -135,7 +135,7 @@ own_at-form_with Suffix bytes (Declared Function b None a) own h = refl
 own_at-form_with Suffix bytes (Declared k b (Some g) a) own h = elim h [ ]
 
 -- how long a text is then
-length-inserted : (t bytes : List ℕ) (n : ℕ) → length (take n t ++ (bytes ++ drop n t)) ≡ length t + length bytes
+pub length-inserted : (t bytes : List ℕ) (n : ℕ) → length (take n t ++ (bytes ++ drop n t)) ≡ length t + length bytes
 length-inserted t bytes n =
     omega (arith, length-append (take n t) (bytes ++ drop n t), length-append bytes (drop n t), length-append (take n t) (drop n t), ap length (take-append-drop n t))
 

@@ -44,12 +44,6 @@ part-part t from to a b ordered within =
     let le : b - a ≤ m = omega arith in
     rw (n, drop-take a m (drop from t), take-take (b - a) m (drop a (drop from t)) le, drop-drop a from t, k) refl
 
--- an element of a list through a function
-pub slice_get-map : {X Y : Type 0} (f : X → Y) (xs : List X) (i : ℕ) → option_map f (slice_get xs i) ≡ slice_get (map f xs) i
-slice_get-map f [] i = refl
-slice_get-map f (x ∷ xs) zero = refl
-slice_get-map f (x ∷ xs) (suc i) = slice_get-map f xs i
-
 -- an element that is there has what all have
 pub slice_get-All : {X : Type 0} (P : X → Type 0) (xs : List X) (i : ℕ) → All P xs → IfSome (slice_get xs i) P
 slice_get-All P [] i h = tt

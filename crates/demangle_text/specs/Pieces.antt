@@ -59,17 +59,27 @@ layout_with Close n (Cut kind group at) = Cut kind group (at + n)
 layout_with Suffix n (Cut kind group at) = Cut kind group (at + n)
 layout_with End n (Cut kind group at) = Cut kind group at
 
+-- the layout after n bytes were inserted where `after` began, which end in a group of m bytes with its
+-- parentheses
+abbrev pub layout_opened : ℕ → ℕ → Layout → Layout
+layout_opened n m Flat = Flat
+layout_opened n m (Cut kind group at) = Cut kind (Some (at + n - m)) (at + n)
+
 -- how far the parts reach in the text
 abbrev pub layout_end : Layout → ℕ
 layout_end Flat = 0
 layout_end (Cut kind None at) = at
 layout_end (Cut kind (Some group) at) = group + at
 
+-- the last own name of a declarator whose text has this length
+abbrev pub own_of : Kind → ℕ → ℕ × ℕ → ℕ × ℕ
+own_of Array len own = own
+own_of Function len own = (0, len)
+
 -- the last own name in a text of this length
 abbrev pub own_at : Layout → ℕ → ℕ × ℕ → ℕ × ℕ
 own_at Flat len own = own
-own_at (Cut Array group at) len own = own
-own_at (Cut Function group at) len own = (0, len)
+own_at (Cut kind group at) len own = own_of kind len own
 
 -- the text of a span
 abbrev pub span_text : List (List ℕ) → Span → List ℕ
@@ -82,15 +92,23 @@ pub record IsPiece (ts : List (List ℕ)) (p : Piece) : Type 0 where
   pub within : p.span.to ≤ length (slice_index_or ts p.span.text [])
   pub marked : IsMarked (span_text ts p.span) p.marks
 
--- what a buffer keeps: its texts, the saved pieces, the scopes with their arguments, and how many
--- texts are older than the innermost mark
+-- where the lists of arguments begin: in order, and none past the last argument
+abbrev pub AreStarts : List ℕ → ℕ → Type 0
+AreStarts [] count = Unit {0}
+AreStarts (start ∷ []) count = start ≤ count
+AreStarts (start ∷ next ∷ rest) count = (start ≤ next) × AreStarts (next ∷ rest) count
+
+-- what a buffer keeps: its texts, the saved pieces, the arguments of all scopes with the places where
+-- the scopes begin, and how many texts are older than the innermost mark
 pub record Store : Type 0 where
   pub texts : List (List ℕ)
   pub saved : List Piece
-  pub scopes : List (List Piece)
+  pub args : List Piece
+  pub starts : List ℕ
   pub frame : ℕ
 
 -- what is kept lies in the texts
 pub record IsStore (s : Store) : Type 0 where
   pub saved_lie : All (IsPiece s.texts) s.saved
-  pub scopes_lie : All (All (IsPiece s.texts)) s.scopes
+  pub args_lie : All (IsPiece s.texts) s.args
+  pub starts_fit : AreStarts s.starts (length s.args)

@@ -1,5 +1,5 @@
 -- What a buffer is to its callers: the shapes of its pieces, its frames, its saved shapes and its scopes.
-use Rattle.std.specs.Prelude.{◌≡◌, ℕ, ◌<◌, List, [], ◌∷◌, ◌++◌, ◌-◌, length, slice_index_or, slice_set, map}
+use Rattle.std.specs.Prelude.{◌≡◌, ℕ, ◌<◌, List, [], ◌∷◌, ◌++◌, ◌-◌, length, drop, slice_range, slice_index_or, slice_set, map}
 use Rattle.demangle_text.specs.Shape.{Shape}
 use Rattle.demangle_text.specs.Pieces.{Store, IsPiece, shape_of, span_text}
 use Rattle.demangle_text.specs.declared.shape.Piece.{Piece}
@@ -17,9 +17,15 @@ shape b p = shape_of (span_text b.texts p.span) p.marks
 unfoldable pub saved : Store → List Shape
 saved b = map (shape b) b.saved
 
+-- a list cut where its parts begin
+abbrev pub parts_at : {X : Type 0} → List ℕ → List X → List (List X)
+parts_at [] xs = []
+parts_at (start ∷ []) xs = drop start xs ∷ []
+parts_at (start ∷ next ∷ rest) xs = slice_range xs start next ∷ parts_at (next ∷ rest) xs
+
 -- the scopes, the outermost first, each with its arguments
 unfoldable pub scopes : Store → List (List Shape)
-scopes b = map (map (shape b)) b.scopes
+scopes b = parts_at b.starts (map (shape b) b.args)
 
 -- a frame is the stretch of calls from one mark to the next
 unfoldable pub Frame : Type 0

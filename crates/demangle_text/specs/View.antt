@@ -7,7 +7,8 @@ abbrev pub store_of : Inside → Store
 store_of a = record {
   texts = map (λ v. v.items) a.texts.items;
   saved = a.saved.items;
-  scopes = map (λ v. v.items) a.scopes.items;
+  args = a.args.items;
+  starts = a.starts.items;
   frame = a.frame;
 }
 

@@ -1,27 +1,37 @@
--- The piece is that of the last list, at the place.
-use Rattle.std.proofs.Common.{◌≡◌, ℕ, ◌-◌, ◌<◌, List, [], length, get_or, slice_get, option_map, IfSome, map, sym, ap, ◌∙◌, subst, Option, arith}
-use Rattle.std.proofs.lemmas.List.{get_or-map, length-map}
+-- The last scope begins at the last place.
+use Rattle.std.proofs.Common.{◌≡◌, ℕ, ◌-◌, ◌<◌, List, length, drop, get_or, slice_get, option_map, IfSome, ap, ◌∙◌, arith}
+use Rattle.std.proofs.lemmas.List.{get_or_default}
 use Rattle.demangle_text.specs.declared.shape.Piece.{Piece}
 use Rattle.demangle_text.specs.Pieces.{Store}
 use Rattle.demangle_text.specs.View.{store_of}
 use Rattle.demangle_text.specs.State.{shape, IsLiving, scopes, last_args}
-use Rattle.demangle_text.proofs.States.{arg_found, arg_lives}
+use Rattle.demangle_text.proofs.Scopes.{arg_within, arg_found, arg_lives}
 use Rattle.demangle_text.proofs.buffer.Buffer.arg.Goals as goal
+
+pub piece_behind-requires : goal.piece_behind-requires
+piece_behind-requires c =
+    let s = store_of c.self.inside in
+    let n = c.len-count.result in
+    let all : n ≡ length s.starts = omega arith in
+    let e = c.index-start.ensures ∙ get_or_default s.starts (n - 1) c.index-start.result.now 0 (omega arith) in
+    record { within = omega (arith, arg_within s c.args.i n c.index-start.result.now all (omega arith) e c.self.invariant) }
 
 pub returns-clause-shape : goal.returns-clause-shape
 returns-clause-shape c =
     let s = store_of c.self.inside in
-    let m = length-map c.self.inside.scopes.items (λ v. v.items) in
-    let n : c.len-count.result ≡ length s.scopes = omega (arith, m) in
-    let one = c.deref.ensures.value ∙ ap (λ v. v.items) c.index.ensures ∙ sym (get_or-map (λ v. v.items) c.self.inside.scopes.items (c.len-count.result - 1) c.index.result.now [] (omega (arith, m))) in
-    let found = c.piece_at.ensures.value ∙ ap (λ (ps : List Piece). slice_get ps c.args.i) one in
-    rw (← c.self.view_is, found) (arg_found s c.args.i c.len-count.result n (omega arith))
+    let n = c.len-count.result in
+    let all : n ≡ length s.starts = omega arith in
+    let from = c.index-start.result.now in
+    let e = c.index-start.ensures ∙ get_or_default s.starts (n - 1) from 0 (omega arith) in
+    let found = c.piece_behind.ensures.value ∙ ap (λ (ps : List Piece). slice_get (drop from ps) c.args.i) c.deref.ensures.value in
+    rw (← c.self.view_is, found) (arg_found s c.args.i n from all (omega arith) e)
 
 pub returns-clause-living : goal.returns-clause-living
 returns-clause-living c =
     let s = store_of c.self.inside in
-    let m = length-map c.self.inside.scopes.items (λ v. v.items) in
-    let n : c.len-count.result ≡ length s.scopes = omega (arith, m) in
-    let one = c.deref.ensures.value ∙ ap (λ v. v.items) c.index.ensures ∙ sym (get_or-map (λ v. v.items) c.self.inside.scopes.items (c.len-count.result - 1) c.index.result.now [] (omega (arith, m))) in
-    let found = c.piece_at.ensures.value ∙ ap (λ (ps : List Piece). slice_get ps c.args.i) one in
-    rw (← c.self.view_is, found) (arg_lives s c.args.i c.len-count.result n (omega arith) c.self.invariant)
+    let n = c.len-count.result in
+    let all : n ≡ length s.starts = omega arith in
+    let from = c.index-start.result.now in
+    let e = c.index-start.ensures ∙ get_or_default s.starts (n - 1) from 0 (omega arith) in
+    let found = c.piece_behind.ensures.value ∙ ap (λ (ps : List Piece). slice_get (drop from ps) c.args.i) c.deref.ensures.value in
+    rw (← c.self.view_is, found) (arg_lives s c.args.i n from all (omega arith) e c.self.invariant)

@@ -1,21 +1,27 @@
-use Rattle.std.proofs.Common.{◌≡◌, ℕ, All, ◌++◌, ◌∷◌, [], take, sym, subst, refl, ap, map, ◌∙◌, rules}
-use Rattle.std.proofs.lemmas.List.{take-map}
-use Rattle.std.proofs.lemmas.List.Elements.{All-take}
-use Rattle.demangle_text.specs.Pieces.{Store, IsPiece}
+-- What begins at the first place that goes, goes with it.
+use Rattle.std.proofs.Common.{◌≡◌, ◌≤◌, length, refl, sym, ◌∙◌, arith}
+use Rattle.std.proofs.lemmas.List.{get_or_default, take_all}
 use Rattle.demangle_text.specs.View.{store_of}
-use Rattle.demangle_text.specs.State.{scopes, shape}
-use Rattle.demangle_text.proofs.States.{scopes_change}
+use Rattle.demangle_text.specs.State.{scopes}
+use Rattle.demangle_text.proofs.Scopes.{scopes-kept, IsStore-kept, length-scopes}
 use Rattle.demangle_text.proofs.buffer.Buffer.keep_scopes.Goals as goal
 
 pub invariant_of-self : goal.invariant_of-self
 invariant_of-self c =
     let s = store_of c.self.inside in
-    let e = ap (map (λ v. v.items)) c.truncate.ensures.items ∙ sym (take-map (λ v. v.items) c.args.n c.self.inside.scopes.items) in
-    scopes_change s _ c.self.invariant refl refl (rw e (All-take (All (IsPiece s.texts)) c.args.n s.scopes c.self.invariant.scopes_lie))
+    let from = c.index-start.result.now in
+    let e = c.index-start.ensures ∙ get_or_default s.starts c.args.n from 0 (omega arith) in
+    IsStore-kept s _ refl c.self.invariant c.args.n from (omega arith) e refl c.truncate.ensures.items c.truncate-then-n-len.ensures.items
 
-pub returns-clause-scopes : goal.returns-clause-scopes
-unfolding scopes shape
-returns-clause-scopes c =
+pub returns-then-n-len-clause-scopes : goal.returns-then-n-len-clause-scopes
+returns-then-n-len-clause-scopes c =
     let s = store_of c.self.inside in
-    let e = ap (map (λ v. v.items)) c.truncate.ensures.items ∙ sym (take-map (λ v. v.items) c.args.n c.self.inside.scopes.items) in
-    rw (← c.self.view_is) (ap (map (map (shape s))) e ∙ sym (take-map (map (shape s)) c.args.n s.scopes))
+    let from = c.index-start.result.now in
+    let e = c.index-start.ensures ∙ get_or_default s.starts c.args.n from 0 (omega arith) in
+    rw (← c.self.view_is) (scopes-kept s _ refl c.self.invariant c.args.n from (omega arith) e c.truncate.ensures.items c.truncate-then-n-len.ensures.items)
+
+pub returns-else-n-len-clause-scopes : goal.returns-else-n-len-clause-scopes
+returns-else-n-len-clause-scopes c =
+    let s = store_of c.self.inside in
+    let all : length (scopes s) ≤ c.args.n = omega (arith, length-scopes s) in
+    rw (← c.self.view_is) (sym (take_all c.args.n (scopes s) all))
