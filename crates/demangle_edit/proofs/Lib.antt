@@ -2,3 +2,4 @@ pub mod Appends
 pub mod Listed
 pub mod Declarators
 pub mod Cuts
+pub mod Arrays

@@ -50,10 +50,14 @@ cv_place (Declared Function before None after) = End
 abbrev pub cv_wrapped : Quals → Shape → Shape
 cv_wrapped quals s = inserted (cv_place s.form) (words_text quals) s
 
--- `[n]`, or `[]` where the dimension isn't known
+-- the digits of a dimension, none where it isn't known
+abbrev pub extent_text : Option ℕ → List ℕ
+extent_text None = []
+extent_text (Some n) = decimal n
+
+-- `[n]`, or `[]`
 abbrev pub dimension : Option ℕ → List ℕ
-dimension None = codes "[]"
-dimension (Some n) = codes "[" ++ (decimal n ++ codes "]")
+dimension dim = codes "[" ++ (extent_text dim ++ codes "]")
 
 -- a dimension behind a plain text, at the end of a group, or in front of the dimensions that an array has
 abbrev pub dimensioned_in : Form → Option ℕ → Shape → Shape

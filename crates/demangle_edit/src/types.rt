@@ -1,9 +1,9 @@
 //! Edits that make a type out of types: pointers, references, qualifiers, arrays and functions.
-ghost use Rattle.std.specs.Prelude.{◌≡◌, ◌≢◌, ◌++◌, All, map, codes, IfOk, OnOk};
-ghost use Rattle.demangle_text.specs.Shape.{CanInsert, IsPlain, inserted};
+ghost use Rattle.std.specs.Prelude.{◌≡◌, ◌≢◌, ◌++◌, All, map, codes, is_some, false, IfOk, OnOk};
+ghost use Rattle.demangle_text.specs.Shape.{CanInsert, IsPlain, inserted, kind_of, group_of};
 ghost use Rattle.demangle_text.specs.State.{IsLiving, shape, Lives, IsEdit, KeepsAll};
 ghost use Rattle.demangle_edit.specs.Answers.{Answers, OnNone};
-ghost use Rattle.demangle_edit.specs.Types.{pointed, collapsed, wrapped, cv_place, cv_wrapped, dimension, HasDimension, array_shape, arrayed, function_of};
+ghost use Rattle.demangle_edit.specs.Types.{pointed, collapsed, wrapped, cv_place, cv_wrapped, extent_text, HasDimension, array_shape, arrayed, function_of};
 
 use crate::lists::list_pieces;
 use crate::quals::{Pointer, Quals, reference_bytes};
@@ -109,6 +109,106 @@ pub fn wrap_cv(buf: &mut Buffer, inner: Piece, quals: Quals) -> Result<Piece, Al
 {
     let place = words_place(buf, inner);
     buf.insert(inner, place, quals.words())
+}
+
+// The digits of a dimension, none where it isn't known.
+fn extent_bytes(digits: &mut itoa::Buffer, dim: Option<u64>) -> &[u8]
+    ensures value { result.now ≡ extent_text dim }
+{
+    match dim {
+        None => b"",
+        Some(extent) => digits.format(extent).as_bytes(),
+    }
+}
+
+// The opening bytes, the digits of a dimension and `]`, at a place of the piece's text.
+#[tactic(auto, using(demangle_text::proofs::Laws::laws, crate::proofs::Appends::appends))]
+fn insert_dimension(
+    buf: &mut Buffer,
+    piece: Piece,
+    place: Place,
+    opening: &[u8],
+    dim: Option<u64>,
+) -> Result<Piece, AllocError>
+    requires living { IsLiving buf.old piece }
+    requires fits { CanInsert place (shape buf.old piece).form }
+    requires behind { place ≢ Place.Start }
+    ensures shape { IfOk result (λ p. Lives buf.new p (inserted place (opening.now ++ (extent_text dim ++ codes "]")) (shape buf.old piece))) }
+    ensures edit { OnOk result (IsEdit buf.old buf.new) }
+{
+    let mut digits = itoa::Buffer::new();
+    let extent = extent_bytes(&mut digits, dim);
+    let opened = buf.insert(piece, place, opening)?;
+    let filled = buf.insert(opened, place, extent)?;
+    buf.insert(filled, place, b"]")
+}
+
+// An array of a plain type.
+#[tactic(auto, using(demangle_text::proofs::Laws::laws, crate::proofs::Arrays::first_shape))]
+fn first_dimension(buf: &mut Buffer, elem: Piece, dim: Option<u64>) -> Result<Piece, AllocError>
+    requires living { IsLiving buf.old elem }
+    requires plain { IsPlain (shape buf.old elem).form }
+    ensures shape { IfOk result (λ p. Lives buf.new p (array_shape dim (shape buf.old elem))) }
+    ensures edit { OnOk result (IsEdit buf.old buf.new) }
+{
+    let at = buf.len(elem);
+    let longer = insert_dimension(buf, elem, Place::End, b" [", dim)?;
+    let _len = buf.len(longer);
+    Ok(buf.declare(longer, Kind::Array, at))
+}
+
+// A dimension in front of those that an array without group has: behind the first byte of `after`.
+#[tactic(auto, using(demangle_text::proofs::Laws::laws))]
+fn outer_dimension(buf: &mut Buffer, elem: Piece, dim: Option<u64>) -> Result<Piece, AllocError>
+    requires living { IsLiving buf.old elem }
+    requires kind { kind_of (shape buf.old elem).form ≡ Some Kind.Array }
+    requires group { is_some (group_of (shape buf.old elem).form) ≡ false }
+    requires dimension { HasDimension (shape buf.old elem).form }
+    ensures shape { IfOk result (λ p. Lives buf.new p (array_shape dim (shape buf.old elem))) }
+    ensures edit { OnOk result (IsEdit buf.old buf.new) }
+{
+    let at = buf.after_at(elem).unwrap();
+    let flat = buf.plain(elem);
+    let _len = buf.len(flat);
+    let cut = buf.declare(flat, Kind::Array, at + 1);
+    let longer = insert_dimension(buf, cut, Place::Suffix, b"[", dim)?;
+    let whole = buf.plain(longer);
+    Ok(buf.declare(whole, Kind::Array, at))
+}
+
+/// The array of the type with this dimension, `[]` where there is none: ` [n]` at the end of a group or
+/// behind a plain text; for an array without group `[n]` behind the first byte of what is after it, so that
+/// the outer dimension stands first. The flags stay.
+///
+/// `None`, and all stays, for a function without group. An error comes where memory is refused, and then
+/// only `clear` of the buffer is promised.
+#[tactic(auto, using(demangle_text::proofs::Laws::laws, crate::proofs::Declarators::declarators))]
+pub fn wrap_array(
+    buf: &mut Buffer,
+    elem: Piece,
+    dim: Option<u64>,
+) -> Result<Option<Piece>, AllocError>
+    requires elem { IsLiving buf.old elem }
+    requires dimension { HasDimension (shape buf.old elem).form }
+    ensures shape { Answers result buf.new (arrayed dim (shape buf.old elem)) }
+    ensures edit { OnOk result (IsEdit buf.old buf.new) }
+    ensures none { OnNone result (KeepsAll buf.old buf.new) }
+{
+    let Some(kind) = buf.kind(elem) else {
+        let array = first_dimension(buf, elem, dim)?;
+        return Ok(Some(array));
+    };
+    if buf.has_group(elem) {
+        let array = insert_dimension(buf, elem, Place::Close, b" [", dim)?;
+        return Ok(Some(array));
+    }
+    match kind {
+        Kind::Array => {
+            let array = outer_dimension(buf, elem, dim)?;
+            Ok(Some(array))
+        }
+        Kind::Function => Ok(None),
+    }
 }
 
 /// The function type with these parameters and qualifiers: what it returns and a space, then the parameters
