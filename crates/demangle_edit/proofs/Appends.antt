@@ -66,6 +66,20 @@ inserted_thrice place a b c s behind fits =
 
 pub ruleset appends = (inserted_thrice, can_again)
 
+-- a plain text that begins with that of a name, and has the name's last own name
+pub behind_shape : (name whole named : Shape) (added : List ℕ) (before len : ℕ) (old own : ℕ × ℕ) (templ ctor : Bool)
+    → whole.form ≡ Plain (text name ++ added) → before ≡ text_len name → len ≡ text_len whole → old ≡ name.own
+    → own ≡ moved before (len - before) old → named ≡ with_own own.0 own.1 whole
+    → flagged templ ctor named ≡ flagged templ ctor (appended added (flattened name))
+behind_shape name whole named added before len old own templ ctor form_is by_before by_len by_old by_own by_named =
+    let whole_len : text_len whole ≡ text_len name + length added =
+    ap (λ (f : Form). length (form_text f)) form_is ∙ length-append (text name) added in
+    let added_is : len - before ≡ length added = omega arith in
+    let own_is : own ≡ moved (text_len name) (length added) name.own =
+    by_own ∙ ap (λ (k : ℕ). moved k (len - before) old) by_before ∙ ap (λ (k : ℕ). moved (text_len name) k old) added_is
+    ∙ ap (moved (text_len name) (length added)) by_old in
+    ap (flagged templ ctor) by_named ∙ (λ j. record { form = form_is j; own = own_is j; templ = templ; ctor = ctor })
+
 -- a name with a list behind it
 pub attached_shape : (name list whole named : Shape) (gap : List ℕ) (before len : ℕ) (old own : ℕ × ℕ) (ctor : Bool)
     → whole ≡ joined name gap list → gap ≡ angle_gap (text name) → before ≡ text_len name → len ≡ text_len whole → old ≡ name.own
@@ -76,10 +90,5 @@ attached_shape name list whole named gap before len old own ctor by_whole by_gap
     let u = text list in
     let form_is : whole.form ≡ Plain (t ++ (angle_gap t ++ u)) =
     ap (λ (s : Shape). s.form) by_whole ∙ ap Plain (append_assoc t gap u) ∙ ap (λ (g : List ℕ). Plain (t ++ (g ++ u))) by_gap in
-    let whole_len : text_len whole ≡ length t + length (angle_gap t ++ u) =
-    ap (λ (f : Form). length (form_text f)) form_is ∙ length-append t (angle_gap t ++ u) in
-    let n_is : len - before ≡ length (angle_gap t ++ u) = omega arith in
-    let own_is : own ≡ moved (text_len name) (length (angle_gap t ++ u)) name.own =
-    by_own ∙ ap (λ (k : ℕ). moved k (len - before) old) by_before ∙ ap (λ (k : ℕ). moved (text_len name) k old) n_is
-    ∙ ap (moved (text_len name) (length (angle_gap t ++ u))) by_old in
-    ap (flagged true ctor) by_named ∙ (λ j. record { form = form_is j; own = own_is j; templ = true; ctor = by_ctor j })
+    behind_shape name whole named (angle_gap t ++ u) before len old own true ctor form_is by_before by_len by_old by_own by_named
+    ∙ ap (λ (b : Bool). flagged true b (appended (angle_gap t ++ u) (flattened name))) by_ctor

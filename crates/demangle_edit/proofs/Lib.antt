@@ -3,3 +3,4 @@ pub mod Listed
 pub mod Declarators
 pub mod Cuts
 pub mod Arrays
+pub mod Members

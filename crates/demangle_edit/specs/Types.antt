@@ -95,6 +95,11 @@ HasDimension (Declared Array before None after) = 0 < length after
 abbrev pub member_gap : List ℕ → List ℕ
 member_gap t = if ends_with nat_eq t (codes "(") || ends_with nat_eq t (codes " ") then [] else codes " "
 
+-- what stands after the group of a declarator
+abbrev pub after_text : Form → List ℕ
+after_text (Plain t) = []
+after_text (Declared k before group after) = after
+
 -- no type is a member pointer to an array
 abbrev pub has_member : Form → Bool
 has_member (Plain t) = true

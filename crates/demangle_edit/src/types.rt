@@ -1,11 +1,12 @@
 //! Edits that make a type out of types: pointers, references, qualifiers, arrays and functions.
 ghost use Rattle.std.specs.Prelude.{◌≡◌, ◌≢◌, ◌++◌, All, map, codes, is_some, false, IfOk, OnOk};
-ghost use Rattle.demangle_text.specs.Shape.{CanInsert, IsPlain, inserted, kind_of, group_of};
+ghost use Rattle.demangle_text.specs.Shape.{CanInsert, IsPlain, IsDeclared, text, plain_shape, inserted, kind_of, group_of, gap_after, front_text};
 ghost use Rattle.demangle_text.specs.State.{IsLiving, shape, Lives, IsEdit, KeepsAll};
 ghost use Rattle.demangle_edit.specs.Answers.{Answers, OnNone};
-ghost use Rattle.demangle_edit.specs.Types.{pointed, collapsed, wrapped, cv_place, cv_wrapped, extent_text, HasDimension, array_shape, arrayed, function_of};
+ghost use Rattle.demangle_edit.specs.Types.{pointed, collapsed, wrapped, cv_place, cv_wrapped, extent_text, HasDimension, array_shape, arrayed, member_gap, after_text, member_shape, membered, function_of};
 
 use crate::lists::list_pieces;
+use crate::names::range_before;
 use crate::quals::{Pointer, Quals, reference_bytes};
 use demangle_text::{Buffer, Kind, Piece, Place};
 use std::alloc::AllocError;
@@ -208,6 +209,142 @@ pub fn wrap_array(
             Ok(Some(array))
         }
         Kind::Function => Ok(None),
+    }
+}
+
+// What stands between the text of a plain type and the class of a member pointer.
+fn gap_before_member(member: &[u8]) -> &'static [u8]
+    ensures value { result.now ≡ member_gap member.now }
+{
+    if member.ends_with(b"(") || member.ends_with(b" ") {
+        b""
+    } else {
+        b" "
+    }
+}
+
+// A pointer to a member of a plain type.
+#[tactic(auto, using(demangle_text::proofs::Laws::laws))]
+fn append_member(buf: &mut Buffer, class: Piece, member: Piece) -> Result<Piece, AllocError>
+    requires class { IsLiving buf.old class }
+    requires member { IsLiving buf.old member }
+    requires plain { IsPlain (shape buf.old member).form }
+    ensures shape { IfOk result (λ p. Lives buf.new p (member_shape (shape buf.old class) (shape buf.old member))) }
+    ensures edit { OnOk result (IsEdit buf.old buf.new) }
+{
+    let before = buf.len(member);
+    let own = buf.own_range(member);
+    let (templ, ctor) = (buf.templ(member), buf.ctor(member));
+    let gap = gap_before_member(buf.bytes(member));
+    let begun = buf.join(member, gap, class)?;
+    let whole = buf.append(begun, b"::*")?;
+    let len = buf.len(whole);
+    let (from, to) = range_before(own, before, len - before);
+    let named = buf.own_at(whole, from, to);
+    Ok(buf.with_flags(named, templ, ctor))
+}
+
+// What opens a group behind a text: a space unless the text is empty or ends in a space, `(` or `*`, and `(`.
+fn group_opening(text: &[u8]) -> &'static [u8]
+    ensures value { result.now ≡ gap_after text.now ++ codes "(" }
+{
+    match text.last() {
+        Some(byte) => {
+            if matches!(*byte, b' ' | b'(' | b'*') {
+                b"("
+            } else {
+                b" ("
+            }
+        }
+        None => b"(",
+    }
+}
+
+// The text of a declarator, cut where `after` begins.
+#[tactic(auto, using(crate::proofs::Members::members))]
+fn cut_declarator(buf: &Buffer, piece: Piece) -> (Piece, Piece)
+    requires living { IsLiving buf.now piece }
+    requires declared { IsDeclared (shape buf.now piece).form }
+    ensures front { Lives buf.now result.0 (plain_shape (front_text (shape buf.now piece).form)) }
+    ensures after { Lives buf.now result.1 (plain_shape (after_text (shape buf.now piece).form)) }
+{
+    let at = buf.after_at(piece).unwrap();
+    let len = buf.len(piece);
+    let text = buf.plain(piece);
+    let front = buf.own_at(text, 0, at);
+    let after = buf.own_at(text, at, len);
+    (buf.own(front), buf.own(after))
+}
+
+// The class of a member in a group between two texts, as one plain text.
+#[tactic(auto, using(demangle_text::proofs::Laws::laws))]
+fn join_member(
+    buf: &mut Buffer,
+    front: Piece,
+    class: Piece,
+    after: Piece,
+) -> Result<Piece, AllocError>
+    requires front { IsLiving buf.old front }
+    requires class { IsLiving buf.old class }
+    requires after { IsLiving buf.old after }
+    ensures shape { IfOk result (λ p. Lives buf.new p (plain_shape (text (shape buf.old front) ++ (gap_after (text (shape buf.old front)) ++ codes "(") ++ text (shape buf.old class) ++ codes "::*)" ++ text (shape buf.old after)))) }
+    ensures kept { OnOk result (KeepsAll buf.old buf.new) }
+{
+    let opening = group_opening(buf.bytes(front));
+    let mark = buf.open();
+    let begun = buf.join(front, opening, class)?;
+    let whole = buf.join(begun, b"::*)", after)?;
+    buf.close(mark, whole)
+}
+
+// A pointer to a member function: the class stands in a new group.
+#[tactic(auto, using(demangle_text::proofs::Laws::laws, crate::proofs::Members::members))]
+fn open_member(buf: &mut Buffer, class: Piece, member: Piece) -> Result<Piece, AllocError>
+    requires class { IsLiving buf.old class }
+    requires member { IsLiving buf.old member }
+    requires function { kind_of (shape buf.old member).form ≡ Some Kind.Function }
+    ensures shape { IfOk result (λ p. Lives buf.new p (member_shape (shape buf.old class) (shape buf.old member))) }
+    ensures edit { OnOk result (IsEdit buf.old buf.new) }
+{
+    let (templ, ctor) = (buf.templ(member), buf.ctor(member));
+    let class_len = buf.len(class);
+    let (front, after) = cut_declarator(buf, member);
+    let after_len = buf.len(after);
+    let whole = join_member(buf, front, class, after)?;
+    let at = buf.len(whole) - after_len;
+    let from = at - 5 - class_len;
+    let declared = buf.declare_group(whole, Kind::Function, from, at);
+    Ok(buf.with_flags(declared, templ, ctor))
+}
+
+/// The pointer to a member of the class: the class and `::*`, at the end of a plain text (behind a space,
+/// unless the text ends in a space or `(`), or in a new group of a function. The flags are those of the
+/// member.
+///
+/// `None`, and all stays, for an array. An error comes where memory is refused, and then only `clear` of the
+/// buffer is promised.
+#[tactic(auto, using(demangle_text::proofs::Laws::laws, crate::proofs::Declarators::declarators))]
+pub fn wrap_member_pointer(
+    buf: &mut Buffer,
+    class: Piece,
+    member: Piece,
+) -> Result<Option<Piece>, AllocError>
+    requires class { IsLiving buf.old class }
+    requires member { IsLiving buf.old member }
+    ensures shape { Answers result buf.new (membered (shape buf.old class) (shape buf.old member)) }
+    ensures edit { OnOk result (IsEdit buf.old buf.new) }
+    ensures none { OnNone result (KeepsAll buf.old buf.new) }
+{
+    match buf.kind(member) {
+        None => {
+            let pointer = append_member(buf, class, member)?;
+            Ok(Some(pointer))
+        }
+        Some(Kind::Function) => {
+            let pointer = open_member(buf, class, member)?;
+            Ok(Some(pointer))
+        }
+        Some(Kind::Array) => Ok(None),
     }
 }
 
