@@ -67,7 +67,7 @@ inserted_thrice place a b c s behind fits =
 pub ruleset appends = (inserted_thrice, can_again)
 
 -- a plain text that begins with that of a name, and has the name's last own name
-pub behind_shape : (name whole named : Shape) (added : List ℕ) (before len : ℕ) (old own : ℕ × ℕ) (templ ctor : Bool)
+behind_shape : (name whole named : Shape) (added : List ℕ) (before len : ℕ) (old own : ℕ × ℕ) (templ ctor : Bool)
     → whole.form ≡ Plain (text name ++ added) → before ≡ text_len name → len ≡ text_len whole → old ≡ name.own
     → own ≡ moved before (len - before) old → named ≡ with_own own.0 own.1 whole
     → flagged templ ctor named ≡ flagged templ ctor (appended added (flattened name))
