@@ -49,7 +49,7 @@ text-opened bytes (Plain t) h = elim h [ ]
 text-opened bytes (Declared k b g a) h =
     let front = b ++ grouped g in
     ap (λ (u : List ℕ). front ++ u) (append_assoc (gap_after front) (grouped (Some bytes)) a)
-      ∙ sym (append_assoc front (gap_after front) (grouped (Some bytes) ++ a))
+    ∙ sym (append_assoc front (gap_after front) (grouped (Some bytes) ++ a))
 
 -- how long the inserted bytes are
 length-grouped : (bytes : List ℕ) → length (grouped (Some bytes)) ≡ length bytes + 2
@@ -130,22 +130,22 @@ module _ (bytes t u : List ℕ) (m w : Marks) (at : ℕ) (h : IsMarked t m) (can
   text_is : u ≡ form_text (opened_form bytes f)
   text_is =
       i.text ∙ ap (λ (v : List ℕ). v ++ (group_text bytes v ++ drop at t)) front
-        ∙ ap (λ (v : List ℕ). front_text f ++ (group_text bytes (front_text f) ++ v)) rest
-        ∙ text-opened bytes f can
+      ∙ ap (λ (v : List ℕ). front_text f ++ (group_text bytes (front_text f) ++ v)) rest
+      ∙ text-opened bytes f can
 
   marks_are : w ≡ marks_for (opened_form bytes f) (opened_own bytes f m.own) m.templ m.ctor
   marks_are =
       let l = layout_for-form_of t m.layout h.layout in
       let grows : length (group_text bytes (take at t)) ≡ n = ap (λ (v : List ℕ). length (group_text bytes v)) front in
       let by_layout : w.layout ≡ layout_for (opened_form bytes f) =
-        i.layout ∙ ap (λ (k : ℕ). layout_opened k (length bytes + 2) m.layout) grows ∙ ap (layout_opened n (length bytes + 2)) (sym l) ∙ layout-opened bytes f can in
+      i.layout ∙ ap (λ (k : ℕ). layout_opened k (length bytes + 2) m.layout) grows ∙ ap (layout_opened n (length bytes + 2)) (sym l) ∙ layout-opened bytes f can in
       let by_own : w.own ≡ own_in (opened_form bytes f) (opened_own bytes f m.own) =
-        i.own ∙ ap (λ (k : ℕ). own_at m.layout (length u) (moved k (length (group_text bytes (take at t))) m.own)) place_is
-          ∙ ap (λ (k : ℕ). own_at m.layout (length u) (moved (after_place f) k m.own)) grows
-          ∙ ap (own_at m.layout (length u)) (sym (own-opened bytes f m.own can))
-          ∙ ap (λ (k : Layout). own_at k (length u) (opened_own bytes f m.own)) (sym l)
-          ∙ ap (λ (v : List ℕ). own_at (layout_for f) (length v) (opened_own bytes f m.own)) text_is
-          ∙ own_at-opened bytes f (opened_own bytes f m.own) in
+      i.own ∙ ap (λ (k : ℕ). own_at m.layout (length u) (moved k (length (group_text bytes (take at t))) m.own)) place_is
+      ∙ ap (λ (k : ℕ). own_at m.layout (length u) (moved (after_place f) k m.own)) grows
+      ∙ ap (own_at m.layout (length u)) (sym (own-opened bytes f m.own can))
+      ∙ ap (λ (k : Layout). own_at k (length u) (opened_own bytes f m.own)) (sym l)
+      ∙ ap (λ (v : List ℕ). own_at (layout_for f) (length v) (opened_own bytes f m.own)) text_is
+      ∙ own_at-opened bytes f (opened_own bytes f m.own) in
       λ j. record { layout = by_layout j; own = by_own j; templ = i.templ j; ctor = i.ctor j }
 
   pub shape-opened : shape_of u w ≡ opened_group bytes (shape_of t m)

@@ -103,15 +103,15 @@ with_arg-more s args scopes some =
 -- the last scope begins at the last place
 pub last_args-parts_at : (starts : List ℕ) (xs : List Shape) (n : ℕ) → n ≡ length starts → 0 < n → last_args (parts_at starts xs) ≡ drop (get_or starts (n - 1) 0) xs
 last_args-parts_at [] xs n e some = absurd (omega arith)
-last_args-parts_at (s ∷ []) xs n e some = 
+last_args-parts_at (s ∷ []) xs n e some =
     let one : n - 1 ≡ 0 = omega arith in
     ap (λ (k : ℕ). drop (get_or (s ∷ []) k 0) xs) (sym one)
 last_args-parts_at (s ∷ t ∷ rest) xs n e some =
     let more : 0 < length (parts_at (t ∷ rest) xs) = omega (arith, length-parts_at (t ∷ rest) xs) in
     let m : n - 1 ≡ suc (n - 1 - 1) = omega arith in
     last_args-more (slice_range xs s t) (parts_at (t ∷ rest) xs) more
-      ∙ last_args-parts_at (t ∷ rest) xs (n - 1) (omega arith) (omega arith)
-      ∙ ap (λ (k : ℕ). drop (get_or (s ∷ t ∷ rest) k 0) xs) (sym m)
+    ∙ last_args-parts_at (t ∷ rest) xs (n - 1) (omega arith) (omega arith)
+    ∙ ap (λ (k : ℕ). drop (get_or (s ∷ t ∷ rest) k 0) xs) (sym m)
 
 -- an argument for the last scope
 pub parts_at-push : (starts : List ℕ) (xs : List Shape) (x : Shape) → AreStarts starts (length xs) → 0 < length starts → parts_at starts (xs ++ x ∷ []) ≡ with_arg x (parts_at starts xs)
@@ -141,7 +141,7 @@ module _ (s new : Store) (texts : new.texts ≡ s.texts) where
   unfolding scopes
   scopes-open args starts =
       scopes_are s.args (s.starts ++ length s.args ∷ []) args starts
-        ∙ parts_at-open s.starts (map (shape s) s.args) (length s.args) (sym (length-map s.args (shape s)))
+      ∙ parts_at-open s.starts (map (shape s) s.args) (length s.args) (sym (length-map s.args (shape s)))
 
   pub IsStore-open : IsStore s → new.saved ≡ s.saved → new.args ≡ s.args → new.starts ≡ s.starts ++ length s.args ∷ [] → IsStore new
   IsStore-open i saved args starts = record {
@@ -159,8 +159,8 @@ module _ (s new : Store) (texts : new.texts ≡ s.texts) where
       let fit : AreStarts s.starts (length xs) = AreStarts-more s.starts (length s.args) (length xs) (omega arith) i.starts_fit in
       let there : 0 < length s.starts = omega (arith, length-parts_at s.starts xs) in
       scopes_are (s.args ++ p ∷ []) s.starts args starts
-        ∙ ap (parts_at s.starts) (map_push (shape s) s.args p)
-        ∙ parts_at-push s.starts xs (shape s p) fit there
+      ∙ ap (parts_at s.starts) (map_push (shape s) s.args p)
+      ∙ parts_at-push s.starts xs (shape s p) fit there
 
   pub IsStore-arg : IsStore s → (p : Piece) → IsLiving s p → new.saved ≡ s.saved → new.args ≡ s.args ++ p ∷ [] → new.starts ≡ s.starts → IsStore new
   unfolding IsLiving
@@ -175,8 +175,8 @@ module _ (s new : Store) (texts : new.texts ≡ s.texts) where
   unfolding scopes
   scopes-kept i n from there e args starts =
       scopes_are (take from s.args) (take n s.starts) args starts
-        ∙ ap (parts_at (take n s.starts)) (sym (take-map (shape s) from s.args) ∙ ap (λ (k : ℕ). take k (map (shape s) s.args)) e)
-        ∙ parts_at-take s.starts (map (shape s) s.args) (length s.args) n i.starts_fit there
+      ∙ ap (parts_at (take n s.starts)) (sym (take-map (shape s) from s.args) ∙ ap (λ (k : ℕ). take k (map (shape s) s.args)) e)
+      ∙ parts_at-take s.starts (map (shape s) s.args) (length s.args) n i.starts_fit there
 
   pub IsStore-kept : IsStore s → (n from : ℕ) → n < length s.starts → from ≡ get_or s.starts n 0 → new.saved ≡ s.saved → new.args ≡ take from s.args → new.starts ≡ take n s.starts → IsStore new
   IsStore-kept i n from there e saved args starts =
@@ -193,6 +193,10 @@ pub length-scopes : (s : Store) → length (scopes s) ≡ length s.starts
 unfolding scopes
 length-scopes s = length-parts_at s.starts (map (shape s) s.args)
 
+-- as many as a count of the scopes
+pub length-starts : (s b : Store) (n : ℕ) → s ≡ b → n ≡ length (scopes b) → n ≡ length s.starts
+length-starts s b n e count = count ∙ ap (λ (v : Store). length (scopes v)) (sym e) ∙ length-scopes s
+
 -- an argument of the last scope
 module _ (s : Store) (i n from : ℕ) (all : n ≡ length s.starts) (some : 0 < n) (e : from ≡ get_or s.starts (n - 1) 0) where
   pub arg_within : IsStore s → from ≤ length s.args
@@ -203,7 +207,7 @@ module _ (s : Store) (i n from : ℕ) (all : n ≡ length s.starts) (some : 0 < 
   arg_found =
       let xs = map (shape s) s.args in
       sym (slice_get-map (shape s) (drop from s.args) i)
-        ∙ ap (λ (ys : List Shape). slice_get ys i) (sym (drop-map (shape s) from s.args) ∙ ap (λ (k : ℕ). drop k xs) e ∙ sym (last_args-parts_at s.starts xs n all some))
+      ∙ ap (λ (ys : List Shape). slice_get ys i) (sym (drop-map (shape s) from s.args) ∙ ap (λ (k : ℕ). drop k xs) e ∙ sym (last_args-parts_at s.starts xs n all some))
 
   pub arg_lives : IsStore s → IfSome (slice_get (drop from s.args) i) (IsLiving s)
   unfolding IsLiving

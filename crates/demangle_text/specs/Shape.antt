@@ -1,5 +1,5 @@
 -- What a piece stands for: a shape, its text, and the steps on shapes.
-use Rattle.std.specs.Prelude.{ℕ, ◌+◌, ◌-◌, ◌==◌, ◌||◌, Bool, true, false, if◌then◌else◌, List, [], ◌∷◌, ◌++◌, length, take, drop, slice_range, slice_get, nat_le, Option, Some, None}
+use Rattle.std.specs.Prelude.{ℕ, ◌+◌, ◌-◌, ◌==◌, ◌||◌, Bool, true, false, if◌then◌else◌, List, [], ◌∷◌, ◌++◌, length, take, drop, slice_range, slice_get, nat_le, min, Option, Some, None}
 use Rattle.demangle_text.specs.declared.shape.Kind.{Kind}
 use Rattle.demangle_text.specs.declared.shape.Kind.TheVariants.{Array, Function}
 use Rattle.demangle_text.specs.declared.shape.Place.{Place}
@@ -88,10 +88,7 @@ appended bytes s = inserted End bytes s
 abbrev pub shortened : ℕ → Shape → Shape
 shortened n s =
     let left = text_len s - n in
-    record s { form = Plain (take left (text s)); own = (min_of s.own.0 left, min_of s.own.1 left) }
-  where
-    min_of : ℕ → ℕ → ℕ
-    min_of a b = if nat_le a b then a else b
+    record s { form = Plain (take left (text s)); own = (min s.own.0 left, min s.own.1 left) }
 
 -- two texts with bytes between them
 abbrev pub joined : Shape → List ℕ → Shape → Shape

@@ -32,22 +32,7 @@ impl Model for Buffer {
     ghost invariant = { IsConsistent };
 }
 
-#[tactic(
-    auto,
-    using(crate::proofs::States::states),
-    unfolding(
-        crate::specs::State::IsLiving,
-        crate::specs::State::shape,
-        crate::specs::State::saved,
-        crate::specs::State::scopes,
-        crate::specs::State::frame,
-        crate::specs::State::inside,
-        crate::specs::State::outside,
-        crate::specs::State::outermost,
-        crate::specs::State::IsOlder,
-        crate::specs::State::IsAsOld,
-    ),
-)]
+#[tactic(auto, using(crate::proofs::States::states), unfolding(crate::specs::State::IsLiving, crate::specs::State::shape, crate::specs::State::saved, crate::specs::State::scopes, crate::specs::State::frame, crate::specs::State::inside, crate::specs::State::outside, crate::specs::State::outermost, crate::specs::State::IsOlder, crate::specs::State::IsAsOld,),)]
 impl Buffer {
     ghost use Rattle.demangle_text.specs.State.{IsLiving, shape, saved, scopes, frame, inside, outside, outermost, Lives, KeepsAll, SameFrame, SameLists, IsEdit, Opens, Closes, last_args, with_arg, IsAsOld};
     ghost use Rattle.demangle_text.specs.Shape.{text, text_len, form_text, plain_shape, inserted, appended, opened_group, joined, shortened, CanInsert, IsPlain, IsDeclared, flagged, with_own, flattened, whole_shape, own_shape, IsNotFunction, kind_of, group_of, after_of, declared_at, declared_group};
@@ -206,15 +191,7 @@ impl Buffer {
         let old = self.bytes(piece);
         let left = old.len() - n;
         let text = Vec::from_slice(self.alloc, &old[..left])?;
-        let own = (piece.marks.own.0.min(left), piece.marks.own.1.min(left));
-        self.add(
-            text,
-            Marks {
-                layout: Layout::Flat,
-                own,
-                ..piece.marks
-            },
-        )
+        self.add(text, piece.marks.cut(left))
     }
 
     /// A plain piece: the text of the first piece, the bytes, and the text of the second. Its last own name
@@ -374,14 +351,14 @@ impl Buffer {
         ensures shape { Lives self.now result (own_shape (shape self.now piece)) }
         ensures age { IsAsOld piece result }
     {
-        let (from, to) = piece.marks.own;
+        let Marks { own, .. } = piece.marks;
         Piece {
             span: Span {
                 text: piece.span.text,
-                from: piece.span.from + from,
-                to: piece.span.from + to,
+                from: piece.span.from + own.0,
+                to: piece.span.from + own.1,
             },
-            marks: Marks::whole(to - from),
+            marks: Marks::whole(own.1 - own.0),
         }
     }
 
@@ -489,7 +466,7 @@ impl Buffer {
         ensures shape { option_map (shape self.now) result ≡ slice_get (last_args (scopes self.now)) i }
         ensures living { IfSome result (IsLiving self.now) }
     {
-        let count = self.starts.len();
+        let count = self.scopes();
         if count == 0 {
             return None;
         }
@@ -511,7 +488,7 @@ impl Buffer {
         ensures saved { saved self.new ≡ saved self.old }
         ensures kept { SameFrame self.old self.new }
     {
-        if n < self.starts.len() {
+        if n < self.scopes() {
             let start = self.starts[n];
             self.args.truncate(start);
             self.starts.truncate(n);

@@ -1,5 +1,5 @@
 //! Pieces: how their texts are cut into the parts of a shape, and where the last own name lies.
-ghost use Rattle.std.specs.Prelude.{◌≡◌, ℕ, ◌+◌, ◌^◌, ◌<◌, ◌≤◌, if◌then◌else◌, false, Option, None, Some};
+ghost use Rattle.std.specs.Prelude.{◌≡◌, ℕ, ◌+◌, ◌^◌, ◌<◌, ◌≤◌, if◌then◌else◌, false, min};
 ghost use Rattle.demangle_text.specs.Pieces.{place_at, layout_with, layout_opened, layout_end, own_at, own_of};
 ghost use Rattle.demangle_text.specs.Shape.{moved};
 
@@ -186,6 +186,18 @@ impl Marks {
         Marks {
             layout: self.layout.with_group(n, m),
             own: self.own_moved(at, n, len),
+            ..self
+        }
+    }
+
+    // The marks of a plain text of which the first `len` bytes are left.
+    pub(crate) fn cut(self, len: usize) -> Marks
+        ensures value { result ≡ record self { layout = Layout.Flat; own = (min self.own.0 len, min self.own.1 len) } }
+    {
+        let (from, to) = self.own;
+        Marks {
+            layout: Layout::Flat,
+            own: (from.min(len), to.min(len)),
             ..self
         }
     }

@@ -54,5 +54,5 @@ returns-clause-shape c =
       ctor = c.with_group-marks.ensures.ctor;
     } in
     let e = shape-opened c.args.bytes.now c.bytes-old.result.now _ c.args.piece.marks _ c.place-at.result h can i
-      ∙ ap (λ (t : List ℕ). opened_group c.args.bytes.now (shape_of t c.args.piece.marks)) t_is in
+    ∙ ap (λ (t : List ℕ). opened_group c.args.bytes.now (shape_of t c.args.piece.marks)) t_is in
     subst (λ (s : Shape). IfOk c.add.result (λ p. Lives c.add.new.self p s)) e c.add.ensures.shape
