@@ -2,7 +2,8 @@
 use Rattle.std.specs.Prelude.{ℕ, ◌+◌, ◌<◌, List, [], ◌∷◌, ◌++◌, length, map, take, drop, codes, Bool, true, false, not, ◌&&◌, ◌||◌, if◌then◌else◌, Option, Some, None, unwrap_or, nat_eq, decimal}
 use Rattle.std.specs.List.{ends_with}
 use Rattle.demangle_text.specs.declared.shape.Kind.TheVariants.{Array, Function}
-use Rattle.demangle_text.specs.declared.shape.Place.TheVariants.{Close, Suffix}
+use Rattle.demangle_text.specs.declared.shape.Place.{Place}
+use Rattle.demangle_text.specs.declared.shape.Place.TheVariants.{Close, Suffix, End}
 use Rattle.demangle_text.specs.Shape.{Shape, Form, Plain, Declared, form_text, text, text_len, plain_shape, appended, inserted, shortened, opened_group, declared_at, moved, whole_shape, is_plain}
 use Rattle.demangle_edit.specs.declared.quals.Quals.{Quals}
 use Rattle.demangle_edit.specs.declared.quals.Pointer.{Pointer}
@@ -37,21 +38,26 @@ wrapped Star s = pointed (pointer_text Star) s
 wrapped Left s = unwrap_or (collapsed false s) (pointed (pointer_text Left) s)
 wrapped Right s = unwrap_or (collapsed true s) (pointed (pointer_text Right) s)
 
--- words at the end of the group, of what is before an array's dimensions, or of the text
-abbrev pub worded_in : Form → List ℕ → Shape → Shape
-worded_in (Plain t) words s = appended words s
-worded_in (Declared Array before None after) words s = inserted Suffix words s
-worded_in (Declared Function before None after) words s = appended words s
-worded_in (Declared k before (Some group) after) words s = inserted Close words s
+-- where the words of qualifiers go: the end of the group, of what is before an array's dimensions, or of
+-- the text
+abbrev pub cv_place : Form → Place
+cv_place (Plain t) = End
+cv_place (Declared k before (Some group) after) = Close
+cv_place (Declared Array before None after) = Suffix
+cv_place (Declared Function before None after) = End
 
 -- the type with the words of its qualifiers
 abbrev pub cv_wrapped : Quals → Shape → Shape
-cv_wrapped quals s = worded_in s.form (words_text quals) s
+cv_wrapped quals s = inserted (cv_place s.form) (words_text quals) s
 
--- `[n]`, or `[]` where the dimension isn't known
+-- the digits of a dimension, none where it isn't known
+abbrev pub extent_text : Option ℕ → List ℕ
+extent_text None = []
+extent_text (Some n) = decimal n
+
+-- `[n]`, or `[]`
 abbrev pub dimension : Option ℕ → List ℕ
-dimension None = codes "[]"
-dimension (Some n) = codes "[" ++ (decimal n ++ codes "]")
+dimension dim = codes "[" ++ (extent_text dim ++ codes "]")
 
 -- a dimension behind a plain text, at the end of a group, or in front of the dimensions that an array has
 abbrev pub dimensioned_in : Form → Option ℕ → Shape → Shape
@@ -88,6 +94,11 @@ HasDimension (Declared Array before None after) = 0 < length after
 -- a space behind a text that ends in neither `(` nor a space
 abbrev pub member_gap : List ℕ → List ℕ
 member_gap t = if ends_with nat_eq t (codes "(") || ends_with nat_eq t (codes " ") then [] else codes " "
+
+-- what stands after the group of a declarator
+abbrev pub after_text : Form → List ℕ
+after_text (Plain t) = []
+after_text (Declared k before group after) = after
 
 -- no type is a member pointer to an array
 abbrev pub has_member : Form → Bool

@@ -48,7 +48,7 @@ pub fn qualify_ctor(buf: &mut Buffer, scope: Piece, destructor: bool) -> Result<
 }
 
 // A range of a text of this length, when n bytes are put behind the text.
-fn range_before(own: (usize, usize), len: usize, n: usize) -> (usize, usize)
+pub(crate) fn range_before(own: (usize, usize), len: usize, n: usize) -> (usize, usize)
     requires ordered { own.0 ≤ own.1 }
     requires within { own.1 ≤ len }
     requires fits { len + n < 2 ^ 64 }
