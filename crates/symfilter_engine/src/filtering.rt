@@ -22,8 +22,8 @@ pub fn filter<R: Source, W: Sink>(
     reader: &mut R,
     writer: &mut W,
 ) -> Result<(), FilterFault>
-    requires reader_sound { R.failed reader.old ≡ false }
-    requires writer_sound { W.failed writer.old ≡ false }
+    requires reader_not_failed { R.failed reader.old ≡ false }
+    requires writer_not_failed { W.failed writer.old ≡ false }
     ensures read { IsErrOf result FilterFault.Read ↔ IsTrue (R.failed reader.new) }
     ensures write { IsErrOf result FilterFault.Write ↔ IsTrue (W.failed writer.new) }
 
@@ -45,8 +45,8 @@ fn filter_by_chunks<R: Source, W: Sink>(
     writer: &mut W,
     chunk: &mut [u8],
 ) -> Result<(), FilterFault>
-    requires reader_sound { R.failed reader.old ≡ false }
-    requires writer_sound { W.failed writer.old ≡ false }
+    requires reader_not_failed { R.failed reader.old ≡ false }
+    requires writer_not_failed { W.failed writer.old ≡ false }
     requires room { 0 < length chunk.old }
     ensures outcome { IsRunOutcome result (R.failed reader.new) (W.failed writer.new) }
     ensures used_up { OnOk result (IfSome (R.remaining reader.old) (λ _. R.remaining reader.new ≡ Some [])) }
@@ -73,8 +73,8 @@ fn copy_lines<R: Source, W: Sink>(
     writer: &mut W,
     chunk: &mut [u8],
 ) -> Result<(), FilterFault>
-    requires reader_sound { R.failed reader.old ≡ false }
-    requires writer_sound { W.failed writer.old ≡ false }
+    requires reader_not_failed { R.failed reader.old ≡ false }
+    requires writer_not_failed { W.failed writer.old ≡ false }
     requires room { 0 < length chunk.old }
     requires no_line { line.old.items ≡ [] }
     ensures outcome { IsRunOutcome result (R.failed reader.new) (W.failed writer.new) }

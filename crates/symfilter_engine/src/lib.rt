@@ -12,3 +12,6 @@ pub use ends::{Failed, Sink, Source};
 pub use fault::FilterFault;
 pub use filtering::filter;
 pub use tally::Tally;
+
+#[cfg(test)]
+mod tests;

@@ -52,7 +52,7 @@ pub(crate) fn write_line<W: Sink>(
     end: &[u8],
     writer: &mut W,
 ) -> Result<(), FilterFault>
-    requires { W.failed writer.old ≡ false }
+    requires not_failed { W.failed writer.old ≡ false }
     ensures outcome { IsWriteOutcome result (W.failed writer.new) }
     ensures ok { OnOk result (WritesLine line.now end.now (W.taken writer.old) (W.taken writer.new)) }
     ensures err { OnErr result (WritesLineFront line.now end.now (W.taken writer.old) (W.taken writer.new)) }
@@ -70,7 +70,7 @@ pub(crate) fn write_lines<W: Sink>(
     bytes: &[u8],
     writer: &mut W,
 ) -> Result<(), FilterFault>
-    requires sound { W.failed writer.old ≡ false }
+    requires not_failed { W.failed writer.old ≡ false }
     requires unended { HasNoLineFeed line.old.items }
     ensures outcome { IsWriteOutcome result (W.failed writer.new) }
     ensures ok { OnOk result (HasFiltered (line.old.items ++ bytes.now) line.new.items

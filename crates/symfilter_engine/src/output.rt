@@ -10,7 +10,7 @@ use super::fault::FilterFault;
 /// Writes all the bytes.
 #[tactic(auto, using(crate::proofs::Writing::none_written, crate::proofs::Writing::more_written, crate::proofs::Writing::none_more))]
 pub(crate) fn put_all<W: Sink>(writer: &mut W, bytes: &[u8]) -> Result<(), FilterFault>
-    requires { W.failed writer.old ≡ false }
+    requires not_failed { W.failed writer.old ≡ false }
     ensures outcome { IsWriteOutcome result (W.failed writer.new) }
     ensures ok { OnOk result (Appends (W.taken writer.old) (W.taken writer.new) bytes.now) }
     ensures err { OnErr result (WritesFront bytes.now (W.taken writer.old) (W.taken writer.new)) }

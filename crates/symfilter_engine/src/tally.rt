@@ -1,5 +1,7 @@
 //! A source over a reader of std, and a sink over a writer.
-ghost use Rattle.std.specs.Prelude.{◌≡◌, ℕ, List, Bool, true, false, Option, None, ◌<◌, ◌≤◌, ◌-◌, ◌^◌, length, take, IfOk, OnOk, OnErr};
+ghost use Rattle.std.specs.Prelude.{◌≡◌, true, false, ◌+◌, ◌-◌, ◌^◌, OnOk, OnErr};
+ghost use Rattle.std.specs.Io.{ReadsAtMost};
+ghost use Rattle.std.specs.Io.KnownBytes.{ReadConsumes};
 
 use super::ends::{Failed, Sink, Source};
 use std::io::{Read, Write};
@@ -18,7 +20,7 @@ impl<D> Tally<D> {
     /// It hasn't failed, and 2^64 - 1 reads are left.
     pub fn new(inner: D) -> Self
         ensures inner { inner_of result ≡ inner }
-        ensures sound { has_failed result ≡ false }
+        ensures not_failed { has_failed result ≡ false }
         ensures reads { reads_left result ≡ 2 ^ 64 - 1 }
     {
         Tally {
@@ -43,7 +45,14 @@ impl<D: Read> Source for Tally<D> {
         self.failed
     }
 
-    fn take(&mut self, into: &mut [u8]) -> Result<usize, Failed> {
+    fn take(&mut self, into: &mut [u8]) -> Result<usize, Failed>
+        ensures bound { ReadsAtMost result into.new }
+        ensures bytes { ReadConsumes (D.remaining (inner_of self.old)) (D.remaining (inner_of self.new))
+            result into.new }
+        ensures counted { OnOk result (reads_left self.new + 1 ≡ reads_left self.old) }
+        ensures fails { OnErr result (has_failed self.new ≡ true) }
+        ensures stays { OnOk result (has_failed self.new ≡ has_failed self.old) }
+    {
         if self.reads_left == 0 {
             self.failed = true;
             return Err(Failed);

@@ -6,8 +6,8 @@ use Rattle.symfilter_engine.proofs.filtering.copy_lines.Goals as goal
 pub loop-count-init : goal.loop-count-init
 loop-count-init g c =
     record {
-      reader_sound = c.requires.reader_sound;
-      writer_sound = c.requires.writer_sound;
+      reader_not_failed = c.requires.reader_not_failed;
+      writer_not_failed = c.requires.writer_not_failed;
       unended = no_line_feed _ c.requires.no_line;
       so_far = none_copied _ _ _ c.requires.no_line;
     }
@@ -18,8 +18,8 @@ returns-in-Err-clause-err g c = read_fault _ _ _ _ _ _ c.loop-count.invariant.so
 pub loop-count-preserved : goal.loop-count-preserved
 loop-count-preserved g c =
     record {
-      reader_sound = c.in-Ok.ensures.stays ∙ c.loop-count.invariant.reader_sound;
-      writer_sound = c.in_ok-write_lines.ensures.outcome;
+      reader_not_failed = c.in-Ok.ensures.stays ∙ c.loop-count.invariant.reader_not_failed;
+      writer_not_failed = c.in_ok-write_lines.ensures.outcome;
       unended = c.in_ok-write_lines.ensures.still_unended;
       so_far = chunk_copied _ _ _ _ _ _ _ _ _ c.loop-count.invariant.so_far c.in-Ok.ensures.gives c.in_ok-write_lines.ensures.ok;
     }

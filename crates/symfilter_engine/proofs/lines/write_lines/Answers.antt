@@ -5,7 +5,7 @@ use Rattle.symfilter_engine.proofs.lines.write_lines.Goals as goal
 
 pub loop-end-init : goal.loop-end-init
 loop-end-init g c =
-    record { sound = c.requires.sound; unended = c.requires.unended; so_far = none_filtered _ _ }
+    record { not_failed = c.requires.not_failed; unended = c.requires.unended; so_far = none_filtered _ _ }
 
 pub returns-in_err-extend_from_slice-clause-err : goal.returns-in_err-extend_from_slice-clause-err
 returns-in_err-extend_from_slice-clause-err g c = at_fault _ (filtered_begins _ _ _ _ c.loop-end.invariant.so_far)
@@ -17,7 +17,7 @@ returns-in_err-write_line-clause-err g c =
 pub loop-end-preserved : goal.loop-end-preserved
 loop-end-preserved g c =
     record {
-      sound = search rules;
+      not_failed = search rules;
       unended = grind (arith, common_steps);
       so_far = turn_filtered _ _ c.loop-end.rest.now c.deref.result.now _ c.in-Some.end _ (g.W.Sink.taken c.loop-end.writer) _ c.loop-end.invariant.so_far c.loop-end.invariant.unended c.in-Some.ensures.found (grind (arith, common_steps)) c.in_ok-write_line.ensures.ok (grind (arith, common_steps));
     }

@@ -6,7 +6,7 @@ use Rattle.symfilter_engine.proofs.lines.write_lines.Given as goal
 abbrev pub invariant-loop-end : goal.invariant-loop-end
 invariant-loop-end g l =
     record {
-      sound : g.W.Sink.failed l.writer ≡ false;
+      not_failed : g.W.Sink.failed l.writer ≡ false;
       unended : HasNoLineFeed l.line.items;
       so_far : HasFiltered (l.fn.line.items ++ l.bytes) (l.line.items ++ l.rest) (g.W.Sink.taken l.fn.writer) (g.W.Sink.taken l.writer);
     }

@@ -6,6 +6,6 @@ use Rattle.symfilter_engine.proofs.output.put_all.Goals as goal
 pub loop-rest-preserved : goal.loop-rest-preserved
 loop-rest-preserved g c =
     record {
-      sound = c.in-Ok.ensures.stays ∙ c.loop-rest.invariant.sound;
+      not_failed = c.in-Ok.ensures.stays ∙ c.loop-rest.invariant.not_failed;
       so_far = more_written _ c.loop-rest.rest.now _ c.in-Ok.count _ _ _ c.loop-rest.invariant.so_far (grind (arith, common_steps)) c.in-Ok.ensures.takes;
     }

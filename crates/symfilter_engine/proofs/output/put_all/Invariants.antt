@@ -5,7 +5,7 @@ use Rattle.symfilter_engine.proofs.output.put_all.Given as goal
 abbrev pub invariant-loop-rest : goal.invariant-loop-rest
 invariant-loop-rest g l =
     record {
-      sound : g.W.Sink.failed l.writer ≡ false;
+      not_failed : g.W.Sink.failed l.writer ≡ false;
       so_far : WritesUpTo l.bytes l.rest (g.W.Sink.taken l.fn.writer) (g.W.Sink.taken l.writer);
     }
 
