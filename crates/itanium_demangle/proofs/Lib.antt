@@ -6,3 +6,4 @@ pub mod One
 pub mod Complete
 pub mod Sound
 pub mod Whole
+pub mod Rows

@@ -6,3 +6,4 @@ pub mod Reading
 pub mod Outcome
 pub mod Answer
 pub mod Kept
+pub mod Rows

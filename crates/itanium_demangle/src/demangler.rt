@@ -1,5 +1,5 @@
 //! One value that answers symbol after symbol.
-ghost use Rattle.std.specs.Prelude.{◌≡◌, IfOk, OnErr, option_map, is_some, false};
+ghost use Rattle.std.specs.Prelude.{◌≡◌, IfOk, OnErr, option_map, is_some, false, None};
 ghost use Rattle.std.specs.String.{string_bytes};
 ghost use Rattle.std.specs.Str.{IsUtf8};
 ghost use Rattle.demangle_text.specs.State.{IsLiving, shape};
@@ -12,7 +12,7 @@ use crate::context::OUTSIDE;
 use crate::reader::Reader;
 use demangle_text::Buffer;
 use std::alloc::{AllocError, Global};
-use std::fmt::{self, Debug, Formatter};
+use std::fmt::{self, Debug, Formatter, Write};
 use std::marker::Model;
 use std::str::from_utf8;
 
@@ -134,5 +134,19 @@ impl Demangler {
     {
         self.prepare(alloc, symbol)?;
         Ok(self.text())
+    }
+}
+
+impl Default for Demangler {
+    ghost is_default = { λ value. value.text ≡ None };
+
+    fn default() -> Self {
+        Demangler::new()
+    }
+}
+
+impl Debug for Demangler {
+    fn fmt<W: Write>(&self, f: &mut Formatter<W>) -> fmt::Result {
+        f.write_str("Demangler")
     }
 }

@@ -4,6 +4,7 @@
 mod context;
 mod demangler;
 mod forms;
+pub mod laws;
 mod names;
 mod reader;
 pub mod scalar;
