@@ -5,6 +5,8 @@ mod lists;
 mod names;
 mod parts;
 mod quals;
+#[cfg(test)]
+mod tests;
 mod types;
 
 pub use crate::lists::glue;

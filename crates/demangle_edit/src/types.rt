@@ -234,14 +234,14 @@ fn append_member(buf: &mut Buffer, class: Piece, member: Piece) -> Result<Piece,
 {
     let before = buf.len(member);
     let own = buf.own_range(member);
-    let (templ, ctor) = (buf.templ(member), buf.ctor(member));
+    let flags = (buf.templ(member), buf.ctor(member));
     let gap = gap_before_member(buf.bytes(member));
     let begun = buf.join(member, gap, class)?;
     let whole = buf.append(begun, b"::*")?;
     let len = buf.len(whole);
     let (from, to) = range_before(own, before, len - before);
     let named = buf.own_at(whole, from, to);
-    Ok(buf.with_flags(named, templ, ctor))
+    Ok(buf.with_flags(named, flags.0, flags.1))
 }
 
 // What opens a group behind a text: a space unless the text is empty or ends in a space, `(` or `*`, and `(`.
