@@ -1,13 +1,12 @@
 -- Arrays, put together step by step.
-use Rattle.std.proofs.Common.{◌≡◌, ℕ, ◌+◌, ◌<◌, Bool, true, false, Option, Some, None, List, [], ◌∷◌, ◌++◌, length, take, drop, codes, sym, ap, ◌∙◌, refl, arith, append_assoc, is_some, subst, ◌≤◌}
+use Rattle.std.proofs.Common.{◌≡◌, ℕ, ◌+◌, ◌<◌, false, Option, Some, None, List, [], ◌++◌, length, take, drop, codes, sym, ap, ◌∙◌, refl, arith, append_assoc, is_some, subst, ◌≤◌}
 use Rattle.std.proofs.Math.Seq.{take-append-add, drop-append-add}
 use Rattle.std.proofs.lemmas.List.{length-append, length-take-le, append-nil}
 use Rattle.demangle_text.specs.declared.shape.Kind.TheVariants.{Array, Function}
-use Rattle.demangle_text.specs.declared.shape.Place.TheVariants.{Start, Suffix, End}
-use Rattle.demangle_text.specs.Shape.{Form, Plain, Declared, Shape, form_text, text, inserted, declared_at, flattened, text_len, IsPlain, moved, kind_of, group_of, after_of}
+use Rattle.demangle_text.specs.declared.shape.Place.TheVariants.{Suffix, End}
+use Rattle.demangle_text.specs.Shape.{Form, Plain, Declared, Shape, form_text, inserted, declared_at, flattened, text_len, IsPlain, moved, kind_of, group_of, after_of}
 use Rattle.demangle_edit.specs.Types.{dimension, array_shape, HasDimension}
 use Rattle.demangle_edit.proofs.Cuts.{take_front, drop_front}
-use Rattle.demangle_edit.proofs.Appends.{can_again}
 
 -- the text behind `before`, when a dimension is inserted behind the first byte of `after`
 outer_text : (before after dim : List ℕ) → take (length before + 1) (before ++ after) ++ dim ++ drop (length before + 1) (before ++ after) ≡ before ++ (take 1 after ++ (dim ++ drop 1 after))

@@ -1,10 +1,10 @@
 -- The shapes of types, and which types there are.
-use Rattle.std.specs.Prelude.{ℕ, ◌+◌, ◌<◌, List, [], ◌∷◌, ◌++◌, length, map, take, drop, codes, Bool, true, false, not, ◌&&◌, ◌||◌, if◌then◌else◌, Option, Some, None, unwrap_or, nat_eq, decimal}
+use Rattle.std.specs.Prelude.{ℕ, ◌+◌, ◌<◌, List, [], ◌++◌, length, map, take, drop, codes, Bool, true, false, not, ◌&&◌, ◌||◌, if◌then◌else◌, Option, Some, None, unwrap_or, nat_eq, decimal}
 use Rattle.std.specs.List.{ends_with}
 use Rattle.demangle_text.specs.declared.shape.Kind.TheVariants.{Array, Function}
 use Rattle.demangle_text.specs.declared.shape.Place.{Place}
 use Rattle.demangle_text.specs.declared.shape.Place.TheVariants.{Close, Suffix, End}
-use Rattle.demangle_text.specs.Shape.{Shape, Form, Plain, Declared, form_text, text, text_len, plain_shape, appended, inserted, shortened, opened_group, declared_at, moved, whole_shape, is_plain}
+use Rattle.demangle_text.specs.Shape.{Shape, Form, Plain, Declared, text, appended, inserted, shortened, opened_group, declared_at, moved, whole_shape, is_plain}
 use Rattle.demangle_edit.specs.declared.quals.Quals.{Quals}
 use Rattle.demangle_edit.specs.declared.quals.Pointer.{Pointer}
 use Rattle.demangle_edit.specs.declared.quals.Pointer.TheVariants.{Star, Left, Right}
