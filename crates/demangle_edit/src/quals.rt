@@ -11,8 +11,8 @@ pub enum Reference {
     Right,
 }
 
-/// The qualifiers of a type, of a member function's name or of a function type: the ABI's `<CV-qualifiers>`,
-/// and a reference qualifier if there is one.
+/// The qualifiers of a type, of a member function's name or of a function type: the ABI's
+/// `<CV-qualifiers>`, and a reference qualifier if there is one.
 #[derive(Clone, Copy, Debug, PartialEq, Eq)]
 pub struct Quals {
     /// `const`
