@@ -67,7 +67,7 @@ dimensioned_in (Declared Function before None after) dim s = s
 dimensioned_in (Declared Array before None after) dim s =
     record s {
       form = Declared Array before None (take 1 after ++ (dimension dim ++ drop 1 after));
-      own = moved (length before + 1) (length (dimension dim)) s.own;
+      own = moved (length (before ++ take 1 after)) (length (dimension dim)) s.own;
     }
 
 abbrev pub array_shape : Option ℕ → Shape → Shape
@@ -83,13 +83,6 @@ has_array (Declared Function before None after) = false
 -- the array of the type, where there is one
 abbrev pub arrayed : Option ℕ → Shape → Option Shape
 arrayed dim s = if has_array s.form then Some (array_shape dim s) else None
-
--- an array without group has a text after it
-abbrev pub HasDimension : Form → Type 0
-HasDimension (Plain t) = Unit {0}
-HasDimension (Declared Function before group after) = Unit {0}
-HasDimension (Declared Array before (Some group) after) = Unit {0}
-HasDimension (Declared Array before None after) = 0 < length after
 
 -- a space behind a text that ends in neither `(` nor a space
 abbrev pub member_gap : List ℕ → List ℕ

@@ -3,7 +3,7 @@ ghost use Rattle.std.specs.Prelude.{◌≡◌, ◌≢◌, ◌++◌, All, map, co
 ghost use Rattle.demangle_text.specs.Shape.{CanInsert, IsPlain, IsDeclared, text, plain_shape, inserted, kind_of, group_of, gap_after, front_text};
 ghost use Rattle.demangle_text.specs.State.{IsLiving, shape, Lives, IsEdit, KeepsAll};
 ghost use Rattle.demangle_edit.specs.Answers.{Answers, OnNone};
-ghost use Rattle.demangle_edit.specs.Types.{pointed, collapsed, wrapped, cv_place, cv_wrapped, extent_text, HasDimension, array_shape, arrayed, member_gap, after_text, member_shape, membered, function_of};
+ghost use Rattle.demangle_edit.specs.Types.{pointed, collapsed, wrapped, cv_place, cv_wrapped, extent_text, array_shape, arrayed, member_gap, after_text, member_shape, membered, function_of};
 
 use crate::lists::list_pieces;
 use crate::names::range_before;
@@ -166,14 +166,14 @@ fn outer_dimension(buf: &mut Buffer, elem: Piece, dim: Option<u64>) -> Result<Pi
     requires living { IsLiving buf.old elem }
     requires kind { kind_of (shape buf.old elem).form ≡ Some Kind.Array }
     requires group { is_some (group_of (shape buf.old elem).form) ≡ false }
-    requires dimension { HasDimension (shape buf.old elem).form }
     ensures shape { IfOk result (λ p. Lives buf.new p (array_shape dim (shape buf.old elem))) }
     ensures edit { OnOk result (IsEdit buf.old buf.new) }
 {
     let at = buf.after_at(elem).unwrap();
+    let len = buf.len(elem);
+    let behind = at + (len - at).min(1);
     let flat = buf.plain(elem);
-    let _len = buf.len(flat);
-    let cut = buf.declare(flat, Kind::Array, at + 1);
+    let cut = buf.declare(flat, Kind::Array, behind);
     let longer = insert_dimension(buf, cut, Place::Suffix, b"[", dim)?;
     let whole = buf.plain(longer);
     Ok(buf.declare(whole, Kind::Array, at))
@@ -192,7 +192,6 @@ pub fn wrap_array(
     dim: Option<u64>,
 ) -> Result<Option<Piece>, AllocError>
     requires elem { IsLiving buf.old elem }
-    requires dimension { HasDimension (shape buf.old elem).form }
     ensures shape { Answers result buf.new (arrayed dim (shape buf.old elem)) }
     ensures edit { OnOk result (IsEdit buf.old buf.new) }
     ensures none { OnNone result (KeepsAll buf.old buf.new) }
