@@ -1,0 +1,210 @@
+-- What a piece stands for: a shape, its text, and the steps on shapes.
+use Rattle.std.specs.Prelude.{ℕ, ◌+◌, ◌-◌, ◌==◌, ◌||◌, Bool, true, false, if◌then◌else◌, List, [], ◌∷◌, ◌++◌, length, take, drop, slice_range, slice_get, nat_le, min, Option, Some, None}
+use Rattle.demangle_text.specs.declared.shape.Kind.{Kind}
+use Rattle.demangle_text.specs.declared.shape.Kind.TheVariants.{Array, Function}
+use Rattle.demangle_text.specs.declared.shape.Place.{Place}
+use Rattle.demangle_text.specs.declared.shape.Place.TheVariants.{Start, Close, Suffix, End}
+
+-- a plain text, or a declarator: what stands before, the group if there is one, what stands after
+pub data Form : Type 0 where
+  Plain : List ℕ → Form
+  Declared : Kind → List ℕ → Option (List ℕ) → List ℕ → Form
+
+-- a form, the last own name as a range of its text, and whether it ends in template arguments
+-- or names a constructor
+pub record Shape : Type 0 where
+  pub form : Form
+  pub own : ℕ × ℕ
+  pub templ : Bool
+  pub ctor : Bool
+
+-- the group in its parentheses
+abbrev pub grouped : Option (List ℕ) → List ℕ
+grouped None = []
+grouped (Some group) = 40 ∷ group ++ 41 ∷ []
+
+-- the parts of a form, one after another
+abbrev pub form_text : Form → List ℕ
+form_text (Plain t) = t
+form_text (Declared k before group after) = before ++ (grouped group ++ after)
+
+-- the text of the whole shape
+abbrev pub text : Shape → List ℕ
+text s = form_text s.form
+
+-- how many bytes the text has
+abbrev pub text_len : Shape → ℕ
+text_len s = length (form_text s.form)
+
+-- a plain shape whose last own name is the whole text
+abbrev pub plain_shape : List ℕ → Shape
+plain_shape t = record { form = Plain t; own = (0, length t); templ = false; ctor = false }
+
+-- where an insertion goes
+abbrev pub place_in : Place → Form → ℕ
+place_in Start f = 0
+place_in End f = length (form_text f)
+place_in Close (Plain t) = length t
+place_in Close (Declared k before None after) = length before
+place_in Close (Declared k before (Some group) after) = length before + 1 + length group
+place_in Suffix (Plain t) = length t
+place_in Suffix (Declared k before group after) = length before
+
+-- the form with bytes at a place: at the end of a part, or in front of the first
+abbrev pub form_with : Place → List ℕ → Form → Form
+form_with Start bytes (Plain t) = Plain (bytes ++ t)
+form_with Start bytes (Declared k before group after) = Declared k (bytes ++ before) group after
+form_with End bytes (Plain t) = Plain (t ++ bytes)
+form_with End bytes (Declared k before group after) = Declared k before group (after ++ bytes)
+form_with Close bytes (Plain t) = Plain (t ++ bytes)
+form_with Close bytes (Declared k before None after) = Declared k (before ++ bytes) None after
+form_with Close bytes (Declared k before (Some group) after) = Declared k before (Some (group ++ bytes)) after
+form_with Suffix bytes (Plain t) = Plain (t ++ bytes)
+form_with Suffix bytes (Declared k before group after) = Declared k (before ++ bytes) group after
+
+-- a range when n bytes are inserted at a place: one that begins there or later moves on, of the
+-- others one that ends there or earlier stays, and one with the place inside grows
+abbrev pub moved : ℕ → ℕ → ℕ × ℕ → ℕ × ℕ
+moved at n (from, to) =
+    if nat_le at from then (from + n, to + n) else (if nat_le to at then (from, to) else (from, to + n))
+
+-- the last own name of a function is its whole text
+abbrev pub own_in : Form → ℕ × ℕ → ℕ × ℕ
+own_in (Plain t) own = own
+own_in (Declared Array before group after) own = own
+own_in (Declared Function before group after) own = (0, length (before ++ (grouped group ++ after)))
+
+-- the shape with bytes inserted at a place
+abbrev pub inserted : Place → List ℕ → Shape → Shape
+inserted place bytes s =
+    let form = form_with place bytes s.form in
+    record s { form = form; own = own_in form (moved (place_in place s.form) (length bytes) s.own) }
+
+-- `End` is the place of an append
+abbrev pub appended : List ℕ → Shape → Shape
+appended bytes s = inserted End bytes s
+
+-- without the last n bytes: the last own name is what is left of it
+abbrev pub shortened : ℕ → Shape → Shape
+shortened n s =
+    let left = text_len s - n in
+    record s { form = Plain (take left (text s)); own = (min s.own.0 left, min s.own.1 left) }
+
+-- two texts with bytes between them
+abbrev pub joined : Shape → List ℕ → Shape → Shape
+joined first bytes second = plain_shape (text first ++ bytes ++ text second)
+
+-- its text as a plain shape
+abbrev pub flattened : Shape → Shape
+flattened s = record s { form = Plain (text s) }
+
+-- with the whole text as its last own name
+abbrev pub whole_shape : Shape → Shape
+whole_shape s = record s { own = (0, text_len s) }
+
+-- its last own name as a plain shape
+abbrev pub own_shape : Shape → Shape
+own_shape s = plain_shape (slice_range (text s) s.own.0 s.own.1)
+
+-- with a range as its last own name
+abbrev pub with_own : ℕ → ℕ → Shape → Shape
+with_own from to s = record s { own = (from, to) }
+
+-- with these flags
+abbrev pub flagged : Bool → Bool → Shape → Shape
+flagged templ ctor s = record s { templ = templ; ctor = ctor }
+
+-- declared, with `after` from a byte on
+abbrev pub declared_at : Kind → ℕ → Shape → Shape
+declared_at kind at s =
+    let form = Declared kind (take at (text s)) None (drop at (text s)) in
+    record s { form = form; own = own_in form s.own }
+
+-- declared, with a group between the `(` at one byte and the `)` right before `after`
+abbrev pub declared_group : Kind → ℕ → ℕ → Shape → Shape
+declared_group kind from at s =
+    let form = Declared kind (take from (text s)) (Some (slice_range (text s) (from + 1) (at - 1))) (drop at (text s)) in
+    record s { form = form; own = own_in form s.own }
+
+-- a space, `(` or `*`, which a group follows with no gap
+abbrev pub joins_group : ℕ → Bool
+joins_group byte = byte == 32 || byte == 40 || byte == 42
+
+-- the gap behind the last byte of a text, if it has one: nothing, or a space
+abbrev pub gap_behind : Option ℕ → List ℕ
+gap_behind None = []
+gap_behind (Some byte) = if joins_group byte then [] else 32 ∷ []
+
+-- the gap between a text and a group
+abbrev pub gap_after : List ℕ → List ℕ
+gap_after t = gap_behind (slice_get t (length t - 1))
+
+-- all text up to `after`
+abbrev pub front_text : Form → List ℕ
+front_text (Plain t) = t
+front_text (Declared k before group after) = before ++ grouped group
+
+-- all text up to `after` stands before a new group
+abbrev pub opened_form : List ℕ → Form → Form
+opened_form bytes (Plain t) = Plain t
+opened_form bytes (Declared k before group after) =
+    Declared k ((before ++ grouped group) ++ gap_after (before ++ grouped group)) (Some bytes) after
+
+-- the last own name when the gap and the new group are inserted in front of `after`
+abbrev pub opened_own : List ℕ → Form → ℕ × ℕ → ℕ × ℕ
+opened_own bytes (Plain t) own = own
+opened_own bytes (Declared k before group after) own =
+    moved (length (before ++ grouped group)) (length (gap_after (before ++ grouped group) ++ grouped (Some bytes))) own
+
+-- a declarator with a new group; a plain shape is left as it is
+abbrev pub opened_group : List ℕ → Shape → Shape
+opened_group bytes s =
+    let form = opened_form bytes s.form in
+    record s { form = form; own = own_in form (opened_own bytes s.form s.own) }
+
+-- whether the form is a plain text
+abbrev pub is_plain : Form → Bool
+is_plain (Plain t) = true
+is_plain (Declared k before group after) = false
+
+-- the form is a plain text
+abbrev pub IsPlain : Form → Type 0
+IsPlain (Plain t) = Unit {0}
+IsPlain (Declared k before group after) = ⊥
+
+-- the form is a declarator
+abbrev pub IsDeclared : Form → Type 0
+IsDeclared (Plain t) = ⊥
+IsDeclared (Declared k before group after) = Unit {0}
+
+-- `Close` asks for a group, and `Suffix` for a declarator without one
+abbrev pub CanInsert : Place → Form → Type 0
+CanInsert Start f = Unit {0}
+CanInsert End f = Unit {0}
+CanInsert Close (Plain t) = ⊥
+CanInsert Close (Declared k before None after) = ⊥
+CanInsert Close (Declared k before (Some group) after) = Unit {0}
+CanInsert Suffix (Plain t) = ⊥
+CanInsert Suffix (Declared k before None after) = Unit {0}
+CanInsert Suffix (Declared k before (Some group) after) = ⊥
+
+-- `own_at` asks for another kind
+abbrev pub IsNotFunction : Form → Type 0
+IsNotFunction (Plain t) = Unit {0}
+IsNotFunction (Declared Array before group after) = Unit {0}
+IsNotFunction (Declared Function before group after) = ⊥
+
+-- what a declarator declares
+abbrev pub kind_of : Form → Option Kind
+kind_of (Plain t) = None
+kind_of (Declared k before group after) = Some k
+
+-- the group, without its parentheses
+abbrev pub group_of : Form → Option (List ℕ)
+group_of (Plain t) = None
+group_of (Declared k before group after) = group
+
+-- where `after` begins in the text
+abbrev pub after_of : Form → Option ℕ
+after_of (Plain t) = None
+after_of (Declared k before group after) = Some (length (before ++ grouped group))

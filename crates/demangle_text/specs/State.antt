@@ -1,0 +1,129 @@
+-- What a buffer is to its callers: the shapes of its pieces, its frames, its saved shapes and its scopes.
+use Rattle.std.specs.Prelude.{◌≡◌, ℕ, ◌<◌, List, [], ◌∷◌, ◌++◌, ◌-◌, length, drop, slice_range, slice_index_or, slice_set, map}
+use Rattle.demangle_text.specs.Shape.{Shape}
+use Rattle.demangle_text.specs.Pieces.{Store, IsPiece, shape_of, span_text}
+use Rattle.demangle_text.specs.declared.shape.Piece.{Piece}
+use Rattle.demangle_text.specs.declared.shape.Mark.{Mark}
+
+-- the piece lives in the buffer
+unfoldable pub IsLiving : Store → Piece → Type 0
+IsLiving b p = IsPiece b.texts p
+
+-- the shape that a living piece stands for
+unfoldable pub shape : Store → Piece → Shape
+shape b p = shape_of (span_text b.texts p.span) p.marks
+
+-- the saved shapes, the first one saved first
+unfoldable pub saved : Store → List Shape
+saved b = map (shape b) b.saved
+
+-- a list cut where its parts begin
+abbrev pub parts_at : {X : Type 0} → List ℕ → List X → List (List X)
+parts_at [] xs = []
+parts_at (start ∷ []) xs = drop start xs ∷ []
+parts_at (start ∷ next ∷ rest) xs = slice_range xs start next ∷ parts_at (next ∷ rest) xs
+
+-- the scopes, the outermost first, each with its arguments
+unfoldable pub scopes : Store → List (List Shape)
+scopes b = parts_at b.starts (map (shape b) b.args)
+
+-- a frame is the stretch of calls from one mark to the next
+unfoldable pub Frame : Type 0
+Frame = ℕ
+
+-- the frame of a buffer with no open mark
+unfoldable pub outermost : Frame
+unfolding Frame
+outermost = 0
+
+-- the frame inside the innermost open mark
+unfoldable pub frame : Store → Frame
+unfolding Frame
+frame b = b.frame
+
+-- the frame inside a mark, and the one outside it
+unfoldable pub inside : Mark → Frame
+unfolding Frame
+inside m = m.inside
+
+unfoldable pub outside : Mark → Frame
+unfolding Frame
+outside m = m.outside
+
+-- the piece was made before the frame began
+unfoldable pub IsOlder : Piece → Frame → Type 0
+unfolding Frame
+IsOlder p f = p.span.text < f
+
+-- what is answered for a piece was made when the piece was
+unfoldable pub IsAsOld : Piece → Piece → Type 0
+IsAsOld p q = (f : Frame) → IsOlder p f → IsOlder q f
+
+-- the piece lives with the shape
+pub record Lives (b : Store) (p : Piece) (s : Shape) : Type 0 where
+  pub living : IsLiving b p
+  pub shape_is : shape b p ≡ s
+
+-- every living piece keeps its shape
+abbrev pub KeepsPieces : Store → Store → Type 0
+KeepsPieces old new = (p : Piece) → IsLiving old p → Lives new p (shape old p)
+
+-- every living piece that was made before the frame keeps its shape
+abbrev pub KeepsOlder : Frame → Store → Store → Type 0
+KeepsOlder f old new = (p : Piece) → IsLiving old p → IsOlder p f → Lives new p (shape old p)
+
+-- both lists stay
+pub record SameLists (old new : Store) : Type 0 where
+  pub saved_same : saved new ≡ saved old
+  pub scopes_same : scopes new ≡ scopes old
+
+-- pieces and frame stay
+pub record SameFrame (old new : Store) : Type 0 where
+  pub pieces : KeepsPieces old new
+  pub frame_same : frame new ≡ frame old
+
+-- all stays
+pub record KeepsAll (old new : Store) : Type 0 where
+  pub pieces : KeepsPieces old new
+  pub frame_same : frame new ≡ frame old
+  pub lists : SameLists old new
+
+-- a step inside the innermost mark: what was made before it keeps its shape, and both lists stay
+pub record IsEdit (old new : Store) : Type 0 where
+  pub pieces : KeepsOlder (frame old) old new
+  pub frame_same : frame new ≡ frame old
+  pub lists : SameLists old new
+
+-- a run of calls inside the innermost mark: what was made before it keeps its shape, the lists may have changed
+pub record IsRun (old new : Store) : Type 0 where
+  pub pieces : KeepsOlder (frame old) old new
+  pub frame_same : frame new ≡ frame old
+
+-- a run of calls since a mark was opened: all that lived then keeps its shape, and is older than the mark
+pub record IsSince (old new : Store) (m : Mark) : Type 0 where
+  pub pieces : KeepsPieces old new
+  pub older : (p : Piece) → IsLiving old p → IsOlder p (inside m)
+  pub inside_is : frame new ≡ inside m
+  pub outside_is : outside m ≡ frame old
+
+-- a mark is opened: each living piece is older than it
+pub record Opens (old new : Store) (m : Mark) : Type 0 where
+  pub pieces : KeepsPieces old new
+  pub older : (p : Piece) → IsLiving old p → IsOlder p (inside m)
+  pub inside_is : frame new ≡ inside m
+  pub outside_is : outside m ≡ frame old
+  pub lists : SameLists old new
+
+-- a mark is closed: what was made before it keeps its shape
+pub record Closes (old new : Store) (m : Mark) : Type 0 where
+  pub pieces : KeepsOlder (inside m) old new
+  pub outside_is : frame new ≡ outside m
+  pub lists : SameLists old new
+
+-- the arguments of the last scope
+abbrev pub last_args : List (List Shape) → List Shape
+last_args scopes = slice_index_or scopes (length scopes - 1) []
+
+-- the last scope gains an argument
+abbrev pub with_arg : Shape → List (List Shape) → List (List Shape)
+with_arg s scopes = slice_set scopes (length scopes - 1) (last_args scopes ++ s ∷ [])

@@ -1,0 +1,16 @@
+-- What a buffer's fields mean.
+use Rattle.std.specs.Prelude.{List, map}
+use Rattle.demangle_text.specs.declared.buffer.Buffer.TheInside.{Inside}
+use Rattle.demangle_text.specs.Pieces.{Store, IsStore}
+
+abbrev pub store_of : Inside → Store
+store_of a = record {
+  texts = map (λ v. v.items) a.texts.items;
+  saved = a.saved.items;
+  args = a.args.items;
+  starts = a.starts.items;
+  frame = a.frame;
+}
+
+abbrev pub IsConsistent : Inside → Type 0
+IsConsistent a = IsStore (store_of a)
