@@ -13,7 +13,11 @@ fn main(rt: HostRuntime) -> ExitCode {
     let output = BufWriter::with_capacity(rt.alloc(), BUFFER_LEN, rt.stdout());
     let mut outcome = Err(FilterFault::Memory);
     if let (Ok(reader), Ok(mut writer)) = (input, output) {
-        outcome = filter(rt.alloc(), &mut Tally::new(reader), &mut Tally::new(&mut writer));
+        outcome = filter(
+            rt.alloc(),
+            &mut Tally::new(reader),
+            &mut Tally::new(&mut writer),
+        );
         if outcome.is_ok() && writer.flush().is_err() {
             outcome = Err(FilterFault::Write);
         }

@@ -52,16 +52,6 @@ read_fault line s s' s'' t t' so_far keeps =
       begins = filtered_begins so_far.read line t t' so_far.filtered;
     }
 
--- the reader is at its end
-pub end_copied : (chunk line : List ℕ) (s s' s'' t t' : Option (List ℕ))
-    → HasCopied line s s' t t' → Consumes s' s'' chunk → chunk ≡ [] → HasCopied line s s'' t t'
-end_copied chunk line s s' s'' t t' so_far consumes chunk_is =
-    record {
-      read = so_far.read;
-      consumed = subst (Consumes s s'') (append-nil so_far.read) (Consumes-trans s s' s'' so_far.read [] so_far.consumed (subst (Consumes s' s'') chunk_is consumes));
-      filtered = so_far.filtered;
-    }
-
 -- a reader at its end has no byte left
 pub at_end : (s s' : Option (List ℕ)) (read : List ℕ) → Consumes s s' read → IsAtEnd s' → IfSome s (λ _. s' ≡ Some [])
 at_end None s' read consumes ends = tt

@@ -16,7 +16,7 @@ AreLinesFiltered-append {lines} {text} first (one_more {lines = lines'} {text = 
     (one_more (AreLinesFiltered-append first before) unended_line is_answer))
 
 -- bytes after lines
-pub IsFiltered-append : {lines text given text' : List ℕ} → AreLinesFiltered lines text → IsFiltered given text' → IsFiltered (lines ++ given) (text ++ text')
+IsFiltered-append : {lines text given text' : List ℕ} → AreLinesFiltered lines text → IsFiltered given text' → IsFiltered (lines ++ given) (text ++ text')
 IsFiltered-append first (ended more) = ended (AreLinesFiltered-append first more)
 IsFiltered-append {lines} {text} first (unended {lines = lines'} {text = text'} {line = line} {answer = answer} before some unended_line is_answer) =
     subst (λ l. IsFiltered l (text ++ (text' ++ answer))) (append_assoc lines lines' line)
@@ -33,7 +33,7 @@ pub none_filtered : (given : List ℕ) (at : Option (List ℕ)) → HasFiltered 
 none_filtered given at = record { lines = []; text = []; given_is = refl; filtered = no_line; written = Appends-nil at }
 
 -- one more line of what was left
-pub line_filtered : (given line left : List ℕ) (before mid after : Option (List ℕ))
+line_filtered : (given line left : List ℕ) (before mid after : Option (List ℕ))
     → HasFiltered given (line ++ line_feed ∷ left) before mid → HasNoLineFeed line → WritesLine line (line_feed ∷ []) mid after
     → HasFiltered given left before after
 line_filtered given line left before mid after so_far unended_line (answer, is_answer, writes) =
@@ -51,7 +51,7 @@ filtered_begins given left before after so_far =
     (so_far.text, of_lines left so_far.given_is so_far.filtered ([], sym (append-nil so_far.text)), so_far.written)
 
 -- a front of one more line
-pub line_begins : (given line left : List ℕ) (before mid after : Option (List ℕ))
+line_begins : (given line left : List ℕ) (before mid after : Option (List ℕ))
     → HasFiltered given (line ++ line_feed ∷ left) before mid → HasNoLineFeed line → WritesLineFront line (line_feed ∷ []) mid after
     → WritesBeginning given before after
 line_begins given line left before mid after so_far unended_line (nothing keeps) =
@@ -79,7 +79,7 @@ piece_filtered given piece left left' before mid after so_far more =
     }
 
 -- a beginning after lines
-pub IsBeginning-append : {lines text : List ℕ} (given written : List ℕ) → AreLinesFiltered lines text → IsBeginning given written → IsBeginning (lines ++ given) (text ++ written)
+IsBeginning-append : {lines text : List ℕ} (given written : List ℕ) → AreLinesFiltered lines text → IsBeginning given written → IsBeginning (lines ++ given) (text ++ written)
 IsBeginning-append {lines} {text} given written first (of_lines {lines = lines'} {text = text'} rest given_is filtered is_front) =
     of_lines rest (ap (λ l. lines ++ l) given_is ∙ sym (append_assoc lines lines' rest)) (AreLinesFiltered-append first filtered) (IsFront-append text written text' is_front)
 IsBeginning-append {lines} {text} given written first (of_all {text = text'} filtered is_front) =

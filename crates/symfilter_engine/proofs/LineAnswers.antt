@@ -1,11 +1,11 @@
 -- Where a line ends, and what is written for it.
 use Rattle.std.proofs.Common.{◌≡◌, ℕ, List, ◌++◌, Option, Some, None, sym, ap, subst, ◌∙◌, append_assoc}
 use Rattle.std.specs.Prelude.{option_map, IsUtf8}
-use Rattle.std.proofs.KnownBytes.{Appends-nil, Appends-trans}
+use Rattle.std.proofs.KnownBytes.{Appends-trans}
 use Rattle.std.specs.Io.KnownBytes.{Appends}
 use Rattle.itanium_demangle.specs.Answer.{IsAnswer}
 use Rattle.symfilter_engine.specs.Filtered.{IsLineAnswer, answered, unanswered, not_utf8}
-use Rattle.symfilter_engine.specs.Progress.{WritesFront, WritesLineFront, nothing, front}
+use Rattle.symfilter_engine.specs.Progress.{WritesFront, WritesLineFront, front}
 
 -- a line that isn't UTF-8
 pub plain_line : {line : List ℕ} → ¬ (IsUtf8 line) → IsLineAnswer line line
@@ -22,10 +22,6 @@ pub line_with : {A : Type 0} (text_of : A → List ℕ) (line symbol text : List
     → symbol ≡ line → IsUtf8 line → IsAnswer symbol (option_map text_of found) → found ≡ Some answer → text ≡ text_of answer → IsLineAnswer line text
 line_with text_of line symbol text found answer symbol_is is_utf8 is_answer found_is text_is =
     answered is_utf8 (subst (λ t. IsAnswer line (Some t)) (sym text_is) (subst (λ s. IsAnswer s (Some (text_of answer))) symbol_is (subst (λ o. IsAnswer symbol (option_map text_of o)) found_is is_answer)))
-
--- the answer was refused memory
-pub none_of_line : (line end : List ℕ) (at : Option (List ℕ)) → WritesLineFront line end at at
-none_of_line line end at = nothing (Appends-nil at)
 
 -- a front of the answer
 pub front_of_answer : (line end answer : List ℕ) (before after : Option (List ℕ))

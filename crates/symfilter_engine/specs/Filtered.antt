@@ -50,15 +50,17 @@ pub data IsBeginning (given written : List ℕ) : Type 0 where
   -- a front of the filtered text of them all
   of_all : {text : List ℕ} → IsFiltered given text → IsFront written text → IsBeginning given written
 
--- a writer that tells its bytes got the filtered text of what was given, and nothing else
+-- the writer got the filtered text of what was given and nothing else, where it tells its bytes
 abbrev pub WritesFiltered : List ℕ → Option (List ℕ) → Option (List ℕ) → Type 0
-WritesFiltered given before after = (text : List ℕ) × IsFiltered given text × Appends before after text
+WritesFiltered given before after =
+    (text : List ℕ) × IsFiltered given text × Appends before after text
 
--- a writer that tells its bytes got a beginning of the filtered text of what was given, and nothing else
+-- the writer got a beginning of the filtered text of what was given and nothing else, where it tells its bytes
 abbrev pub WritesBeginning : List ℕ → Option (List ℕ) → Option (List ℕ) → Type 0
-WritesBeginning given before after = (text : List ℕ) × IsBeginning given text × Appends before after text
+WritesBeginning given before after =
+    (written : List ℕ) × IsBeginning given written × Appends before after written
 
--- a front of the reader's bytes was read, and the writer got a beginning of its filtered text
+-- the reader gave a front of its bytes, where it tells them, and the writer got a beginning of the filtered text of that front
 pub record FiltersFront (before after written_before written_after : Option (List ℕ)) : Type 0 where
   pub read : List ℕ
   pub consumed : Consumes before after read

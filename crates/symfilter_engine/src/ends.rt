@@ -15,18 +15,20 @@ pub trait Source {
     // At most so many calls give a byte from here on.
     ghost calls_left: { Self → ℕ };
 
-    /// Whether a call has failed.
+    /// Whether a call has failed. A failed call sets this for good.
     fn failed(&self) -> bool
-        ensures { result ≡ failed self.now };
+        ensures value { result ≡ failed self.now };
 
-    /// Puts the next bytes at the front of the slice, and answers how many. 0 for a slice that isn't empty is the end.
+    /// Puts the next bytes at the front of the slice, and answers how many. 0 for a slice that
+    /// isn't empty is the end. A failed call gives no byte.
     fn take(&mut self, into: &mut [u8]) -> Result<usize, Failed>
         ensures bound { IfOk result (λ count. count ≤ length into.new) }
         ensures gives { IfOk result (λ count.
             Consumes (remaining self.old) (remaining self.new) (take count into.new)) }
         ensures end { IfOk result (λ count.
             count ≡ 0 → 0 < length into.new → IsAtEnd (remaining self.new)) }
-        ensures fewer { IfOk result (λ count. 0 < count → calls_left self.new < calls_left self.old) }
+        ensures fewer { IfOk result (λ count.
+            0 < count → calls_left self.new < calls_left self.old) }
         ensures fails { OnErr result (failed self.new ≡ true) }
         ensures gives_none { OnErr result (Keeps (remaining self.old) (remaining self.new)) }
         ensures stays { OnOk result (failed self.new ≡ failed self.old) };
@@ -39,11 +41,12 @@ pub trait Sink {
 
     ghost failed: { Self → Bool };
 
-    /// Whether a call has failed.
+    /// Whether a call has failed. A failed call sets this for good.
     fn failed(&self) -> bool
-        ensures { result ≡ failed self.now };
+        ensures value { result ≡ failed self.now };
 
-    /// Takes a beginning of the bytes, at least one where there is one, and answers how many.
+    /// Takes a beginning of the bytes, at least one where there is one, and answers how many. A
+    /// failed call takes no byte.
     fn put(&mut self, bytes: &[u8]) -> Result<usize, Failed>
         ensures bound { IfOk result (λ count. count ≤ length bytes.now) }
         ensures some { IfOk result (λ count. 0 < length bytes.now → 0 < count) }

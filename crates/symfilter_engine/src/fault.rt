@@ -20,7 +20,7 @@ impl FilterFault {
 
     /// The words that the program prints for the fault.
     pub fn line(&self) -> &'static str
-        ensures { result.now ≡ words_of self.now }
+        ensures words { result.now ≡ words_of self.now }
     {
         match self {
             FilterFault::Read => "symfilter: read failed",

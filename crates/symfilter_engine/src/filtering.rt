@@ -14,9 +14,13 @@ use std::alloc::Global;
 /// How many bytes one read asks for.
 const CHUNK_LEN: usize = 65536;
 
-/// Reads to the end and writes each line's answer, or the line itself where it has none or isn't UTF-8.
+/// Reads to the end, and writes for each line its answer by `Demangler::demangle`, or the line's own
+/// bytes where it has none or isn't UTF-8. A line goes up to the next line feed or the end; the line
+/// feed is written where there was one.
 ///
-/// It ends at the first fault, and calls neither end after it. `FilterFault::Memory` comes where memory runs out.
+/// It ends at the first fault and calls neither end after it: `Read` where the reader failed,
+/// `Write` where the writer did, `Memory` where memory ran out. What was written then is a
+/// beginning of what would have been.
 pub fn filter<R: Source, W: Sink>(
     alloc: Global,
     reader: &mut R,
@@ -28,17 +32,19 @@ pub fn filter<R: Source, W: Sink>(
     ensures write { IsErrOf result FilterFault.Write ↔ IsTrue (W.failed writer.new) }
 
     // What follows is said of a reader that tells its bytes, and a writer that does.
-    ensures used_up { OnOk result (IfSome (R.remaining reader.old) (λ _. R.remaining reader.new ≡ Some [])) }
+    ensures used_up { OnOk result (IfSome (R.remaining reader.old) (λ _.
+        R.remaining reader.new ≡ Some [])) }
     ensures ok { OnOk result (IfSome (R.remaining reader.old) (λ given.
         WritesFiltered given (W.taken writer.old) (W.taken writer.new))) }
-    ensures err { OnErr result (FiltersFront (R.remaining reader.old) (R.remaining reader.new)
+    ensures err { OnErr result (FiltersFront
+        (R.remaining reader.old) (R.remaining reader.new)
         (W.taken writer.old) (W.taken writer.new)) }
 {
     let mut chunk = vec![in alloc; 0u8; CHUNK_LEN]?;
     filter_by_chunks(alloc, reader, writer, &mut chunk)
 }
 
-/// Reads into the chunk till the end, and writes each line.
+/// Reads into the chunk to the end, and writes each line.
 fn filter_by_chunks<R: Source, W: Sink>(
     alloc: Global,
     reader: &mut R,
@@ -49,10 +55,12 @@ fn filter_by_chunks<R: Source, W: Sink>(
     requires writer_not_failed { W.failed writer.old ≡ false }
     requires room { 0 < length chunk.old }
     ensures outcome { IsRunOutcome result (R.failed reader.new) (W.failed writer.new) }
-    ensures used_up { OnOk result (IfSome (R.remaining reader.old) (λ _. R.remaining reader.new ≡ Some [])) }
+    ensures used_up { OnOk result (IfSome (R.remaining reader.old) (λ _.
+        R.remaining reader.new ≡ Some [])) }
     ensures ok { OnOk result (IfSome (R.remaining reader.old) (λ given.
         WritesFiltered given (W.taken writer.old) (W.taken writer.new))) }
-    ensures err { OnErr result (FiltersFront (R.remaining reader.old) (R.remaining reader.new)
+    ensures err { OnErr result (FiltersFront
+        (R.remaining reader.old) (R.remaining reader.new)
         (W.taken writer.old) (W.taken writer.new)) }
 {
     let mut demangler = Demangler::new();
@@ -80,9 +88,11 @@ fn copy_lines<R: Source, W: Sink>(
     ensures outcome { IsRunOutcome result (R.failed reader.new) (W.failed writer.new) }
     ensures at_end { OnOk result (IsAtEnd (R.remaining reader.new)) }
     ensures unended { OnOk result (HasNoLineFeed line.new.items) }
-    ensures ok { OnOk result (HasCopied line.new.items (R.remaining reader.old) (R.remaining reader.new)
+    ensures ok { OnOk result (HasCopied line.new.items
+        (R.remaining reader.old) (R.remaining reader.new)
         (W.taken writer.old) (W.taken writer.new)) }
-    ensures err { OnErr result (FiltersFront (R.remaining reader.old) (R.remaining reader.new)
+    ensures err { OnErr result (FiltersFront
+        (R.remaining reader.old) (R.remaining reader.new)
         (W.taken writer.old) (W.taken writer.new)) }
 {
     loop {

@@ -1,4 +1,5 @@
-//! The engine of the filter: it copies lines from a reader to a writer, with each mangled symbol demangled.
+//! The engine of the filter: it copies lines from a reader to a writer, and a line that is a mangled
+//! symbol is written demangled.
 #![tactic(auto)]
 
 mod ends;

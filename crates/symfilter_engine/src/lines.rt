@@ -13,7 +13,7 @@ use std::str;
 
 const LINE_FEED: u8 = b'\n';
 
-/// The place of the first line feed.
+/// The place of the first line feed, or `None` where there is none.
 fn line_end(bytes: &[u8]) -> Option<usize>
     ensures found { IfSome result (EndsAt bytes.now) }
     ensures none { IfNone result (HasNoLineFeed bytes.now) }
@@ -26,13 +26,14 @@ fn line_end(bytes: &[u8]) -> Option<usize>
     None
 }
 
-/// What is written for a line without its line feed.
+/// What is written for a line without its line feed: its answer, or the line itself where it has
+/// none or isn't UTF-8.
 fn line_answer<'a>(
     alloc: Global,
     demangler: &'a mut Demangler,
     line: &'a [u8],
 ) -> Result<&'a [u8], AllocError>
-    ensures { IfOk result (λ text. IsLineAnswer line.now text.now) }
+    ensures answer { IfOk result (λ text. IsLineAnswer line.now text.now) }
 {
     let Ok(symbol) = str::from_utf8(line) else {
         return Ok(line);
@@ -43,7 +44,6 @@ fn line_answer<'a>(
     }
 }
 
-#[tactic(auto, using(crate::proofs::LineAnswers::none_of_line, crate::proofs::LineAnswers::front_of_answer, crate::proofs::LineAnswers::front_of_end))]
 /// Writes what is written for a line, and then its end.
 pub(crate) fn write_line<W: Sink>(
     alloc: Global,
@@ -54,15 +54,18 @@ pub(crate) fn write_line<W: Sink>(
 ) -> Result<(), FilterFault>
     requires not_failed { W.failed writer.old ≡ false }
     ensures outcome { IsWriteOutcome result (W.failed writer.new) }
-    ensures ok { OnOk result (WritesLine line.now end.now (W.taken writer.old) (W.taken writer.new)) }
-    ensures err { OnErr result (WritesLineFront line.now end.now (W.taken writer.old) (W.taken writer.new)) }
+    ensures ok { OnOk result (WritesLine line.now end.now
+        (W.taken writer.old) (W.taken writer.new)) }
+    ensures err { OnErr result (WritesLineFront line.now end.now
+        (W.taken writer.old) (W.taken writer.new)) }
 {
     let answer = line_answer(alloc, demangler, line)?;
     put_all(writer, answer)?;
     put_all(writer, end)
 }
 
-/// Writes the lines that end in these bytes, of which the first began with `line`, and leaves the beginning of the next in `line`.
+/// Writes the lines that end in these bytes, of which the first began with `line`, and leaves the
+/// beginning of the next in `line`.
 pub(crate) fn write_lines<W: Sink>(
     alloc: Global,
     demangler: &mut Demangler,

@@ -8,7 +8,6 @@ use super::ends::{Failed, Sink};
 use super::fault::FilterFault;
 
 /// Writes all the bytes.
-#[tactic(auto, using(crate::proofs::Writing::none_written, crate::proofs::Writing::more_written, crate::proofs::Writing::none_more))]
 pub(crate) fn put_all<W: Sink>(writer: &mut W, bytes: &[u8]) -> Result<(), FilterFault>
     requires not_failed { W.failed writer.old ≡ false }
     ensures outcome { IsWriteOutcome result (W.failed writer.new) }

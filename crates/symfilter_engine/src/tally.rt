@@ -6,7 +6,8 @@ ghost use Rattle.std.specs.Io.KnownBytes.{ReadConsumes};
 use super::ends::{Failed, Sink, Source};
 use std::io::{Read, Write};
 
-/// A reader or a writer of std, and whether a call has failed.
+/// A reader or a writer of std, and whether a call has failed. Any error is a failure, and so is a
+/// write of 0 bytes where some were offered, and each read after 2^64 - 1 of them.
 #[derive(Drop)]
 pub struct Tally<D> {
     inner: D,
@@ -47,8 +48,8 @@ impl<D: Read> Source for Tally<D> {
 
     fn take(&mut self, into: &mut [u8]) -> Result<usize, Failed>
         ensures bound { ReadsAtMost result into.new }
-        ensures bytes { ReadConsumes (D.remaining (inner_of self.old)) (D.remaining (inner_of self.new))
-            result into.new }
+        ensures bytes { ReadConsumes
+            (D.remaining (inner_of self.old)) (D.remaining (inner_of self.new)) result into.new }
         ensures counted { OnOk result (reads_left self.new + 1 ≡ reads_left self.old) }
         ensures fails { OnErr result (has_failed self.new ≡ true) }
         ensures stays { OnOk result (has_failed self.new ≡ has_failed self.old) }

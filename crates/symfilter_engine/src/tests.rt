@@ -16,8 +16,8 @@ struct MemorySource<'a> {
 
 impl<'a> MemorySource<'a> {
     fn new(bytes: &'a [u8], most: usize, calls_left: usize) -> Self
-        requires { 0 < most }
-        ensures { result.failed ≡ false }
+        requires some { 0 < most }
+        ensures not_failed { result.failed ≡ false }
     {
         MemorySource {
             rest: bytes,
@@ -65,8 +65,8 @@ struct MemorySink {
 
 impl MemorySink {
     fn new(alloc: Global, most: usize, calls_left: usize) -> Self
-        requires { 0 < most }
-        ensures { result.failed ≡ false }
+        requires some { 0 < most }
+        ensures not_failed { result.failed ≡ false }
     {
         MemorySink {
             bytes: Vec::new(alloc),
