@@ -1,0 +1,6 @@
+pub mod Appends
+pub mod Listed
+pub mod Declarators
+pub mod Cuts
+pub mod Arrays
+pub mod Members

@@ -1,0 +1,90 @@
+-- A declarator, cut in two and put together again with a group.
+use Rattle.std.proofs.Common.{◌≡◌, ℕ, ◌+◌, ◌-◌, Bool, Option, Some, List, [], ◌∷◌, ◌++◌, length, take, drop, codes, sym, ap, ◌∙◌, refl, arith, append_assoc}
+use Rattle.std.specs.Prelude.{slice_range}
+use Rattle.std.proofs.lemmas.List.{length-append, append-nil}
+use Rattle.demangle_text.specs.declared.shape.Kind.TheVariants.{Array, Function}
+use Rattle.demangle_text.specs.Shape.{Form, Plain, Declared, Shape, form_text, text, text_len, IsDeclared, plain_shape, front_text, grouped, gap_after, flagged, kind_of, after_of, declared_group}
+use Rattle.demangle_edit.specs.Types.{after_text, member_shape}
+use Rattle.demangle_edit.proofs.Cuts.{take_front, drop_front}
+
+after_at : (at : ℕ) (before : List ℕ) (group : Option (List ℕ)) → Some at ≡ Some (length (before ++ grouped group)) → at ≡ length (before ++ grouped group)
+after_at at before group e = cc
+
+-- the text up to `after`
+pub front_cut : (s : Shape) (at : ℕ) → IsDeclared s.form → Some at ≡ after_of s.form → slice_range (text s) 0 at ≡ front_text s.form
+front_cut s at is e = cut s.form is e
+  where
+    cut : (f : Form) → IsDeclared f → Some at ≡ after_of f → slice_range (form_text f) 0 at ≡ front_text f
+    cut (Plain t) h by = absurd h
+    cut (Declared k before group after) h by =
+        let at_is : at - 0 ≡ length (before ++ grouped group) = omega (arith, after_at at before group by) in
+        take_front _ (before ++ grouped group) after (at - 0) (sym (append_assoc before (grouped group) after)) at_is
+
+-- the text from there on
+pub after_cut : (s : Shape) (at len : ℕ) → IsDeclared s.form → Some at ≡ after_of s.form → len ≡ text_len s → slice_range (text s) at len ≡ after_text s.form
+after_cut s at len is e by_len = cut s.form is e by_len
+  where
+    cut : (f : Form) → IsDeclared f → Some at ≡ after_of f → len ≡ length (form_text f) → slice_range (form_text f) at len ≡ after_text f
+    cut (Plain t) h by l = absurd h
+    cut (Declared k before group after) h by l =
+        let at_is : at ≡ length (before ++ grouped group) = after_at at before group by in
+        let text_is : before ++ (grouped group ++ after) ≡ (before ++ grouped group) ++ after = sym (append_assoc before (grouped group) after) in
+        let left : len - at ≡ length after = omega (arith, l, ap length text_is, length-append (before ++ grouped group) after) in
+        ap (take (len - at)) (drop_front _ (before ++ grouped group) after at text_is at_is) ∙ take_front after after [] (len - at) (sym (append-nil after)) left
+
+pub ruleset members = (front_cut, after_cut)
+
+-- a text with a group in it, cut at the group's parentheses
+module _ (front inner after : List ℕ) (from at : ℕ) where
+  abbrev whole_text : List ℕ
+  whole_text = front ++ (40 ∷ (inner ++ (41 ∷ after)))
+
+  before_group : from ≡ length front → take from whole_text ≡ front
+  before_group h = take_front _ front (40 ∷ (inner ++ (41 ∷ after))) from refl h
+
+  in_group : from ≡ length front → at ≡ length front + length inner + 2 → slice_range whole_text (from + 1) (at - 1) ≡ inner
+  in_group h l =
+      let text_is : whole_text ≡ (front ++ (40 ∷ [])) ++ (inner ++ (41 ∷ after)) = sym (append_assoc front (40 ∷ []) (inner ++ (41 ∷ after))) in
+      let from_is : from + 1 ≡ length (front ++ (40 ∷ [])) = omega (arith, length-append front (40 ∷ [])) in
+      let n_is : at - 1 - (from + 1) ≡ length inner = omega arith in
+      ap (take (at - 1 - (from + 1))) (drop_front _ (front ++ (40 ∷ [])) (inner ++ (41 ∷ after)) (from + 1) text_is from_is)
+      ∙ take_front _ inner (41 ∷ after) _ refl n_is
+
+  after_group : at ≡ length front + length inner + 2 → drop at whole_text ≡ after
+  after_group l =
+      let text_is : whole_text ≡ (front ++ (40 ∷ (inner ++ (41 ∷ [])))) ++ after = simp append_assoc in
+      let at_is : at ≡ length (front ++ (40 ∷ (inner ++ (41 ∷ [])))) = omega (arith, length-append front (40 ∷ (inner ++ (41 ∷ []))), length-append inner (41 ∷ [])) in
+      drop_front _ (front ++ (40 ∷ (inner ++ (41 ∷ [])))) after at text_is at_is
+
+-- a pointer to a member function, put together step by step
+pub member_shape_is : (class member whole declared : Shape) (templ ctor : Bool) (class_len after_len from at : ℕ) → kind_of member.form ≡ Some Function
+    → whole ≡ plain_shape (front_text member.form ++ (gap_after (front_text member.form) ++ codes "(") ++ text class ++ codes "::*)" ++ after_text member.form)
+    → class_len ≡ text_len class → after_len ≡ length (after_text member.form) → at ≡ text_len whole - after_len → from ≡ at - 5 - class_len
+    → declared ≡ declared_group Function from at whole → templ ≡ member.templ → ctor ≡ member.ctor → flagged templ ctor declared ≡ member_shape class member
+member_shape_is class member whole declared templ ctor class_len after_len from at function by_whole by_class by_after by_at by_from by_declared by_templ by_ctor =
+    ap (flagged templ ctor) by_declared ∙ opened member.form function (ap text by_whole) by_after
+  where
+    opened : (f : Form) → kind_of f ≡ Some Function
+        → text whole ≡ front_text f ++ (gap_after (front_text f) ++ codes "(") ++ text class ++ codes "::*)" ++ after_text f → after_len ≡ length (after_text f)
+        → flagged templ ctor (declared_group Function from at whole) ≡ member_shape class (record member { form = f })
+    opened (Plain t) k e n = cc
+    opened (Declared Array before group after) k e n = cc
+    opened (Declared Function before group after) k e n =
+        let front = before ++ grouped group in
+        let wide = front ++ gap_after front in
+        let inner = text class ++ codes "::*" in
+        let text_is : text whole ≡ wide ++ (40 ∷ (inner ++ (41 ∷ after))) = e ∙ simp append_assoc in
+        let len_is : text_len whole ≡ length wide + 1 + length inner + 1 + length after =
+        ap length text_is ∙ omega (arith, length-append wide (40 ∷ (inner ++ (41 ∷ after))), length-append inner (41 ∷ after)) in
+        let inner_len : length inner ≡ class_len + 3 = omega (arith, length-append (text class) (codes "::*")) in
+        let at_is : at ≡ length wide + length inner + 2 = omega arith in
+        let from_is : from ≡ length wide = omega arith in
+        let before_is = ap (take from) text_is ∙ before_group wide inner after from at from_is in
+        let inner_is = ap (λ (t : List ℕ). slice_range t (from + 1) (at - 1)) text_is ∙ in_group wide inner after from at from_is at_is in
+        let after_is = ap (drop at) text_is ∙ after_group wide inner after from at at_is in
+        λ j. record {
+          form = Declared Function (before_is j) (Some (inner_is j)) (after_is j);
+          own = (0, length (before_is j ++ (grouped (Some (inner_is j)) ++ after_is j)));
+          templ = by_templ j;
+          ctor = by_ctor j;
+        }

@@ -1,0 +1,18 @@
+use Rattle.std.proofs.Common.{◌≡◌, false, map, codes, sym, ap, ◌∙◌, is_some}
+use Rattle.demangle_text.specs.Shape.{Shape, joined, kind_of}
+use Rattle.demangle_text.specs.State.{shape}
+use Rattle.demangle_edit.proofs.Cuts.{function_shape_is, function_found}
+use Rattle.demangle_edit.proofs.types.function_type.Goals as goal
+
+pub returns-clause-shape : goal.returns-clause-shape
+returns-clause-shape c =
+    let old = c.args.buf.now in
+    let mid = c.list_pieces.new.buf in
+    let ret = shape old c.args.ret in
+    let kept = c.in_ok-list.ensures.kept.pieces c.args.ret c.requires.ret in
+    let begun = c.in_ok-begun.ensures.shape.shape_is ∙ ap (λ (s : Shape). joined s (codes " (") (shape mid c.in_ok-list.list)) kept.shape_is in
+    let is = function_shape_is ret _ _ _ _ _ _ (map (shape old) c.args.params.now) c.args.quals _ _ _
+    c.in_ok-list.ensures.shape.shape_is begun c.in_ok-closed.ensures.shape.shape_is c.in_ok-worded.ensures.shape.shape_is
+    c.in_ok-whole.ensures.shape.shape_is c.declare.ensures.shape.shape_is c.words.ensures.value c.reference_bytes.ensures.value c.len-before.ensures.value in
+    let flat : is_some (kind_of ret.form) ≡ false = sym (ap is_some c.kind.ensures.value) ∙ sym c.is_some.ensures ∙ c.if-is_some.false in
+    (c.declare.ensures.shape.living, function_found ret _ (map (shape old) c.args.params.now) c.args.quals flat is)

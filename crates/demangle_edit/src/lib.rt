@@ -1,0 +1,23 @@
+//! The steps from the shapes of a tree's parts to the shape of the tree, as edits of a buffer's
+//! pieces.
+//!
+//! Each edit ends the pieces that were made since the innermost open mark, but for the one that it
+//! answers. What is older keeps its shape, and so do the saved components and the arguments of the
+//! scopes. After an `AllocError` `clear` of the buffer is the only call that is promised.
+#![tactic(auto)]
+
+mod lists;
+mod names;
+mod parts;
+mod quals;
+#[cfg(test)]
+mod tests;
+mod types;
+
+pub use crate::lists::glue;
+pub use crate::names::{apply_name_qualifiers, attach_template_args, qualify, qualify_ctor};
+pub use crate::parts::Glue;
+pub use crate::quals::{Pointer, Quals, Reference};
+pub use crate::types::{
+    collapse_ref, function_type, wrap_array, wrap_cv, wrap_member_pointer, wrap_pointer,
+};

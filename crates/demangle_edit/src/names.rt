@@ -1,0 +1,122 @@
+//! Edits that make a name out of names.
+ghost use Rattle.std.specs.Prelude.{◌≡◌, ◌+◌, ◌^◌, ◌<◌, ◌≤◌, ◌++◌, IfOk, OnOk};
+ghost use Rattle.demangle_text.specs.Shape.{moved};
+ghost use Rattle.demangle_text.specs.State.{IsLiving, shape, Lives, IsEdit};
+ghost use Rattle.demangle_edit.specs.Names.{qualified, qualified_ctor, angle_gap, attached, name_qualified};
+
+use crate::quals::{Quals, reference_bytes};
+use demangle_text::{Buffer, Piece};
+use std::alloc::AllocError;
+
+/// The leaf in its scope, `scope::leaf`, as a plain piece with the last own name and the flags of
+/// the leaf.
+///
+/// An error comes where memory is refused, and then only `clear` of the buffer is promised.
+#[tactic(auto, using(demangle_text::proofs::Laws::laws))]
+pub fn qualify(buf: &mut Buffer, scope: Piece, leaf: Piece) -> Result<Piece, AllocError>
+    requires scope { IsLiving buf.old scope }
+    requires leaf { IsLiving buf.old leaf }
+    ensures shape { IfOk result (λ p. Lives buf.new p
+        (qualified (shape buf.old scope) (shape buf.old leaf))) }
+    ensures edit { OnOk result (IsEdit buf.old buf.new) }
+{
+    let before = buf.len(scope);
+    let (from, to) = buf.own_range(leaf);
+    let (templ, ctor) = (buf.templ(leaf), buf.ctor(leaf));
+    let whole = buf.join(scope, b"::", leaf)?;
+    let _len = buf.len(whole);
+    let named = buf.own_at(whole, before + 2 + from, before + 2 + to);
+    Ok(buf.with_flags(named, templ, ctor))
+}
+
+/// The constructor of a scope, `scope::name` with the last own name of the scope, or its
+/// destructor, which has a `~` in front of that name. A plain piece; its last own name is all after
+/// the `::`. Of the flags `ctor` holds alone.
+///
+/// An error comes where memory is refused, and then only `clear` of the buffer is promised.
+#[tactic(auto, using(demangle_text::proofs::Laws::laws))]
+pub fn qualify_ctor(buf: &mut Buffer, scope: Piece, destructor: bool) -> Result<Piece, AllocError>
+    requires scope { IsLiving buf.old scope }
+    ensures shape { IfOk result (λ p. Lives buf.new p
+        (qualified_ctor (shape buf.old scope) destructor)) }
+    ensures edit { OnOk result (IsEdit buf.old buf.new) }
+{
+    let before = buf.len(scope);
+    let name = buf.own(scope);
+    let between: &[u8] = if destructor { b"::~" } else { b"::" };
+    let whole = buf.join(scope, between, name)?;
+    let len = buf.len(whole);
+    let named = buf.own_at(whole, before + 2, len);
+    Ok(buf.with_flags(named, false, true))
+}
+
+// A range of a text of this length, when n bytes are put behind the text.
+pub(crate) fn range_before(own: (usize, usize), len: usize, n: usize) -> (usize, usize)
+    requires ordered { own.0 ≤ own.1 }
+    requires within { own.1 ≤ len }
+    requires fits { len + n < 2 ^ 64 }
+    ensures value { result ≡ moved len n own }
+{
+    if len <= own.0 {
+        (own.0 + n, own.1 + n)
+    } else {
+        own
+    }
+}
+
+// What stands between a name's text and its template arguments.
+fn gap_before_args(name: &[u8]) -> &'static [u8]
+    ensures value { result.now ≡ angle_gap name.now }
+{
+    if name.ends_with(b"<") { b" " } else { b"" }
+}
+
+/// The name with the list of its template arguments behind it, and a space between them where the
+/// name ends in `<`. A plain piece with the last own name and the flag `ctor` of the name; `templ`
+/// holds.
+///
+/// An error comes where memory is refused, and then only `clear` of the buffer is promised.
+#[tactic(auto, using(demangle_text::proofs::Laws::laws))]
+pub fn attach_template_args(buf: &mut Buffer, name: Piece, args: Piece) -> Result<Piece, AllocError>
+    requires name { IsLiving buf.old name }
+    requires args { IsLiving buf.old args }
+    ensures shape { IfOk result (λ p. Lives buf.new p
+        (attached (shape buf.old name) (shape buf.old args))) }
+    ensures edit { OnOk result (IsEdit buf.old buf.new) }
+{
+    let before = buf.len(name);
+    let own = buf.own_range(name);
+    let ctor = buf.ctor(name);
+    let gap = gap_before_args(buf.bytes(name));
+    let whole = buf.join(name, gap, args)?;
+    let len = buf.len(whole);
+    let (from, to) = range_before(own, before, len - before);
+    let named = buf.own_at(whole, from, to);
+    Ok(buf.with_flags(named, true, ctor))
+}
+
+/// The name with its qualifiers behind it: the words ` const`, ` volatile` and ` restrict` only
+/// where they are shown, and then the reference. A plain piece with the last own name and the flags
+/// of the name, also where nothing is printed. Without qualifiers the answer is the name itself.
+///
+/// An error comes where memory is refused, and then only `clear` of the buffer is promised.
+#[tactic(auto, using(demangle_text::proofs::Laws::laws))]
+pub fn apply_name_qualifiers(
+    buf: &mut Buffer,
+    name: Piece,
+    quals: Quals,
+    shown: bool,
+) -> Result<Piece, AllocError>
+    requires name { IsLiving buf.old name }
+    ensures shape { IfOk result (λ p. Lives buf.new p
+        (name_qualified (shape buf.old name) quals shown)) }
+    ensures edit { OnOk result (IsEdit buf.old buf.new) }
+{
+    if !quals.is_set() {
+        return Ok(name);
+    }
+    let words: &[u8] = if shown { quals.words() } else { b"" };
+    let plain = buf.plain(name);
+    let worded = buf.append(plain, words)?;
+    buf.append(worded, reference_bytes(quals.reference))
+}

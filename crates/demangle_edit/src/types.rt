@@ -1,0 +1,388 @@
+//! Edits that make a type out of types: pointers, references, qualifiers, arrays and functions.
+ghost use Rattle.std.specs.Prelude.{◌≡◌, ◌≢◌, ◌++◌, All, map, codes, is_some, false, IfOk, OnOk};
+ghost use Rattle.demangle_text.specs.Shape.{CanInsert, IsPlain, IsDeclared, text, plain_shape, inserted, kind_of, group_of, gap_after, front_text};
+ghost use Rattle.demangle_text.specs.State.{IsLiving, shape, Lives, IsEdit, KeepsAll};
+ghost use Rattle.demangle_edit.specs.Answers.{Answers, OnNone};
+ghost use Rattle.demangle_edit.specs.Types.{pointed, collapsed, wrapped, cv_place, cv_wrapped, extent_text, array_shape, arrayed, member_gap, after_text, member_shape, membered, function_of};
+
+use crate::lists::list_pieces;
+use crate::names::range_before;
+use crate::quals::{Pointer, Quals, reference_bytes};
+use demangle_text::{Buffer, Kind, Piece, Place};
+use std::alloc::AllocError;
+
+// A token at the end of a plain text or of a group, or in a group that is opened for it.
+#[tactic(auto, using(demangle_text::proofs::Laws::laws, crate::proofs::Declarators::declarators))]
+fn wrap_token(buf: &mut Buffer, inner: Piece, token: &[u8]) -> Result<Piece, AllocError>
+    requires inner { IsLiving buf.old inner }
+    ensures shape { IfOk result (λ p. Lives buf.new p (pointed token.now (shape buf.old inner))) }
+    ensures edit { OnOk result (IsEdit buf.old buf.new) }
+{
+    if buf.kind(inner).is_none() {
+        buf.append(inner, token)
+    } else if buf.has_group(inner) {
+        buf.insert(inner, Place::Close, token)
+    } else {
+        buf.open_group(inner, token)
+    }
+}
+
+/// A pointer or a reference to the type: `*`, `&` or `&&` at the end of a plain text or of a group.
+/// A declarator without group gets a group for it. A reference to a plain text that ends in `&`
+/// collapses, as `collapse_ref` has it. The flags stay.
+///
+/// An error comes where memory is refused, and then only `clear` of the buffer is promised.
+#[tactic(auto, using(demangle_text::proofs::Laws::laws, crate::proofs::Declarators::declarators))]
+pub fn wrap_pointer(buf: &mut Buffer, inner: Piece, kind: Pointer) -> Result<Piece, AllocError>
+    requires inner { IsLiving buf.old inner }
+    ensures shape { IfOk result (λ p. Lives buf.new p (wrapped kind (shape buf.old inner))) }
+    ensures edit { OnOk result (IsEdit buf.old buf.new) }
+{
+    match kind {
+        Pointer::Star => wrap_token(buf, inner, b"*"),
+        Pointer::Left => match collapse_ref(buf, inner, false)? {
+            Some(collapsed) => Ok(collapsed),
+            None => wrap_token(buf, inner, b"&"),
+        },
+        Pointer::Right => match collapse_ref(buf, inner, true)? {
+            Some(collapsed) => Ok(collapsed),
+            None => wrap_token(buf, inner, b"&&"),
+        },
+    }
+}
+
+/// What is left of a reference to a plain text that ends in `&`: of `&` to a text that ends in `&&`
+/// the text without its last byte, in all other cases the piece itself. `rvalue` says that the
+/// reference is `&&`.
+///
+/// `None`, and all stays, where the piece is a declarator or its text doesn't end in `&`. An error
+/// comes where memory is refused, and then only `clear` of the buffer is promised.
+#[tactic(auto, using(demangle_text::proofs::Laws::laws, crate::proofs::Declarators::declarators))]
+pub fn collapse_ref(
+    buf: &mut Buffer,
+    inner: Piece,
+    rvalue: bool,
+) -> Result<Option<Piece>, AllocError>
+    requires inner { IsLiving buf.old inner }
+    ensures shape { Answers result buf.new (collapsed rvalue (shape buf.old inner)) }
+    ensures edit { OnOk result (IsEdit buf.old buf.new) }
+    ensures none { OnNone result (KeepsAll buf.old buf.new) }
+{
+    if buf.kind(inner).is_some() || !buf.bytes(inner).ends_with(b"&") {
+        return Ok(None);
+    }
+    if rvalue || !buf.bytes(inner).ends_with(b"&&") {
+        return Ok(Some(inner));
+    }
+    let shorter = buf.cut(inner, 1)?;
+    Ok(Some(shorter))
+}
+
+// Where the words of a type's qualifiers go.
+#[tactic(auto, using(crate::proofs::Declarators::declarators))]
+fn words_place(buf: &Buffer, inner: Piece) -> Place
+    requires inner { IsLiving buf.now inner }
+    ensures value { result ≡ cv_place (shape buf.now inner).form }
+{
+    match buf.kind(inner) {
+        None => Place::End,
+        Some(kind) => {
+            if buf.has_group(inner) {
+                return Place::Close;
+            }
+            match kind {
+                Kind::Array => Place::Suffix,
+                Kind::Function => Place::End,
+            }
+        }
+    }
+}
+
+/// The type with the words ` const`, ` volatile` and ` restrict` of its qualifiers: at the end of
+/// the group, for an array without group in front of its dimensions, else at the end of the text.
+/// The flags stay, and the reference of the qualifiers isn't printed.
+///
+/// An error comes where memory is refused, and then only `clear` of the buffer is promised.
+#[tactic(auto, using(demangle_text::proofs::Laws::laws, crate::proofs::Declarators::declarators))]
+pub fn wrap_cv(buf: &mut Buffer, inner: Piece, quals: Quals) -> Result<Piece, AllocError>
+    requires inner { IsLiving buf.old inner }
+    ensures shape { IfOk result (λ p. Lives buf.new p (cv_wrapped quals (shape buf.old inner))) }
+    ensures edit { OnOk result (IsEdit buf.old buf.new) }
+{
+    let place = words_place(buf, inner);
+    buf.insert(inner, place, quals.words())
+}
+
+// The digits of a dimension, none where it isn't known.
+fn extent_bytes(digits: &mut itoa::Buffer, dim: Option<u64>) -> &[u8]
+    ensures value { result.now ≡ extent_text dim }
+{
+    match dim {
+        None => b"",
+        Some(extent) => digits.format(extent).as_bytes(),
+    }
+}
+
+// The opening bytes, the digits of a dimension and `]`, at a place of the piece's text.
+#[tactic(auto, using(demangle_text::proofs::Laws::laws, crate::proofs::Appends::appends))]
+fn insert_dimension(
+    buf: &mut Buffer,
+    piece: Piece,
+    place: Place,
+    opening: &[u8],
+    dim: Option<u64>,
+) -> Result<Piece, AllocError>
+    requires living { IsLiving buf.old piece }
+    requires fits { CanInsert place (shape buf.old piece).form }
+    requires behind { place ≢ Place.Start }
+    ensures shape { IfOk result (λ p. Lives buf.new p
+        (inserted place (opening.now ++ (extent_text dim ++ codes "]")) (shape buf.old piece))) }
+    ensures edit { OnOk result (IsEdit buf.old buf.new) }
+{
+    let mut digits = itoa::Buffer::new();
+    let extent = extent_bytes(&mut digits, dim);
+    let opened = buf.insert(piece, place, opening)?;
+    let filled = buf.insert(opened, place, extent)?;
+    buf.insert(filled, place, b"]")
+}
+
+// An array of a plain type.
+#[tactic(auto, using(demangle_text::proofs::Laws::laws, crate::proofs::Arrays::first_shape))]
+fn first_dimension(buf: &mut Buffer, elem: Piece, dim: Option<u64>) -> Result<Piece, AllocError>
+    requires living { IsLiving buf.old elem }
+    requires plain { IsPlain (shape buf.old elem).form }
+    ensures shape { IfOk result (λ p. Lives buf.new p (array_shape dim (shape buf.old elem))) }
+    ensures edit { OnOk result (IsEdit buf.old buf.new) }
+{
+    let at = buf.len(elem);
+    let longer = insert_dimension(buf, elem, Place::End, b" [", dim)?;
+    let _len = buf.len(longer);
+    Ok(buf.declare(longer, Kind::Array, at))
+}
+
+// A dimension in front of those that an array without group has: behind the first byte of `after`.
+#[tactic(auto, using(demangle_text::proofs::Laws::laws))]
+fn outer_dimension(buf: &mut Buffer, elem: Piece, dim: Option<u64>) -> Result<Piece, AllocError>
+    requires living { IsLiving buf.old elem }
+    requires kind { kind_of (shape buf.old elem).form ≡ Some Kind.Array }
+    requires group { is_some (group_of (shape buf.old elem).form) ≡ false }
+    ensures shape { IfOk result (λ p. Lives buf.new p (array_shape dim (shape buf.old elem))) }
+    ensures edit { OnOk result (IsEdit buf.old buf.new) }
+{
+    let at = buf.after_at(elem).unwrap();
+    let len = buf.len(elem);
+    let behind = at + (len - at).min(1);
+    let flat = buf.plain(elem);
+    let cut = buf.declare(flat, Kind::Array, behind);
+    let longer = insert_dimension(buf, cut, Place::Suffix, b"[", dim)?;
+    let whole = buf.plain(longer);
+    Ok(buf.declare(whole, Kind::Array, at))
+}
+
+/// The array of the type with this dimension, `[]` where there is none: ` [n]` at the end of a
+/// group or behind a plain text; for an array without group `[n]` behind the first byte of what is
+/// after it, so that the outer dimension stands first. The flags stay.
+///
+/// `None`, and all stays, for a function without group. An error comes where memory is refused, and
+/// then only `clear` of the buffer is promised.
+#[tactic(auto, using(demangle_text::proofs::Laws::laws, crate::proofs::Declarators::declarators))]
+pub fn wrap_array(
+    buf: &mut Buffer,
+    elem: Piece,
+    dim: Option<u64>,
+) -> Result<Option<Piece>, AllocError>
+    requires elem { IsLiving buf.old elem }
+    ensures shape { Answers result buf.new (arrayed dim (shape buf.old elem)) }
+    ensures edit { OnOk result (IsEdit buf.old buf.new) }
+    ensures none { OnNone result (KeepsAll buf.old buf.new) }
+{
+    let Some(kind) = buf.kind(elem) else {
+        let array = first_dimension(buf, elem, dim)?;
+        return Ok(Some(array));
+    };
+    if buf.has_group(elem) {
+        let array = insert_dimension(buf, elem, Place::Close, b" [", dim)?;
+        return Ok(Some(array));
+    }
+    match kind {
+        Kind::Array => {
+            let array = outer_dimension(buf, elem, dim)?;
+            Ok(Some(array))
+        }
+        Kind::Function => Ok(None),
+    }
+}
+
+// What stands between the text of a plain type and the class of a member pointer.
+fn gap_before_member(member: &[u8]) -> &'static [u8]
+    ensures value { result.now ≡ member_gap member.now }
+{
+    if member.ends_with(b"(") || member.ends_with(b" ") {
+        b""
+    } else {
+        b" "
+    }
+}
+
+// A pointer to a member of a plain type.
+#[tactic(auto, using(demangle_text::proofs::Laws::laws))]
+fn append_member(buf: &mut Buffer, class: Piece, member: Piece) -> Result<Piece, AllocError>
+    requires class { IsLiving buf.old class }
+    requires member { IsLiving buf.old member }
+    requires plain { IsPlain (shape buf.old member).form }
+    ensures shape { IfOk result (λ p. Lives buf.new p
+        (member_shape (shape buf.old class) (shape buf.old member))) }
+    ensures edit { OnOk result (IsEdit buf.old buf.new) }
+{
+    let before = buf.len(member);
+    let own = buf.own_range(member);
+    let flags = (buf.templ(member), buf.ctor(member));
+    let gap = gap_before_member(buf.bytes(member));
+    let begun = buf.join(member, gap, class)?;
+    let whole = buf.append(begun, b"::*")?;
+    let len = buf.len(whole);
+    let (from, to) = range_before(own, before, len - before);
+    let named = buf.own_at(whole, from, to);
+    Ok(buf.with_flags(named, flags.0, flags.1))
+}
+
+// What opens a group behind a text: a space unless the text is empty or ends in a space, `(` or
+// `*`, and `(`.
+fn group_opening(text: &[u8]) -> &'static [u8]
+    ensures value { result.now ≡ gap_after text.now ++ codes "(" }
+{
+    match text.last() {
+        Some(byte) => {
+            if matches!(*byte, b' ' | b'(' | b'*') {
+                b"("
+            } else {
+                b" ("
+            }
+        }
+        None => b"(",
+    }
+}
+
+// The text of a declarator, cut where `after` begins.
+#[tactic(auto, using(crate::proofs::Members::members))]
+fn cut_declarator(buf: &Buffer, piece: Piece) -> (Piece, Piece)
+    requires living { IsLiving buf.now piece }
+    requires declared { IsDeclared (shape buf.now piece).form }
+    ensures front { Lives buf.now result.0 (plain_shape (front_text (shape buf.now piece).form)) }
+    ensures after { Lives buf.now result.1 (plain_shape (after_text (shape buf.now piece).form)) }
+{
+    let at = buf.after_at(piece).unwrap();
+    let len = buf.len(piece);
+    let text = buf.plain(piece);
+    let front = buf.own_at(text, 0, at);
+    let after = buf.own_at(text, at, len);
+    (buf.own(front), buf.own(after))
+}
+
+// The class of a member in a group between two texts, as one plain text.
+#[tactic(auto, using(demangle_text::proofs::Laws::laws))]
+fn join_member(
+    buf: &mut Buffer,
+    front: Piece,
+    class: Piece,
+    after: Piece,
+) -> Result<Piece, AllocError>
+    requires front { IsLiving buf.old front }
+    requires class { IsLiving buf.old class }
+    requires after { IsLiving buf.old after }
+    ensures shape { IfOk result (λ p. Lives buf.new p (plain_shape
+        (text (shape buf.old front) ++ (gap_after (text (shape buf.old front)) ++ codes "(")
+        ++ text (shape buf.old class) ++ codes "::*)" ++ text (shape buf.old after)))) }
+    ensures kept { OnOk result (KeepsAll buf.old buf.new) }
+{
+    let opening = group_opening(buf.bytes(front));
+    let mark = buf.open();
+    let begun = buf.join(front, opening, class)?;
+    let whole = buf.join(begun, b"::*)", after)?;
+    buf.close(mark, whole)
+}
+
+// A pointer to a member function: the class stands in a new group.
+#[tactic(auto, using(demangle_text::proofs::Laws::laws, crate::proofs::Members::members))]
+fn open_member(buf: &mut Buffer, class: Piece, member: Piece) -> Result<Piece, AllocError>
+    requires class { IsLiving buf.old class }
+    requires member { IsLiving buf.old member }
+    requires function { kind_of (shape buf.old member).form ≡ Some Kind.Function }
+    ensures shape { IfOk result (λ p. Lives buf.new p
+        (member_shape (shape buf.old class) (shape buf.old member))) }
+    ensures edit { OnOk result (IsEdit buf.old buf.new) }
+{
+    let (templ, ctor) = (buf.templ(member), buf.ctor(member));
+    let class_len = buf.len(class);
+    let (front, after) = cut_declarator(buf, member);
+    let after_len = buf.len(after);
+    let whole = join_member(buf, front, class, after)?;
+    let at = buf.len(whole) - after_len;
+    let from = at - 5 - class_len;
+    let declared = buf.declare_group(whole, Kind::Function, from, at);
+    Ok(buf.with_flags(declared, templ, ctor))
+}
+
+/// The pointer to a member of the class: the class and `::*`, at the end of a plain text (behind a
+/// space, unless the text ends in a space or `(`), or in a new group of a function. The flags are
+/// those of the member.
+///
+/// `None`, and all stays, for an array. An error comes where memory is refused, and then only
+/// `clear` of the buffer is promised.
+#[tactic(auto, using(demangle_text::proofs::Laws::laws, crate::proofs::Declarators::declarators))]
+pub fn wrap_member_pointer(
+    buf: &mut Buffer,
+    class: Piece,
+    member: Piece,
+) -> Result<Option<Piece>, AllocError>
+    requires class { IsLiving buf.old class }
+    requires member { IsLiving buf.old member }
+    ensures shape { Answers result buf.new (membered (shape buf.old class) (shape buf.old member)) }
+    ensures edit { OnOk result (IsEdit buf.old buf.new) }
+    ensures none { OnNone result (KeepsAll buf.old buf.new) }
+{
+    match buf.kind(member) {
+        None => {
+            let pointer = append_member(buf, class, member)?;
+            Ok(Some(pointer))
+        }
+        Some(Kind::Function) => {
+            let pointer = open_member(buf, class, member)?;
+            Ok(Some(pointer))
+        }
+        Some(Kind::Array) => Ok(None),
+    }
+}
+
+/// The function type with these parameters and qualifiers: what it returns and a space, then the
+/// parameters in parentheses with `, ` between them, then the qualifiers. Its last own name is its
+/// whole text, and no flag holds.
+///
+/// `None`, and all stays, where what is returned is a declarator. An error comes where memory is
+/// refused, and then only `clear` of the buffer is promised.
+#[tactic(auto, using(demangle_text::proofs::Laws::laws, crate::proofs::Declarators::declarators))]
+pub fn function_type(
+    buf: &mut Buffer,
+    ret: Piece,
+    params: &[Piece],
+    quals: Quals,
+) -> Result<Option<Piece>, AllocError>
+    requires ret { IsLiving buf.old ret }
+    requires params { All (IsLiving buf.old) params.now }
+    ensures shape { Answers result buf.new
+        (function_of (shape buf.old ret) (map (shape buf.old) params.now) quals) }
+    ensures edit { OnOk result (IsEdit buf.old buf.new) }
+    ensures none { OnNone result (KeepsAll buf.old buf.new) }
+{
+    if buf.kind(ret).is_some() {
+        return Ok(None);
+    }
+    let before = buf.len(ret);
+    let list = list_pieces(buf, params)?;
+    let begun = buf.join(ret, b" (", list)?;
+    let closed = buf.append(begun, b")")?;
+    let worded = buf.append(closed, quals.words())?;
+    let whole = buf.append(worded, reference_bytes(quals.reference))?;
+    let _len = buf.len(whole);
+    Ok(Some(buf.declare(whole, Kind::Function, before + 1)))
+}

@@ -1,0 +1,89 @@
+-- The shapes of trees, and the states of places.
+use Rattle.std.proofs.Common.{◌≡◌, ℕ, suc, ◌+◌, ◌-◌, get_or, arith, Bool, true, false, List, [], ◌∷◌, ◌++◌, map, length, take, refl, sym, ap, Option, Some, None, ◌∙◌, if◌then◌else◌}
+use Rattle.std.proofs.lemmas.List.{map-append, length-map, map-set, get_or-map}
+use Rattle.std.specs.Prelude.{option_map, is_some, slice_get}
+use Rattle.std.proofs.lemmas.Option.{slice_get-map}
+use Rattle.std.specs.List.{take-map}
+use Rattle.demangle_text.specs.Shape.{Shape, plain_shape}
+use Rattle.demangle_text.specs.State.{with_arg, last_args}
+use Rattle.itanium_demangle.specs.declared.known.Known.{Known}
+use Rattle.itanium_demangle.specs.Known.{known_shape}
+use Rattle.demangle_edit.specs.declared.quals.Quals.{Quals}
+use Rattle.demangle_edit.specs.Names.{qualified, qualified_ctor, attached, name_qualified}
+use Rattle.itanium_demangle.specs.Tree.{Tree, plain_name, known_name, name_in, structor_of, with_args, nested_of, trees, shape_of, shape_each, list_shape, in_scope}
+use Rattle.itanium_demangle.specs.Reading as reading
+use Rattle.itanium_demangle.specs.Reading.{State}
+use Rattle.itanium_demangle.specs.Grammar.{Place, last_of, with_last}
+
+pub shape-plain_name : (bytes : List ℕ) → shape_of (plain_name bytes) ≡ plain_shape bytes
+unfolding shape_of
+shape-plain_name bytes = refl
+
+pub shape-name_in : (scope leaf : Tree) → shape_of (name_in scope leaf) ≡ qualified (shape_of scope) (shape_of leaf)
+unfolding shape_of
+shape-name_in scope leaf = refl
+
+pub shape-known_name : (known : Known) → shape_of (known_name known) ≡ known_shape known
+unfolding shape_of
+shape-known_name known = refl
+
+pub shape-structor_of : (scope : Tree) (destructor : Bool) → shape_of (structor_of scope destructor) ≡ qualified_ctor (shape_of scope) destructor
+unfolding shape_of
+shape-structor_of scope destructor = refl
+
+shape_each-trees : (ts : List Tree) → shape_each (trees ts) ≡ map shape_of ts
+unfolding shape_of
+shape_each-trees [] = refl
+shape_each-trees (t ∷ ts) = ap (λ us. shape_of t ∷ us) (shape_each-trees ts)
+
+pub shape-with_args : (name : Tree) (list : List Tree) → shape_of (with_args name (trees list)) ≡ attached (shape_of name) (list_shape (map shape_of list))
+unfolding shape_of
+shape-with_args name list = ap (λ us. attached (shape_of name) (list_shape us)) (shape_each-trees list)
+
+pub shape-nested_of : (name : Tree) (quals : Quals) (shown : Bool) → shape_of (nested_of name quals shown) ≡ name_qualified (shape_of name) quals shown
+unfolding shape_of
+shape-nested_of name quals shown = refl
+
+pub shape-in_scope : (scope : Option Tree) (leaf : Tree) → shape_of (in_scope scope leaf) ≡ reading.in_scope (option_map shape_of scope) (shape_of leaf)
+shape-in_scope None leaf = refl
+shape-in_scope (Some scope) leaf = shape-name_in scope leaf
+
+-- the state at a place, after so many entered and saved
+abbrev pub state_at : Place → ℕ → ℕ → State
+state_at p e m = record { rest = p.rest; saved = map shape_of p.saved; scopes = map (map shape_of) p.scopes; entered = e; most_saved = m }
+
+pub same_read : {A : Type 0} {a b : A} {r : List ℕ} {xs ys : List Shape} {vs ws : List (List Shape)} {e f m n : ℕ} → a ≡ b → xs ≡ ys → vs ≡ ws → e ≡ f → m ≡ n
+    → ◌≡◌ {A = Option (A × State)} (Some (a, record { rest = r; saved = xs; scopes = vs; entered = e; most_saved = m })) (Some (b, record { rest = r; saved = ys; scopes = ws; entered = f; most_saved = n }))
+same_read p q w r s = cc
+
+pub one_more : (ts : List Tree) (t : Tree) → map shape_of ts ++ shape_of t ∷ [] ≡ map shape_of (ts ++ t ∷ [])
+one_more ts t = sym (map-append shape_of ts (t ∷ []))
+
+pub taken-map : (takes : Bool) (ts : List Tree)
+    → (if takes then take (length (map shape_of ts) - 1) (map shape_of ts) else map shape_of ts) ≡ map shape_of (if takes then take (length ts - 1) ts else ts)
+taken-map true ts = rw (length-map ts shape_of) (take-map shape_of (length ts - 1) ts)
+taken-map false ts = refl
+
+pub some-map : (scope : Option Tree) → is_some (option_map shape_of scope) ≡ is_some scope
+some-map None = refl
+some-map (Some t) = refl
+
+pub last-map : (ss : List (List Tree)) → last_args (map (map shape_of) ss) ≡ map shape_of (last_of ss)
+last-map [] = refl
+last-map (s ∷ ss) =
+    ap (λ (n : ℕ). get_or (map (map shape_of) (s ∷ ss)) (n - 1) []) (length-map (s ∷ ss) (map shape_of))
+    ∙ get_or-map (map shape_of) (s ∷ ss) (suc (length ss) - 1) [] [] (omega arith)
+
+with_last-map : (t : Tree) (ss : List (List Tree)) → with_arg (shape_of t) (map (map shape_of) ss) ≡ map (map shape_of) (with_last t ss)
+with_last-map t ss =
+    rw (last-map ss, one_more (last_of ss) t, length-map ss (map shape_of)) (sym (map-set (map shape_of) ss (length ss - 1) (last_of ss ++ t ∷ [])))
+
+pub put-scopes : (o : Bool) (k : ℕ) (t : Tree) (ss : List (List Tree))
+    → (if o then with_arg (shape_of t) (take k (map (map shape_of) ss)) else take k (map (map shape_of) ss)) ≡ map (map shape_of) (if o then with_last t (take k ss) else take k ss)
+put-scopes true k t ss = rw (take-map (map shape_of) k ss) (with_last-map t (take k ss))
+put-scopes false k t ss = take-map (map shape_of) k ss
+
+pub begin-scopes : (o : Bool) (ss : List (List Tree))
+    → (if o then map (map shape_of) ss ++ [] ∷ [] else map (map shape_of) ss) ≡ map (map shape_of) (if o then ss ++ [] ∷ [] else ss)
+begin-scopes true ss = sym (map-append (map shape_of) ss ([] ∷ []))
+begin-scopes false ss = refl

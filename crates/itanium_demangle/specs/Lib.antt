@@ -1,0 +1,11 @@
+pub mod Scalars
+pub mod Forms
+pub mod Known
+pub mod Around
+pub mod Tree
+pub mod Grammar
+pub mod Reading
+pub mod Outcome
+pub mod Answer
+pub mod Kept
+pub mod Rows

@@ -1,0 +1,432 @@
+//! Which case of a production the next bytes begin. Of several cases the first one that fits holds.
+ghost use Rattle.std.specs.Prelude.{◌≡◌, ◌≤◌, length};
+ghost use Rattle.itanium_demangle.specs.Forms as spec;
+
+use demangle_edit::{Quals, Reference};
+
+/// What follows the prefix of a symbol.
+#[derive(Clone, Copy)]
+pub enum SymbolForm {
+    SpecialSymbol,
+    NameSymbol,
+}
+
+/// `<name>`
+#[derive(Clone, Copy)]
+pub enum NameForm {
+    NestedName,
+    LocalName,
+    UnscopedName,
+}
+
+/// `<unscoped-name>`, and `<substitution>` as a template name.
+#[derive(Clone, Copy)]
+pub enum UnscopedForm {
+    StdName,
+    SubstitutionName,
+    PlainName,
+}
+
+/// Whether `<template-args>` follow.
+#[derive(Clone, Copy)]
+pub enum ListForm {
+    NoList,
+    ArgumentList,
+}
+
+/// The first component of a `<nested-name>`.
+#[derive(Clone, Copy)]
+pub enum FirstForm {
+    ParameterFirst,
+    StdFirst,
+    SubstitutionFirst,
+    NameFirst,
+}
+
+/// A later component of a `<nested-name>`, or its end.
+#[derive(Clone, Copy)]
+pub enum ComponentForm {
+    LastComponent,
+    ListComponent,
+    NameComponent,
+}
+
+/// `<unqualified-name>`
+#[derive(Clone, Copy)]
+pub enum UnqualifiedForm {
+    SourceName,
+    ConstructorName,
+    DestructorName,
+    OtherName,
+}
+
+/// Whether an `<abi-tag>` follows.
+#[derive(Clone, Copy)]
+pub enum TagForm {
+    NoTag,
+    NextTag,
+}
+
+/// `<substitution>`: an abbreviation of std, or a number.
+#[derive(Clone, Copy)]
+pub enum SubstitutionForm {
+    KnownSubstitution,
+    SavedSubstitution,
+}
+
+/// The end of `<template-args>`, or one more argument.
+#[derive(Clone, Copy)]
+pub enum ArgsForm {
+    LastArgument,
+    NextArgument,
+}
+
+/// `<template-arg>`
+#[derive(Clone, Copy)]
+pub enum ArgumentForm {
+    ExpressionArgument,
+    PackArgument,
+    LiteralArgument,
+    ConstraintArgument,
+    TypeArgument,
+}
+
+/// `<type>`
+#[derive(Clone, Copy)]
+pub enum TypeForm {
+    BuiltinType,
+    ExpansionType,
+    VendorType,
+    ArrayType,
+    FunctionType,
+    MemberType,
+    PointerType,
+    ReferenceType,
+    RvalueType,
+    QualifiedType,
+    ElaboratedType,
+    ParameterType,
+    SubstitutionType,
+    UnreadType,
+    NameType,
+}
+
+pub fn substitution_form(bytes: &[u8]) -> SubstitutionForm
+    ensures form { result ≡ spec.substitution_form bytes.now }
+{
+    match bytes {
+        [b'a'..=b'z', ..] => SubstitutionForm::KnownSubstitution,
+        _ => SubstitutionForm::SavedSubstitution,
+    }
+}
+
+pub fn args_form(bytes: &[u8]) -> ArgsForm
+    ensures form { result ≡ spec.args_form bytes.now }
+{
+    match bytes {
+        [b'E', ..] => ArgsForm::LastArgument,
+        _ => ArgsForm::NextArgument,
+    }
+}
+
+pub fn argument_form(bytes: &[u8]) -> ArgumentForm
+    ensures form { result ≡ spec.argument_form bytes.now }
+{
+    match bytes {
+        [b'X', ..] => ArgumentForm::ExpressionArgument,
+        [b'J', ..] => ArgumentForm::PackArgument,
+        [b'L', ..] => ArgumentForm::LiteralArgument,
+        [b'Q', ..] => ArgumentForm::ConstraintArgument,
+        _ => ArgumentForm::TypeArgument,
+    }
+}
+
+pub fn type_form(bytes: &[u8]) -> TypeForm
+    ensures form { result ≡ spec.type_form bytes.now }
+{
+    if !builtin_text(bytes).is_empty() {
+        return TypeForm::BuiltinType;
+    }
+    match bytes {
+        [b'D', b'p', ..] => TypeForm::ExpansionType,
+        [b'u', ..] => TypeForm::VendorType,
+        [b'A', ..] => TypeForm::ArrayType,
+        [b'F', ..] => TypeForm::FunctionType,
+        [b'M', ..] => TypeForm::MemberType,
+        [b'P', ..] => TypeForm::PointerType,
+        [b'R', ..] => TypeForm::ReferenceType,
+        [b'O', ..] => TypeForm::RvalueType,
+        [b'r' | b'V' | b'K', ..] => TypeForm::QualifiedType,
+        [b'T', b's' | b'u' | b'e', ..] => TypeForm::ElaboratedType,
+        [b'T', ..] => TypeForm::ParameterType,
+        [b'S', b't', ..] => TypeForm::NameType,
+        [b'S', ..] => TypeForm::SubstitutionType,
+        [b'U', ..] => TypeForm::UnreadType,
+        _ => TypeForm::NameType,
+    }
+}
+
+/// The text of the `<builtin-type>` that stands there, a letter or `D` and a letter, and no text where none does.
+pub fn builtin_text(bytes: &[u8]) -> &'static [u8]
+    ensures text { result.now ≡ spec.builtin_text bytes.now }
+{
+    match bytes {
+        [b'D', letter, ..] => wide_text(*letter),
+        [letter, ..] => letter_text(*letter),
+        [] => b"",
+    }
+}
+
+/// What is behind a `<builtin-type>`.
+pub fn past_builtin(bytes: &[u8]) -> &[u8]
+    ensures rest { result.now ≡ spec.past_builtin bytes.now }
+{
+    match bytes {
+        [b'D', _, rest @ ..] => rest,
+        [b'D'] => &[],
+        [_, rest @ ..] => rest,
+        [] => &[],
+    }
+}
+
+fn letter_text(letter: u8) -> &'static [u8]
+    ensures text { result.now ≡ spec.letter_text letter }
+{
+    match letter {
+        b'v' => b"void",
+        b'w' => b"wchar_t",
+        b'b' => b"bool",
+        b'c' => b"char",
+        b'a' => b"signed char",
+        b'h' => b"unsigned char",
+        b's' => b"short",
+        b't' => b"unsigned short",
+        b'i' => b"int",
+        b'j' => b"unsigned int",
+        b'l' => b"long",
+        b'm' => b"unsigned long",
+        b'x' => b"long long",
+        b'y' => b"unsigned long long",
+        b'n' => b"__int128",
+        b'o' => b"unsigned __int128",
+        b'f' => b"float",
+        b'd' => b"double",
+        b'e' => b"long double",
+        b'g' => b"__float128",
+        b'z' => b"...",
+        _ => b"",
+    }
+}
+
+fn wide_text(letter: u8) -> &'static [u8]
+    ensures text { result.now ≡ spec.wide_text letter }
+{
+    match letter {
+        b's' => b"char16_t",
+        b'i' => b"char32_t",
+        b'u' => b"char8_t",
+        b'n' => b"std::nullptr_t",
+        b'a' => b"auto",
+        b'c' => b"decltype(auto)",
+        b'h' => b"half",
+        b'd' => b"decimal64",
+        b'e' => b"decimal128",
+        b'f' => b"decimal32",
+        _ => b"",
+    }
+}
+
+pub fn symbol_form(bytes: &[u8]) -> SymbolForm
+    ensures form { result ≡ spec.symbol_form bytes.now }
+{
+    match bytes {
+        [b'T' | b'G', ..] => SymbolForm::SpecialSymbol,
+        _ => SymbolForm::NameSymbol,
+    }
+}
+
+pub fn name_form(bytes: &[u8]) -> NameForm
+    ensures form { result ≡ spec.name_form bytes.now }
+{
+    match bytes {
+        [b'N', ..] => NameForm::NestedName,
+        [b'Z', ..] => NameForm::LocalName,
+        _ => NameForm::UnscopedName,
+    }
+}
+
+pub fn unscoped_form(bytes: &[u8]) -> UnscopedForm
+    ensures form { result ≡ spec.unscoped_form bytes.now }
+{
+    match bytes {
+        [b'S', b't', ..] => UnscopedForm::StdName,
+        [b'S', ..] => UnscopedForm::SubstitutionName,
+        _ => UnscopedForm::PlainName,
+    }
+}
+
+pub fn list_form(bytes: &[u8]) -> ListForm
+    ensures form { result ≡ spec.list_form bytes.now }
+{
+    match bytes {
+        [b'I', ..] => ListForm::ArgumentList,
+        _ => ListForm::NoList,
+    }
+}
+
+pub fn first_form(bytes: &[u8]) -> FirstForm
+    ensures form { result ≡ spec.first_form bytes.now }
+{
+    match bytes {
+        [b'T', ..] => FirstForm::ParameterFirst,
+        [b'S', b't', ..] => FirstForm::StdFirst,
+        [b'S', ..] => FirstForm::SubstitutionFirst,
+        _ => FirstForm::NameFirst,
+    }
+}
+
+pub fn component_form(bytes: &[u8]) -> ComponentForm
+    ensures form { result ≡ spec.component_form bytes.now }
+{
+    match bytes {
+        [b'E', ..] => ComponentForm::LastComponent,
+        [b'I', ..] => ComponentForm::ListComponent,
+        _ => ComponentForm::NameComponent,
+    }
+}
+
+pub fn unqualified_form(in_scope: bool, bytes: &[u8]) -> UnqualifiedForm
+    ensures form { result ≡ spec.unqualified_form in_scope bytes.now }
+{
+    match bytes {
+        [b'1'..=b'9', ..] => UnqualifiedForm::SourceName,
+        [b'C', b'1'..=b'5', ..] if in_scope => UnqualifiedForm::ConstructorName,
+        [b'D', b'0'..=b'2' | b'4' | b'5', ..] if in_scope => UnqualifiedForm::DestructorName,
+        _ => UnqualifiedForm::OtherName,
+    }
+}
+
+pub fn tag_form(bytes: &[u8]) -> TagForm
+    ensures form { result ≡ spec.tag_form bytes.now }
+{
+    match bytes {
+        [b'B', b'0'..=b'9', ..] => TagForm::NextTag,
+        _ => TagForm::NoTag,
+    }
+}
+
+/// Past the `L` of an internal name, which a digit follows.
+pub fn past_internal(bytes: &[u8]) -> &[u8]
+    ensures rest { result.now ≡ spec.past_internal bytes.now }
+    ensures within { length result.now ≤ length bytes.now }
+{
+    match bytes {
+        [b'L', rest @ ..] => match rest {
+            [b'0'..=b'9', ..] => rest,
+            _ => bytes,
+        },
+        _ => bytes,
+    }
+}
+
+/// Past the `M` of a data member's initializer, where one stands.
+pub fn past_member(bytes: &[u8]) -> &[u8]
+    ensures rest { result.now ≡ spec.past_member bytes.now }
+    ensures within { length result.now ≤ length bytes.now }
+{
+    match bytes {
+        [b'M', rest @ ..] => rest,
+        _ => bytes,
+    }
+}
+
+/// Past one byte that stands there, or none.
+fn past_letter(letter: u8, bytes: &[u8]) -> &[u8]
+    ensures rest { result.now ≡ spec.past_letter letter bytes.now }
+    ensures within { length result.now ≤ length bytes.now }
+{
+    match bytes {
+        [first, rest @ ..] if *first == letter => rest,
+        _ => bytes,
+    }
+}
+
+/// The text of a source name: an unnamed namespace has a text of its own.
+pub fn source_text(name: &[u8]) -> &[u8]
+    ensures text { result.now ≡ spec.source_text name.now }
+{
+    match name {
+        [
+            b'_',
+            b'G',
+            b'L',
+            b'O',
+            b'B',
+            b'A',
+            b'L',
+            b'_',
+            b'_',
+            b'N',
+            ..
+        ] => b"(anonymous namespace)",
+        _ => name,
+    }
+}
+
+/// `<CV-qualifiers> ::= [r] [V] [K]`: the qualifiers, and what follows them.
+pub fn cv_quals(bytes: &[u8]) -> (Quals, &[u8])
+    ensures quals { result.0 ≡ spec.cv_quals bytes.now }
+    ensures rest { result.1.now ≡ spec.past_cv bytes.now }
+    ensures within { length result.1.now ≤ length bytes.now }
+{
+    let volatile = past_letter(b'r', bytes);
+    let constant = past_letter(b'V', volatile);
+    let quals = Quals {
+        constant: matches!(constant, [b'K', ..]),
+        volatile: matches!(volatile, [b'V', ..]),
+        restrict: matches!(bytes, [b'r', ..]),
+        reference: None,
+    };
+    (quals, past_letter(b'K', constant))
+}
+
+/// `<ref-qualifier> ::= R | O`, where one stands, and what follows it.
+pub fn ref_qualifier(bytes: &[u8]) -> (Option<Reference>, &[u8])
+    ensures reference { result.0 ≡ spec.reference_of bytes.now }
+    ensures rest { result.1.now ≡ spec.past_reference bytes.now }
+    ensures within { length result.1.now ≤ length bytes.now }
+{
+    match bytes {
+        [b'R', rest @ ..] => (Some(Reference::Left), rest),
+        [b'O', rest @ ..] => (Some(Reference::Right), rest),
+        _ => (None, bytes),
+    }
+}
+
+/// The qualifiers of a `<nested-name>`, and what follows them: `H`, which says none, or `<CV-qualifiers>` and a
+/// `<ref-qualifier>`.
+pub fn name_quals(bytes: &[u8]) -> (Quals, &[u8])
+    ensures quals { result.0 ≡ spec.name_quals bytes.now }
+    ensures rest { result.1.now ≡ spec.past_name_quals bytes.now }
+    ensures within { length result.1.now ≤ length bytes.now }
+{
+    if let [b'H', rest @ ..] = bytes {
+        let none = Quals {
+            constant: false,
+            volatile: false,
+            restrict: false,
+            reference: None,
+        };
+        return (none, rest);
+    }
+    let (words, rest) = cv_quals(bytes);
+    let (reference, rest) = ref_qualifier(rest);
+    (Quals { reference, ..words }, rest)
+}
+
+/// Whether the first component of a `<nested-name>` is saved.
+pub fn saves_first(form: FirstForm) -> bool
+    ensures value { result ≡ spec.saves_first form }
+{
+    matches!(form, FirstForm::ParameterFirst | FirstForm::NameFirst)
+}

@@ -1,0 +1,131 @@
+//! What stands in the bytes by itself: numbers and source names (Itanium C++ ABI 5.1.2).
+ghost use Rattle.std.specs.Prelude.{◌≡◌, ◌<◌, ◌≤◌, ◌+◌, ◌*◌, ◌^◌, SomeIff, IfSome, option_map, length, drop, slice_range};
+ghost use Rattle.itanium_demangle.specs.Scalars as spec;
+
+/// The digits that a numeral is written in.
+#[derive(Clone, Copy)]
+pub(crate) enum Radix {
+    Decimal,
+    Base36,
+}
+
+/// What a byte is worth as a digit.
+fn digit(radix: Radix, byte: u8) -> Option<u64>
+    ensures value { result ≡ spec.digit_of radix byte }
+{
+    match (radix, byte) {
+        (_, b'0'..=b'9') => Some((byte - b'0') as u64),
+        (Radix::Base36, b'A'..=b'Z') => Some((byte - b'A') as u64 + 10),
+        _ => None,
+    }
+}
+
+/// How many digits there are.
+fn base(radix: Radix) -> u64
+    ensures value { result ≡ spec.base radix }
+{
+    match radix {
+        Radix::Decimal => 10,
+        Radix::Base36 => 36,
+    }
+}
+
+/// The number with one more digit, where it fits.
+fn with_digit(value: u64, base: u64, worth: u64) -> Option<u64>
+    ensures value { SomeIff result (value * base + worth < 2 ^ 64) (value * base + worth) }
+{
+    value.checked_mul(base)?.checked_add(worth)
+}
+
+/// The number that the digits in front write, and how many digits there are.
+fn numeral(radix: Radix, bytes: &[u8]) -> Option<(u64, usize)>
+    ensures value { option_map (λ found. (found.0, drop found.1 bytes.now)) result ≡ spec.numeral radix bytes.now }
+    ensures taken { IfSome result (λ found. 0 < found.1) }
+    ensures within { IfSome result (λ found. found.1 ≤ length bytes.now) }
+{
+    let base = base(radix);
+    let mut value: u64 = 0;
+    let mut count: usize = 0;
+    for byte in bytes {
+        let Some(worth) = digit(radix, *byte) else {
+            break;
+        };
+        value = with_digit(value, base, worth)?;
+        count += 1;
+    }
+    if count == 0 {
+        return None;
+    }
+    Some((value, count))
+}
+
+/// `<number>` without a sign: as many decimal digits as stand at `pos`, at least one. The value, and the place after
+/// the digits, in bytes; `None` where no digit stands there or the value is past 2^64 - 1.
+#[tactic(auto, using(crate::proofs::Numerals::dropped), unfolding(crate::specs::Scalars::number))]
+pub fn number(input: &[u8], pos: usize) -> Option<(u64, usize)>
+    requires place { pos ≤ length input.now }
+    ensures value { option_map (λ found. (found.0, drop found.1 input.now)) result ≡ spec.number (drop pos input.now) }
+    ensures after { IfSome result (λ found. pos < found.1) }
+    ensures within { IfSome result (λ found. found.1 ≤ length input.now) }
+{
+    match numeral(Radix::Decimal, &input[pos..]) {
+        Some((value, count)) => Some((value, pos + count)),
+        None => None,
+    }
+}
+
+/// `<seq-id>`: as many digits in base 36, `0` to `9` and `A` to `Z`, as stand at `pos`, at least one. The value, and the
+/// place after the digits, in bytes; `None` where no digit stands there or the value is past 2^64 - 1.
+#[tactic(auto, using(crate::proofs::Numerals::dropped), unfolding(crate::specs::Scalars::sequence_id))]
+pub fn sequence_id(input: &[u8], pos: usize) -> Option<(u64, usize)>
+    requires place { pos ≤ length input.now }
+    ensures value { option_map (λ found. (found.0, drop found.1 input.now)) result ≡ spec.sequence_id (drop pos input.now) }
+    ensures after { IfSome result (λ found. pos < found.1) }
+    ensures within { IfSome result (λ found. found.1 ≤ length input.now) }
+{
+    match numeral(Radix::Base36, &input[pos..]) {
+        Some((value, count)) => Some((value, pos + count)),
+        None => None,
+    }
+}
+
+/// `[<numeral>] _`: 0 where the numeral is left out, else the number that follows it, and what is behind the `_`.
+#[tactic(auto, unfolding(crate::specs::Scalars::index_of))]
+pub(crate) fn index_of(radix: Radix, bytes: &[u8]) -> Option<(usize, &[u8])>
+    ensures value { option_map (λ found. (found.0, found.1.now)) result ≡ spec.index_of radix bytes.now }
+    ensures shorter { IfSome result (λ found. length found.1.now < length bytes.now) }
+{
+    if let [b'_', rest @ ..] = bytes {
+        return Some((0, rest));
+    }
+    let Some((value, count)) = numeral(radix, bytes) else {
+        return None;
+    };
+    if value == u64::MAX {
+        return None;
+    }
+    match &bytes[count..] {
+        [b'_', rest @ ..] => Some((value as usize + 1, rest)),
+        _ => None,
+    }
+}
+
+/// `<source-name> ::= <positive length number> <identifier>`: the place of the identifier's first byte, and the place
+/// after it. `None` where no number stands at `pos`, it is 0, or fewer bytes follow it.
+#[tactic(auto, using(crate::proofs::Numerals::dropped), unfolding(crate::specs::Scalars::source_name))]
+pub fn source_name(input: &[u8], pos: usize) -> Option<(usize, usize)>
+    requires place { pos ≤ length input.now }
+    ensures value { option_map (λ found. (slice_range input.now found.0 found.1, drop found.1 input.now)) result
+        ≡ spec.source_name (drop pos input.now) }
+    ensures after { IfSome result (λ found. pos < found.0) }
+    ensures ordered { IfSome result (λ found. found.0 < found.1) }
+    ensures within { IfSome result (λ found. found.1 ≤ length input.now) }
+{
+    let Some((len, first)) = number(input, pos) else {
+        return None;
+    };
+    if len == 0 || (len as usize) > input.len() - first {
+        return None;
+    }
+    Some((first, first + len as usize))
+}

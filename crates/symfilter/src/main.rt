@@ -1,0 +1,32 @@
+//! Copies lines from standard input to standard output, with each mangled symbol demangled.
+#![tactic(auto)]
+
+use std::io::{BufReader, BufWriter, Write};
+use std::process::ExitCode;
+use symfilter_engine::{FilterFault, Tally, filter};
+
+/// How many bytes each buffer holds.
+const BUFFER_LEN: usize = 65536;
+
+fn main(rt: HostRuntime) -> ExitCode {
+    let input = BufReader::with_capacity(rt.alloc(), BUFFER_LEN, rt.stdin());
+    let output = BufWriter::with_capacity(rt.alloc(), BUFFER_LEN, rt.stdout());
+    let mut outcome = Err(FilterFault::Memory);
+    if let (Ok(reader), Ok(mut writer)) = (input, output) {
+        outcome = filter(
+            rt.alloc(),
+            &mut Tally::new(reader),
+            &mut Tally::new(&mut writer),
+        );
+        if outcome.is_ok() && writer.flush().is_err() {
+            outcome = Err(FilterFault::Write);
+        }
+    }
+    match outcome {
+        Ok(()) => ExitCode::SUCCESS,
+        Err(fault) => {
+            let _ = eprintln!(rt; "{}", fault.line());
+            ExitCode::FAILURE
+        }
+    }
+}

@@ -1,0 +1,4 @@
+pub mod FilteredText
+pub mod Writing
+pub mod LineAnswers
+pub mod Copying

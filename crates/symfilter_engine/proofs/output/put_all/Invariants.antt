@@ -1,0 +1,13 @@
+use Rattle.std.proofs.Common.{◌≡◌, false, length}
+use Rattle.symfilter_engine.specs.Progress.{WritesUpTo}
+use Rattle.symfilter_engine.proofs.output.put_all.Given as goal
+
+abbrev pub invariant-loop-rest : goal.invariant-loop-rest
+invariant-loop-rest g l =
+    record {
+      not_failed : g.W.Sink.failed l.writer ≡ false;
+      so_far : WritesUpTo l.bytes l.rest (g.W.Sink.taken l.fn.writer) (g.W.Sink.taken l.writer);
+    }
+
+abbrev pub decreases-loop-rest : goal.decreases-loop-rest
+decreases-loop-rest g l = length l.rest

@@ -1,0 +1,24 @@
+-- The faults of a run, and when each comes.
+use Rattle.std.specs.Prelude.{◌≡◌, ℕ, List, Bool, true, false, codes, Result, Ok, Err}
+use Rattle.symfilter_engine.specs.declared.fault.FilterFault.{FilterFault}
+use Rattle.symfilter_engine.specs.declared.fault.FilterFault.TheVariants.{Read, Write, Memory}
+
+-- the words for a fault
+abbrev pub words_of : FilterFault → List ℕ
+words_of Read = codes "symfilter: read failed"
+words_of Write = codes "symfilter: write failed"
+words_of Memory = codes "symfilter: out of memory"
+
+-- what writing ends with: `Write` exactly where the writer has failed, and never `Read`
+abbrev pub IsWriteOutcome : {T : Type 0} → Result T FilterFault → Bool → Type 0
+IsWriteOutcome (Ok _) failed = failed ≡ false
+IsWriteOutcome (Err Read) failed = ⊥
+IsWriteOutcome (Err Write) failed = failed ≡ true
+IsWriteOutcome (Err Memory) failed = failed ≡ false
+
+-- what a run ends with: `Read` exactly where the reader has failed, and `Write` exactly where the writer has
+abbrev pub IsRunOutcome : {T : Type 0} → Result T FilterFault → Bool → Bool → Type 0
+IsRunOutcome (Ok _) reader_failed writer_failed = (reader_failed ≡ false) × (writer_failed ≡ false)
+IsRunOutcome (Err Read) reader_failed writer_failed = (reader_failed ≡ true) × (writer_failed ≡ false)
+IsRunOutcome (Err Write) reader_failed writer_failed = (reader_failed ≡ false) × (writer_failed ≡ true)
+IsRunOutcome (Err Memory) reader_failed writer_failed = (reader_failed ≡ false) × (writer_failed ≡ false)

@@ -1,0 +1,4 @@
+pub mod Filtered
+pub mod Fault
+pub mod Progress
+pub mod Tally

@@ -1,0 +1,58 @@
+//! The two ends of the filter: where bytes come from, and where they go.
+ghost use Rattle.std.specs.Prelude.{◌≡◌, ℕ, List, Bool, true, Option, None, ◌<◌, ◌≤◌, length, take, IfOk, OnOk, OnErr};
+ghost use Rattle.std.specs.Io.KnownBytes.{Appends, Consumes, IsAtEnd, Keeps};
+
+/// A source or a sink has failed. Why is not kept.
+#[derive(Clone, Copy, Debug, PartialEq, Eq)]
+pub struct Failed;
+
+/// Where bytes are read from.
+pub trait Source {
+    // The bytes still to come, where they are known.
+    ghost remaining: { Self → Option (List ℕ) } = { λ _. None };
+
+    ghost failed: { Self → Bool };
+    // At most so many calls give a byte from here on.
+    ghost calls_left: { Self → ℕ };
+
+    /// Whether a call has failed. A failed call sets this for good.
+    fn failed(&self) -> bool
+        ensures value { result ≡ failed self.now };
+
+    /// Puts the next bytes at the front of the slice, and answers how many. 0 for a slice that
+    /// isn't empty is the end. A failed call gives no byte.
+    fn take(&mut self, into: &mut [u8]) -> Result<usize, Failed>
+        ensures bound { IfOk result (λ count. count ≤ length into.new) }
+        ensures gives { IfOk result (λ count.
+            Consumes (remaining self.old) (remaining self.new) (take count into.new)) }
+        ensures end { IfOk result (λ count.
+            count ≡ 0 → 0 < length into.new → IsAtEnd (remaining self.new)) }
+        ensures fewer { IfOk result (λ count.
+            0 < count → calls_left self.new < calls_left self.old) }
+        ensures fails { OnErr result (failed self.new ≡ true) }
+        ensures gives_none { OnErr result (Keeps (remaining self.old) (remaining self.new)) }
+        ensures stays { OnOk result (failed self.new ≡ failed self.old) };
+}
+
+/// Where bytes are written to.
+pub trait Sink {
+    // The bytes taken so far, where they are known.
+    ghost taken: { Self → Option (List ℕ) } = { λ _. None };
+
+    ghost failed: { Self → Bool };
+
+    /// Whether a call has failed. A failed call sets this for good.
+    fn failed(&self) -> bool
+        ensures value { result ≡ failed self.now };
+
+    /// Takes a beginning of the bytes, at least one where there is one, and answers how many. A
+    /// failed call takes no byte.
+    fn put(&mut self, bytes: &[u8]) -> Result<usize, Failed>
+        ensures bound { IfOk result (λ count. count ≤ length bytes.now) }
+        ensures some { IfOk result (λ count. 0 < length bytes.now → 0 < count) }
+        ensures takes { IfOk result (λ count.
+            Appends (taken self.old) (taken self.new) (take count bytes.now)) }
+        ensures fails { OnErr result (failed self.new ≡ true) }
+        ensures takes_none { OnErr result (Keeps (taken self.old) (taken self.new)) }
+        ensures stays { OnOk result (failed self.new ≡ failed self.old) };
+}

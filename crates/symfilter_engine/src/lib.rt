@@ -1,0 +1,18 @@
+//! The engine of the filter: it copies lines from a reader to a writer, and a line that is a mangled
+//! symbol is written demangled.
+#![tactic(auto)]
+
+mod ends;
+mod fault;
+mod filtering;
+mod lines;
+mod output;
+mod tally;
+
+pub use ends::{Failed, Sink, Source};
+pub use fault::FilterFault;
+pub use filtering::filter;
+pub use tally::Tally;
+
+#[cfg(test)]
+mod tests;

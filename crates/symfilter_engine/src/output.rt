@@ -1,0 +1,25 @@
+//! Writing to a sink.
+ghost use Rattle.std.specs.Prelude.{◌≡◌, false, ◌<◌, OnOk, OnErr};
+ghost use Rattle.std.specs.Io.KnownBytes.{Appends};
+ghost use Rattle.symfilter_engine.specs.Fault.{IsWriteOutcome};
+ghost use Rattle.symfilter_engine.specs.Progress.{WritesFront};
+
+use super::ends::{Failed, Sink};
+use super::fault::FilterFault;
+
+/// Writes all the bytes.
+pub(crate) fn put_all<W: Sink>(writer: &mut W, bytes: &[u8]) -> Result<(), FilterFault>
+    requires not_failed { W.failed writer.old ≡ false }
+    ensures outcome { IsWriteOutcome result (W.failed writer.new) }
+    ensures ok { OnOk result (Appends (W.taken writer.old) (W.taken writer.new) bytes.now) }
+    ensures err { OnErr result (WritesFront bytes.now (W.taken writer.old) (W.taken writer.new)) }
+{
+    let mut rest = bytes;
+    while !rest.is_empty() {
+        match writer.put(rest) {
+            Ok(count) => rest = &rest[count..],
+            Err(Failed) => return Err(FilterFault::Write),
+        }
+    }
+    Ok(())
+}

@@ -1,0 +1,93 @@
+//! A source over a reader of std, and a sink over a writer.
+ghost use Rattle.std.specs.Prelude.{◌≡◌, true, false, ◌+◌, ◌-◌, ◌^◌, OnOk, OnErr};
+ghost use Rattle.std.specs.Io.{ReadsAtMost};
+ghost use Rattle.std.specs.Io.KnownBytes.{ReadConsumes};
+
+use super::ends::{Failed, Sink, Source};
+use std::io::{Read, Write};
+
+/// A reader or a writer of std, and whether a call has failed. Any error is a failure, and so is a
+/// write of 0 bytes where some were offered, and each read after 2^64 - 1 of them.
+#[derive(Drop)]
+pub struct Tally<D> {
+    inner: D,
+    failed: bool,
+    reads_left: u64,
+}
+
+impl<D> Tally<D> {
+    ghost use Rattle.symfilter_engine.specs.Tally.{inner_of, has_failed, reads_left};
+
+    /// It hasn't failed, and 2^64 - 1 reads are left.
+    pub fn new(inner: D) -> Self
+        ensures inner { inner_of result ≡ inner }
+        ensures not_failed { has_failed result ≡ false }
+        ensures reads { reads_left result ≡ 2 ^ 64 - 1 }
+    {
+        Tally {
+            inner,
+            failed: false,
+            reads_left: u64::MAX,
+        }
+    }
+}
+
+/// Any error of the reader is a failure, and so is each read after 2^64 - 1 of them.
+impl<D: Read> Source for Tally<D> {
+    ghost use Rattle.symfilter_engine.specs.Tally.{inner_of, has_failed, reads_left};
+
+    ghost remaining = { λ tally. D.remaining (inner_of tally) };
+
+    ghost failed = { has_failed };
+
+    ghost calls_left = { reads_left };
+
+    fn failed(&self) -> bool {
+        self.failed
+    }
+
+    fn take(&mut self, into: &mut [u8]) -> Result<usize, Failed>
+        ensures bound { ReadsAtMost result into.new }
+        ensures bytes { ReadConsumes
+            (D.remaining (inner_of self.old)) (D.remaining (inner_of self.new)) result into.new }
+        ensures counted { OnOk result (reads_left self.new + 1 ≡ reads_left self.old) }
+        ensures fails { OnErr result (has_failed self.new ≡ true) }
+        ensures stays { OnOk result (has_failed self.new ≡ has_failed self.old) }
+    {
+        if self.reads_left == 0 {
+            self.failed = true;
+            return Err(Failed);
+        }
+        self.reads_left -= 1;
+        match self.inner.read(into) {
+            Ok(count) => Ok(count),
+            Err(_) => {
+                self.failed = true;
+                Err(Failed)
+            }
+        }
+    }
+}
+
+/// Any error of the writer is a failure, and so is a write of 0 bytes where some were offered.
+impl<D: Write> Sink for Tally<D> {
+    ghost use Rattle.symfilter_engine.specs.Tally.{inner_of, has_failed};
+
+    ghost taken = { λ tally. D.contents (inner_of tally) };
+
+    ghost failed = { has_failed };
+
+    fn failed(&self) -> bool {
+        self.failed
+    }
+
+    fn put(&mut self, bytes: &[u8]) -> Result<usize, Failed> {
+        match self.inner.write(bytes) {
+            Ok(count) if count > 0 || bytes.is_empty() => Ok(count),
+            _ => {
+                self.failed = true;
+                Err(Failed)
+            }
+        }
+    }
+}
