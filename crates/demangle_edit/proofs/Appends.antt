@@ -1,11 +1,11 @@
 -- One insertion behind another.
-use Rattle.std.proofs.Common.{◌≡◌, ℕ, ◌+◌, ◌-◌, ◌<◌, ◌≤◌, List, [], ◌++◌, length, nat_le, if◌then◌else◌, sym, ap, ◌∙◌, refl, arith, append_assoc, Bool, true, false, None, Some}
+use Rattle.std.proofs.Common.{◌≡◌, ℕ, ◌+◌, ◌-◌, List, [], ◌++◌, length, ap, ◌∙◌, refl, arith, append_assoc, Bool, true, None, Some}
 use Rattle.std.proofs.lemmas.Bool.Decides.{nat_tests}
 use Rattle.std.proofs.lemmas.List.{length-append}
 use Rattle.demangle_text.specs.declared.shape.Kind.TheVariants.{Array, Function}
 use Rattle.demangle_text.specs.declared.shape.Place.{Place}
 use Rattle.demangle_text.specs.declared.shape.Place.TheVariants.{Start, Close, Suffix, End}
-use Rattle.demangle_text.specs.Shape.{Shape, Form, Plain, Declared, form_text, form_with, place_in, own_in, moved, grouped, appended, inserted, flattened, flagged, joined, with_own, text, text_len, CanInsert}
+use Rattle.demangle_text.specs.Shape.{Shape, Form, Plain, Declared, form_text, form_with, moved, grouped, appended, inserted, flattened, flagged, joined, with_own, text, text_len, CanInsert}
 use Rattle.demangle_edit.specs.Names.{angle_gap, attached}
 
 -- the last own name, when bytes are inserted at a place and then more of them behind these

@@ -1,8 +1,8 @@
 -- Texts that are put together, and then cut where a declarator's parts meet.
-use Rattle.std.proofs.Common.{◌≡◌, ℕ, ◌+◌, Bool, true, false, Option, Some, None, List, [], ◌∷◌, ◌++◌, length, take, drop, map, codes, sym, ap, ◌∙◌, refl, arith, append_assoc, is_some, if◌then◌else◌}
+use Rattle.std.proofs.Common.{◌≡◌, ℕ, ◌+◌, Bool, true, false, Some, None, List, [], ◌++◌, length, take, drop, map, codes, sym, ap, ◌∙◌, refl, arith, append_assoc, is_some, if◌then◌else◌}
 use Rattle.std.proofs.Math.Seq.{take-append_seam, drop-append_seam}
 use Rattle.std.proofs.lemmas.List.{length-append}
-use Rattle.demangle_text.specs.declared.shape.Kind.TheVariants.{Array, Function}
+use Rattle.demangle_text.specs.declared.shape.Kind.TheVariants.{Function}
 use Rattle.demangle_text.specs.declared.shape.Place.TheVariants.{End}
 use Rattle.demangle_text.specs.Shape.{Form, Plain, Declared, Shape, form_text, form_with, text, text_len, plain_shape, appended, joined, declared_at, kind_of, is_plain}
 use Rattle.demangle_edit.specs.declared.quals.Quals.{Quals}

@@ -1,5 +1,5 @@
 -- What a shape's kind and group say of its form.
-use Rattle.std.proofs.Common.{◌≡◌, Bool, true, false, Option, Some, None, refl, List, ℕ, ◌++◌, length}
+use Rattle.std.proofs.Common.{◌≡◌, true, false, Some, None, refl, List, ℕ}
 use Rattle.std.specs.Prelude.{is_some}
 use Rattle.demangle_text.specs.declared.shape.Kind.TheVariants.{Array, Function}
 use Rattle.demangle_text.specs.declared.shape.Place.TheVariants.{Close, Suffix, End}

@@ -6,7 +6,7 @@ use Rattle.std.proofs.lemmas.List.Elements.{All-get_or}
 use Rattle.demangle_text.specs.declared.shape.Piece.{Piece}
 use Rattle.demangle_text.specs.declared.shape.Mark.{Mark}
 use Rattle.demangle_text.specs.declared.buffer.Buffer.{Buffer}
-use Rattle.demangle_text.specs.Shape.{Shape, text, plain_shape, joined}
+use Rattle.demangle_text.specs.Shape.{text, plain_shape, joined}
 use Rattle.demangle_text.specs.State.{IsLiving, shape, Lives, Opens}
 use Rattle.demangle_edit.specs.declared.parts.Glue.{Glue}
 use Rattle.demangle_edit.specs.declared.parts.Glue.TheVariants.{Text, Piece as Part}

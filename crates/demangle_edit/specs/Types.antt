@@ -1,10 +1,10 @@
 -- The shapes of types, and which types there are.
-use Rattle.std.specs.Prelude.{ℕ, ◌+◌, ◌<◌, List, [], ◌∷◌, ◌++◌, length, map, take, drop, codes, Bool, true, false, not, ◌&&◌, ◌||◌, if◌then◌else◌, Option, Some, None, unwrap_or, nat_eq, decimal}
+use Rattle.std.specs.Prelude.{ℕ, ◌+◌, ◌<◌, List, [], ◌++◌, length, map, take, drop, codes, Bool, true, false, not, ◌&&◌, ◌||◌, if◌then◌else◌, Option, Some, None, unwrap_or, nat_eq, decimal}
 use Rattle.std.specs.List.{ends_with}
 use Rattle.demangle_text.specs.declared.shape.Kind.TheVariants.{Array, Function}
 use Rattle.demangle_text.specs.declared.shape.Place.{Place}
 use Rattle.demangle_text.specs.declared.shape.Place.TheVariants.{Close, Suffix, End}
-use Rattle.demangle_text.specs.Shape.{Shape, Form, Plain, Declared, form_text, text, text_len, plain_shape, appended, inserted, shortened, opened_group, declared_at, moved, whole_shape, is_plain}
+use Rattle.demangle_text.specs.Shape.{Shape, Form, Plain, Declared, text, appended, inserted, shortened, opened_group, declared_at, moved, whole_shape, is_plain}
 use Rattle.demangle_edit.specs.declared.quals.Quals.{Quals}
 use Rattle.demangle_edit.specs.declared.quals.Pointer.{Pointer}
 use Rattle.demangle_edit.specs.declared.quals.Pointer.TheVariants.{Star, Left, Right}
@@ -67,7 +67,7 @@ dimensioned_in (Declared Function before None after) dim s = s
 dimensioned_in (Declared Array before None after) dim s =
     record s {
       form = Declared Array before None (take 1 after ++ (dimension dim ++ drop 1 after));
-      own = moved (length before + 1) (length (dimension dim)) s.own;
+      own = moved (length (before ++ take 1 after)) (length (dimension dim)) s.own;
     }
 
 abbrev pub array_shape : Option ℕ → Shape → Shape
@@ -83,13 +83,6 @@ has_array (Declared Function before None after) = false
 -- the array of the type, where there is one
 abbrev pub arrayed : Option ℕ → Shape → Option Shape
 arrayed dim s = if has_array s.form then Some (array_shape dim s) else None
-
--- an array without group has a text after it
-abbrev pub HasDimension : Form → Type 0
-HasDimension (Plain t) = Unit {0}
-HasDimension (Declared Function before group after) = Unit {0}
-HasDimension (Declared Array before (Some group) after) = Unit {0}
-HasDimension (Declared Array before None after) = 0 < length after
 
 -- a space behind a text that ends in neither `(` nor a space
 abbrev pub member_gap : List ℕ → List ℕ

@@ -1,4 +1,9 @@
-//! The steps from the shapes of a tree's parts to the shape of the tree, as edits of a buffer's pieces.
+//! The steps from the shapes of a tree's parts to the shape of the tree, as edits of a buffer's
+//! pieces.
+//!
+//! Each edit ends the pieces that were made since the innermost open mark, but for the one that it
+//! answers. What is older keeps its shape, and so do the saved components and the arguments of the
+//! scopes. After an `AllocError` `clear` of the buffer is the only call that is promised.
 #![tactic(auto)]
 
 mod lists;

@@ -14,7 +14,8 @@ fn with_part(buf: &mut Buffer, all: Piece, part: &Glue) -> Result<Piece, AllocEr
     requires all { IsLiving buf.old all }
     requires plain { shape buf.old all ≡ plain_shape (text (shape buf.old all)) }
     requires part { IsLivingPart buf.old part.now }
-    ensures shape { IfOk result (λ p. Lives buf.new p (plain_shape (text (shape buf.old all) ++ part_text (shape buf.old) part.now))) }
+    ensures shape { IfOk result (λ p. Lives buf.new p
+        (plain_shape (text (shape buf.old all) ++ part_text (shape buf.old) part.now))) }
     ensures edit { OnOk result (IsEdit buf.old buf.new) }
 {
     match part {
@@ -26,14 +27,15 @@ fn with_part(buf: &mut Buffer, all: Piece, part: &Glue) -> Result<Piece, AllocEr
     }
 }
 
-/// The parts, one behind the other, as a plain piece whose last own name is the whole. Of no parts it is
-/// empty.
+/// The parts, one behind the other, as a plain piece whose last own name is the whole. Of no parts
+/// it is empty.
 ///
 /// An error comes where memory is refused, and then only `clear` of the buffer is promised.
 #[tactic(auto, using(demangle_text::proofs::Laws::laws))]
 pub fn glue(buf: &mut Buffer, parts: &[Glue]) -> Result<Piece, AllocError>
     requires parts { All (IsLivingPart buf.old) parts.now }
-    ensures shape { IfOk result (λ p. Lives buf.new p (glued (map (part_text (shape buf.old)) parts.now))) }
+    ensures shape { IfOk result (λ p. Lives buf.new p
+        (glued (map (part_text (shape buf.old)) parts.now))) }
     ensures edit { OnOk result (IsEdit buf.old buf.new) }
 {
     let mark = buf.open();
@@ -48,7 +50,8 @@ pub fn glue(buf: &mut Buffer, parts: &[Glue]) -> Result<Piece, AllocError>
 #[tactic(auto, using(demangle_text::proofs::Laws::laws))]
 pub(crate) fn list_pieces(buf: &mut Buffer, pieces: &[Piece]) -> Result<Piece, AllocError>
     requires pieces { All (IsLiving buf.old) pieces.now }
-    ensures shape { IfOk result (λ p. Lives buf.new p (plain_shape (listed (map text (map (shape buf.old) pieces.now))))) }
+    ensures shape { IfOk result (λ p. Lives buf.new p
+        (plain_shape (listed (map text (map (shape buf.old) pieces.now))))) }
     ensures kept { OnOk result (KeepsAll buf.old buf.new) }
 {
     let mark = buf.open();

@@ -8,14 +8,16 @@ use crate::quals::{Quals, reference_bytes};
 use demangle_text::{Buffer, Piece};
 use std::alloc::AllocError;
 
-/// The leaf in its scope, `scope::leaf`, as a plain piece with the last own name and the flags of the leaf.
+/// The leaf in its scope, `scope::leaf`, as a plain piece with the last own name and the flags of
+/// the leaf.
 ///
 /// An error comes where memory is refused, and then only `clear` of the buffer is promised.
 #[tactic(auto, using(demangle_text::proofs::Laws::laws))]
 pub fn qualify(buf: &mut Buffer, scope: Piece, leaf: Piece) -> Result<Piece, AllocError>
     requires scope { IsLiving buf.old scope }
     requires leaf { IsLiving buf.old leaf }
-    ensures shape { IfOk result (λ p. Lives buf.new p (qualified (shape buf.old scope) (shape buf.old leaf))) }
+    ensures shape { IfOk result (λ p. Lives buf.new p
+        (qualified (shape buf.old scope) (shape buf.old leaf))) }
     ensures edit { OnOk result (IsEdit buf.old buf.new) }
 {
     let before = buf.len(scope);
@@ -27,15 +29,16 @@ pub fn qualify(buf: &mut Buffer, scope: Piece, leaf: Piece) -> Result<Piece, All
     Ok(buf.with_flags(named, templ, ctor))
 }
 
-/// The constructor of a scope, `scope::name` with the last own name of the scope, or its destructor, which
-/// has a `~` in front of that name. A plain piece; its last own name is all after the `::`. Of the flags
-/// `ctor` holds alone.
+/// The constructor of a scope, `scope::name` with the last own name of the scope, or its
+/// destructor, which has a `~` in front of that name. A plain piece; its last own name is all after
+/// the `::`. Of the flags `ctor` holds alone.
 ///
 /// An error comes where memory is refused, and then only `clear` of the buffer is promised.
 #[tactic(auto, using(demangle_text::proofs::Laws::laws))]
 pub fn qualify_ctor(buf: &mut Buffer, scope: Piece, destructor: bool) -> Result<Piece, AllocError>
     requires scope { IsLiving buf.old scope }
-    ensures shape { IfOk result (λ p. Lives buf.new p (qualified_ctor (shape buf.old scope) destructor)) }
+    ensures shape { IfOk result (λ p. Lives buf.new p
+        (qualified_ctor (shape buf.old scope) destructor)) }
     ensures edit { OnOk result (IsEdit buf.old buf.new) }
 {
     let before = buf.len(scope);
@@ -68,15 +71,17 @@ fn gap_before_args(name: &[u8]) -> &'static [u8]
     if name.ends_with(b"<") { b" " } else { b"" }
 }
 
-/// The name with the list of its template arguments behind it, and a space between them where the name ends
-/// in `<`. A plain piece with the last own name and the flag `ctor` of the name; `templ` holds.
+/// The name with the list of its template arguments behind it, and a space between them where the
+/// name ends in `<`. A plain piece with the last own name and the flag `ctor` of the name; `templ`
+/// holds.
 ///
 /// An error comes where memory is refused, and then only `clear` of the buffer is promised.
 #[tactic(auto, using(demangle_text::proofs::Laws::laws))]
 pub fn attach_template_args(buf: &mut Buffer, name: Piece, args: Piece) -> Result<Piece, AllocError>
     requires name { IsLiving buf.old name }
     requires args { IsLiving buf.old args }
-    ensures shape { IfOk result (λ p. Lives buf.new p (attached (shape buf.old name) (shape buf.old args))) }
+    ensures shape { IfOk result (λ p. Lives buf.new p
+        (attached (shape buf.old name) (shape buf.old args))) }
     ensures edit { OnOk result (IsEdit buf.old buf.new) }
 {
     let before = buf.len(name);
@@ -90,9 +95,9 @@ pub fn attach_template_args(buf: &mut Buffer, name: Piece, args: Piece) -> Resul
     Ok(buf.with_flags(named, true, ctor))
 }
 
-/// The name with its qualifiers behind it: the words ` const`, ` volatile` and ` restrict` only where they
-/// are shown, and then the reference. A plain piece with the last own name and the flags of the name, also
-/// where nothing is printed. Without qualifiers the answer is the name itself.
+/// The name with its qualifiers behind it: the words ` const`, ` volatile` and ` restrict` only
+/// where they are shown, and then the reference. A plain piece with the last own name and the flags
+/// of the name, also where nothing is printed. Without qualifiers the answer is the name itself.
 ///
 /// An error comes where memory is refused, and then only `clear` of the buffer is promised.
 #[tactic(auto, using(demangle_text::proofs::Laws::laws))]
@@ -103,7 +108,8 @@ pub fn apply_name_qualifiers(
     shown: bool,
 ) -> Result<Piece, AllocError>
     requires name { IsLiving buf.old name }
-    ensures shape { IfOk result (λ p. Lives buf.new p (name_qualified (shape buf.old name) quals shown)) }
+    ensures shape { IfOk result (λ p. Lives buf.new p
+        (name_qualified (shape buf.old name) quals shown)) }
     ensures edit { OnOk result (IsEdit buf.old buf.new) }
 {
     if !quals.is_set() {

@@ -2,7 +2,7 @@
 ghost use Rattle.std.specs.Prelude.{◌≡◌};
 ghost use Rattle.demangle_edit.specs.Names.{words_text, reference_text, has_quals};
 
-/// The reference qualifier of a member function.
+/// The reference qualifier of a member function, the ABI's `<ref-qualifier>`.
 #[derive(Clone, Copy, Debug, PartialEq, Eq)]
 pub enum Reference {
     /// `&`
@@ -11,12 +11,17 @@ pub enum Reference {
     Right,
 }
 
-/// The qualifiers of a type, of a member function's name or of a function type.
+/// The qualifiers of a type, of a member function's name or of a function type: the ABI's
+/// `<CV-qualifiers>`, and a reference qualifier if there is one.
 #[derive(Clone, Copy, Debug, PartialEq, Eq)]
 pub struct Quals {
+    /// `const`
     pub constant: bool,
+    /// `volatile`
     pub volatile: bool,
+    /// `restrict`
     pub restrict: bool,
+    /// `&` or `&&`
     pub reference: Option<Reference>,
 }
 

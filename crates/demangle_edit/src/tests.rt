@@ -83,7 +83,11 @@ fn qualifiers_behind_a_name(rt: HostRuntime) -> Result<(), Fail> {
 fn parts_in_a_row(rt: HostRuntime) -> Result<(), Fail> {
     let mut buf = Buffer::new(rt.alloc());
     let name = buf.push(b"x")?;
-    let parts = [Glue::Text(b"guard variable for "), Glue::Piece(name), Glue::Text(b"!")];
+    let parts = [
+        Glue::Text(b"guard variable for "),
+        Glue::Piece(name),
+        Glue::Text(b"!"),
+    ];
     let whole = glue(&mut buf, parts.as_slice())?;
     assert_eq!(rt; buf.bytes(whole), b"guard variable for x!".as_slice());
     assert_eq!(rt; buf.own_range(whole), (0, 21));

@@ -3,7 +3,7 @@ ghost use Rattle.std.specs.Prelude.{◌≡◌, ◌≢◌, ◌++◌, All, map, co
 ghost use Rattle.demangle_text.specs.Shape.{CanInsert, IsPlain, IsDeclared, text, plain_shape, inserted, kind_of, group_of, gap_after, front_text};
 ghost use Rattle.demangle_text.specs.State.{IsLiving, shape, Lives, IsEdit, KeepsAll};
 ghost use Rattle.demangle_edit.specs.Answers.{Answers, OnNone};
-ghost use Rattle.demangle_edit.specs.Types.{pointed, collapsed, wrapped, cv_place, cv_wrapped, extent_text, HasDimension, array_shape, arrayed, member_gap, after_text, member_shape, membered, function_of};
+ghost use Rattle.demangle_edit.specs.Types.{pointed, collapsed, wrapped, cv_place, cv_wrapped, extent_text, array_shape, arrayed, member_gap, after_text, member_shape, membered, function_of};
 
 use crate::lists::list_pieces;
 use crate::names::range_before;
@@ -27,9 +27,9 @@ fn wrap_token(buf: &mut Buffer, inner: Piece, token: &[u8]) -> Result<Piece, All
     }
 }
 
-/// A pointer or a reference to the type: `*`, `&` or `&&` at the end of a plain text or of a group. A
-/// declarator without group gets a group for it. A reference to a plain text that ends in `&` collapses, as
-/// `collapse_ref` has it. The flags stay.
+/// A pointer or a reference to the type: `*`, `&` or `&&` at the end of a plain text or of a group.
+/// A declarator without group gets a group for it. A reference to a plain text that ends in `&`
+/// collapses, as `collapse_ref` has it. The flags stay.
 ///
 /// An error comes where memory is refused, and then only `clear` of the buffer is promised.
 #[tactic(auto, using(demangle_text::proofs::Laws::laws, crate::proofs::Declarators::declarators))]
@@ -51,11 +51,12 @@ pub fn wrap_pointer(buf: &mut Buffer, inner: Piece, kind: Pointer) -> Result<Pie
     }
 }
 
-/// What is left of a reference to a plain text that ends in `&`: of `&` to a text that ends in `&&` the text
-/// without its last byte, in all other cases the piece itself. `rvalue` says that the reference is `&&`.
+/// What is left of a reference to a plain text that ends in `&`: of `&` to a text that ends in `&&`
+/// the text without its last byte, in all other cases the piece itself. `rvalue` says that the
+/// reference is `&&`.
 ///
-/// `None`, and all stays, where the piece is a declarator or its text doesn't end in `&`. An error comes
-/// where memory is refused, and then only `clear` of the buffer is promised.
+/// `None`, and all stays, where the piece is a declarator or its text doesn't end in `&`. An error
+/// comes where memory is refused, and then only `clear` of the buffer is promised.
 #[tactic(auto, using(demangle_text::proofs::Laws::laws, crate::proofs::Declarators::declarators))]
 pub fn collapse_ref(
     buf: &mut Buffer,
@@ -97,9 +98,9 @@ fn words_place(buf: &Buffer, inner: Piece) -> Place
     }
 }
 
-/// The type with the words ` const`, ` volatile` and ` restrict` of its qualifiers: at the end of the group,
-/// for an array without group in front of its dimensions, else at the end of the text. The flags stay, and
-/// the reference of the qualifiers isn't printed.
+/// The type with the words ` const`, ` volatile` and ` restrict` of its qualifiers: at the end of
+/// the group, for an array without group in front of its dimensions, else at the end of the text.
+/// The flags stay, and the reference of the qualifiers isn't printed.
 ///
 /// An error comes where memory is refused, and then only `clear` of the buffer is promised.
 #[tactic(auto, using(demangle_text::proofs::Laws::laws, crate::proofs::Declarators::declarators))]
@@ -134,7 +135,8 @@ fn insert_dimension(
     requires living { IsLiving buf.old piece }
     requires fits { CanInsert place (shape buf.old piece).form }
     requires behind { place ≢ Place.Start }
-    ensures shape { IfOk result (λ p. Lives buf.new p (inserted place (opening.now ++ (extent_text dim ++ codes "]")) (shape buf.old piece))) }
+    ensures shape { IfOk result (λ p. Lives buf.new p
+        (inserted place (opening.now ++ (extent_text dim ++ codes "]")) (shape buf.old piece))) }
     ensures edit { OnOk result (IsEdit buf.old buf.new) }
 {
     let mut digits = itoa::Buffer::new();
@@ -164,25 +166,25 @@ fn outer_dimension(buf: &mut Buffer, elem: Piece, dim: Option<u64>) -> Result<Pi
     requires living { IsLiving buf.old elem }
     requires kind { kind_of (shape buf.old elem).form ≡ Some Kind.Array }
     requires group { is_some (group_of (shape buf.old elem).form) ≡ false }
-    requires dimension { HasDimension (shape buf.old elem).form }
     ensures shape { IfOk result (λ p. Lives buf.new p (array_shape dim (shape buf.old elem))) }
     ensures edit { OnOk result (IsEdit buf.old buf.new) }
 {
     let at = buf.after_at(elem).unwrap();
+    let len = buf.len(elem);
+    let behind = at + (len - at).min(1);
     let flat = buf.plain(elem);
-    let _len = buf.len(flat);
-    let cut = buf.declare(flat, Kind::Array, at + 1);
+    let cut = buf.declare(flat, Kind::Array, behind);
     let longer = insert_dimension(buf, cut, Place::Suffix, b"[", dim)?;
     let whole = buf.plain(longer);
     Ok(buf.declare(whole, Kind::Array, at))
 }
 
-/// The array of the type with this dimension, `[]` where there is none: ` [n]` at the end of a group or
-/// behind a plain text; for an array without group `[n]` behind the first byte of what is after it, so that
-/// the outer dimension stands first. The flags stay.
+/// The array of the type with this dimension, `[]` where there is none: ` [n]` at the end of a
+/// group or behind a plain text; for an array without group `[n]` behind the first byte of what is
+/// after it, so that the outer dimension stands first. The flags stay.
 ///
-/// `None`, and all stays, for a function without group. An error comes where memory is refused, and then
-/// only `clear` of the buffer is promised.
+/// `None`, and all stays, for a function without group. An error comes where memory is refused, and
+/// then only `clear` of the buffer is promised.
 #[tactic(auto, using(demangle_text::proofs::Laws::laws, crate::proofs::Declarators::declarators))]
 pub fn wrap_array(
     buf: &mut Buffer,
@@ -190,7 +192,6 @@ pub fn wrap_array(
     dim: Option<u64>,
 ) -> Result<Option<Piece>, AllocError>
     requires elem { IsLiving buf.old elem }
-    requires dimension { HasDimension (shape buf.old elem).form }
     ensures shape { Answers result buf.new (arrayed dim (shape buf.old elem)) }
     ensures edit { OnOk result (IsEdit buf.old buf.new) }
     ensures none { OnNone result (KeepsAll buf.old buf.new) }
@@ -229,7 +230,8 @@ fn append_member(buf: &mut Buffer, class: Piece, member: Piece) -> Result<Piece,
     requires class { IsLiving buf.old class }
     requires member { IsLiving buf.old member }
     requires plain { IsPlain (shape buf.old member).form }
-    ensures shape { IfOk result (λ p. Lives buf.new p (member_shape (shape buf.old class) (shape buf.old member))) }
+    ensures shape { IfOk result (λ p. Lives buf.new p
+        (member_shape (shape buf.old class) (shape buf.old member))) }
     ensures edit { OnOk result (IsEdit buf.old buf.new) }
 {
     let before = buf.len(member);
@@ -244,7 +246,8 @@ fn append_member(buf: &mut Buffer, class: Piece, member: Piece) -> Result<Piece,
     Ok(buf.with_flags(named, flags.0, flags.1))
 }
 
-// What opens a group behind a text: a space unless the text is empty or ends in a space, `(` or `*`, and `(`.
+// What opens a group behind a text: a space unless the text is empty or ends in a space, `(` or
+// `*`, and `(`.
 fn group_opening(text: &[u8]) -> &'static [u8]
     ensures value { result.now ≡ gap_after text.now ++ codes "(" }
 {
@@ -287,7 +290,9 @@ fn join_member(
     requires front { IsLiving buf.old front }
     requires class { IsLiving buf.old class }
     requires after { IsLiving buf.old after }
-    ensures shape { IfOk result (λ p. Lives buf.new p (plain_shape (text (shape buf.old front) ++ (gap_after (text (shape buf.old front)) ++ codes "(") ++ text (shape buf.old class) ++ codes "::*)" ++ text (shape buf.old after)))) }
+    ensures shape { IfOk result (λ p. Lives buf.new p (plain_shape
+        (text (shape buf.old front) ++ (gap_after (text (shape buf.old front)) ++ codes "(")
+        ++ text (shape buf.old class) ++ codes "::*)" ++ text (shape buf.old after)))) }
     ensures kept { OnOk result (KeepsAll buf.old buf.new) }
 {
     let opening = group_opening(buf.bytes(front));
@@ -303,7 +308,8 @@ fn open_member(buf: &mut Buffer, class: Piece, member: Piece) -> Result<Piece, A
     requires class { IsLiving buf.old class }
     requires member { IsLiving buf.old member }
     requires function { kind_of (shape buf.old member).form ≡ Some Kind.Function }
-    ensures shape { IfOk result (λ p. Lives buf.new p (member_shape (shape buf.old class) (shape buf.old member))) }
+    ensures shape { IfOk result (λ p. Lives buf.new p
+        (member_shape (shape buf.old class) (shape buf.old member))) }
     ensures edit { OnOk result (IsEdit buf.old buf.new) }
 {
     let (templ, ctor) = (buf.templ(member), buf.ctor(member));
@@ -317,12 +323,12 @@ fn open_member(buf: &mut Buffer, class: Piece, member: Piece) -> Result<Piece, A
     Ok(buf.with_flags(declared, templ, ctor))
 }
 
-/// The pointer to a member of the class: the class and `::*`, at the end of a plain text (behind a space,
-/// unless the text ends in a space or `(`), or in a new group of a function. The flags are those of the
-/// member.
+/// The pointer to a member of the class: the class and `::*`, at the end of a plain text (behind a
+/// space, unless the text ends in a space or `(`), or in a new group of a function. The flags are
+/// those of the member.
 ///
-/// `None`, and all stays, for an array. An error comes where memory is refused, and then only `clear` of the
-/// buffer is promised.
+/// `None`, and all stays, for an array. An error comes where memory is refused, and then only
+/// `clear` of the buffer is promised.
 #[tactic(auto, using(demangle_text::proofs::Laws::laws, crate::proofs::Declarators::declarators))]
 pub fn wrap_member_pointer(
     buf: &mut Buffer,
@@ -348,12 +354,12 @@ pub fn wrap_member_pointer(
     }
 }
 
-/// The function type with these parameters and qualifiers: what it returns and a space, then the parameters
-/// in parentheses with `, ` between them, then the qualifiers. Its last own name is its whole text, and no
-/// flag holds.
+/// The function type with these parameters and qualifiers: what it returns and a space, then the
+/// parameters in parentheses with `, ` between them, then the qualifiers. Its last own name is its
+/// whole text, and no flag holds.
 ///
-/// `None`, and all stays, where what is returned is a declarator. An error comes where memory is refused,
-/// and then only `clear` of the buffer is promised.
+/// `None`, and all stays, where what is returned is a declarator. An error comes where memory is
+/// refused, and then only `clear` of the buffer is promised.
 #[tactic(auto, using(demangle_text::proofs::Laws::laws, crate::proofs::Declarators::declarators))]
 pub fn function_type(
     buf: &mut Buffer,
@@ -363,7 +369,8 @@ pub fn function_type(
 ) -> Result<Option<Piece>, AllocError>
     requires ret { IsLiving buf.old ret }
     requires params { All (IsLiving buf.old) params.now }
-    ensures shape { Answers result buf.new (function_of (shape buf.old ret) (map (shape buf.old) params.now) quals) }
+    ensures shape { Answers result buf.new
+        (function_of (shape buf.old ret) (map (shape buf.old) params.now) quals) }
     ensures edit { OnOk result (IsEdit buf.old buf.new) }
     ensures none { OnNone result (KeepsAll buf.old buf.new) }
 {

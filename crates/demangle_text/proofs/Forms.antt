@@ -1,12 +1,10 @@
 -- A form and its layout: where its parts lie in its text.
-use Rattle.std.proofs.Common.{◌≡◌, ℕ, ◌+◌, ◌-◌, ◌<◌, ◌≤◌, List, [], ◌∷◌, ◌++◌, length, get_or, slice_range, take, drop, Option, Some, None, refl, sym, ap, ◌∙◌, subst, arith, append_assoc, add_comm}
-use Rattle.std.proofs.lemmas.List.{length-append, take_at, drop_at, get_or_at, take-append-drop, length-take, length-drop, drop_more, take-append-le, append-nil, length-take-le, drop-drop}
-use Rattle.std.proofs.lemmas.Slice.{between_is}
-use Rattle.std.proofs.lemmas.List.Edits.{split_between, length-between}
-use Rattle.demangle_text.specs.declared.shape.Kind.{Kind}
+use Rattle.std.proofs.Common.{◌≡◌, ℕ, ◌+◌, ◌-◌, ◌<◌, List, [], ◌∷◌, ◌++◌, length, slice_range, take, drop, Some, None, refl, sym, ap, ◌∙◌, arith, append_assoc, add_comm}
+use Rattle.std.proofs.lemmas.List.{length-append, take_at, drop_at, get_or_at, take-append-drop, drop_more, length-take-le, drop-drop}
+use Rattle.std.proofs.lemmas.List.Edits.{length-between}
 use Rattle.demangle_text.specs.declared.shape.Layout.{Layout}
 use Rattle.demangle_text.specs.declared.shape.Layout.TheVariants.{Flat, Cut}
-use Rattle.demangle_text.specs.Shape.{Form, Plain, Declared, Shape, form_text, grouped}
+use Rattle.demangle_text.specs.Shape.{Form, Plain, Declared, form_text}
 use Rattle.demangle_text.specs.Pieces.{form_of, IsLayout}
 
 -- the layout of a form's text

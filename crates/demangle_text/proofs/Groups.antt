@@ -1,13 +1,12 @@
 -- What a new group makes of a declarator's text and its marks.
-use Rattle.std.proofs.Common.{◌≡◌, ℕ, ◌+◌, ◌-◌, ◌<◌, ◌≤◌, List, [], ◌∷◌, ◌++◌, length, take, drop, Option, Some, None, refl, sym, ap, ◌∙◌, subst, arith, append_assoc}
+use Rattle.std.proofs.Common.{◌≡◌, ℕ, ◌+◌, ◌-◌, ◌≤◌, List, [], ◌∷◌, ◌++◌, length, take, drop, Some, None, refl, sym, ap, ◌∙◌, arith, append_assoc}
 use Rattle.std.proofs.lemmas.List.{length-append, take_at, drop_at, append-nil}
-use Rattle.demangle_text.specs.declared.shape.Kind.{Kind}
 use Rattle.demangle_text.specs.declared.shape.Kind.TheVariants.{Array, Function}
 use Rattle.demangle_text.specs.declared.shape.Place.TheVariants.{Suffix}
 use Rattle.demangle_text.specs.declared.shape.Layout.{Layout}
 use Rattle.demangle_text.specs.declared.shape.Layout.TheVariants.{Flat, Cut}
 use Rattle.demangle_text.specs.declared.shape.Marks.{Marks}
-use Rattle.demangle_text.specs.Shape.{Form, Plain, Declared, Shape, form_text, front_text, grouped, gap_after, own_in, moved, opened_form, opened_own, opened_group, IsDeclared}
+use Rattle.demangle_text.specs.Shape.{Form, Plain, Declared, form_text, front_text, grouped, gap_after, own_in, moved, opened_form, opened_own, opened_group, IsDeclared}
 use Rattle.demangle_text.specs.Pieces.{form_of, shape_of, IsMarked, IsLayout, layout_end, place_at, layout_opened, own_at}
 use Rattle.demangle_text.proofs.Forms.{layout_for, layout_for-form_of, text-form_of}
 use Rattle.demangle_text.proofs.Inserts.{marks_for, shape_of-marks_for, IsMarked-marks_for, moved_ordered, moved_within, length-inserted}

@@ -1,16 +1,14 @@
 -- The marks of a form's text, and what an insertion makes of them.
-use Rattle.std.proofs.Common.{◌≡◌, ℕ, ◌+◌, ◌-◌, ◌<◌, ◌≤◌, Bool, true, false, if◌then◌else◌, List, [], ◌∷◌, ◌++◌, length, take, drop, Option, Some, None, refl, sym, ap, ◌∙◌, subst, arith, append_assoc, add_comm, leb}
-use Rattle.std.proofs.lemmas.List.{length-append, take_at, drop_at, append-nil, length-take-le, length-drop, take_all, drop_all, take-append-drop}
-use Rattle.std.proofs.lemmas.Grind.{common_steps}
-use Rattle.demangle_text.specs.declared.shape.Kind.{Kind}
+use Rattle.std.proofs.Common.{◌≡◌, ℕ, ◌+◌, ◌≤◌, Bool, true, false, if◌then◌else◌, List, ◌∷◌, ◌++◌, length, take, drop, Some, None, refl, sym, ap, ◌∙◌, arith, append_assoc, add_comm, leb}
+use Rattle.std.proofs.lemmas.List.{length-append, take_at, drop_at, append-nil, take_all, drop_all, take-append-drop}
 use Rattle.demangle_text.specs.declared.shape.Kind.TheVariants.{Array, Function}
 use Rattle.demangle_text.specs.declared.shape.Place.{Place}
 use Rattle.demangle_text.specs.declared.shape.Place.TheVariants.{Start, Close, Suffix, End}
 use Rattle.demangle_text.specs.declared.shape.Layout.{Layout}
-use Rattle.demangle_text.specs.declared.shape.Layout.TheVariants.{Flat, Cut}
+use Rattle.demangle_text.specs.declared.shape.Layout.TheVariants.{Cut}
 use Rattle.demangle_text.specs.declared.shape.Marks.{Marks}
 use Rattle.demangle_text.specs.Shape.{Form, Plain, Declared, Shape, form_text, grouped, own_in, moved, form_with, place_in, inserted, CanInsert}
-use Rattle.demangle_text.specs.Pieces.{form_of, shape_of, IsLayout, IsOwn, IsMarked, place_at, layout_with, own_at}
+use Rattle.demangle_text.specs.Pieces.{form_of, shape_of, IsOwn, IsMarked, place_at, layout_with, own_at}
 use Rattle.demangle_text.proofs.Forms.{layout_for, form_of-layout_for, IsLayout-layout_for, layout_for-form_of, text-form_of, parts, closed_parts}
 
 -- the marks of a form's text

@@ -1,10 +1,10 @@
 -- Laws of a run of calls. No line here looks into a buffer: they follow from the words of `State` alone.
-use Rattle.std.proofs.Common.{◌≡◌, refl, sym, ◌∙◌, ap, subst}
+use Rattle.std.proofs.Common.{sym, ◌∙◌, subst}
 use Rattle.demangle_text.specs.declared.shape.Piece.{Piece}
 use Rattle.demangle_text.specs.declared.shape.Mark.{Mark}
 use Rattle.demangle_text.specs.Shape.{Shape}
 use Rattle.demangle_text.specs.Pieces.{Store}
-use Rattle.demangle_text.specs.State.{IsLiving, IsOlder, shape, frame, inside, outside, Lives, SameLists, SameFrame, KeepsAll, IsEdit, Opens, Closes, KeepsPieces, IsRun, IsSince}
+use Rattle.demangle_text.specs.State.{IsLiving, IsOlder, shape, Lives, SameLists, SameFrame, KeepsAll, IsEdit, Opens, Closes, IsRun, IsSince}
 
 -- a piece that keeps its shape twice
 pub Lives-trans : (mid new : Store) (p : Piece) (s : Shape) → Lives mid p s → (IsLiving mid p → Lives new p (shape mid p)) → Lives new p s

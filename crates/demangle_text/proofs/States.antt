@@ -1,11 +1,9 @@
 -- What stays when texts are added to a buffer.
-use Rattle.std.proofs.Common.{◌≡◌, ℕ, ◌+◌, ◌<◌, ◌≤◌, List, [], ◌∷◌, ◌++◌, length, All, map, refl, sym, ap, ◌∙◌, subst, arith, set, ◌-◌, get_or, option_map, slice_get, IfSome, Vec, Result, Ok, Err, OnErr}
-use Rattle.std.proofs.lemmas.List.{length-map, map-set, get_or-map}
-use Rattle.std.proofs.lemmas.List.Elements.{All-get_or}
+use Rattle.std.proofs.Common.{◌≡◌, ℕ, List, [], ◌∷◌, ◌++◌, refl, ap, Result, Ok, Err, OnErr}
 use Rattle.demangle_text.specs.declared.shape.Piece.{Piece}
-use Rattle.demangle_text.specs.Shape.{Shape, text}
-use Rattle.demangle_text.specs.Pieces.{Store, IsStore, IsPiece, shape_of, span_text}
-use Rattle.demangle_text.specs.State.{IsLiving, shape, saved, scopes, frame, KeepsAll, IsEdit, Lives, IsOlder, KeepsPieces, parts_at}
+use Rattle.demangle_text.specs.Shape.{text}
+use Rattle.demangle_text.specs.Pieces.{Store, IsStore, IsPiece, span_text}
+use Rattle.demangle_text.specs.State.{IsLiving, shape, saved, scopes, frame, KeepsAll, KeepsPieces, parts_at}
 use Rattle.demangle_text.proofs.Forms.{text-form_of}
 use Rattle.demangle_text.proofs.Texts.{IsPiece-append, piece_shape-append, map_same}
 

@@ -1,12 +1,11 @@
 -- Texts that are added leave the pieces as they were.
-use Rattle.std.proofs.Common.{◌≡◌, ℕ, ◌+◌, ◌-◌, ◌<◌, ◌≤◌, List, [], ◌∷◌, ◌++◌, length, get_or, take, drop, All, map, option_map, slice_get, IfSome, zero, suc, refl, sym, ap, ◌∙◌, subst, arith}
+use Rattle.std.proofs.Common.{◌≡◌, ℕ, ◌+◌, ◌-◌, ◌<◌, ◌≤◌, List, [], ◌∷◌, ◌++◌, length, take, drop, All, map, slice_get, IfSome, zero, suc, refl, ap, arith}
 use Rattle.std.proofs.lemmas.List.{get_or_append_left, length-append, drop-take, take-take, drop-drop}
 use Rattle.std.proofs.lemmas.List.Elements.{All-head, All-tail}
 use Rattle.demangle_text.specs.declared.shape.Piece.{Piece}
 use Rattle.demangle_text.specs.declared.shape.Span.{Span}
-use Rattle.demangle_text.specs.declared.shape.Marks.{Marks}
 use Rattle.demangle_text.specs.Shape.{Shape}
-use Rattle.demangle_text.specs.Pieces.{IsPiece, IsMarked, shape_of, span_text}
+use Rattle.demangle_text.specs.Pieces.{IsPiece, shape_of, span_text}
 
 -- the text of a span that lies in the texts stays
 pub span_text-append : (ts us : List (List ℕ)) (s : Span) → s.text < length ts → span_text (ts ++ us) s ≡ span_text ts s

@@ -1,5 +1,5 @@
 -- How a piece lies in a list of texts.
-use Rattle.std.specs.Prelude.{◌≡◌, ℕ, ◌+◌, ◌-◌, ◌<◌, ◌≤◌, List, [], ◌∷◌, length, take, drop, slice_range, slice_index, slice_index_or, Option, Some, None, All}
+use Rattle.std.specs.Prelude.{◌≡◌, ℕ, min, false, ◌+◌, ◌-◌, ◌<◌, ◌≤◌, List, [], ◌∷◌, length, take, drop, slice_range, slice_index, slice_index_or, Some, None, All}
 use Rattle.demangle_text.specs.declared.shape.Kind.{Kind}
 use Rattle.demangle_text.specs.declared.shape.Kind.TheVariants.{Array, Function}
 use Rattle.demangle_text.specs.declared.shape.Place.{Place}
@@ -40,6 +40,14 @@ pub record IsMarked (t : List ℕ) (m : Marks) : Type 0 where
   pub own_ordered : m.own.0 ≤ m.own.1
   pub own_within : m.own.1 ≤ length t
   pub own_whole : IsOwn t m.layout m.own
+
+-- the marks of a plain text of this length, all of which is its last own name
+abbrev pub whole_marks : ℕ → Marks
+whole_marks len = record { layout = Flat; own = (0, len); templ = false; ctor = false }
+
+-- the marks of a plain text that is cut to this length
+abbrev pub cut_marks : ℕ → Marks → Marks
+cut_marks len m = record m { layout = Flat; own = (min m.own.0 len, min m.own.1 len) }
 
 -- where a place lies in a text of this length
 abbrev pub place_at : Place → Layout → ℕ → ℕ

@@ -1,5 +1,5 @@
 -- What a buffer's fields mean.
-use Rattle.std.specs.Prelude.{List, map}
+use Rattle.std.specs.Prelude.{map}
 use Rattle.demangle_text.specs.declared.buffer.Buffer.TheInside.{Inside}
 use Rattle.demangle_text.specs.Pieces.{Store, IsStore}
 

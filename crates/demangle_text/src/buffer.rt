@@ -54,7 +54,8 @@ impl Buffer {
         }
     }
 
-    /// Ends all pieces and marks: nothing is saved, no scope and no mark is open. What was reserved may stay.
+    /// Ends all pieces and marks: nothing is saved, no scope and no mark is open. What was reserved
+    /// may stay.
     pub fn clear(&mut self)
         ensures no_saved { saved self.new ≡ [] }
         ensures no_scopes { scopes self.new ≡ [] }
@@ -79,9 +80,9 @@ impl Buffer {
         mark
     }
 
-    /// Takes the innermost mark back: the piece, with its shape, becomes all text since the mark, and counts
-    /// as made under the mark outside. The other pieces made since the mark end. After `AllocError`, `clear`
-    /// is the only call that is promised.
+    /// Takes the innermost mark back: the piece, with its shape, becomes all text since the mark,
+    /// and counts as made under the mark outside. The other pieces made since the mark end. After
+    /// `AllocError`, `clear` is the only call that is promised.
     pub fn close(&mut self, mark: Mark, piece: Piece) -> Result<Piece, AllocError>
         requires innermost { frame self.old ≡ inside mark }
         requires living { IsLiving self.old piece }
@@ -130,8 +131,8 @@ impl Buffer {
         self.add(text, piece.marks)
     }
 
-    /// The piece with the bytes at the end of its text. It ends the other pieces made since the innermost
-    /// mark. After `AllocError` all is as it was.
+    /// The piece with the bytes at the end of its text. It ends the other pieces made since the
+    /// innermost mark. After `AllocError` all is as it was.
     pub fn append(&mut self, piece: Piece, bytes: &[u8]) -> Result<Piece, AllocError>
         requires living { IsLiving self.old piece }
         ensures shape { IfOk result (λ p. Lives self.new p (appended bytes.now (shape self.old piece))) }
@@ -141,9 +142,10 @@ impl Buffer {
         self.insert(piece, Place::End, bytes)
     }
 
-    /// The piece with the bytes at a place of its text: `Close` asks for a group, `Suffix` for a declarator
-    /// without one. The last own name moves on where it begins at the place or later, and grows where the
-    /// place lies inside it. Ends pieces, and keeps all after `AllocError`, as `append` does.
+    /// The piece with the bytes at a place of its text: `Close` asks for a group, `Suffix` for a
+    /// declarator without one. The last own name moves on where it begins at the place or later,
+    /// and grows where the place lies inside it. Ends pieces, and keeps all after `AllocError`, as
+    /// `append` does.
     pub fn insert(&mut self, piece: Piece, place: Place, bytes: &[u8]) -> Result<Piece, AllocError>
         requires living { IsLiving self.old piece }
         requires fits { CanInsert place (shape self.old piece).form }
@@ -158,9 +160,9 @@ impl Buffer {
         self.add(text, marks)
     }
 
-    /// The declarator with a new group of the bytes, behind all text up to its `after`, and behind a space
-    /// where that text isn't empty and doesn't end in a space, `(` or `*`. Ends pieces, and keeps all after
-    /// `AllocError`, as `append` does.
+    /// The declarator with a new group of the bytes, behind all text up to its `after`, and behind
+    /// a space where that text isn't empty and doesn't end in a space, `(` or `*`. Ends pieces, and
+    /// keeps all after `AllocError`, as `append` does.
     pub fn open_group(&mut self, piece: Piece, bytes: &[u8]) -> Result<Piece, AllocError>
         requires living { IsLiving self.old piece }
         requires declared { IsDeclared (shape self.old piece).form }
@@ -178,8 +180,8 @@ impl Buffer {
         self.add(text, marks)
     }
 
-    /// The plain piece without its last n bytes. Its last own name is what is left of it. Ends pieces, and
-    /// keeps all after `AllocError`, as `append` does.
+    /// The plain piece without its last n bytes. Its last own name is what is left of it. Ends
+    /// pieces, and keeps all after `AllocError`, as `append` does.
     pub fn cut(&mut self, piece: Piece, n: usize) -> Result<Piece, AllocError>
         requires living { IsLiving self.old piece }
         requires plain { IsPlain (shape self.old piece).form }
@@ -194,13 +196,14 @@ impl Buffer {
         self.add(text, piece.marks.cut(left))
     }
 
-    /// A plain piece: the text of the first piece, the bytes, and the text of the second. Its last own name
-    /// is the whole text, and both flags are off. Ends pieces, and keeps all after `AllocError`, as `append`
-    /// does.
+    /// A plain piece: the text of the first piece, the bytes, and the text of the second. Its last
+    /// own name is the whole text, and both flags are off. Ends pieces, and keeps all after
+    /// `AllocError`, as `append` does.
     pub fn join(&mut self, first: Piece, bytes: &[u8], second: Piece) -> Result<Piece, AllocError>
         requires first_living { IsLiving self.old first }
         requires second_living { IsLiving self.old second }
-        ensures shape { IfOk result (λ p. Lives self.new p (joined (shape self.old first) bytes.now (shape self.old second))) }
+        ensures shape { IfOk result (λ p. Lives self.new p
+            (joined (shape self.old first) bytes.now (shape self.old second))) }
         ensures edit { OnOk result (IsEdit self.old self.new) }
         ensures err { OnErr result (KeepsAll self.old self.new) }
     {
@@ -297,7 +300,8 @@ impl Buffer {
         }
     }
 
-    /// The same shape with these bytes of its text as its last own name. The answer is as old as the piece.
+    /// The same shape with these bytes of its text as its last own name. The answer is as old as
+    /// the piece.
     pub fn own_at(&self, piece: Piece, from: usize, to: usize) -> Piece
         requires living { IsLiving self.now piece }
         requires ordered { from ≤ to }
@@ -330,7 +334,8 @@ impl Buffer {
         }
     }
 
-    /// Its text as a plain shape, with the same last own name and flags. The answer is as old as the piece.
+    /// Its text as a plain shape, with the same last own name and flags. The answer is as old as
+    /// the piece.
     pub fn plain(&self, piece: Piece) -> Piece
         requires living { IsLiving self.now piece }
         ensures shape { Lives self.now result (flattened (shape self.now piece)) }
@@ -362,9 +367,9 @@ impl Buffer {
         }
     }
 
-    /// The plain piece as a declarator of this kind, with no group: its `after` begins at the byte `at` of
-    /// its text. It keeps its flags and, but for a function, its last own name. The answer is as old as the
-    /// piece.
+    /// The plain piece as a declarator of this kind, with no group: its `after` begins at the byte
+    /// `at` of its text. It keeps its flags and, but for a function, its last own name. The answer
+    /// is as old as the piece.
     pub fn declare(&self, piece: Piece, kind: Kind, at: usize) -> Piece
         requires living { IsLiving self.now piece }
         requires plain { IsPlain (shape self.now piece).form }
@@ -379,8 +384,8 @@ impl Buffer {
         }
     }
 
-    /// As `declare`, with a group: its `(` stands at the byte `from` of its text, where `before` ends, and
-    /// its `)` right before the byte `at`. The answer is as old as the piece.
+    /// As `declare`, with a group: its `(` stands at the byte `from` of its text, where `before`
+    /// ends, and its `)` right before the byte `at`. The answer is as old as the piece.
     pub fn declare_group(&self, piece: Piece, kind: Kind, from: usize, at: usize) -> Piece
         requires living { IsLiving self.now piece }
         requires plain { IsPlain (shape self.now piece).form }
@@ -398,7 +403,8 @@ impl Buffer {
         }
     }
 
-    /// Adds the shape of the piece to the end of the saved ones. After `AllocError` all is as it was.
+    /// Adds the shape of the piece to the end of the saved ones. After `AllocError` all is as it
+    /// was.
     pub fn save(&mut self, piece: Piece) -> Result<(), AllocError>
         requires living { IsLiving self.old piece }
         ensures saved { OnOk result (saved self.new ≡ saved self.old ++ shape self.old piece ∷ []) }
@@ -435,7 +441,8 @@ impl Buffer {
         self.saved.len()
     }
 
-    /// Opens a scope, which is the last one then and has no argument. After `AllocError` all is as it was.
+    /// Opens a scope, which is the last one then and has no argument. After `AllocError` all is as
+    /// it was.
     pub fn open_scope(&mut self) -> Result<(), AllocError>
         ensures scopes { OnOk result (scopes self.new ≡ scopes self.old ++ [] ∷ []) }
         ensures saved { saved self.new ≡ saved self.old }
@@ -447,7 +454,8 @@ impl Buffer {
         Ok(())
     }
 
-    /// Adds the shape of the piece to the end of the last scope. After `AllocError` all is as it was.
+    /// Adds the shape of the piece to the end of the last scope. After `AllocError` all is as it
+    /// was.
     pub fn push_arg(&mut self, piece: Piece) -> Result<(), AllocError>
         requires living { IsLiving self.old piece }
         requires open { 0 < length (scopes self.old) }
@@ -460,8 +468,8 @@ impl Buffer {
         Ok(())
     }
 
-    /// A piece of the argument of the last scope with this index, from 0. `None` past the last argument, and
-    /// where no scope is open.
+    /// A piece of the argument of the last scope with this index, from 0. `None` past the last
+    /// argument, and where no scope is open.
     pub fn arg(&self, i: usize) -> Option<Piece>
         ensures shape { option_map (shape self.now) result ≡ slice_get (last_args (scopes self.now)) i }
         ensures living { IfSome result (IsLiving self.now) }

@@ -1,13 +1,13 @@
 //! Pieces of demangled text, each with the shape of a C++ declarator.
 //!
-//! A shape is plain, that is a text, or declared: an array or a function with a text `before` the name that
-//! it declares, a parenthesized `group` round that name, if there is one, and a text `after` it. A shape
-//! also has the last own name as a range of its text, and two flags.
+//! A shape is plain, that is a text, or declared: an array or a function with a text `before` the
+//! name that it declares, a parenthesized `group` round that name, if there is one, and a text
+//! `after` it. A shape also has the last own name as a range of its text, and two flags.
 //!
-//! A `Buffer` answers pieces, which stand for shapes and live from the call that answers them. `open` hands
-//! out a mark, and `close` takes it back; the pieces that were made since the innermost mark may end at the
-//! next edit, and all that were made before it keep their shapes. A buffer also keeps a list of saved shapes,
-//! and a list of scopes, each a list of shapes.
+//! A `Buffer` answers pieces, which stand for shapes and live from the call that answers them.
+//! `open` hands out a mark, and `close` takes it back; the pieces that were made since the
+//! innermost mark may end at the next edit, and all that were made before it keep their shapes. A
+//! buffer also keeps a list of saved shapes, and a list of scopes, each a list of shapes.
 #![tactic(auto)]
 
 mod buffer;

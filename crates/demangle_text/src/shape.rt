@@ -1,6 +1,6 @@
 //! Pieces: how their texts are cut into the parts of a shape, and where the last own name lies.
-ghost use Rattle.std.specs.Prelude.{◌≡◌, ℕ, ◌+◌, ◌^◌, ◌<◌, ◌≤◌, if◌then◌else◌, false, min};
-ghost use Rattle.demangle_text.specs.Pieces.{place_at, layout_with, layout_opened, layout_end, own_at, own_of};
+ghost use Rattle.std.specs.Prelude.{◌≡◌, ℕ, ◌+◌, ◌^◌, ◌<◌, ◌≤◌, if◌then◌else◌};
+ghost use Rattle.demangle_text.specs.Pieces.{place_at, layout_with, layout_opened, layout_end, own_at, own_of, whole_marks, cut_marks};
 ghost use Rattle.demangle_text.specs.Shape.{moved};
 
 /// What a declarator declares.
@@ -110,8 +110,8 @@ impl Layout {
         }
     }
 
-    // The layout after n bytes were inserted where `after` began, which end in a group of m bytes with its
-    // parentheses.
+    // The layout after n bytes were inserted where `after` began, which end in a group of m bytes
+    // with its parentheses.
     fn with_group(self, n: usize, m: usize) -> Layout
         requires fits { layout_end self + n < 2 ^ 64 }
         requires within { m ≤ n }
@@ -143,7 +143,7 @@ impl Layout {
 impl Marks {
     // The marks of a plain text of `len` bytes, all of which are its last own name.
     pub(crate) fn whole(len: usize) -> Marks
-        ensures value { result ≡ record { layout = Layout.Flat; own = (0, len); templ = false; ctor = false } }
+        ensures value { result ≡ whole_marks len }
     {
         Marks {
             layout: Layout::Flat,
@@ -153,8 +153,8 @@ impl Marks {
         }
     }
 
-    // The marks after n bytes were inserted at a place, which was the byte `at`, in a text that has `len`
-    // bytes then.
+    // The marks after n bytes were inserted at a place, which was the byte `at`, in a text that has
+    // `len` bytes then.
     pub(crate) fn with_bytes(self, place: Place, at: usize, n: usize, len: usize) -> Marks
         requires ordered { self.own.0 ≤ self.own.1 }
         requires own_fits { self.own.1 + n < 2 ^ 64 }
@@ -171,8 +171,8 @@ impl Marks {
         }
     }
 
-    // The marks after n bytes were inserted at the byte `at`, where `after` began, which end in a group of m
-    // bytes with its parentheses, in a text that has `len` bytes then.
+    // The marks after n bytes were inserted at the byte `at`, where `after` began, which end in a
+    // group of m bytes with its parentheses, in a text that has `len` bytes then.
     pub(crate) fn with_group(self, at: usize, n: usize, m: usize, len: usize) -> Marks
         requires ordered { self.own.0 ≤ self.own.1 }
         requires own_fits { self.own.1 + n < 2 ^ 64 }
@@ -192,7 +192,7 @@ impl Marks {
 
     // The marks of a plain text of which the first `len` bytes are left.
     pub(crate) fn cut(self, len: usize) -> Marks
-        ensures value { result ≡ record self { layout = Layout.Flat; own = (min self.own.0 len, min self.own.1 len) } }
+        ensures value { result ≡ cut_marks len self }
     {
         let (from, to) = self.own;
         Marks {
@@ -220,7 +220,8 @@ impl Marks {
         }
     }
 
-    // The last own name after n bytes were inserted at the byte `at`, in a text that has `len` bytes then.
+    // The last own name after n bytes were inserted at the byte `at`, in a text that has `len`
+    // bytes then.
     fn own_moved(self, at: usize, n: usize, len: usize) -> (usize, usize)
         requires ordered { self.own.0 ≤ self.own.1 }
         requires fits { self.own.1 + n < 2 ^ 64 }

@@ -1,7 +1,9 @@
 -- What the grammar reads, the functions read.
 use Rattle.std.proofs.Common.{◌≡◌, ◌≤◌, ℕ, zero, suc, ◌+◌, max, Bool, true, false, List, map, length, drop, refl, ◌∙◌, sym, arith, Option, Some, None, ap}
 use Rattle.std.proofs.lemmas.List.{length-map}
-use Rattle.std.specs.Prelude.{codes, option_map}
+use Rattle.std.specs.Prelude.{codes, option_map, slice_get}
+use Rattle.std.proofs.lemmas.Option.{slice_get-map}
+use Rattle.demangle_text.specs.Shape.{Shape, plain_shape}
 use Rattle.itanium_demangle.specs.declared.context.Context.{Context}
 use Rattle.itanium_demangle.specs.declared.forms.NameForm.{NameForm}
 use Rattle.itanium_demangle.specs.declared.forms.UnscopedForm.{UnscopedForm}
@@ -11,14 +13,36 @@ use Rattle.itanium_demangle.specs.declared.forms.ComponentForm.{ComponentForm}
 use Rattle.itanium_demangle.specs.declared.forms.UnqualifiedForm.{UnqualifiedForm}
 use Rattle.itanium_demangle.specs.declared.forms.TagForm.{TagForm}
 use Rattle.itanium_demangle.specs.declared.forms.SymbolForm.{SymbolForm}
-use Rattle.itanium_demangle.specs.Forms.{source_text, name_quals, past_name_quals, saves_first}
-use Rattle.itanium_demangle.specs.Tree.{Tree, plain_name, in_scope, nested_of, shape_of}
-use Rattle.itanium_demangle.specs.Grammar.{Place, Cost, past_initializer, save, TaggedAs, UnqualifiedAs, Unqualified, ListedAs, UnscopedAs, FirstAs, Components, ComponentsAs, Nested, NameAs, Name, SymbolAs, Symbol, no_tag, source_component, unqualified, no_list, std_name, global_name, std_first, name_first, components, last_component, name_component, nested, nested_name, unscoped_name, name, name_symbol, symbol}
-use Rattle.itanium_demangle.specs.Reading.{State, enter, tagged_as, unqualified_as, read_unqualified, listed_as, unscoped_as, read_unscoped, first_as, component_as, read_components, read_nested, name_as, read_name, symbol_as, read_symbol}
-use Rattle.itanium_demangle.proofs.See.{state_at, same_read, one_more, taken-map, shape-plain_name, shape-in_scope, shape-nested_of}
-use Rattle.itanium_demangle.proofs.Shorter.{components_takes, unqualified_takes, member_behind, behind-le}
+use Rattle.itanium_demangle.specs.declared.forms.SubstitutionForm.{SubstitutionForm}
+use Rattle.itanium_demangle.specs.declared.forms.ArgsForm.{ArgsForm}
+use Rattle.itanium_demangle.specs.declared.forms.ArgumentForm.{ArgumentForm}
+use Rattle.itanium_demangle.specs.declared.forms.TypeForm.{TypeForm}
+use Rattle.itanium_demangle.specs.Around.{opens_scope, inside_type}
+use Rattle.itanium_demangle.specs.Forms.{source_text, builtin_text, name_quals, past_name_quals, saves_first}
+use Rattle.itanium_demangle.specs.Tree.{Tree, plain_name, known_name, structor_of, with_args, nested_of, trees, in_scope, shape_of, list_from, closed, list_shape}
+use Rattle.itanium_demangle.specs.Grammar.{Place, Cost, at, counted, saving, save, put, begin, past_initializer, both, SubstitutionAs, Substitution, ParameterAs, Parameter, TaggedAs, UnqualifiedAs, Unqualified, FirstAs, Name, NameAs, UnscopedAs, ListedAs, Nested, Components, ComponentsAs, Args, ArgsUpTo, ArgsAs, ArgumentAs, TypeOf, TypeAs, TypeListedAs, SymbolAs, Symbol, known_substitution, saved_substitution, substitution, auto_parameter, scope_parameter, parameter, no_tag, source_component, constructor_component, destructor_component, unqualified, parameter_first, std_first, substitution_first, name_first, name, nested_name, unscoped_name, std_name, substitution_name, global_name, no_list, argument_list, nested, components, last_component, list_component, name_component, args, args_up_to, no_more_args, one_more_arg, type_argument, type, builtin_type, parameter_type, substitution_type, name_type, no_type_list, type_list, name_symbol, symbol, last_of}
+use Rattle.itanium_demangle.specs.Reading.{State, enter, substitution_as, read_substitution, parameter_as, read_parameter, tagged_as, unqualified_as, read_unqualified, first_as, attached_by, component_as, read_components, read_nested, listed_as, unscoped_as, name_as, argument_as, argument_by, args_as, read_list, type_listed_as, type_as, read_name, read_args, read_type, symbol_as, read_symbol}
+use Rattle.itanium_demangle.proofs.See.{state_at, same_read, one_more, taken-map, some-map, last-map, put-scopes, begin-scopes, shape-plain_name, shape-known_name, shape-structor_of, shape-with_args, shape-in_scope, shape-nested_of}
+use Rattle.itanium_demangle.proofs.Shorter.{components_takes, unqualified_takes, args_takes, up_to_takes, argument_takes, member_behind, behind_drop, behind-le}
 
 -- without a counted production the depth is no matter
+substitution_as_complete : {form : SubstitutionForm} {p q : Place} {t : Tree} → SubstitutionAs form p t q → (e m : ℕ)
+    → substitution_as form (state_at p e m) ≡ Some (shape_of t, state_at q e m)
+substitution_as_complete (known_substitution {known = known} found) e m = rw (found, ← shape-known_name known) refl
+substitution_as_complete (saved_substitution {p = p} {i = i} found there) e m = rw (found, slice_get-map shape_of p.saved i, there) refl
+
+pub substitution_complete : {p q : Place} {t : Tree} → Substitution p t q → (e m : ℕ) → read_substitution (state_at p e m) ≡ Some (shape_of t, state_at q e m)
+unfolding read_substitution
+substitution_complete (substitution form a) e m = rw form (substitution_as_complete a e m)
+
+parameter_as_complete : {lambda : Bool} {i : ℕ} {p : Place} {t : Tree} → ParameterAs lambda i p t → (e m : ℕ) → parameter_as lambda i (state_at p e m) ≡ Some (shape_of t)
+parameter_as_complete auto_parameter e m = ap Some (sym (shape-plain_name (codes "auto")))
+parameter_as_complete (scope_parameter {i = i} {p = p} there) e m = rw (last-map p.scopes, slice_get-map shape_of (last_of p.scopes) i, there) refl
+
+pub parameter_complete : {x : Context} {p q : Place} {t : Tree} → Parameter x p t q → (e m : ℕ) → read_parameter x (state_at p e m) ≡ Some (shape_of t, state_at q e m)
+unfolding read_parameter
+parameter_complete (parameter found a) e m = rw (found, parameter_as_complete a e m) refl
+
 tagged_complete : {form : TagForm} {t u : Tree} {p q : Place} → TaggedAs form t p u q → (e m : ℕ)
     → tagged_as form (shape_of t) (state_at p e m) ≡ Some (shape_of u, state_at q e m)
 tagged_complete no_tag e m = refl
@@ -28,65 +52,130 @@ unqualified_as_complete : {form : UnqualifiedForm} {scope : Option Tree} {p q : 
 unqualified_as_complete (source_component {scope = scope} {t = t} {bytes = b} found form tags) e m =
     rw (found, form, ← shape-plain_name (source_text b), tagged_complete tags e m, ← shape-in_scope scope t)
     (same_read refl refl refl (omega arith) (omega arith))
+unqualified_as_complete (constructor_component {scope = scope} form tags) e m =
+    rw (form, ← shape-structor_of scope false, tagged_complete tags e m) (same_read refl refl refl (omega arith) (omega arith))
+unqualified_as_complete (destructor_component {scope = scope} form tags) e m =
+    rw (form, ← shape-structor_of scope true, tagged_complete tags e m) (same_read refl refl refl (omega arith) (omega arith))
 
 pub unqualified_complete : {scope : Option Tree} {p q : Place} {t : Tree} {c : Cost} → Unqualified scope p t q c → (e m : ℕ)
     → read_unqualified (option_map shape_of scope) (state_at p e m) ≡ Some (shape_of t, state_at q (e + c.count) (max m c.peak))
 unfolding read_unqualified
-unqualified_complete (unqualified form a) e m = rw form (unqualified_as_complete a e m)
+unqualified_complete (unqualified {scope = scope} form a) e m = rw (some-map scope, form) (unqualified_as_complete a e m)
 
-listed_complete : {form : ListForm} {t u : Tree} {p q : Place} {c : Cost} → ListedAs form t p u q c → (e m : ℕ)
-    → listed_as form (shape_of t) (state_at p e m) ≡ Some (shape_of u, state_at q (e + c.count) (max m c.peak))
-listed_complete no_list e m = same_read refl refl refl (omega arith) (omega arith)
-
-unscoped_complete : {form : UnscopedForm} {p q : Place} {t : Tree} {c : Cost} → UnscopedAs form p t q c → (e m : ℕ)
-    → unscoped_as form (state_at p e m) ≡ Some (shape_of t, state_at q (e + c.count) (max m c.peak))
-unscoped_complete (std_name {c = c} a form b) e m =
-    rw (← shape-plain_name (codes "std"), unqualified_complete a e m, form, listed_complete b (e + c.count) (max m c.peak))
-    (same_read refl refl refl (omega arith) (omega arith))
-unscoped_complete (global_name {c = c} a form b) e m =
-    rw (unqualified_complete a e m, form, listed_complete b (e + c.count) (max m c.peak)) (same_read refl refl refl (omega arith) (omega arith))
-
-pub first_complete : {form : FirstForm} {p q : Place} {t : Tree} {c : Cost} → FirstAs form p t q c → (e m : ℕ)
-    → first_as form (state_at p e m) ≡ Some (shape_of t, state_at q (e + c.count) (max m c.peak))
+pub first_complete : {form : FirstForm} {x : Context} {p q : Place} {t : Tree} {c : Cost} → FirstAs form x p t q c → (e m : ℕ)
+    → first_as form x (state_at p e m) ≡ Some (shape_of t, state_at q (e + c.count) (max m c.peak))
+first_complete (parameter_first {q = q} {t = t} a) e m =
+    rw (parameter_complete a e m) (same_read refl (one_more q.saved t) refl (omega arith) (omega (arith, length-map q.saved shape_of)))
 first_complete std_first e m = same_read (sym (shape-plain_name (codes "std"))) refl refl (omega arith) (omega arith)
+first_complete (substitution_first a) e m = substitution_complete a e m ∙ same_read refl refl refl (omega arith) (omega arith)
 first_complete (name_first {q = q} {t = t} a) e m =
     rw (unqualified_complete a e m) (same_read refl (one_more q.saved t) refl (omega arith) (omega (arith, length-map q.saved shape_of)))
 
 mutual
-  unfolding read_components
+  unfolding read_name read_nested read_components read_list
 
-  pub components_complete : {takes : Bool} {t u : Tree} {p q : Place} {c : Cost} → Components takes t p u q c → (e m n : ℕ) → length p.rest ≤ n
-      → read_components n takes (shape_of t) (state_at p e m) ≡ Some (shape_of u, state_at q (e + c.count) (max m c.peak))
-  components_complete (components form a) e m zero room = let shorter = (components_takes (components form a)).shorter in absurd (omega arith)
-  components_complete (components form a) e m (suc n) room = rw form (component_complete a e m n room)
+  pub name_complete : {x : Context} {p q : Place} {t : Tree} {c : Cost} → Name x p t q c → (d e m : ℕ) → c.depth ≤ d
+      → read_name d x (state_at p e m) ≡ Some (shape_of t, state_at q (e + c.count) (max m c.peak))
+  name_complete (name form a) zero e m deep = absurd (omega arith)
+  name_complete (name form a) (suc d) e m deep = rw form (name_as_complete a d (e + 1) m (omega arith) ∙ same_read refl refl refl (omega arith) refl)
 
-  component_complete : {form : ComponentForm} {takes : Bool} {t u : Tree} {p q : Place} {c : Cost} → ComponentsAs form takes t p u q c → (e m n : ℕ) → length p.rest ≤ suc n
-      → component_as form takes (shape_of t) (read_components n true) (state_at p e m) ≡ Some (shape_of u, state_at q (e + c.count) (max m c.peak))
-  component_complete (last_component {takes = takes} {p = p}) e m n room = same_read refl (taken-map takes p.saved) refl (omega arith) (omega arith)
-  component_complete (name_component {q = q} {u = u} {c = c} a b) e m n room =
+  name_as_complete : {form : NameForm} {x : Context} {p q : Place} {t : Tree} {c : Cost} → NameAs form x p t q c → (d e m : ℕ) → c.depth ≤ d
+      → name_as form (read_args d x true) x (state_at p e m) ≡ Some (shape_of t, state_at q (e + c.count) (max m c.peak))
+  name_as_complete (nested_name a) d e m deep = nested_complete a d e m deep
+  name_as_complete (unscoped_name form a) d e m deep = rw form (unscoped_complete a d e m deep)
+
+  pub unscoped_complete : {form : UnscopedForm} {x : Context} {p q : Place} {t : Tree} {c : Cost} → UnscopedAs form x p t q c → (d e m : ℕ) → c.depth ≤ d
+      → unscoped_as form (read_args d x true) (state_at p e m) ≡ Some (shape_of t, state_at q (e + c.count) (max m c.peak))
+  unscoped_complete (std_name {c = c} a form b) d e m deep =
+      rw (← shape-plain_name (codes "std"), unqualified_complete a e m, form, listed_complete b d (e + c.count) (max m c.peak) (omega arith))
+      (same_read refl refl refl (omega arith) (omega arith))
+  unscoped_complete (substitution_name {t = t} {list = list} a form b) d e m deep =
+      rw (substitution_complete a e m, form, args_complete b d e m deep, ← shape-with_args t list) refl
+  unscoped_complete (global_name {c = c} a form b) d e m deep =
+      rw (unqualified_complete a e m, form, listed_complete b d (e + c.count) (max m c.peak) (omega arith)) (same_read refl refl refl (omega arith) (omega arith))
+
+  pub listed_complete : {form : ListForm} {x : Context} {t u : Tree} {p q : Place} {c : Cost} → ListedAs form x t p u q c → (d e m : ℕ) → c.depth ≤ d
+      → listed_as form (read_args d x true) (shape_of t) (state_at p e m) ≡ Some (shape_of u, state_at q (e + c.count) (max m c.peak))
+  listed_complete no_list d e m deep = same_read refl refl refl (omega arith) (omega arith)
+  listed_complete (argument_list {t = t} {p = p} {list = ts} a) d e m deep =
+      rw (one_more p.saved t, args_complete a d e (max m (length (map shape_of p.saved) + 1)) (omega arith), ← shape-with_args t ts)
+      (same_read refl refl refl (omega arith) (omega (arith, length-map p.saved shape_of)))
+
+  pub nested_complete : {x : Context} {p q : Place} {t : Tree} {c : Cost} → Nested x p t q c → (d e m : ℕ) → c.depth ≤ d
+      → read_nested (read_args d x true) x (state_at p e m) ≡ Some (shape_of t, state_at q (e + c.count) (max m c.peak))
+  nested_complete (nested {x = x} {p = p} {q = q} {u = u} {c = c} form a b) d e m deep =
+      rw (form, first_complete a e m, components_complete b d (e + c.count) (max m c.peak) (length (past_initializer q).rest) (omega arith) (omega arith), ← shape-nested_of u (name_quals p.rest) x.shown)
+      (same_read refl refl refl (omega arith) (omega arith))
+
+  pub components_complete : {x : Context} {takes : Bool} {t u : Tree} {p q : Place} {c : Cost} → Components x takes t p u q c → (d e m n : ℕ) → c.depth ≤ d → length p.rest ≤ n
+      → read_components (read_args d x true) n takes (shape_of t) (state_at p e m) ≡ Some (shape_of u, state_at q (e + c.count) (max m c.peak))
+  components_complete (components form a) d e m zero deep room = let shorter = (components_takes (components form a)).shorter in absurd (omega arith)
+  components_complete (components form a) d e m (suc n) deep room = rw form (component_complete a d e m n deep room)
+
+  component_complete : {form : ComponentForm} {x : Context} {takes : Bool} {t u : Tree} {p q : Place} {c : Cost} → ComponentsAs form x takes t p u q c → (d e m n : ℕ) → c.depth ≤ d → length p.rest ≤ suc n
+      → component_as form (read_args d x true) takes (shape_of t) (read_components (read_args d x true) n true) (state_at p e m) ≡ Some (shape_of u, state_at q (e + c.count) (max m c.peak))
+  component_complete (last_component {takes = takes} {p = p}) d e m n deep room = same_read refl (taken-map takes p.saved) refl (omega arith) (omega arith)
+  component_complete (list_component {q = q} {t = t} {list = ts} {c = c} a b) d e m n deep room =
+      let shorter = (args_takes a).shorter in
+      let within = behind-le (member_behind q.rest) in
+      rw (args_complete a d e m (omega arith), ← shape-with_args t ts, one_more q.saved (with_args t (trees ts)),
+      components_complete b d (e + c.count) (max (max m c.peak) (length (map shape_of q.saved) + 1)) n (omega arith) (omega arith))
+      (same_read refl refl refl (omega arith) (omega (arith, length-map q.saved shape_of)))
+  component_complete (name_component {q = q} {u = u} {c = c} a b) d e m n deep room =
       let shorter = (unqualified_takes a).shorter in
       let within = behind-le (member_behind q.rest) in
-      rw (unqualified_complete a e m, one_more q.saved u, components_complete b (e + c.count) (max (max m c.peak) (length (map shape_of q.saved) + 1)) n (omega arith))
+      rw (unqualified_complete a e m, one_more q.saved u, components_complete b d (e + c.count) (max (max m c.peak) (length (map shape_of q.saved) + 1)) n (omega arith) (omega arith))
       (same_read refl refl refl (omega arith) (omega (arith, length-map q.saved shape_of)))
 
-nested_complete : {x : Context} {p q : Place} {t : Tree} {c : Cost} → Nested x p t q c → (e m : ℕ)
-    → read_nested x (state_at p e m) ≡ Some (shape_of t, state_at q (e + c.count) (max m c.peak))
-unfolding read_nested
-nested_complete (nested {x = x} {p = p} {q = q} {u = u} {c = c} form a b) e m =
-    rw (form, first_complete a e m, components_complete b (e + c.count) (max m c.peak) (length (past_initializer q).rest) (omega arith), ← shape-nested_of u (name_quals p.rest) x.shown)
-    (same_read refl refl refl (omega arith) (omega arith))
+  pub args_complete : {x : Context} {of_name : Bool} {p q : Place} {list : List Tree} {c : Cost} → Args x of_name p list q c → (d e m : ℕ) → c.depth ≤ d
+      → read_args d x of_name (state_at p e m) ≡ Some (list_shape (map shape_of list), state_at q (e + c.count) (max m c.peak))
+  args_complete (args a) zero e m deep = absurd (omega arith)
+  args_complete (args {x = x} {of_name = of_name} {p = p} a) (suc d) e m deep =
+      rw (begin-scopes (opens_scope of_name x) p.scopes, length-map (begin (opens_scope of_name x) p).scopes (map shape_of))
+      (up_to_complete a d (e + 1) m (length p.rest) true (plain_shape (codes "<")) (omega arith) (behind-le (behind_drop 1 p.rest)) ∙ same_read refl refl refl (omega arith) refl)
 
-name_as_complete : {form : NameForm} {x : Context} {p q : Place} {t : Tree} {c : Cost} → NameAs form x p t q c → (e m : ℕ)
-    → name_as form x (state_at p e m) ≡ Some (shape_of t, state_at q (e + c.count) (max m c.peak))
-unfolding read_unscoped
-name_as_complete (nested_name a) e m = nested_complete a e m
-name_as_complete (unscoped_name form a) e m = rw form (unscoped_complete a e m)
+  pub up_to_complete : {x : Context} {o : Bool} {k : ℕ} {p q : Place} {list : List Tree} {c : Cost} → ArgsUpTo x o k p list q c
+      → (d e m n : ℕ) (first : Bool) (front : Shape) → c.depth ≤ d → length p.rest ≤ n
+      → read_list o k (argument_by (read_type d x)) n first front (state_at p e m)
+      ≡ Some (closed (list_from first front (map shape_of list)), state_at q (e + c.count) (max m c.peak))
+  up_to_complete (args_up_to form a) d e m zero first front deep room = let shorter = (up_to_takes (args_up_to form a)).shorter in absurd (omega arith)
+  up_to_complete (args_up_to form a) d e m (suc n) first front deep room = rw form (args_as_complete a d e m n first front deep room)
 
-pub name_complete : {x : Context} {p q : Place} {t : Tree} {c : Cost} → Name x p t q c → (d e m : ℕ) → c.depth ≤ d
-    → read_name d x (state_at p e m) ≡ Some (shape_of t, state_at q (e + c.count) (max m c.peak))
-unfolding read_name
-name_complete (name form a) zero e m deep = absurd (omega arith)
-name_complete (name form a) (suc d) e m deep = rw form (name_as_complete a (e + 1) m ∙ same_read refl refl refl (omega arith) refl)
+  args_as_complete : {form : ArgsForm} {x : Context} {o : Bool} {k : ℕ} {p q : Place} {list : List Tree} {c : Cost} → ArgsAs form x o k p list q c
+      → (d e m n : ℕ) (first : Bool) (front : Shape) → c.depth ≤ d → length p.rest ≤ suc n
+      → args_as form o k (argument_by (read_type d x)) (read_list o k (argument_by (read_type d x)) n false) first front (state_at p e m)
+      ≡ Some (closed (list_from first front (map shape_of list)), state_at q (e + c.count) (max m c.peak))
+  args_as_complete no_more_args d e m n first front deep room = same_read refl refl refl (omega arith) (omega arith)
+  args_as_complete (one_more_arg {o = o} {k = k} {q = q} {t = t} {c = c} form a more) d e m n first front deep room =
+      let shorter = (argument_takes a).shorter in
+      rw (form, argument_complete a d e m (omega arith), put-scopes o k t q.scopes, up_to_complete more d (e + c.count) (max m c.peak) n false _ (omega arith) (omega arith))
+      (same_read refl refl refl (omega arith) (omega arith))
+
+  pub argument_complete : {form : ArgumentForm} {x : Context} {p q : Place} {t : Tree} {c : Cost} → ArgumentAs form x p t q c → (d e m : ℕ) → c.depth ≤ d
+      → argument_as form (read_type d x) (state_at p e m) ≡ Some (shape_of t, state_at q (e + c.count) (max m c.peak))
+  argument_complete (type_argument a) d e m deep = type_complete a d e m deep
+
+  pub type_complete : {x : Context} {p q : Place} {t : Tree} {c : Cost} → TypeOf x p t q c → (d e m : ℕ) → c.depth ≤ d
+      → read_type d x (state_at p e m) ≡ Some (shape_of t, state_at q (e + c.count) (max m c.peak))
+  type_complete (type form a) zero e m deep = absurd (omega arith)
+  type_complete (type form a) (suc d) e m deep = rw form (type_as_complete a d (e + 1) m (omega arith) ∙ same_read refl refl refl (omega arith) refl)
+
+  type_as_complete : {form : TypeForm} {x : Context} {p q : Place} {t : Tree} {c : Cost} → TypeAs form x p t q c → (d e m : ℕ) → c.depth ≤ d
+      → type_as form (read_type d x) (read_name d x) (read_args d x false) x (state_at p e m) ≡ Some (shape_of t, state_at q (e + c.count) (max m c.peak))
+  type_as_complete (builtin_type {p = p}) d e m deep = same_read (sym (shape-plain_name (builtin_text p.rest))) refl refl (omega arith) (omega arith)
+  type_as_complete (parameter_type {q = q} {t = t} a form b) d e m deep =
+      rw (parameter_complete a e m, form, one_more q.saved t, type_listed_complete b d e (max m (length (map shape_of q.saved) + 1)) (omega arith))
+      (same_read refl refl refl (omega arith) (omega (arith, length-map q.saved shape_of)))
+  type_as_complete (substitution_type a form b) d e m deep = rw (substitution_complete a e m, form, type_listed_complete b d e m deep) refl
+  type_as_complete (name_type {q = q} {t = t} a) d e m deep =
+      rw (name_complete a d e m (omega arith)) (same_read refl (one_more q.saved t) refl (omega arith) (omega (arith, length-map q.saved shape_of)))
+
+  pub type_listed_complete : {form : ListForm} {x : Context} {t u : Tree} {p q : Place} {c : Cost} → TypeListedAs form x t p u q c → (d e m : ℕ) → c.depth ≤ d
+      → type_listed_as form (read_args d x false) (shape_of t) (state_at p e m) ≡ Some (shape_of u, state_at q (e + c.count) (max m c.peak))
+  type_listed_complete no_type_list d e m deep = same_read refl refl refl (omega arith) (omega arith)
+  type_listed_complete (type_list {t = t} {q = q} {list = ts} a) d e m deep =
+      rw (args_complete a d e m (omega arith), ← shape-with_args t ts)
+      (same_read refl (one_more q.saved (with_args t (trees ts))) refl (omega arith) (omega (arith, length-map q.saved shape_of)))
 
 symbol_as_complete : {form : SymbolForm} {x : Context} {p q : Place} {t : Tree} {c : Cost} → SymbolAs form x p t q c → (d e m : ℕ) → c.depth ≤ d
     → symbol_as form d x (state_at p e m) ≡ Some (shape_of t, state_at q (e + c.count) (max m c.peak))

@@ -1,98 +1,196 @@
 -- One level of the reading functions, and their loops turn by turn.
-use Rattle.std.proofs.Common.{List, [], ◌∷◌, ◌≡◌, ◌<◌, ◌≤◌, ℕ, zero, suc, ◌-◌, Bool, true, false, length, drop, refl, ap, ◌∙◌, arith, Option, Some, None}
-use Rattle.std.specs.Prelude.{IfSome, option_map}
+use Rattle.std.proofs.Common.{◌≡◌, ◌<◌, ◌≤◌, ℕ, zero, suc, ◌-◌, Bool, true, false, List, [], ◌∷◌, length, drop, refl, ap, ◌∙◌, arith, Option, Some, None, codes}
+use Rattle.std.specs.Prelude.{IfSome, option_map, is_some, slice_get}
 use Rattle.demangle_text.specs.declared.shape.Piece.{Piece}
 use Rattle.demangle_text.specs.declared.buffer.Buffer.{Buffer}
 use Rattle.demangle_text.specs.State.{IsLiving, shape, SameFrame}
-use Rattle.demangle_text.specs.Shape.{Shape}
-use Rattle.itanium_demangle.proofs.Shorter.{end_shorter}
-use Rattle.itanium_demangle.specs.declared.context.Context.{Context}
-use Rattle.itanium_demangle.specs.declared.forms.ComponentForm.TheVariants.{LastComponent, ListComponent, NameComponent}
+use Rattle.demangle_text.specs.Shape.{Shape, plain_shape, joined}
 use Rattle.demangle_edit.specs.Names.{name_qualified}
-use Rattle.itanium_demangle.specs.Forms.{symbol_form, name_form, component_form, unqualified_form, unscoped_form, first_form, past_internal, past_name_quals, name_quals, saves_first}
-use Rattle.itanium_demangle.specs.Reading.{State, ◌>>=◌, enter, at, save, skip, first_as, read_nested, unqualified_as, unscoped_as, read_unscoped, taken_back, past_initializer, read_unqualified, read_components, read_prefix, component_as, read_name, name_as, read_symbol, symbol_as}
+use Rattle.itanium_demangle.proofs.Shorter.{end_shorter, args_end_shorter}
+use Rattle.itanium_demangle.specs.declared.context.Context.{Context}
+use Rattle.itanium_demangle.specs.declared.scalar.Radix.TheVariants.{Decimal}
+use Rattle.itanium_demangle.specs.declared.forms.ComponentForm.{ComponentForm}
+use Rattle.itanium_demangle.specs.declared.forms.ComponentForm.TheVariants.{LastComponent, ListComponent, NameComponent}
+use Rattle.itanium_demangle.specs.declared.forms.ArgsForm.TheVariants.{LastArgument, NextArgument}
+use Rattle.itanium_demangle.specs.Scalars.{index_of}
+use Rattle.itanium_demangle.specs.Around.{opens_scope, inside_type}
+use Rattle.itanium_demangle.specs.Tree.{between, closed}
+use Rattle.itanium_demangle.specs.Forms.{symbol_form, name_form, component_form, unqualified_form, first_form, args_form, type_form, substitution_form, past_internal, past_name_quals, name_quals, saves_first}
+use Rattle.itanium_demangle.specs.Reading.{State, Reads, ◌>>=◌, enter, at, save, skip, begin, put, taken_back, past_initializer, substitution_as, read_substitution, parameter_as, read_parameter, unqualified_as, read_unqualified, first_as, attached_by, component_as, read_components, read_prefix, read_nested, name_as, read_name, argument_by, args_as, read_list, list_at, read_args, type_as, read_type, symbol_as, read_symbol}
 
-pub name_opens : (d : ℕ) (x : Context) (s : State) → 0 < d → read_name d x s ≡ name_as (name_form s.rest) x (enter s)
+pub name_opens : (d : ℕ) (x : Context) (s : State) → 0 < d → read_name d x s ≡ name_as (name_form s.rest) (read_args (d - 1) x true) x (enter s)
 unfolding read_name
 name_opens zero x s h = absurd (omega arith)
-name_opens (suc d) x s h = refl
+name_opens (suc d) x s h = let less : suc d - 1 ≡ d = omega arith in rw less refl
 
 pub no_name : (x : Context) (s : State) → read_name 0 x s ≡ None
 unfolding read_name
 no_name x s = refl
 
+pub args_opens : (d : ℕ) (x : Context) (of_name : Bool) (s : State) → 0 < d
+    → read_args d x of_name s ≡ list_at (argument_by (read_type (d - 1) x)) (opens_scope of_name x) (length s.rest) (enter s)
+unfolding read_args
+args_opens zero x of_name s h = absurd (omega arith)
+args_opens (suc d) x of_name s h = let less : suc d - 1 ≡ d = omega arith in rw less refl
+
+pub no_args : (x : Context) (of_name : Bool) (s : State) → read_args 0 x of_name s ≡ None
+unfolding read_args
+no_args x of_name s = refl
+
+pub type_opens : (d : ℕ) (x : Context) (s : State) → 0 < d → read_type d x s
+    ≡ type_as (type_form s.rest) (read_type (d - 1) (inside_type x)) (read_name (d - 1) (inside_type x)) (read_args (d - 1) (inside_type x) false) (inside_type x) (enter s)
+unfolding read_type
+type_opens zero x s h = absurd (omega arith)
+type_opens (suc d) x s h = let less : suc d - 1 ≡ d = omega arith in rw less refl
+
+pub no_type : (x : Context) (s : State) → read_type 0 x s ≡ None
+unfolding read_type
+no_type x s = refl
+
+pub substitution_opens : (s : State) → read_substitution s ≡ substitution_as (substitution_form (drop 1 s.rest)) (skip 1 s)
+unfolding read_substitution
+substitution_opens s = refl
+
+pub parameter_opens : (x : Context) (s : State)
+    → read_parameter x s ≡ (index_of Decimal (drop 1 s.rest) >>= λ found. parameter_as x.lambda found.0 s >>= λ t. Some (t, at found.1 s))
+unfolding read_parameter
+parameter_opens x s = refl
+
 pub unqualified_opens : (scope : Option Shape) (s : State)
-    → read_unqualified scope s ≡ unqualified_as (unqualified_form (past_internal s.rest)) scope (at (past_internal s.rest) s)
+    → read_unqualified scope s ≡ unqualified_as (unqualified_form (is_some scope) (past_internal s.rest)) scope (at (past_internal s.rest) s)
 unfolding read_unqualified
 unqualified_opens scope s = refl
-
-pub unscoped_opens : (s : State) → read_unscoped s ≡ unscoped_as (unscoped_form s.rest) s
-unfolding read_unscoped
-unscoped_opens s = refl
 
 pub symbol_opens : (d : ℕ) (x : Context) (s : State) → read_symbol d x s ≡ symbol_as (symbol_form s.rest) d x s
 unfolding read_symbol
 symbol_opens d x s = refl
 
-pub nested_opens : (x : Context) (s : State) → read_nested x s
-    ≡ (first_as (first_form (past_name_quals s.rest)) (at (past_name_quals s.rest) s) >>= λ first.
-    read_prefix (saves_first (first_form (past_name_quals s.rest))) first.0 (past_initializer first.1) >>= λ name.
+pub nested_opens : (args : Reads Shape) (x : Context) (s : State) → read_nested args x s
+    ≡ (first_as (first_form (past_name_quals s.rest)) x (at (past_name_quals s.rest) s) >>= λ first.
+    read_prefix args (saves_first (first_form (past_name_quals s.rest))) first.0 (past_initializer first.1) >>= λ name.
     Some (name_qualified name.0 (name_quals s.rest) x.shown, name.1))
 unfolding read_nested
-nested_opens x s = refl
+nested_opens args x s = refl
+
+module _ (args : Reads Shape) where
+  no_turns : (takes : Bool) (name : Shape) (s : State) → read_components args 0 takes name s ≡ None
+  unfolding read_components
+  no_turns takes name s = refl
+
+  turn : (n : ℕ) (takes : Bool) (name : Shape) (s : State) → 0 < n
+      → read_components args n takes name s ≡ component_as (component_form s.rest) args takes name (read_components args (n - 1) true) s
+  unfolding read_components
+  turn zero takes name s h = absurd (omega arith)
+  turn (suc n) takes name s h = let less : suc n - 1 ≡ n = omega arith in rw less refl
 
 -- The components up to here are read: the whole is what the rest of the turns give.
-pub record ComponentsSoFar (whole : Option (Shape × State)) (takes : Bool) (name : Shape) (s : State) : Type 0 where
+pub record ComponentsSoFar (whole : Option (Shape × State)) (args : Reads Shape) (takes : Bool) (name : Shape) (s : State) : Type 0 where
   pub turns : ℕ
   pub room : length s.rest ≤ turns
-  pub is : whole ≡ read_components turns takes name s
+  pub is : whole ≡ read_components args turns takes name s
 
-no_turns : (takes : Bool) (name : Shape) (s : State) → read_components 0 takes name s ≡ None
-unfolding read_components
-no_turns takes name s = refl
+-- what a component is read by
+abbrev pub component_by : ComponentForm → Reads Shape → Shape → Reads Shape
+component_by LastComponent args name s = None
+component_by ListComponent args name s = attached_by args name s
+component_by NameComponent args name s = read_unqualified (Some name) s
 
-turn : (n : ℕ) (takes : Bool) (name : Shape) (s : State) → 0 < n
-    → read_components n takes name s ≡ component_as (component_form s.rest) takes name (read_components (n - 1) true) s
-unfolding read_components
-turn zero takes name s h = absurd (omega arith)
-turn (suc n) takes name s h = let less : suc n - 1 ≡ n = omega arith in rw less refl
-
-
-pub components_start : (n : ℕ) (takes : Bool) (name : Shape) (s : State) → length s.rest ≤ n → ComponentsSoFar (read_components n takes name s) takes name s
-components_start n takes name s room = record { turns = n; room = room; is = refl }
-
-pub components_end : {whole : Option (Shape × State)} {takes : Bool} {name kept : Shape} {s after : State} → ComponentsSoFar whole takes name s
+pub components_end : {whole : Option (Shape × State)} {args : Reads Shape} {takes : Bool} {name kept : Shape} {s after : State} → ComponentsSoFar whole args takes name s
     → component_form s.rest ≡ LastComponent → kept ≡ name → after ≡ taken_back takes (skip 1 s) → whole ≡ Some (kept, after)
-components_end {takes = takes} {name = name} {s = s} sofar form same left =
+components_end {args = args} {takes = takes} {name = name} {s = s} sofar form same left =
     let shorter = end_shorter s.rest form in
-    sofar.is ∙ turn sofar.turns takes name s (omega (arith, sofar.room)) ∙ rw (form, same, left) refl
+    sofar.is ∙ turn args sofar.turns takes name s (omega (arith, sofar.room)) ∙ rw (form, same, left) refl
 
-pub components_list : {whole : Option (Shape × State)} {takes : Bool} {name : Shape} {s : State} → ComponentsSoFar whole takes name s
-    → component_form s.rest ≡ ListComponent → whole ≡ None
-components_list {takes = takes} {name = name} {s = s} sofar form = sofar.is ∙ none_at sofar.turns
+pub components_fail_list : {whole : Option (Shape × State)} {args : Reads Shape} {takes : Bool} {name : Shape} {s : State} → ComponentsSoFar whole args takes name s
+    → component_form s.rest ≡ ListComponent → attached_by args name s ≡ None → whole ≡ None
+components_fail_list {args = args} {takes = takes} {name = name} {s = s} sofar form none = sofar.is ∙ none_at sofar.turns
   where
-    none_at : (n : ℕ) → read_components n takes name s ≡ None
-    none_at zero = no_turns takes name s
-    none_at (suc n) = turn (suc n) takes name s (omega arith) ∙ rw form refl
+    none_at : (n : ℕ) → read_components args n takes name s ≡ None
+    none_at zero = no_turns args takes name s
+    none_at (suc n) = turn args (suc n) takes name s (omega arith) ∙ rw (form, none) refl
 
-pub components_fail : {whole : Option (Shape × State)} {takes : Bool} {name : Shape} {s : State} → ComponentsSoFar whole takes name s
+pub components_fail_name : {whole : Option (Shape × State)} {args : Reads Shape} {takes : Bool} {name : Shape} {s : State} → ComponentsSoFar whole args takes name s
     → component_form s.rest ≡ NameComponent → read_unqualified (Some name) s ≡ None → whole ≡ None
-components_fail {takes = takes} {name = name} {s = s} sofar form none = sofar.is ∙ none_at sofar.turns
+components_fail_name {args = args} {takes = takes} {name = name} {s = s} sofar form none = sofar.is ∙ none_at sofar.turns
   where
-    none_at : (n : ℕ) → read_components n takes name s ≡ None
-    none_at zero = no_turns takes name s
-    none_at (suc n) = turn (suc n) takes name s (omega arith) ∙ rw (form, none) refl
+    none_at : (n : ℕ) → read_components args n takes name s ≡ None
+    none_at zero = no_turns args takes name s
+    none_at (suc n) = turn args (suc n) takes name s (omega arith) ∙ rw (form, none) refl
 
-pub components_more : {whole : Option (Shape × State)} {takes : Bool} {name next : Shape} {s mid after : State} → ComponentsSoFar whole takes name s
-    → component_form s.rest ≡ NameComponent → read_unqualified (Some name) s ≡ Some (next, mid) → length mid.rest < length s.rest
-    → after ≡ past_initializer (save next mid) → length after.rest ≤ length mid.rest → ComponentsSoFar whole true next after
-components_more {takes = takes} {name = name} {s = s} sofar form found shorter left short = record {
+pub components_more_list : {whole : Option (Shape × State)} {args : Reads Shape} {takes : Bool} {name next : Shape} {s mid after : State} → ComponentsSoFar whole args takes name s
+    → component_form s.rest ≡ ListComponent → attached_by args name s ≡ Some (next, mid) → length mid.rest < length s.rest
+    → after ≡ past_initializer (save next mid) → length after.rest ≤ length mid.rest → ComponentsSoFar whole args true next after
+components_more_list {args = args} {takes = takes} {name = name} {s = s} sofar form found shorter left short = record {
   turns = sofar.turns - 1;
   room = omega (arith, sofar.room);
-  is = sofar.is ∙ turn sofar.turns takes name s (omega (arith, sofar.room)) ∙ rw (form, found, left) refl;
+  is = sofar.is ∙ turn args sofar.turns takes name s (omega (arith, sofar.room)) ∙ rw (form, found, left) refl;
 }
+
+pub components_more_name : {whole : Option (Shape × State)} {args : Reads Shape} {takes : Bool} {name next : Shape} {s mid after : State} → ComponentsSoFar whole args takes name s
+    → component_form s.rest ≡ NameComponent → read_unqualified (Some name) s ≡ Some (next, mid) → length mid.rest < length s.rest
+    → after ≡ past_initializer (save next mid) → length after.rest ≤ length mid.rest → ComponentsSoFar whole args true next after
+components_more_name {args = args} {takes = takes} {name = name} {s = s} sofar form found shorter left short = record {
+  turns = sofar.turns - 1;
+  room = omega (arith, sofar.room);
+  is = sofar.is ∙ turn args sofar.turns takes name s (omega (arith, sofar.room)) ∙ rw (form, found, left) refl;
+}
+
+pub components_start : (args : Reads Shape) (takes : Bool) (name : Shape) (s : State) → ComponentsSoFar (read_prefix args takes name s) args takes name s
+components_start args takes name s = record { turns = length s.rest; room = omega arith; is = refl }
 
 -- a scope that may be there keeps its shape
 pub kept_scope : (old new : Buffer) (scope : Option Piece) → SameFrame old new → IfSome scope (IsLiving old) → option_map (shape new) scope ≡ option_map (shape old) scope
 kept_scope old new None kept living = refl
 kept_scope old new (Some p) kept living = ap Some (kept.pieces p living).shape_is
+
+pub some_scope : (b : Buffer) (scope : Option Piece) → is_some (option_map (shape b) scope) ≡ is_some scope
+some_scope b None = refl
+some_scope b (Some p) = refl
+
+module _ (opens : Bool) (kept : ℕ) (argument : Reads Shape) where
+  no_list_turns : (first : Bool) (list : Shape) (s : State) → read_list opens kept argument 0 first list s ≡ None
+  unfolding read_list
+  no_list_turns first list s = refl
+
+  list_turn : (n : ℕ) (first : Bool) (list : Shape) (s : State) → 0 < n
+      → read_list opens kept argument n first list s ≡ args_as (args_form s.rest) opens kept argument (read_list opens kept argument (n - 1) false) first list s
+  unfolding read_list
+  list_turn zero first list s h = absurd (omega arith)
+  list_turn (suc n) first list s h = let less : suc n - 1 ≡ n = omega arith in rw less refl
+
+-- The arguments up to here are read: the whole is what the rest of the turns give.
+pub record ListSoFar (whole : Option (Shape × State)) (opens : Bool) (kept : ℕ) (argument : Reads Shape) (first : Bool) (list : Shape) (s : State) : Type 0 where
+  pub turns : ℕ
+  pub room : length s.rest ≤ turns
+  pub is : whole ≡ read_list opens kept argument turns first list s
+
+pub list_end : {whole : Option (Shape × State)} {opens : Bool} {kept : ℕ} {argument : Reads Shape} {first : Bool} {list next : Shape} {s after : State} → ListSoFar whole opens kept argument first list s
+    → args_form s.rest ≡ LastArgument → next ≡ closed list → after ≡ skip 1 s → whole ≡ Some (next, after)
+list_end {opens = opens} {kept = kept} {argument = argument} {first = first} {list = list} {s = s} sofar form built left =
+    let shorter = args_end_shorter s.rest form in
+    sofar.is ∙ list_turn opens kept argument sofar.turns first list s (omega (arith, sofar.room)) ∙ rw (form, built, left) refl
+
+pub list_fail : {whole : Option (Shape × State)} {opens : Bool} {kept : ℕ} {argument : Reads Shape} {first : Bool} {list : Shape} {s : State} → ListSoFar whole opens kept argument first list s
+    → args_form s.rest ≡ NextArgument → argument s ≡ None → whole ≡ None
+list_fail {opens = opens} {kept = kept} {argument = argument} {first = first} {list = list} {s = s} sofar form none = sofar.is ∙ none_at sofar.turns
+  where
+    none_at : (n : ℕ) → read_list opens kept argument n first list s ≡ None
+    none_at zero = no_list_turns opens kept argument first list s
+    none_at (suc n) = list_turn opens kept argument (suc n) first list s (omega arith) ∙ rw (form, none) refl
+
+pub list_more : {whole : Option (Shape × State)} {opens : Bool} {kept : ℕ} {argument : Reads Shape} {first : Bool} {list next arg : Shape} {s mid after : State} → ListSoFar whole opens kept argument first list s
+    → args_form s.rest ≡ NextArgument → argument s ≡ Some (arg, mid) → length mid.rest < length s.rest
+    → next ≡ joined list (between first) arg → after ≡ put opens kept arg mid → ListSoFar whole opens kept argument false next after
+list_more {opens = opens} {kept = kept} {argument = argument} {first = first} {list = list} {s = s} {mid = mid} {after = after} sofar form found shorter built left = record {
+  turns = sofar.turns - 1;
+  room = rw left (omega (arith, sofar.room));
+  is = sofar.is ∙ list_turn opens kept argument sofar.turns first list s (omega (arith, sofar.room)) ∙ rw (form, found, built, left) refl;
+}
+
+pub list_start : {whole : Option (Shape × State)} {opens other : Bool} {kept n : ℕ} {argument : Reads Shape} {list : Shape} {after : State} (s : State) → whole ≡ list_at argument other n s
+    → opens ≡ other → list ≡ plain_shape (codes "<") → after ≡ begin opens (skip 1 s) → kept ≡ length after.scopes → length after.rest ≤ n → ListSoFar whole opens kept argument true list after
+list_start {n = n} s whole same built left held room = record {
+  turns = n;
+  room = room;
+  is = whole ∙ rw (← same, built, held, left) refl;
+}

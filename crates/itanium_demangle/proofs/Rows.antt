@@ -6,11 +6,11 @@ use Rattle.std.specs.Prelude.{option_map, ◌==◌, ◌&&◌}
 use Rattle.std.proofs.lemmas.Grind.{common_steps}
 use Rattle.std.proofs.lemmas.Option.{some_pair_parts}
 use Rattle.demangle_text.specs.Shape.{Shape, text}
-use Rattle.itanium_demangle.specs.Scalars.{front_digits, weighted, number, source_name}
+use Rattle.itanium_demangle.specs.Scalars.{front_digits, weighted, number, index_of, source_name}
 use Rattle.itanium_demangle.specs.Forms.{begins}
 use Rattle.itanium_demangle.specs.Tree.{Tree, printing}
 use Rattle.itanium_demangle.specs.Grammar.{Place, Cost}
-use Rattle.itanium_demangle.specs.Reading.{State, begun, read_unqualified, read_unscoped, read_components, read_nested, read_name, read_symbol}
+use Rattle.itanium_demangle.specs.Reading.{State, begun, read_unqualified, read_substitution, read_parameter, read_list, read_components, read_nested, read_name, read_symbol}
 use Rattle.itanium_demangle.specs.Answer.{after_prefix, outside, suffix, max_depth, IsReading, HasAnswer, HasNoAnswer, IsAnswer}
 use Rattle.itanium_demangle.specs.Rows.{WorkedSymbols, LawsOfAnswers, e_acute}
 use Rattle.itanium_demangle.proofs.Whole.{one_reading, no_prefix, not_read, read_wrongly, read_rightly}
@@ -45,7 +45,7 @@ not_text symbol inside answer prefix is = go (read_symbol max_depth outside (beg
         read_wrongly symbol inside s rest prefix e (λ u. let yes = is_utf8-from_IsUtf8 (text s) u in cc)
 
 pub worked_symbols : WorkedSymbols
-unfolding read_symbol read_name read_nested read_components read_unqualified read_unscoped source_name number front_digits weighted is_utf8 chars lib.Utf8.encode
+unfolding read_symbol read_name read_nested read_components read_list read_unqualified read_substitution read_parameter source_name number index_of front_digits weighted is_utf8 chars lib.Utf8.encode
 worked_symbols = record {
   nested = some_answer (codes "_ZN3Foo3barEv") (codes "N3Foo3barEv") (codes "Foo::bar") refl refl;
   reference_qualified = some_answer (codes "_ZNO3Foo3barEv") (codes "NO3Foo3barEv") (codes "Foo::bar &&") refl refl;
@@ -62,6 +62,11 @@ worked_symbols = record {
   too_short = no_reading (codes "_Z4foo") (codes "4foo") refl refl;
   length_zero = no_reading (codes "_Z0") (codes "0") refl refl;
   leading_zero = no_reading (codes "_Z03foo") (codes "03foo") refl refl;
+  arguments = some_answer (codes "_ZNSt6vectorIS_IiEE4sizeEv") (codes "NSt6vectorIS_IiEE4sizeEv") (codes "std::vector<std::vector<int> >::size") refl refl;
+  last_own_name = some_answer (codes "_ZNSaIcED2Ev") (codes "NSaIcED2Ev") (codes "std::allocator<char>::~allocator") refl refl;
+  parameter = some_answer (codes "_Z1fIiT_Evv") (codes "1fIiT_Evv") (codes "f<int, int>") refl refl;
+  no_parameter_yet = no_reading (codes "_Z1fIT_iEvv") (codes "1fIT_iEvv") refl refl;
+  no_scope_of_a_type = some_answer (codes "_Z1fI1AIiET_Evv") (codes "1fI1AIiET_Evv") (codes "f<A<int>, A<int> >") refl refl;
 }
 
 -- a symbol with an answer has no other

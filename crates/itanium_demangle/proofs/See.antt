@@ -1,15 +1,19 @@
 -- The shapes of trees, and the states of places.
-use Rattle.std.proofs.Common.{◌≡◌, ℕ, ◌+◌, ◌-◌, Bool, true, false, List, [], ◌∷◌, ◌++◌, map, length, take, refl, sym, ap, Option, Some, None, ◌∙◌, if◌then◌else◌}
-use Rattle.std.proofs.lemmas.List.{map-append, length-map}
-use Rattle.std.specs.Prelude.{option_map}
+use Rattle.std.proofs.Common.{◌≡◌, ℕ, suc, ◌+◌, ◌-◌, get_or, arith, Bool, true, false, List, [], ◌∷◌, ◌++◌, map, length, take, refl, sym, ap, Option, Some, None, ◌∙◌, if◌then◌else◌}
+use Rattle.std.proofs.lemmas.List.{map-append, length-map, map-set, get_or-map}
+use Rattle.std.specs.Prelude.{option_map, is_some, slice_get}
+use Rattle.std.proofs.lemmas.Option.{slice_get-map}
 use Rattle.std.specs.List.{take-map}
 use Rattle.demangle_text.specs.Shape.{Shape, plain_shape}
+use Rattle.demangle_text.specs.State.{with_arg, last_args}
+use Rattle.itanium_demangle.specs.declared.known.Known.{Known}
+use Rattle.itanium_demangle.specs.Known.{known_shape}
 use Rattle.demangle_edit.specs.declared.quals.Quals.{Quals}
-use Rattle.demangle_edit.specs.Names.{qualified, name_qualified}
-use Rattle.itanium_demangle.specs.Tree.{Tree, plain_name, name_in, nested_of, shape_of, in_scope}
+use Rattle.demangle_edit.specs.Names.{qualified, qualified_ctor, attached, name_qualified}
+use Rattle.itanium_demangle.specs.Tree.{Tree, plain_name, known_name, name_in, structor_of, with_args, nested_of, trees, shape_of, shape_each, list_shape, in_scope}
 use Rattle.itanium_demangle.specs.Reading as reading
 use Rattle.itanium_demangle.specs.Reading.{State}
-use Rattle.itanium_demangle.specs.Grammar.{Place}
+use Rattle.itanium_demangle.specs.Grammar.{Place, last_of, with_last}
 
 pub shape-plain_name : (bytes : List ℕ) → shape_of (plain_name bytes) ≡ plain_shape bytes
 unfolding shape_of
@@ -18,6 +22,23 @@ shape-plain_name bytes = refl
 pub shape-name_in : (scope leaf : Tree) → shape_of (name_in scope leaf) ≡ qualified (shape_of scope) (shape_of leaf)
 unfolding shape_of
 shape-name_in scope leaf = refl
+
+pub shape-known_name : (known : Known) → shape_of (known_name known) ≡ known_shape known
+unfolding shape_of
+shape-known_name known = refl
+
+pub shape-structor_of : (scope : Tree) (destructor : Bool) → shape_of (structor_of scope destructor) ≡ qualified_ctor (shape_of scope) destructor
+unfolding shape_of
+shape-structor_of scope destructor = refl
+
+shape_each-trees : (ts : List Tree) → shape_each (trees ts) ≡ map shape_of ts
+unfolding shape_of
+shape_each-trees [] = refl
+shape_each-trees (t ∷ ts) = ap (λ us. shape_of t ∷ us) (shape_each-trees ts)
+
+pub shape-with_args : (name : Tree) (list : List Tree) → shape_of (with_args name (trees list)) ≡ attached (shape_of name) (list_shape (map shape_of list))
+unfolding shape_of
+shape-with_args name list = ap (λ us. attached (shape_of name) (list_shape us)) (shape_each-trees list)
 
 pub shape-nested_of : (name : Tree) (quals : Quals) (shown : Bool) → shape_of (nested_of name quals shown) ≡ name_qualified (shape_of name) quals shown
 unfolding shape_of
@@ -42,3 +63,27 @@ pub taken-map : (takes : Bool) (ts : List Tree)
     → (if takes then take (length (map shape_of ts) - 1) (map shape_of ts) else map shape_of ts) ≡ map shape_of (if takes then take (length ts - 1) ts else ts)
 taken-map true ts = rw (length-map ts shape_of) (take-map shape_of (length ts - 1) ts)
 taken-map false ts = refl
+
+pub some-map : (scope : Option Tree) → is_some (option_map shape_of scope) ≡ is_some scope
+some-map None = refl
+some-map (Some t) = refl
+
+pub last-map : (ss : List (List Tree)) → last_args (map (map shape_of) ss) ≡ map shape_of (last_of ss)
+last-map [] = refl
+last-map (s ∷ ss) =
+    ap (λ (n : ℕ). get_or (map (map shape_of) (s ∷ ss)) (n - 1) []) (length-map (s ∷ ss) (map shape_of))
+    ∙ get_or-map (map shape_of) (s ∷ ss) (suc (length ss) - 1) [] [] (omega arith)
+
+with_last-map : (t : Tree) (ss : List (List Tree)) → with_arg (shape_of t) (map (map shape_of) ss) ≡ map (map shape_of) (with_last t ss)
+with_last-map t ss =
+    rw (last-map ss, one_more (last_of ss) t, length-map ss (map shape_of)) (sym (map-set (map shape_of) ss (length ss - 1) (last_of ss ++ t ∷ [])))
+
+pub put-scopes : (o : Bool) (k : ℕ) (t : Tree) (ss : List (List Tree))
+    → (if o then with_arg (shape_of t) (take k (map (map shape_of) ss)) else take k (map (map shape_of) ss)) ≡ map (map shape_of) (if o then with_last t (take k ss) else take k ss)
+put-scopes true k t ss = rw (take-map (map shape_of) k ss) (with_last-map t (take k ss))
+put-scopes false k t ss = take-map (map shape_of) k ss
+
+pub begin-scopes : (o : Bool) (ss : List (List Tree))
+    → (if o then map (map shape_of) ss ++ [] ∷ [] else map (map shape_of) ss) ≡ map (map shape_of) (if o then ss ++ [] ∷ [] else ss)
+begin-scopes true ss = sym (map-append (map shape_of) ss ([] ∷ []))
+begin-scopes false ss = refl

@@ -1,26 +1,38 @@
 -- Each reading takes a front of the bytes, of one byte at least.
-use Rattle.std.proofs.Common.{◌≡◌, ◌<◌, ◌≤◌, ℕ, suc, ◌+◌, ◌-◌, ◌^◌, Bool, true, false, List, [], ◌∷◌, length, drop, take, refl, sym, ap, ◌∙◌, arith, Option, Some, None, length-drop, if◌then◌else◌, nat_lt, nat_le, ◌&&◌}
+use Rattle.std.proofs.Common.{◌≡◌, ◌<◌, ◌≤◌, ℕ, suc, ◌+◌, ◌-◌, ◌^◌, Bool, true, false, List, [], ◌∷◌, length, drop, take, refl, sym, ap, ◌∙◌, arith, Option, Some, None, length-drop, if◌then◌else◌, nat_lt, nat_le, ◌&&◌, codes}
+use Rattle.std.specs.Prelude.{◌==◌, option_map, is_some}
+use Rattle.itanium_demangle.specs.declared.known.Known.{Known}
+use Rattle.itanium_demangle.specs.Known.{known_of}
 use Rattle.std.proofs.lemmas.List.{drop-drop}
 use Rattle.std.proofs.lemmas.Grind.{common_steps}
-use Rattle.std.proofs.lemmas.Option.{cond_some, option_and_then_some}
+use Rattle.std.proofs.lemmas.Option.{cond_some, option_and_then_some, some_pair_parts}
 use Rattle.itanium_demangle.specs.declared.context.Context.{Context}
 use Rattle.itanium_demangle.specs.declared.scalar.Radix.{Radix}
-use Rattle.itanium_demangle.specs.declared.scalar.Radix.TheVariants.{Decimal}
+use Rattle.itanium_demangle.specs.declared.scalar.Radix.TheVariants.{Decimal, Base36}
 use Rattle.itanium_demangle.specs.declared.forms.NameForm.{NameForm}
 use Rattle.itanium_demangle.specs.declared.forms.UnscopedForm.{UnscopedForm}
 use Rattle.itanium_demangle.specs.declared.forms.UnscopedForm.TheVariants.{StdName}
 use Rattle.itanium_demangle.specs.declared.forms.ListForm.{ListForm}
+use Rattle.itanium_demangle.specs.declared.forms.ListForm.TheVariants.{ArgumentList}
+use Rattle.itanium_demangle.specs.declared.forms.ArgsForm.{ArgsForm}
+use Rattle.itanium_demangle.specs.declared.forms.ArgsForm.TheVariants.{LastArgument}
+use Rattle.itanium_demangle.specs.declared.forms.ArgumentForm.{ArgumentForm}
+use Rattle.itanium_demangle.specs.declared.forms.TypeForm.{TypeForm}
+use Rattle.itanium_demangle.specs.declared.forms.TypeForm.TheVariants.{BuiltinType}
+use Rattle.itanium_demangle.specs.declared.forms.SubstitutionForm.{SubstitutionForm}
+use Rattle.itanium_demangle.specs.declared.forms.SubstitutionForm.TheVariants.{KnownSubstitution}
 use Rattle.itanium_demangle.specs.declared.forms.FirstForm.{FirstForm}
 use Rattle.itanium_demangle.specs.declared.forms.FirstForm.TheVariants.{StdFirst}
 use Rattle.itanium_demangle.specs.declared.forms.ComponentForm.{ComponentForm}
-use Rattle.itanium_demangle.specs.declared.forms.ComponentForm.TheVariants.{LastComponent}
+use Rattle.itanium_demangle.specs.declared.forms.ComponentForm.TheVariants.{LastComponent, ListComponent}
 use Rattle.itanium_demangle.specs.declared.forms.UnqualifiedForm.{UnqualifiedForm}
+use Rattle.itanium_demangle.specs.declared.forms.UnqualifiedForm.TheVariants.{ConstructorName, DestructorName}
 use Rattle.itanium_demangle.specs.declared.forms.TagForm.{TagForm}
 use Rattle.itanium_demangle.specs.declared.forms.SymbolForm.{SymbolForm}
-use Rattle.itanium_demangle.specs.Scalars.{front_digits, with_digit, digit_of, weighted, base, numeral, number, source_name}
-use Rattle.itanium_demangle.specs.Forms.{begins, first_form, component_form, past_internal, past_letter, past_member, past_cv, past_reference, past_name_quals}
+use Rattle.itanium_demangle.specs.Scalars.{front_digits, with_digit, digit_of, weighted, base, numeral, number, source_name, past_underscore, next_number, index_by, index_of}
+use Rattle.itanium_demangle.specs.Forms.{begins, first_form, component_form, unqualified_form, args_form, list_form, type_form, past_builtin, past_internal, past_letter, past_member, past_cv, past_reference, past_name_quals}
 use Rattle.itanium_demangle.specs.Tree.{Tree}
-use Rattle.itanium_demangle.specs.Grammar.{Place, Cost, TaggedAs, UnqualifiedAs, Unqualified, ListedAs, UnscopedAs, FirstAs, Components, ComponentsAs, Nested, NameAs, Name, SymbolAs, Symbol, no_tag, source_component, unqualified, no_list, std_name, global_name, std_first, name_first, components, last_component, name_component, nested, nested_name, unscoped_name, name, name_symbol, symbol}
+use Rattle.itanium_demangle.specs.Grammar.{Place, Cost, save, SubstitutionAs, Substitution, Parameter, TaggedAs, UnqualifiedAs, Unqualified, FirstAs, Name, NameAs, UnscopedAs, ListedAs, Nested, Components, ComponentsAs, Args, ArgsUpTo, ArgsAs, ArgumentAs, TypeOf, TypeAs, TypeListedAs, SymbolAs, Symbol, known_substitution, saved_substitution, substitution, parameter, no_tag, source_component, constructor_component, destructor_component, unqualified, parameter_first, std_first, substitution_first, name_first, name, nested_name, unscoped_name, std_name, substitution_name, global_name, no_list, argument_list, nested, components, last_component, list_component, name_component, args, args_up_to, no_more_args, one_more_arg, type_argument, type, builtin_type, parameter_type, substitution_type, name_type, no_type_list, type_list, name_symbol, symbol}
 
 -- the rest lies behind a front of the bytes
 pub record IsBehind (rest bytes : List ℕ) : Type 0 where
@@ -120,46 +132,162 @@ pub end_shorter : (bytes : List ℕ) → component_form bytes ≡ LastComponent 
 end_shorter [] e = cc
 end_shorter (b ∷ bytes) e = omega arith
 
-pub ruleset forms = (std_shorter, end_shorter)
+pub args_end_shorter : (bytes : List ℕ) → args_form bytes ≡ LastArgument → length (drop 1 bytes) < length bytes
+args_end_shorter [] e = cc
+args_end_shorter (b ∷ bytes) e = omega arith
+
+-- a list has its I
+pub list_some : (bytes : List ℕ) → list_form bytes ≡ ArgumentList → 0 < length bytes
+list_some [] e = cc
+list_some (b ∷ bytes) e = omega arith
+
+pub component_list_some : (bytes : List ℕ) → component_form bytes ≡ ListComponent → 0 < length bytes
+component_list_some [] e = cc
+component_list_some (b ∷ bytes) e = omega arith
+
+past_builtin_shorter : (bytes : List ℕ) → 0 < length bytes → length (past_builtin bytes) < length bytes
+past_builtin_shorter bytes some = go (begins (codes "D") bytes)
+  where
+    go : (t : Bool) → length (if t then drop 2 bytes else drop 1 bytes) < length bytes
+    go true = (takes_drop 2 bytes (omega arith) some).shorter
+    go false = (takes_drop 1 bytes (omega arith) some).shorter
+
+pub builtin_shorter : (bytes : List ℕ) → type_form bytes ≡ BuiltinType → length (past_builtin bytes) < length bytes
+builtin_shorter [] e = cc
+builtin_shorter (b ∷ bytes) e = past_builtin_shorter (b ∷ bytes) (omega arith)
+
+builtin_behind : (bytes : List ℕ) → IsBehind (past_builtin bytes) bytes
+builtin_behind bytes = go (begins (codes "D") bytes)
+  where
+    go : (t : Bool) → IsBehind (if t then drop 2 bytes else drop 1 bytes) bytes
+    go true = behind_drop 2 bytes
+    go false = behind_drop 1 bytes
+
+known_takes : (bytes : List ℕ) (known : Known) → known_of bytes ≡ Some known → Takes (drop 1 bytes) bytes
+known_takes [] known e = cc
+known_takes (b ∷ bytes) known e = takes_drop 1 (b ∷ bytes) (omega arith) (omega arith)
+
+constructor_some : (bytes : List ℕ) → unqualified_form true bytes ≡ ConstructorName → 0 < length bytes
+constructor_some [] e = cc
+constructor_some (b ∷ bytes) e = omega arith
+
+destructor_some : (bytes : List ℕ) → unqualified_form true bytes ≡ DestructorName → 0 < length bytes
+destructor_some [] e = cc
+destructor_some (b ∷ bytes) e = omega arith
+
+pub ruleset forms = (std_shorter, end_shorter, args_end_shorter, list_some, component_list_some, builtin_shorter)
+
+take_none : (b : ℕ) (bytes : List ℕ) (found : List ℕ) → past_underscore (b ∷ bytes) ≡ Some found → found ≡ bytes
+take_none b bytes found e = sym ((cond_some (b == 95) bytes found e).1)
+
+pub underscore_takes : (bytes rest : List ℕ) → past_underscore bytes ≡ Some rest → Takes rest bytes
+underscore_takes [] rest e = cc
+underscore_takes (b ∷ bytes) rest e = let is = take_none b bytes rest e in record { behind = record { count = 1; is = is }; shorter = omega (arith, ap length is) }
+
+pub index_takes : (r : Radix) (bytes : List ℕ) (found : ℕ × List ℕ) → index_of r bytes ≡ Some found → Takes found.1 bytes
+unfolding index_of
+index_takes r bytes found e = go (past_underscore bytes) refl e
+  where
+    behind_number : (n : ℕ × List ℕ) (i : ℕ) (o : Option (List ℕ)) → past_underscore n.1 ≡ o → option_map (λ rest. (i, rest)) o ≡ Some found → Takes found.1 n.1
+    behind_number n i None f g = cc
+    behind_number n i (Some rest) f g =
+        let is : rest ≡ found.1 = (some_pair_parts i found.0 rest found.1 g).1 in
+        rw (← is) (underscore_takes n.1 rest f)
+
+    go : (o : Option (List ℕ)) → past_underscore bytes ≡ o → index_by r bytes o ≡ Some found → Takes found.1 bytes
+    go (Some rest) f g = let is : rest ≡ found.1 = (some_pair_parts 0 found.0 rest found.1 g).1 in rw (← is) (underscore_takes bytes rest f)
+    go None f g = option_and_then_some _ (numeral r bytes) found g (λ n read more.
+        option_and_then_some _ (next_number n.0) found more (λ i next there.
+        takes_takes (numeral_takes r bytes n read) (behind_number n i (past_underscore n.1) refl there)))
+
+pub substitution_behind : {form : SubstitutionForm} {p q : Place} {t : Tree} → SubstitutionAs form p t q → IsBehind q.rest p.rest
+substitution_behind (known_substitution {p = p} known) = behind_drop 1 p.rest
+substitution_behind (saved_substitution {p = p} {i = i} {rest = r} found there) = (index_takes Base36 p.rest (i, r) found).behind
+
+substitution_as_takes : {form : SubstitutionForm} {p q : Place} {t : Tree} → SubstitutionAs form p t q → Takes q.rest p.rest
+substitution_as_takes (known_substitution {p = p} known) = known_takes p.rest _ known
+substitution_as_takes (saved_substitution {p = p} {i = i} {rest = r} found there) = index_takes Base36 p.rest (i, r) found
+
+pub substitution_takes : {p q : Place} {t : Tree} → Substitution p t q → Takes q.rest p.rest
+substitution_takes (substitution {p = p} form a) = behind_takes (behind_drop 1 p.rest) (substitution_as_takes a)
+
+pub parameter_takes : {x : Context} {p q : Place} {t : Tree} → Parameter x p t q → Takes q.rest p.rest
+parameter_takes (parameter {p = p} {i = i} {rest = r} found there) = behind_takes (behind_drop 1 p.rest) (index_takes Decimal (drop 1 p.rest) (i, r) found)
 
 pub tagged_behind : {form : TagForm} {t u : Tree} {p q : Place} → TaggedAs form t p u q → IsBehind q.rest p.rest
 tagged_behind (no_tag {p = p}) = behind_none p.rest
 
-pub unqualified_as_takes : {form : UnqualifiedForm} {scope : Option Tree} {p q : Place} {t : Tree} {c : Cost} → UnqualifiedAs form scope p t q c → Takes q.rest p.rest
-unqualified_as_takes (source_component {p = p} {bytes = b} {rest = r} found form tags) = takes_then (source_takes p.rest (b, r) found) (tagged_behind tags)
+pub unqualified_as_takes : {form : UnqualifiedForm} {scope : Option Tree} {p q : Place} {t : Tree} {c : Cost} → unqualified_form (is_some scope) p.rest ≡ form → UnqualifiedAs form scope p t q c → Takes q.rest p.rest
+unqualified_as_takes form (source_component {p = p} {bytes = b} {rest = r} found tag tags) = takes_then (source_takes p.rest (b, r) found) (tagged_behind tags)
+unqualified_as_takes form (constructor_component {p = p} tag tags) = takes_then (takes_drop 2 p.rest (omega arith) (constructor_some p.rest form)) (tagged_behind tags)
+unqualified_as_takes form (destructor_component {p = p} tag tags) = takes_then (takes_drop 2 p.rest (omega arith) (destructor_some p.rest form)) (tagged_behind tags)
 
 pub unqualified_takes : {scope : Option Tree} {p q : Place} {t : Tree} {c : Cost} → Unqualified scope p t q c → Takes q.rest p.rest
-unqualified_takes (unqualified {p = p} form a) = behind_takes (internal_behind p.rest) (unqualified_as_takes a)
+unqualified_takes (unqualified {p = p} form a) = behind_takes (internal_behind p.rest) (unqualified_as_takes form a)
 
-pub listed_behind : {form : ListForm} {t u : Tree} {p q : Place} {c : Cost} → ListedAs form t p u q c → IsBehind q.rest p.rest
-listed_behind (no_list {p = p}) = behind_none p.rest
-
-pub unscoped_takes : {form : UnscopedForm} {p q : Place} {t : Tree} {c : Cost} → UnscopedAs form p t q c → Takes q.rest p.rest
-unscoped_takes (std_name {p = p} a form b) = takes_then (behind_takes (behind_drop 2 p.rest) (unqualified_takes a)) (listed_behind b)
-unscoped_takes (global_name a form b) = takes_then (unqualified_takes a) (listed_behind b)
-
-pub first_takes : {form : FirstForm} {p q : Place} {t : Tree} {c : Cost} → first_form p.rest ≡ form → FirstAs form p t q c → Takes q.rest p.rest
+pub first_takes : {form : FirstForm} {x : Context} {p q : Place} {t : Tree} {c : Cost} → first_form p.rest ≡ form → FirstAs form x p t q c → Takes q.rest p.rest
+first_takes form (parameter_first a) = parameter_takes a
 first_takes form (std_first {p = p}) = record { behind = behind_drop 2 p.rest; shorter = std_shorter p.rest form }
+first_takes form (substitution_first a) = substitution_takes a
 first_takes form (name_first a) = unqualified_takes a
 
 mutual
-  pub components_takes : {takes : Bool} {t u : Tree} {p q : Place} {c : Cost} → Components takes t p u q c → Takes q.rest p.rest
+  pub name_takes : {x : Context} {p q : Place} {t : Tree} {c : Cost} → Name x p t q c → Takes q.rest p.rest
+  name_takes (name form a) = name_as_takes a
+
+  name_as_takes : {form : NameForm} {x : Context} {p q : Place} {t : Tree} {c : Cost} → NameAs form x p t q c → Takes q.rest p.rest
+  name_as_takes (nested_name {p = p} a) = behind_takes (behind_drop 1 p.rest) (nested_takes a)
+  name_as_takes (unscoped_name form a) = unscoped_takes a
+
+  unscoped_takes : {form : UnscopedForm} {x : Context} {p q : Place} {t : Tree} {c : Cost} → UnscopedAs form x p t q c → Takes q.rest p.rest
+  unscoped_takes (std_name {p = p} a form b) = takes_then (behind_takes (behind_drop 2 p.rest) (unqualified_takes a)) (listed_behind b)
+  unscoped_takes (substitution_name a form b) = takes_then (substitution_takes a) (args_behind b)
+  unscoped_takes (global_name a form b) = takes_then (unqualified_takes a) (listed_behind b)
+
+  listed_behind : {form : ListForm} {x : Context} {t u : Tree} {p q : Place} {c : Cost} → ListedAs form x t p u q c → IsBehind q.rest p.rest
+  listed_behind (no_list {p = p}) = behind_none p.rest
+  listed_behind (argument_list a) = args_behind a
+
+  nested_takes : {x : Context} {p q : Place} {t : Tree} {c : Cost} → Nested x p t q c → Takes q.rest p.rest
+  nested_takes (nested {p = p} {q = q} form a b) =
+      behind_takes (quals_behind p.rest) (takes_takes (first_takes form a) (behind_takes (member_behind q.rest) (components_takes b)))
+
+  pub components_takes : {x : Context} {takes : Bool} {t u : Tree} {p q : Place} {c : Cost} → Components x takes t p u q c → Takes q.rest p.rest
   components_takes (components form a) = component_takes form a
 
-  component_takes : {form : ComponentForm} {takes : Bool} {t u : Tree} {p q : Place} {c : Cost} → component_form p.rest ≡ form → ComponentsAs form takes t p u q c → Takes q.rest p.rest
+  component_takes : {form : ComponentForm} {x : Context} {takes : Bool} {t u : Tree} {p q : Place} {c : Cost} → component_form p.rest ≡ form → ComponentsAs form x takes t p u q c → Takes q.rest p.rest
   component_takes form (last_component {p = p}) = record { behind = behind_drop 1 p.rest; shorter = end_shorter p.rest form }
+  component_takes form (list_component {q = q} a b) = behind_takes (args_behind a) (behind_takes (member_behind q.rest) (components_takes b))
   component_takes form (name_component {q = q} a b) = takes_takes (unqualified_takes a) (behind_takes (member_behind q.rest) (components_takes b))
 
-pub nested_takes : {x : Context} {p q : Place} {t : Tree} {c : Cost} → Nested x p t q c → Takes q.rest p.rest
-nested_takes (nested {p = p} {q = q} form a b) =
-    behind_takes (quals_behind p.rest) (takes_takes (first_takes form a) (behind_takes (member_behind q.rest) (components_takes b)))
+  pub args_takes : {x : Context} {of_name : Bool} {p q : Place} {list : List Tree} {c : Cost} → Args x of_name p list q c → Takes q.rest p.rest
+  args_takes (args {p = p} a) = behind_takes (behind_drop 1 p.rest) (up_to_takes a)
 
-pub name_as_takes : {form : NameForm} {x : Context} {p q : Place} {t : Tree} {c : Cost} → NameAs form x p t q c → Takes q.rest p.rest
-name_as_takes (nested_name {p = p} a) = behind_takes (behind_drop 1 p.rest) (nested_takes a)
-name_as_takes (unscoped_name form a) = unscoped_takes a
+  args_behind : {x : Context} {of_name : Bool} {p q : Place} {list : List Tree} {c : Cost} → Args x of_name p list q c → IsBehind q.rest p.rest
+  args_behind (args {p = p} a) = (behind_takes (behind_drop 1 p.rest) (up_to_takes a)).behind
 
-pub name_takes : {x : Context} {p q : Place} {t : Tree} {c : Cost} → Name x p t q c → Takes q.rest p.rest
-name_takes (name form a) = name_as_takes a
+  pub up_to_takes : {x : Context} {o : Bool} {k : ℕ} {p q : Place} {list : List Tree} {c : Cost} → ArgsUpTo x o k p list q c → Takes q.rest p.rest
+  up_to_takes (args_up_to form a) = args_as_takes form a
+
+  args_as_takes : {form : ArgsForm} {x : Context} {o : Bool} {k : ℕ} {p q : Place} {list : List Tree} {c : Cost} → args_form p.rest ≡ form → ArgsAs form x o k p list q c → Takes q.rest p.rest
+  args_as_takes form (no_more_args {p = p}) = record { behind = behind_drop 1 p.rest; shorter = args_end_shorter p.rest form }
+  args_as_takes form (one_more_arg arg a b) = takes_takes (argument_takes a) (up_to_takes b)
+
+  pub argument_takes : {form : ArgumentForm} {x : Context} {p q : Place} {t : Tree} {c : Cost} → ArgumentAs form x p t q c → Takes q.rest p.rest
+  argument_takes (type_argument a) = type_takes a
+
+  pub type_takes : {x : Context} {p q : Place} {t : Tree} {c : Cost} → TypeOf x p t q c → Takes q.rest p.rest
+  type_takes (type form a) = type_as_takes form a
+
+  type_as_takes : {form : TypeForm} {x : Context} {p q : Place} {t : Tree} {c : Cost} → type_form p.rest ≡ form → TypeAs form x p t q c → Takes q.rest p.rest
+  type_as_takes form (builtin_type {p = p}) = record { behind = builtin_behind p.rest; shorter = builtin_shorter p.rest form }
+  type_as_takes form (parameter_type a list b) = takes_then (parameter_takes a) (type_listed_behind b)
+  type_as_takes form (substitution_type a list b) = takes_then (substitution_takes a) (type_listed_behind b)
+  type_as_takes form (name_type a) = name_takes a
+
+  type_listed_behind : {form : ListForm} {x : Context} {t u : Tree} {p q : Place} {c : Cost} → TypeListedAs form x t p u q c → IsBehind q.rest p.rest
+  type_listed_behind (no_type_list {p = p}) = behind_none p.rest
+  type_listed_behind (type_list a) = args_behind a
 
 symbol_as_takes : {form : SymbolForm} {x : Context} {p q : Place} {t : Tree} {c : Cost} → SymbolAs form x p t q c → Takes q.rest p.rest
 symbol_as_takes (name_symbol a) = name_takes a

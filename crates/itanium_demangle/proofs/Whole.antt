@@ -22,9 +22,9 @@ use Rattle.itanium_demangle.proofs.Shorter.{symbol_takes, IsBehind, behind_then}
 pub one_reading : (symbol : List ℕ) → HasOneReading symbol
 one_reading symbol = record {
   agree = λ t u q r c d a b deep deeper.
-    let here : b.inside ≡ a.inside = cc in
-    let same = one_symbol a.reading (subst (λ v. Symbol outside (start v) u r d) here b.reading) in
-    (same.tree, same.next, same.cost);
+      let here : b.inside ≡ a.inside = cc in
+      let same = one_symbol a.reading (subst (λ v. Symbol outside (start v) u r d) here b.reading) in
+      (same.tree, same.next, same.cost);
 }
 
 pub no_prefix : (symbol : List ℕ) → after_prefix symbol ≡ None → HasNoAnswer symbol

@@ -1,5 +1,5 @@
 -- Which case of a production the next bytes begin. Of several cases the first one that fits holds.
-use Rattle.std.specs.Prelude.{ℕ, List, [], ◌∷◌, Bool, true, false, ◌&&◌, ◌||◌, ◌==◌, nat_le, drop, codes, if◌then◌else◌, Option, Some, None}
+use Rattle.std.specs.Prelude.{ℕ, List, [], ◌∷◌, Bool, true, false, ◌&&◌, ◌||◌, ◌==◌, nat_le, nat_lt, length, drop, codes, if◌then◌else◌, Option, Some, None}
 use Rattle.demangle_edit.specs.declared.quals.Quals.{Quals}
 use Rattle.demangle_edit.specs.declared.quals.Reference.{Reference}
 use Rattle.demangle_edit.specs.declared.quals.Reference.TheVariants.{Left, Right}
@@ -16,9 +16,17 @@ use Rattle.itanium_demangle.specs.declared.forms.FirstForm.TheVariants.{Paramete
 use Rattle.itanium_demangle.specs.declared.forms.ComponentForm.{ComponentForm}
 use Rattle.itanium_demangle.specs.declared.forms.ComponentForm.TheVariants.{LastComponent, ListComponent, NameComponent}
 use Rattle.itanium_demangle.specs.declared.forms.UnqualifiedForm.{UnqualifiedForm}
-use Rattle.itanium_demangle.specs.declared.forms.UnqualifiedForm.TheVariants.{SourceName, OtherName}
+use Rattle.itanium_demangle.specs.declared.forms.UnqualifiedForm.TheVariants.{SourceName, ConstructorName, DestructorName, OtherName}
 use Rattle.itanium_demangle.specs.declared.forms.TagForm.{TagForm}
 use Rattle.itanium_demangle.specs.declared.forms.TagForm.TheVariants.{NoTag, NextTag}
+use Rattle.itanium_demangle.specs.declared.forms.SubstitutionForm.{SubstitutionForm}
+use Rattle.itanium_demangle.specs.declared.forms.SubstitutionForm.TheVariants.{KnownSubstitution, SavedSubstitution}
+use Rattle.itanium_demangle.specs.declared.forms.ArgsForm.{ArgsForm}
+use Rattle.itanium_demangle.specs.declared.forms.ArgsForm.TheVariants.{LastArgument, NextArgument}
+use Rattle.itanium_demangle.specs.declared.forms.ArgumentForm.{ArgumentForm}
+use Rattle.itanium_demangle.specs.declared.forms.ArgumentForm.TheVariants.{ExpressionArgument, PackArgument, LiteralArgument, ConstraintArgument, TypeArgument}
+use Rattle.itanium_demangle.specs.declared.forms.TypeForm.{TypeForm}
+use Rattle.itanium_demangle.specs.declared.forms.TypeForm.TheVariants.{BuiltinType, ExpansionType, VendorType, ArrayType, FunctionType, MemberType, PointerType, ReferenceType, RvalueType, QualifiedType, ElaboratedType, ParameterType, SubstitutionType, UnreadType, NameType}
 
 -- the bytes begin with the word
 abbrev pub begins : List ℕ → List ℕ → Bool
@@ -68,9 +76,20 @@ component_form bytes =
     if begins (codes "E") bytes then LastComponent else
     if begins (codes "I") bytes then ListComponent else NameComponent
 
--- <unqualified-name>
-abbrev pub unqualified_form : List ℕ → UnqualifiedForm
-unqualified_form bytes = if begins_between 49 57 bytes then SourceName else OtherName
+-- C1 to C5 of <ctor-dtor-name>
+abbrev pub begins_constructor : List ℕ → Bool
+begins_constructor bytes = begins (codes "C") bytes && begins_between 49 53 (drop 1 bytes)
+
+-- D0, D1, D2, D4 and D5 of <ctor-dtor-name>
+abbrev pub begins_destructor : List ℕ → Bool
+begins_destructor bytes = begins (codes "D") bytes && (begins_between 48 50 (drop 1 bytes) || begins_between 52 53 (drop 1 bytes))
+
+-- <unqualified-name>: constructors and destructors have a scope
+abbrev pub unqualified_form : Bool → List ℕ → UnqualifiedForm
+unqualified_form in_scope bytes =
+    if begins_between 49 57 bytes then SourceName else
+    if in_scope && begins_constructor bytes then ConstructorName else
+    if in_scope && begins_destructor bytes then DestructorName else OtherName
 
 -- an <abi-tag> or none
 abbrev pub tag_form : List ℕ → TagForm
@@ -127,6 +146,104 @@ name_quals bytes =
 
 abbrev pub past_name_quals : List ℕ → List ℕ
 past_name_quals bytes = if begins (codes "H") bytes then drop 1 bytes else past_reference (past_cv bytes)
+
+-- <substitution> behind its S: a letter of std, or a number
+abbrev pub substitution_form : List ℕ → SubstitutionForm
+substitution_form bytes = if begins_between 97 122 bytes then KnownSubstitution else SavedSubstitution
+
+-- the end of <template-args>, or one more argument
+abbrev pub args_form : List ℕ → ArgsForm
+args_form bytes = if begins (codes "E") bytes then LastArgument else NextArgument
+
+-- <template-arg>
+abbrev pub argument_form : List ℕ → ArgumentForm
+argument_form bytes =
+    if begins (codes "X") bytes then ExpressionArgument else
+    if begins (codes "J") bytes then PackArgument else
+    if begins (codes "L") bytes then LiteralArgument else
+    if begins (codes "Q") bytes then ConstraintArgument else TypeArgument
+
+-- the byte is one of the word's
+abbrev pub one_of : List ℕ → ℕ → Bool
+one_of [] byte = false
+one_of (c ∷ word) byte = (byte == c) || one_of word byte
+
+-- the next byte is one of the word's
+abbrev pub begins_one_of : List ℕ → List ℕ → Bool
+begins_one_of word [] = false
+begins_one_of word (b ∷ bytes) = one_of word b
+
+-- <builtin-type> of a letter
+abbrev pub letter_text : ℕ → List ℕ
+letter_text letter =
+    if letter == 118 then codes "void" else
+    if letter == 119 then codes "wchar_t" else
+    if letter == 98 then codes "bool" else
+    if letter == 99 then codes "char" else
+    if letter == 97 then codes "signed char" else
+    if letter == 104 then codes "unsigned char" else
+    if letter == 115 then codes "short" else
+    if letter == 116 then codes "unsigned short" else
+    if letter == 105 then codes "int" else
+    if letter == 106 then codes "unsigned int" else
+    if letter == 108 then codes "long" else
+    if letter == 109 then codes "unsigned long" else
+    if letter == 120 then codes "long long" else
+    if letter == 121 then codes "unsigned long long" else
+    if letter == 110 then codes "__int128" else
+    if letter == 111 then codes "unsigned __int128" else
+    if letter == 102 then codes "float" else
+    if letter == 100 then codes "double" else
+    if letter == 101 then codes "long double" else
+    if letter == 103 then codes "__float128" else
+    if letter == 122 then codes "..." else []
+
+-- <builtin-type> of D and a letter
+abbrev pub wide_text : ℕ → List ℕ
+wide_text letter =
+    if letter == 115 then codes "char16_t" else
+    if letter == 105 then codes "char32_t" else
+    if letter == 117 then codes "char8_t" else
+    if letter == 110 then codes "std::nullptr_t" else
+    if letter == 97 then codes "auto" else
+    if letter == 99 then codes "decltype(auto)" else
+    if letter == 104 then codes "half" else
+    if letter == 100 then codes "decimal64" else
+    if letter == 101 then codes "decimal128" else
+    if letter == 102 then codes "decimal32" else []
+
+-- the text of a <builtin-type>
+abbrev pub builtin_text : List ℕ → List ℕ
+builtin_text [] = []
+builtin_text (first ∷ []) = letter_text first
+builtin_text (first ∷ second ∷ bytes) = if first == 68 then wide_text second else letter_text first
+
+-- a <builtin-type> is next: a letter, or D and a letter, with a text
+abbrev pub is_builtin : List ℕ → Bool
+is_builtin bytes = nat_lt 0 (length (builtin_text bytes))
+
+-- what is behind a <builtin-type>
+abbrev pub past_builtin : List ℕ → List ℕ
+past_builtin bytes = if begins (codes "D") bytes then drop 2 bytes else drop 1 bytes
+
+-- <type>
+abbrev pub type_form : List ℕ → TypeForm
+type_form bytes =
+    if is_builtin bytes then BuiltinType else
+    if begins (codes "Dp") bytes then ExpansionType else
+    if begins (codes "u") bytes then VendorType else
+    if begins (codes "A") bytes then ArrayType else
+    if begins (codes "F") bytes then FunctionType else
+    if begins (codes "M") bytes then MemberType else
+    if begins (codes "P") bytes then PointerType else
+    if begins (codes "R") bytes then ReferenceType else
+    if begins (codes "O") bytes then RvalueType else
+    if begins_one_of (codes "rVK") bytes then QualifiedType else
+    if begins (codes "T") bytes && begins_one_of (codes "sue") (drop 1 bytes) then ElaboratedType else
+    if begins (codes "T") bytes then ParameterType else
+    if begins (codes "St") bytes then NameType else
+    if begins (codes "S") bytes then SubstitutionType else
+    if begins (codes "U") bytes then UnreadType else NameType
 
 -- whether the first component of a <nested-name> is saved: all but a substitution is
 abbrev pub saves_first : FirstForm → Bool

@@ -1,26 +1,38 @@
 -- The grammar: which front of the bytes is which tree (Itanium C++ ABI 5.1). Each relation is indexed by the context, the place
 -- where a reading begins, the tree, the place behind it, and the cost. A form with no case isn't read.
-use Rattle.std.specs.Prelude.{◌≡◌, ℕ, ◌+◌, ◌-◌, max, Bool, true, false, if◌then◌else◌, List, [], ◌∷◌, ◌++◌, Option, Some, None, is_some, take, drop, length, codes}
-use Rattle.itanium_demangle.specs.Tree.{Tree, plain_name, name_in, nested_of, in_scope}
-use Rattle.itanium_demangle.specs.Scalars.{source_name}
-use Rattle.itanium_demangle.specs.Forms.{symbol_form, name_form, unscoped_form, list_form, first_form, component_form, unqualified_form, tag_form, past_internal, past_member, source_text, name_quals, past_name_quals, saves_first}
+use Rattle.std.specs.Prelude.{◌≡◌, ℕ, ◌+◌, ◌-◌, max, Bool, true, false, if◌then◌else◌, slice_get, slice_set, slice_index_or, List, [], ◌∷◌, ◌++◌, Option, Some, None, is_some, take, drop, length, codes}
+use Rattle.itanium_demangle.specs.Tree.{Tree, plain_name, known_name, name_in, structor_of, with_args, nested_of, trees, in_scope}
+use Rattle.itanium_demangle.specs.Around.{opens_scope, inside_type}
+use Rattle.itanium_demangle.specs.Scalars.{source_name, index_of}
+use Rattle.itanium_demangle.specs.declared.scalar.Radix.TheVariants.{Decimal, Base36}
+use Rattle.itanium_demangle.specs.declared.known.Known.{Known}
+use Rattle.itanium_demangle.specs.Known.{known_of}
+use Rattle.itanium_demangle.specs.Forms.{symbol_form, name_form, unscoped_form, list_form, first_form, component_form, unqualified_form, tag_form, past_internal, past_member, source_text, name_quals, past_name_quals, saves_first, substitution_form, args_form, argument_form, type_form, builtin_text, past_builtin}
 use Rattle.itanium_demangle.specs.declared.context.Context.{Context}
 use Rattle.itanium_demangle.specs.declared.forms.SymbolForm.{SymbolForm}
 use Rattle.itanium_demangle.specs.declared.forms.SymbolForm.TheVariants.{NameSymbol}
 use Rattle.itanium_demangle.specs.declared.forms.NameForm.{NameForm}
 use Rattle.itanium_demangle.specs.declared.forms.NameForm.TheVariants.{NestedName, UnscopedName}
 use Rattle.itanium_demangle.specs.declared.forms.UnscopedForm.{UnscopedForm}
-use Rattle.itanium_demangle.specs.declared.forms.UnscopedForm.TheVariants.{StdName, PlainName}
+use Rattle.itanium_demangle.specs.declared.forms.UnscopedForm.TheVariants.{StdName, SubstitutionName, PlainName}
 use Rattle.itanium_demangle.specs.declared.forms.ListForm.{ListForm}
-use Rattle.itanium_demangle.specs.declared.forms.ListForm.TheVariants.{NoList}
+use Rattle.itanium_demangle.specs.declared.forms.ListForm.TheVariants.{NoList, ArgumentList}
 use Rattle.itanium_demangle.specs.declared.forms.FirstForm.{FirstForm}
-use Rattle.itanium_demangle.specs.declared.forms.FirstForm.TheVariants.{StdFirst, NameFirst}
+use Rattle.itanium_demangle.specs.declared.forms.FirstForm.TheVariants.{ParameterFirst, StdFirst, SubstitutionFirst, NameFirst}
 use Rattle.itanium_demangle.specs.declared.forms.ComponentForm.{ComponentForm}
-use Rattle.itanium_demangle.specs.declared.forms.ComponentForm.TheVariants.{LastComponent, NameComponent}
+use Rattle.itanium_demangle.specs.declared.forms.ComponentForm.TheVariants.{LastComponent, ListComponent, NameComponent}
 use Rattle.itanium_demangle.specs.declared.forms.UnqualifiedForm.{UnqualifiedForm}
-use Rattle.itanium_demangle.specs.declared.forms.UnqualifiedForm.TheVariants.{SourceName}
+use Rattle.itanium_demangle.specs.declared.forms.UnqualifiedForm.TheVariants.{SourceName, ConstructorName, DestructorName}
 use Rattle.itanium_demangle.specs.declared.forms.TagForm.{TagForm}
 use Rattle.itanium_demangle.specs.declared.forms.TagForm.TheVariants.{NoTag}
+use Rattle.itanium_demangle.specs.declared.forms.SubstitutionForm.{SubstitutionForm}
+use Rattle.itanium_demangle.specs.declared.forms.SubstitutionForm.TheVariants.{KnownSubstitution, SavedSubstitution}
+use Rattle.itanium_demangle.specs.declared.forms.ArgsForm.{ArgsForm}
+use Rattle.itanium_demangle.specs.declared.forms.ArgsForm.TheVariants.{LastArgument, NextArgument}
+use Rattle.itanium_demangle.specs.declared.forms.ArgumentForm.{ArgumentForm}
+use Rattle.itanium_demangle.specs.declared.forms.ArgumentForm.TheVariants.{TypeArgument}
+use Rattle.itanium_demangle.specs.declared.forms.TypeForm.{TypeForm}
+use Rattle.itanium_demangle.specs.declared.forms.TypeForm.TheVariants.{BuiltinType, ParameterType, SubstitutionType, NameType}
 
 -- where a reading stands: the bytes that are left, the trees saved so far, and the scopes with their arguments
 pub record Place : Type 0 where
@@ -67,6 +79,42 @@ both c d = record { count = c.count + d.count; depth = max c.depth d.depth; peak
 abbrev pub counted : Cost → Cost
 counted c = record { count = c.count + 1; depth = c.depth + 1; peak = c.peak }
 
+-- a list begins: it may open a scope
+abbrev pub begin : Bool → Place → Place
+begin opens p = record p { scopes = if opens then p.scopes ++ [] ∷ [] else p.scopes }
+
+-- the arguments of the last scope
+abbrev pub last_of : List (List Tree) → List Tree
+last_of scopes = slice_index_or scopes (length scopes - 1) []
+
+-- the last scope gains an argument
+abbrev pub with_last : Tree → List (List Tree) → List (List Tree)
+with_last t scopes = slice_set scopes (length scopes - 1) (last_of scopes ++ t ∷ [])
+
+-- the scopes that an argument opened are dropped, and it goes into the scope that its list opened
+abbrev pub put : Bool → ℕ → Tree → Place → Place
+put opens kept t p = record p { scopes = if opens then with_last t (take kept p.scopes) else take kept p.scopes }
+
+-- <substitution> behind its S
+pub data SubstitutionAs : SubstitutionForm → Place → Tree → Place → Type 0 where
+  known_substitution : {p : Place} {known : Known} → known_of p.rest ≡ Some known → SubstitutionAs KnownSubstitution p (known_name known) (skip 1 p)
+  saved_substitution : {p : Place} {t : Tree} {i : ℕ} {rest : List ℕ} → index_of Base36 p.rest ≡ Some (i, rest) → slice_get p.saved i ≡ Some t
+      → SubstitutionAs SavedSubstitution p t (at rest p)
+
+-- <substitution> ::= S [<seq-id>] _ | Sa | Sb | Ss | Si | So | Sd
+pub data Substitution : Place → Tree → Place → Type 0 where
+  substitution : {p q : Place} {t : Tree} {form : SubstitutionForm} → substitution_form (drop 1 p.rest) ≡ form → SubstitutionAs form (skip 1 p) t q → Substitution p t q
+
+-- the argument that a <template-param> names: `auto` in a lambda's signature
+pub data ParameterAs : Bool → ℕ → Place → Tree → Type 0 where
+  auto_parameter : {i : ℕ} {p : Place} → ParameterAs true i p (plain_name (codes "auto"))
+  scope_parameter : {i : ℕ} {p : Place} {t : Tree} → slice_get (last_of p.scopes) i ≡ Some t → ParameterAs false i p t
+
+-- <template-param> ::= T [<number>] _
+pub data Parameter : Context → Place → Tree → Place → Type 0 where
+  parameter : {x : Context} {p : Place} {t : Tree} {i : ℕ} {rest : List ℕ} → index_of Decimal (drop 1 p.rest) ≡ Some (i, rest) → ParameterAs x.lambda i p t
+      → Parameter x p t (at rest p)
+
 -- <abi-tags> behind a name
 pub data TaggedAs : TagForm → Tree → Place → Tree → Place → Type 0 where
   no_tag : {t : Tree} {p : Place} → TaggedAs NoTag t p t p
@@ -77,54 +125,110 @@ pub data UnqualifiedAs : UnqualifiedForm → Option Tree → Place → Tree → 
   source_component : {scope : Option Tree} {p q : Place} {t : Tree} {bytes rest : List ℕ} {form : TagForm} → source_name p.rest ≡ Some (bytes, rest)
       → tag_form rest ≡ form → TaggedAs form (plain_name (source_text bytes)) (at rest p) t q
       → UnqualifiedAs SourceName scope p (in_scope scope t) q nothing
+  -- <ctor-dtor-name> ::= C1 | .. | C5
+  constructor_component : {scope : Tree} {p q : Place} {t : Tree} {form : TagForm} → tag_form (drop 2 p.rest) ≡ form
+      → TaggedAs form (structor_of scope false) (skip 2 p) t q → UnqualifiedAs ConstructorName (Some scope) p t q nothing
+  -- <ctor-dtor-name> ::= D0 | D1 | D2 | D4 | D5
+  destructor_component : {scope : Tree} {p q : Place} {t : Tree} {form : TagForm} → tag_form (drop 2 p.rest) ≡ form
+      → TaggedAs form (structor_of scope true) (skip 2 p) t q → UnqualifiedAs DestructorName (Some scope) p t q nothing
 
 -- [L] and an <unqualified-name>
 pub data Unqualified : Option Tree → Place → Tree → Place → Cost → Type 0 where
-  unqualified : {scope : Option Tree} {p q : Place} {t : Tree} {c : Cost} {form : UnqualifiedForm} → unqualified_form (past_internal p.rest) ≡ form
+  unqualified : {scope : Option Tree} {p q : Place} {t : Tree} {c : Cost} {form : UnqualifiedForm} → unqualified_form (is_some scope) (past_internal p.rest) ≡ form
       → UnqualifiedAs form scope (at (past_internal p.rest) p) t q c → Unqualified scope p t q c
 
--- <template-args> behind a name, or none
-pub data ListedAs : ListForm → Tree → Place → Tree → Place → Cost → Type 0 where
-  no_list : {t : Tree} {p : Place} → ListedAs NoList t p t p nothing
-
--- <unscoped-name> [<template-args>]
-pub data UnscopedAs : UnscopedForm → Place → Tree → Place → Cost → Type 0 where
-  std_name : {p q r : Place} {t u : Tree} {c d : Cost} {form : ListForm} → Unqualified (Some (plain_name (codes "std"))) (skip 2 p) t q c
-      → list_form q.rest ≡ form → ListedAs form t q u r d → UnscopedAs StdName p u r (both c d)
-  global_name : {p q r : Place} {t u : Tree} {c d : Cost} {form : ListForm} → Unqualified None p t q c
-      → list_form q.rest ≡ form → ListedAs form t q u r d → UnscopedAs PlainName p u r (both c d)
-
 -- the first component of a <nested-name>
-pub data FirstAs : FirstForm → Place → Tree → Place → Cost → Type 0 where
-  std_first : {p : Place} → FirstAs StdFirst p (plain_name (codes "std")) (skip 2 p) nothing
-  name_first : {p q : Place} {t : Tree} {c : Cost} → Unqualified None p t q c → FirstAs NameFirst p t (save t q) (both c (saving q))
+pub data FirstAs : FirstForm → Context → Place → Tree → Place → Cost → Type 0 where
+  parameter_first : {x : Context} {p q : Place} {t : Tree} → Parameter x p t q → FirstAs ParameterFirst x p t (save t q) (saving q)
+  std_first : {x : Context} {p : Place} → FirstAs StdFirst x p (plain_name (codes "std")) (skip 2 p) nothing
+  substitution_first : {x : Context} {p q : Place} {t : Tree} → Substitution p t q → FirstAs SubstitutionFirst x p t q nothing
+  name_first : {x : Context} {p q : Place} {t : Tree} {c : Cost} → Unqualified None p t q c → FirstAs NameFirst x p t (save t q) (both c (saving q))
 
 mutual
+  -- <name> ::= <nested-name> | <unscoped-name> | <unscoped-template-name> <template-args>: counted
+  pub data Name : Context → Place → Tree → Place → Cost → Type 0 where
+    name : {x : Context} {p q : Place} {t : Tree} {c : Cost} {form : NameForm} → name_form p.rest ≡ form → NameAs form x p t q c → Name x p t q (counted c)
+
+  pub data NameAs : NameForm → Context → Place → Tree → Place → Cost → Type 0 where
+    nested_name : {x : Context} {p q : Place} {t : Tree} {c : Cost} → Nested x (skip 1 p) t q c → NameAs NestedName x p t q c
+    unscoped_name : {x : Context} {p q : Place} {t : Tree} {c : Cost} {form : UnscopedForm} → unscoped_form p.rest ≡ form
+        → UnscopedAs form x p t q c → NameAs UnscopedName x p t q c
+
+  -- <unscoped-name> [<template-args>], or a <substitution> with <template-args>
+  pub data UnscopedAs : UnscopedForm → Context → Place → Tree → Place → Cost → Type 0 where
+    std_name : {x : Context} {p q r : Place} {t u : Tree} {c d : Cost} {form : ListForm} → Unqualified (Some (plain_name (codes "std"))) (skip 2 p) t q c
+        → list_form q.rest ≡ form → ListedAs form x t q u r d → UnscopedAs StdName x p u r (both c d)
+    substitution_name : {x : Context} {p q r : Place} {t : Tree} {list : List Tree} {c : Cost} → Substitution p t q
+        → list_form q.rest ≡ ArgumentList → Args x true q list r c → UnscopedAs SubstitutionName x p (with_args t (trees list)) r c
+    global_name : {x : Context} {p q r : Place} {t u : Tree} {c d : Cost} {form : ListForm} → Unqualified None p t q c
+        → list_form q.rest ≡ form → ListedAs form x t q u r d → UnscopedAs PlainName x p u r (both c d)
+
+  -- <template-args> behind a name, which is saved in front of them, or none
+  pub data ListedAs : ListForm → Context → Tree → Place → Tree → Place → Cost → Type 0 where
+    no_list : {x : Context} {t : Tree} {p : Place} → ListedAs NoList x t p t p nothing
+    argument_list : {x : Context} {t : Tree} {p q : Place} {list : List Tree} {c : Cost} → Args x true (save t p) list q c
+        → ListedAs ArgumentList x t p (with_args t (trees list)) q (both (saving p) c)
+
+  -- <nested-name> ::= N [<CV-qualifiers>] [<ref-qualifier>] <prefix> <unqualified-name> E, behind its N
+  pub data Nested : Context → Place → Tree → Place → Cost → Type 0 where
+    nested : {x : Context} {p q r : Place} {t u : Tree} {c d : Cost} {form : FirstForm} → first_form (past_name_quals p.rest) ≡ form
+        → FirstAs form x (at (past_name_quals p.rest) p) t q c → Components x (saves_first form) t (past_initializer q) u r d
+        → Nested x p (nested_of u (name_quals p.rest) x.shown) r (both c d)
+
   -- the later components of a <nested-name> behind what stands, up to its E; the last tree that it saved is taken back
-  pub data Components : Bool → Tree → Place → Tree → Place → Cost → Type 0 where
-    components : {takes : Bool} {p q : Place} {t u : Tree} {c : Cost} {form : ComponentForm} → component_form p.rest ≡ form
-        → ComponentsAs form takes t p u q c → Components takes t p u q c
+  pub data Components : Context → Bool → Tree → Place → Tree → Place → Cost → Type 0 where
+    components : {x : Context} {takes : Bool} {p q : Place} {t u : Tree} {c : Cost} {form : ComponentForm} → component_form p.rest ≡ form
+        → ComponentsAs form x takes t p u q c → Components x takes t p u q c
 
-  pub data ComponentsAs : ComponentForm → Bool → Tree → Place → Tree → Place → Cost → Type 0 where
-    last_component : {takes : Bool} {p : Place} {t : Tree} → ComponentsAs LastComponent takes t p t (taken_back takes (skip 1 p)) nothing
-    name_component : {takes : Bool} {p q r : Place} {t u v : Tree} {c d : Cost} → Unqualified (Some t) p u q c
-        → Components true u (past_initializer (save u q)) v r d → ComponentsAs NameComponent takes t p v r (both c (both (saving q) d))
+  pub data ComponentsAs : ComponentForm → Context → Bool → Tree → Place → Tree → Place → Cost → Type 0 where
+    last_component : {x : Context} {takes : Bool} {p : Place} {t : Tree} → ComponentsAs LastComponent x takes t p t (taken_back takes (skip 1 p)) nothing
+    list_component : {x : Context} {takes : Bool} {p q r : Place} {t v : Tree} {list : List Tree} {c d : Cost} → Args x true p list q c
+        → Components x true (with_args t (trees list)) (past_initializer (save (with_args t (trees list)) q)) v r d
+        → ComponentsAs ListComponent x takes t p v r (both c (both (saving q) d))
+    name_component : {x : Context} {takes : Bool} {p q r : Place} {t u v : Tree} {c d : Cost} → Unqualified (Some t) p u q c
+        → Components x true u (past_initializer (save u q)) v r d → ComponentsAs NameComponent x takes t p v r (both c (both (saving q) d))
 
--- <nested-name> ::= N [<CV-qualifiers>] [<ref-qualifier>] <prefix> <unqualified-name> E, behind its N
-pub data Nested : Context → Place → Tree → Place → Cost → Type 0 where
-  nested : {x : Context} {p q r : Place} {t u : Tree} {c d : Cost} {form : FirstForm} → first_form (past_name_quals p.rest) ≡ form
-      → FirstAs form (at (past_name_quals p.rest) p) t q c → Components (saves_first form) t (past_initializer q) u r d
-      → Nested x p (nested_of u (name_quals p.rest) x.shown) r (both c d)
+  -- <template-args> ::= I <template-arg>* E, of a name or of a type: counted
+  pub data Args : Context → Bool → Place → List Tree → Place → Cost → Type 0 where
+    args : {x : Context} {of_name : Bool} {p q : Place} {list : List Tree} {c : Cost}
+        → ArgsUpTo x (opens_scope of_name x) (length (begin (opens_scope of_name x) (skip 1 p)).scopes) (begin (opens_scope of_name x) (skip 1 p)) list q c
+        → Args x of_name p list q (counted c)
 
--- <name> ::= <nested-name> | <unscoped-name> | <unscoped-template-name> <template-args>
-pub data NameAs : NameForm → Context → Place → Tree → Place → Cost → Type 0 where
-  nested_name : {x : Context} {p q : Place} {t : Tree} {c : Cost} → Nested x (skip 1 p) t q c → NameAs NestedName x p t q c
-  unscoped_name : {x : Context} {p q : Place} {t : Tree} {c : Cost} {form : UnscopedForm} → unscoped_form p.rest ≡ form
-      → UnscopedAs form p t q c → NameAs UnscopedName x p t q c
+  -- arguments up to the E; the scopes that each opened are dropped, and it goes into the list's own
+  pub data ArgsUpTo : Context → Bool → ℕ → Place → List Tree → Place → Cost → Type 0 where
+    args_up_to : {x : Context} {o : Bool} {k : ℕ} {p q : Place} {list : List Tree} {c : Cost} {form : ArgsForm} → args_form p.rest ≡ form
+        → ArgsAs form x o k p list q c → ArgsUpTo x o k p list q c
 
--- a name is counted
-pub data Name : Context → Place → Tree → Place → Cost → Type 0 where
-  name : {x : Context} {p q : Place} {t : Tree} {c : Cost} {form : NameForm} → name_form p.rest ≡ form → NameAs form x p t q c → Name x p t q (counted c)
+  pub data ArgsAs : ArgsForm → Context → Bool → ℕ → Place → List Tree → Place → Cost → Type 0 where
+    no_more_args : {x : Context} {o : Bool} {k : ℕ} {p : Place} → ArgsAs LastArgument x o k p [] (skip 1 p) nothing
+    one_more_arg : {x : Context} {o : Bool} {k : ℕ} {p q r : Place} {t : Tree} {ts : List Tree} {c d : Cost} {form : ArgumentForm} → argument_form p.rest ≡ form
+        → ArgumentAs form x p t q c → ArgsUpTo x o k (put o k t q) ts r d → ArgsAs NextArgument x o k p (t ∷ ts) r (both c d)
+
+  -- <template-arg>
+  pub data ArgumentAs : ArgumentForm → Context → Place → Tree → Place → Cost → Type 0 where
+    type_argument : {x : Context} {p q : Place} {t : Tree} {c : Cost} → TypeOf x p t q c → ArgumentAs TypeArgument x p t q c
+
+  -- <type>: counted
+  pub data TypeOf : Context → Place → Tree → Place → Cost → Type 0 where
+    type : {x : Context} {p q : Place} {t : Tree} {c : Cost} {form : TypeForm} → type_form p.rest ≡ form → TypeAs form (inside_type x) p t q c → TypeOf x p t q (counted c)
+
+  pub data TypeAs : TypeForm → Context → Place → Tree → Place → Cost → Type 0 where
+    -- <builtin-type>
+    builtin_type : {x : Context} {p : Place} → TypeAs BuiltinType x p (plain_name (builtin_text p.rest)) (at (past_builtin p.rest) p) nothing
+    -- <template-param> [<template-args>]: saved without and with its arguments
+    parameter_type : {x : Context} {p q r : Place} {t u : Tree} {c : Cost} {form : ListForm} → Parameter x p t q
+        → list_form q.rest ≡ form → TypeListedAs form x t (save t q) u r c → TypeAs ParameterType x p u r (both (saving q) c)
+    -- <substitution> [<template-args>]: saved with its arguments alone
+    substitution_type : {x : Context} {p q r : Place} {t u : Tree} {c : Cost} {form : ListForm} → Substitution p t q
+        → list_form q.rest ≡ form → TypeListedAs form x t q u r c → TypeAs SubstitutionType x p u r c
+    -- <class-enum-type> ::= <name>
+    name_type : {x : Context} {p q : Place} {t : Tree} {c : Cost} → Name x p t q c → TypeAs NameType x p t (save t q) (both c (saving q))
+
+  -- <template-args> behind a type, which is saved with them, or none
+  pub data TypeListedAs : ListForm → Context → Tree → Place → Tree → Place → Cost → Type 0 where
+    no_type_list : {x : Context} {t : Tree} {p : Place} → TypeListedAs NoList x t p t p nothing
+    type_list : {x : Context} {t : Tree} {p q : Place} {list : List Tree} {c : Cost} → Args x false p list q c
+        → TypeListedAs ArgumentList x t p (with_args t (trees list)) (save (with_args t (trees list)) q) (both c (saving q))
 
 -- what follows the prefix of a symbol: a special name, or a name without its parameters
 pub data SymbolAs : SymbolForm → Context → Place → Tree → Place → Cost → Type 0 where

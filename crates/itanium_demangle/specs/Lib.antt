@@ -1,5 +1,7 @@
 pub mod Scalars
 pub mod Forms
+pub mod Known
+pub mod Around
 pub mod Tree
 pub mod Grammar
 pub mod Reading

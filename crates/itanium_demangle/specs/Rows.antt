@@ -24,6 +24,11 @@ pub record WorkedSymbols : Type 0 where
   pub too_short : IsAnswer (codes "_Z4foo") None
   pub length_zero : IsAnswer (codes "_Z0") None
   pub leading_zero : IsAnswer (codes "_Z03foo") None
+  pub arguments : IsAnswer (codes "_ZNSt6vectorIS_IiEE4sizeEv") (Some (codes "std::vector<std::vector<int> >::size"))
+  pub last_own_name : IsAnswer (codes "_ZNSaIcED2Ev") (Some (codes "std::allocator<char>::~allocator"))
+  pub parameter : IsAnswer (codes "_Z1fIiT_Evv") (Some (codes "f<int, int>"))
+  pub no_parameter_yet : IsAnswer (codes "_Z1fIT_iEvv") None
+  pub no_scope_of_a_type : IsAnswer (codes "_Z1fI1AIiET_Evv") (Some (codes "f<A<int>, A<int> >"))
 
 -- what holds of the answers of all symbols
 pub record LawsOfAnswers : Type 0 where

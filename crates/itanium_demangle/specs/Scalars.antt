@@ -1,5 +1,5 @@
 -- Numbers and source names: how many bytes stand in front, and what they say (Itanium C++ ABI 5.1.2, "General Structure").
-use Rattle.std.specs.Prelude.{ℕ, ◌+◌, ◌-◌, ◌*◌, ◌^◌, ◌&&◌, Bool, true, false, nat_le, nat_lt, if◌then◌else◌, List, [], ◌∷◌, length, take, drop, Option, Some, None, option_and_then}
+use Rattle.std.specs.Prelude.{ℕ, ◌+◌, ◌-◌, ◌*◌, ◌^◌, ◌&&◌, ◌==◌, Bool, true, false, nat_le, nat_lt, if◌then◌else◌, List, [], ◌∷◌, length, take, drop, Option, Some, None, option_and_then, option_map}
 use Rattle.itanium_demangle.specs.declared.scalar.Radix.{Radix}
 use Rattle.itanium_demangle.specs.declared.scalar.Radix.TheVariants.{Decimal, Base36}
 
@@ -43,3 +43,26 @@ number bytes = numeral Decimal bytes
 unfoldable pub source_name : List ℕ → Option (List ℕ × List ℕ)
 source_name bytes = option_and_then (λ n.
     if nat_lt 0 n.0 && nat_le n.0 (length n.1) then Some (take n.0 n.1, drop n.0 n.1) else None) (number bytes)
+
+-- <seq-id>: digits in base 36
+unfoldable pub sequence_id : List ℕ → Option (ℕ × List ℕ)
+sequence_id bytes = numeral Base36 bytes
+
+-- the number that follows n, which fits 64 bits
+abbrev pub next_number : ℕ → Option ℕ
+next_number n = if nat_lt (n + 1) (2 ^ 64) then Some (n + 1) else None
+
+-- the next byte is `_`, and what follows it
+abbrev pub past_underscore : List ℕ → Option (List ℕ)
+past_underscore [] = None
+past_underscore (b ∷ bytes) = if b == 95 then Some bytes else None
+
+-- behind the `_` of an index without a numeral; else a numeral, `_`, and the number that follows it
+abbrev pub index_by : Radix → List ℕ → Option (List ℕ) → Option (ℕ × List ℕ)
+index_by r bytes (Some rest) = Some (0, rest)
+index_by r bytes None =
+    option_and_then (λ n. option_and_then (λ i. option_map (λ rest. (i, rest)) (past_underscore n.1)) (next_number n.0)) (numeral r bytes)
+
+-- [<numeral>] _: 0 where the numeral is left out, else the number that follows it
+unfoldable pub index_of : Radix → List ℕ → Option (ℕ × List ℕ)
+index_of r bytes = index_by r bytes (past_underscore bytes)

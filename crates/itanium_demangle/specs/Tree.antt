@@ -1,19 +1,58 @@
 -- What a symbol says, as a tree, and the shape of its printing. The shape is total: whether a step exists is a test beside it.
-use Rattle.std.specs.Prelude.{ℕ, Bool, List, Option, Some, None}
-use Rattle.demangle_text.specs.Shape.{Shape, plain_shape, text}
+use Rattle.std.specs.Prelude.{ℕ, Bool, true, false, List, [], ◌∷◌, codes, Option, Some, None, if◌then◌else◌, nat_eq}
+use Rattle.std.specs.List.{ends_with}
+use Rattle.demangle_text.specs.Shape.{Shape, plain_shape, appended, joined, text}
 use Rattle.demangle_edit.specs.declared.quals.Quals.{Quals}
-use Rattle.demangle_edit.specs.Names.{qualified, name_qualified}
+use Rattle.demangle_edit.specs.Names.{qualified, qualified_ctor, attached, name_qualified}
+use Rattle.itanium_demangle.specs.declared.known.Known.{Known}
+use Rattle.itanium_demangle.specs.Known.{known_shape}
 
-pub data Tree : Type 0 where
-  plain_name : List ℕ → Tree
-  name_in : Tree → Tree → Tree
-  nested_of : Tree → Quals → Bool → Tree
+mutual
+  pub data Tree : Type 0 where
+    plain_name : List ℕ → Tree
+    known_name : Known → Tree
+    name_in : Tree → Tree → Tree
+    structor_of : Tree → Bool → Tree
+    with_args : Tree → Trees → Tree
+    nested_of : Tree → Quals → Bool → Tree
+
+  pub data Trees : Type 0 where
+    no_trees : Trees
+    more_trees : Tree → Trees → Trees
+
+abbrev pub trees : List Tree → Trees
+trees [] = no_trees
+trees (t ∷ ts) = more_trees t (trees ts)
+
+-- what stands between two arguments
+abbrev pub between : Bool → List ℕ
+between first = if first then [] else codes ", "
+
+-- the arguments behind what stands of a list
+abbrev pub list_from : Bool → Shape → List Shape → Shape
+list_from first list [] = list
+list_from first list (arg ∷ args) = list_from false (joined list (between first) arg) args
+
+-- a list's end, with a space behind `>`
+abbrev pub closed : Shape → Shape
+closed list = appended (if ends_with nat_eq (text list) (codes ">") then codes " >" else codes ">") list
+
+abbrev pub list_shape : List Shape → Shape
+list_shape args = closed (list_from true (plain_shape (codes "<")) args)
 
 -- the shape that the tree prints
-unfoldable pub shape_of : Tree → Shape
-shape_of (plain_name bytes) = plain_shape bytes
-shape_of (name_in scope leaf) = qualified (shape_of scope) (shape_of leaf)
-shape_of (nested_of name quals shown) = name_qualified (shape_of name) quals shown
+unfoldable mutual
+  pub shape_of : Tree → Shape
+  shape_of (plain_name bytes) = plain_shape bytes
+  shape_of (known_name known) = known_shape known
+  shape_of (name_in scope leaf) = qualified (shape_of scope) (shape_of leaf)
+  shape_of (structor_of scope destructor) = qualified_ctor (shape_of scope) destructor
+  shape_of (with_args name list) = attached (shape_of name) (list_shape (shape_each list))
+  shape_of (nested_of name quals shown) = name_qualified (shape_of name) quals shown
+
+  pub shape_each : Trees → List Shape
+  shape_each no_trees = []
+  shape_each (more_trees t ts) = shape_of t ∷ shape_each ts
 
 -- the text that the tree prints
 abbrev pub printing : Tree → List ℕ

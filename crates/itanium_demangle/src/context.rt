@@ -1,4 +1,6 @@
 //! What is known around a production.
+ghost use Rattle.std.specs.Prelude.{◌≡◌};
+ghost use Rattle.itanium_demangle.specs.Around as spec;
 
 /// Four truth values that a reading hands down. All are off at the start of a symbol.
 #[derive(Clone, Copy)]
@@ -20,3 +22,22 @@ pub const OUTSIDE: Context = Context {
     lambda: false,
     in_type: false,
 };
+
+impl Context {
+    /// The context inside a type.
+    pub fn inside_type(self) -> Context
+        ensures context { result ≡ spec.inside_type self }
+    {
+        Context {
+            in_type: true,
+            ..self
+        }
+    }
+
+    /// Whether an argument list opens a scope: a name's does, where no type is around it.
+    pub fn opens_scope(self, of_name: bool) -> bool
+        ensures value { result ≡ spec.opens_scope of_name self }
+    {
+        of_name && !self.in_type
+    }
+}

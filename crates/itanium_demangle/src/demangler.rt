@@ -129,7 +129,11 @@ impl Demangler {
     }
 
     /// The answer of a symbol, as `prepare` says, lent until the next call.
-    pub fn demangle<'a>(&'a mut self, alloc: Global, symbol: &'a str) -> Result<Option<&'a str>, AllocError>
+    pub fn demangle<'a>(
+        &'a mut self,
+        alloc: Global,
+        symbol: &'a str,
+    ) -> Result<Option<&'a str>, AllocError>
         ensures answer { IfOk result (λ found. IsAnswer symbol.now (option_map (λ text. text.now) found)) }
     {
         self.prepare(alloc, symbol)?;

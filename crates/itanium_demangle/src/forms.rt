@@ -55,6 +55,8 @@ pub enum ComponentForm {
 #[derive(Clone, Copy)]
 pub enum UnqualifiedForm {
     SourceName,
+    ConstructorName,
+    DestructorName,
     OtherName,
 }
 
@@ -63,6 +65,175 @@ pub enum UnqualifiedForm {
 pub enum TagForm {
     NoTag,
     NextTag,
+}
+
+/// `<substitution>`: an abbreviation of std, or a number.
+#[derive(Clone, Copy)]
+pub enum SubstitutionForm {
+    KnownSubstitution,
+    SavedSubstitution,
+}
+
+/// The end of `<template-args>`, or one more argument.
+#[derive(Clone, Copy)]
+pub enum ArgsForm {
+    LastArgument,
+    NextArgument,
+}
+
+/// `<template-arg>`
+#[derive(Clone, Copy)]
+pub enum ArgumentForm {
+    ExpressionArgument,
+    PackArgument,
+    LiteralArgument,
+    ConstraintArgument,
+    TypeArgument,
+}
+
+/// `<type>`
+#[derive(Clone, Copy)]
+pub enum TypeForm {
+    BuiltinType,
+    ExpansionType,
+    VendorType,
+    ArrayType,
+    FunctionType,
+    MemberType,
+    PointerType,
+    ReferenceType,
+    RvalueType,
+    QualifiedType,
+    ElaboratedType,
+    ParameterType,
+    SubstitutionType,
+    UnreadType,
+    NameType,
+}
+
+pub fn substitution_form(bytes: &[u8]) -> SubstitutionForm
+    ensures form { result ≡ spec.substitution_form bytes.now }
+{
+    match bytes {
+        [b'a'..=b'z', ..] => SubstitutionForm::KnownSubstitution,
+        _ => SubstitutionForm::SavedSubstitution,
+    }
+}
+
+pub fn args_form(bytes: &[u8]) -> ArgsForm
+    ensures form { result ≡ spec.args_form bytes.now }
+{
+    match bytes {
+        [b'E', ..] => ArgsForm::LastArgument,
+        _ => ArgsForm::NextArgument,
+    }
+}
+
+pub fn argument_form(bytes: &[u8]) -> ArgumentForm
+    ensures form { result ≡ spec.argument_form bytes.now }
+{
+    match bytes {
+        [b'X', ..] => ArgumentForm::ExpressionArgument,
+        [b'J', ..] => ArgumentForm::PackArgument,
+        [b'L', ..] => ArgumentForm::LiteralArgument,
+        [b'Q', ..] => ArgumentForm::ConstraintArgument,
+        _ => ArgumentForm::TypeArgument,
+    }
+}
+
+pub fn type_form(bytes: &[u8]) -> TypeForm
+    ensures form { result ≡ spec.type_form bytes.now }
+{
+    if !builtin_text(bytes).is_empty() {
+        return TypeForm::BuiltinType;
+    }
+    match bytes {
+        [b'D', b'p', ..] => TypeForm::ExpansionType,
+        [b'u', ..] => TypeForm::VendorType,
+        [b'A', ..] => TypeForm::ArrayType,
+        [b'F', ..] => TypeForm::FunctionType,
+        [b'M', ..] => TypeForm::MemberType,
+        [b'P', ..] => TypeForm::PointerType,
+        [b'R', ..] => TypeForm::ReferenceType,
+        [b'O', ..] => TypeForm::RvalueType,
+        [b'r' | b'V' | b'K', ..] => TypeForm::QualifiedType,
+        [b'T', b's' | b'u' | b'e', ..] => TypeForm::ElaboratedType,
+        [b'T', ..] => TypeForm::ParameterType,
+        [b'S', b't', ..] => TypeForm::NameType,
+        [b'S', ..] => TypeForm::SubstitutionType,
+        [b'U', ..] => TypeForm::UnreadType,
+        _ => TypeForm::NameType,
+    }
+}
+
+/// The text of the `<builtin-type>` that stands there, a letter or `D` and a letter, and no text where none does.
+pub fn builtin_text(bytes: &[u8]) -> &'static [u8]
+    ensures text { result.now ≡ spec.builtin_text bytes.now }
+{
+    match bytes {
+        [b'D', letter, ..] => wide_text(*letter),
+        [letter, ..] => letter_text(*letter),
+        [] => b"",
+    }
+}
+
+/// What is behind a `<builtin-type>`.
+pub fn past_builtin(bytes: &[u8]) -> &[u8]
+    ensures rest { result.now ≡ spec.past_builtin bytes.now }
+{
+    match bytes {
+        [b'D', _, rest @ ..] => rest,
+        [b'D'] => &[],
+        [_, rest @ ..] => rest,
+        [] => &[],
+    }
+}
+
+fn letter_text(letter: u8) -> &'static [u8]
+    ensures text { result.now ≡ spec.letter_text letter }
+{
+    match letter {
+        b'v' => b"void",
+        b'w' => b"wchar_t",
+        b'b' => b"bool",
+        b'c' => b"char",
+        b'a' => b"signed char",
+        b'h' => b"unsigned char",
+        b's' => b"short",
+        b't' => b"unsigned short",
+        b'i' => b"int",
+        b'j' => b"unsigned int",
+        b'l' => b"long",
+        b'm' => b"unsigned long",
+        b'x' => b"long long",
+        b'y' => b"unsigned long long",
+        b'n' => b"__int128",
+        b'o' => b"unsigned __int128",
+        b'f' => b"float",
+        b'd' => b"double",
+        b'e' => b"long double",
+        b'g' => b"__float128",
+        b'z' => b"...",
+        _ => b"",
+    }
+}
+
+fn wide_text(letter: u8) -> &'static [u8]
+    ensures text { result.now ≡ spec.wide_text letter }
+{
+    match letter {
+        b's' => b"char16_t",
+        b'i' => b"char32_t",
+        b'u' => b"char8_t",
+        b'n' => b"std::nullptr_t",
+        b'a' => b"auto",
+        b'c' => b"decltype(auto)",
+        b'h' => b"half",
+        b'd' => b"decimal64",
+        b'e' => b"decimal128",
+        b'f' => b"decimal32",
+        _ => b"",
+    }
 }
 
 pub fn symbol_form(bytes: &[u8]) -> SymbolForm
@@ -124,11 +295,13 @@ pub fn component_form(bytes: &[u8]) -> ComponentForm
     }
 }
 
-pub fn unqualified_form(bytes: &[u8]) -> UnqualifiedForm
-    ensures form { result ≡ spec.unqualified_form bytes.now }
+pub fn unqualified_form(in_scope: bool, bytes: &[u8]) -> UnqualifiedForm
+    ensures form { result ≡ spec.unqualified_form in_scope bytes.now }
 {
     match bytes {
         [b'1'..=b'9', ..] => UnqualifiedForm::SourceName,
+        [b'C', b'1'..=b'5', ..] if in_scope => UnqualifiedForm::ConstructorName,
+        [b'D', b'0'..=b'2' | b'4' | b'5', ..] if in_scope => UnqualifiedForm::DestructorName,
         _ => UnqualifiedForm::OtherName,
     }
 }
@@ -183,7 +356,19 @@ pub fn source_text(name: &[u8]) -> &[u8]
     ensures text { result.now ≡ spec.source_text name.now }
 {
     match name {
-        [b'_', b'G', b'L', b'O', b'B', b'A', b'L', b'_', b'_', b'N', ..] => b"(anonymous namespace)",
+        [
+            b'_',
+            b'G',
+            b'L',
+            b'O',
+            b'B',
+            b'A',
+            b'L',
+            b'_',
+            b'_',
+            b'N',
+            ..
+        ] => b"(anonymous namespace)",
         _ => name,
     }
 }

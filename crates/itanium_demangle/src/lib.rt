@@ -4,9 +4,12 @@
 mod context;
 mod demangler;
 mod forms;
+mod known;
 pub mod laws;
 mod names;
 mod reader;
 pub mod scalar;
+mod template;
+mod types;
 
 pub use crate::demangler::{Demangler, MAX_DEPTH};

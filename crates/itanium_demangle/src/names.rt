@@ -2,16 +2,17 @@
 ghost use Rattle.std.specs.Prelude.{◌≡◌, ◌<◌, length, option_map, IfSome, OnOk, true};
 ghost use Rattle.demangle_text.specs.State.{IsLiving, shape, Lives, IsEdit, IsRun, SameFrame, saved};
 ghost use Rattle.itanium_demangle.specs.Reading as spec;
-ghost use Rattle.itanium_demangle.specs.Forms.{tag_form, list_form, first_form, saves_first};
+ghost use Rattle.itanium_demangle.specs.Forms.{tag_form, list_form, first_form, unscoped_form, saves_first};
 ghost use Rattle.itanium_demangle.specs.Outcome.{state, Gives, OnRead, HasRoom, Bounds, OptionalBounds};
 
 use crate::context::Context;
 use crate::forms::{
-    ComponentForm, FirstForm, ListForm, NameForm, SymbolForm, TagForm, UnqualifiedForm, UnscopedForm, component_form, first_form,
-    list_form, name_form, name_quals, past_internal, saves_first, symbol_form, tag_form, unqualified_form, unscoped_form,
+    ComponentForm, FirstForm, ListForm, NameForm, SymbolForm, TagForm, UnqualifiedForm,
+    UnscopedForm, component_form, first_form, list_form, name_form, name_quals, past_internal,
+    saves_first, symbol_form, tag_form, unqualified_form, unscoped_form,
 };
 use crate::reader::Reader;
-use demangle_edit::{apply_name_qualifiers, qualify};
+use demangle_edit::{apply_name_qualifiers, qualify, qualify_ctor};
 use demangle_text::Piece;
 use std::alloc::AllocError;
 
@@ -50,8 +51,44 @@ impl<'a> Reader<'a> {
         }
     }
 
-    /// `<unqualified-name> ::= [L] <source-name> [<abi-tags>]`, in the scope that stands in front of it, if one does.
-    #[tactic(auto, using(demangle_text::proofs::Laws::laws, demangle_text::proofs::Laws::runs, crate::proofs::Opens::unqualified_opens, crate::proofs::Opens::kept_scope))]
+    /// A constructor or a destructor of the scope, and `<abi-tags>` behind it.
+    fn read_structor(&mut self, destructor: bool, scope: Option<Piece>) -> Result<bool, AllocError>
+        requires scope { IfSome scope (IsLiving self.old.buffer) }
+        ensures reads { Gives result self.new
+            (spec.structor_as destructor (option_map (shape self.old.buffer) scope) (state self.old)) }
+        ensures run { OnRead result (IsRun self.old.buffer self.new.buffer) }
+        ensures bounds { OptionalBounds result (spec.skip 2 (state self.old)) (state self.new) }
+    {
+        let Some(scope) = scope else {
+            return Ok(false);
+        };
+        self.skip(2);
+        self.found = qualify_ctor(&mut self.buffer, scope, destructor)?;
+        self.read_tags(self.found)
+    }
+
+    /// `<source-name> [<abi-tags>]`
+    #[tactic(auto, using(demangle_text::proofs::Laws::laws, demangle_text::proofs::Laws::runs, crate::proofs::Opens::kept_scope))]
+    fn read_source_component(&mut self, scope: Option<Piece>) -> Result<bool, AllocError>
+        requires scope { IfSome scope (IsLiving self.old.buffer) }
+        ensures reads { Gives result self.new
+            (spec.source_as (option_map (shape self.old.buffer) scope) (state self.old)) }
+        ensures run { OnRead result (IsRun self.old.buffer self.new.buffer) }
+        ensures bounds { Bounds 2 result (state self.old) (state self.new) }
+    {
+        if !self.read_source()? {
+            return Ok(false);
+        }
+        if !self.read_tags(self.found)? {
+            return Ok(false);
+        }
+        self.enclose(scope, self.found)?;
+        Ok(true)
+    }
+
+    /// `<unqualified-name> ::= [L] <source-name> [<abi-tags>] | <ctor-dtor-name> [<abi-tags>]`, in the scope that stands
+    /// in front of it, if one does.
+    #[tactic(auto, using(demangle_text::proofs::Laws::laws, demangle_text::proofs::Laws::runs, crate::proofs::Opens::unqualified_opens, crate::proofs::Opens::kept_scope, crate::proofs::Opens::some_scope, crate::proofs::Shorter::forms))]
     fn read_unqualified(&mut self, scope: Option<Piece>) -> Result<bool, AllocError>
         requires scope { IfSome scope (IsLiving self.old.buffer) }
         ensures reads { Gives result self.new
@@ -60,27 +97,103 @@ impl<'a> Reader<'a> {
         ensures bounds { Bounds 2 result (state self.old) (state self.new) }
     {
         self.rest = past_internal(self.rest);
-        match unqualified_form(self.rest) {
+        match unqualified_form(scope.is_some(), self.rest) {
             UnqualifiedForm::SourceName => {
-                if !self.read_source()? {
+                if !self.read_source_component(scope)? {
                     return Ok(false);
                 }
-                if !self.read_tags(self.found)? {
+                Ok(true)
+            }
+            UnqualifiedForm::ConstructorName => {
+                if !self.read_structor(false, scope)? {
                     return Ok(false);
                 }
-                self.enclose(scope, self.found)?;
+                Ok(true)
+            }
+            UnqualifiedForm::DestructorName => {
+                if !self.read_structor(true, scope)? {
+                    return Ok(false);
+                }
                 Ok(true)
             }
             UnqualifiedForm::OtherName => Ok(false),
         }
     }
 
+    /// The first component of a `<nested-name>`.
+    #[tactic(auto, using(demangle_text::proofs::Laws::laws, demangle_text::proofs::Laws::runs, crate::proofs::Shorter::forms))]
+    fn read_first(&mut self, context: Context) -> Result<bool, AllocError>
+        ensures reads { Gives result self.new (spec.first_as (first_form self.old.rest.now) context (state self.old)) }
+        ensures run { OnRead result (IsRun self.old.buffer self.new.buffer) }
+        ensures saved { OnRead result (saves_first (first_form self.old.rest.now) ≡ true → 0 < length (saved self.new.buffer)) }
+        ensures bounds { Bounds 2 result (state self.old) (state self.new) }
+    {
+        match first_form(self.rest) {
+            FirstForm::ParameterFirst => {
+                if !self.read_saved_parameter(context)? {
+                    return Ok(false);
+                }
+                Ok(true)
+            }
+            FirstForm::StdFirst => {
+                self.skip(2);
+                self.found = self.buffer.push(b"std")?;
+                Ok(true)
+            }
+            FirstForm::SubstitutionFirst => {
+                if !self.read_substitution()? {
+                    return Ok(false);
+                }
+                Ok(true)
+            }
+            FirstForm::NameFirst => {
+                if !self.read_unqualified(None)? {
+                    return Ok(false);
+                }
+                self.save_found()?;
+                Ok(true)
+            }
+        }
+    }
+
+    /// `<nested-name> ::= N [<CV-qualifiers>] [<ref-qualifier>] <prefix> <unqualified-name> E`, behind its `N`.
+    #[tactic(auto, using(demangle_text::proofs::Laws::laws, demangle_text::proofs::Laws::runs, crate::proofs::Opens::nested_opens))]
+    #[cycle(reader)]
+    fn read_nested(&mut self, depth: usize, context: Context) -> Result<bool, AllocError>
+        requires room { HasRoom 2 (state self.old) }
+        ensures reads { Gives result self.new (spec.read_nested (spec.read_args depth context true) context (state self.old)) }
+        ensures run { OnRead result (IsRun self.old.buffer self.new.buffer) }
+        ensures bounds { Bounds 1 result (state self.old) (state self.new) }
+    {
+        let (quals, rest) = name_quals(self.rest);
+        self.rest = rest;
+        let takes = saves_first(first_form(self.rest));
+        if !self.read_first(context)? {
+            return Ok(false);
+        }
+        let first = self.found;
+        self.skip_initializer();
+        if !self.read_components(depth, context, takes, first)? {
+            return Ok(false);
+        }
+        self.found = apply_name_qualifiers(&mut self.buffer, self.found, quals, context.shown)?;
+        Ok(true)
+    }
+
     /// The later components of a `<nested-name>` behind what stands, up to its `E`.
-    fn read_components(&mut self, takes: bool, first: Piece) -> Result<bool, AllocError>
+    #[cycle(reader)]
+    fn read_components(
+        &mut self,
+        depth: usize,
+        context: Context,
+        takes: bool,
+        first: Piece,
+    ) -> Result<bool, AllocError>
+        requires room { HasRoom 1 (state self.old) }
         requires living { IsLiving self.old.buffer first }
         requires saved { takes ≡ true → 0 < length (saved self.old.buffer) }
         ensures reads { Gives result self.new
-            (spec.read_prefix takes (shape self.old.buffer first) (state self.old)) }
+            (spec.read_prefix (spec.read_args depth context true) takes (shape self.old.buffer first) (state self.old)) }
         ensures run { OnRead result (IsRun self.old.buffer self.new.buffer) }
         ensures bounds { Bounds 1 result (state self.old) (state self.new) }
     {
@@ -94,7 +207,15 @@ impl<'a> Reader<'a> {
                     self.found = name;
                     return Ok(true);
                 }
-                ComponentForm::ListComponent => return Ok(false),
+                ComponentForm::ListComponent => {
+                    if !self.read_attached(depth, context, true, name)? {
+                        return Ok(false);
+                    }
+                    name = self.found;
+                    self.save(name)?;
+                    self.skip_initializer();
+                    takes = true;
+                }
                 ComponentForm::NameComponent => {
                     if !self.read_unqualified(Some(name))? {
                         return Ok(false);
@@ -108,60 +229,19 @@ impl<'a> Reader<'a> {
         }
     }
 
-    /// The first component of a `<nested-name>`.
+    /// `<template-args>` behind a name, which is saved in front of them, or none.
     #[tactic(auto, using(demangle_text::proofs::Laws::laws, demangle_text::proofs::Laws::runs, crate::proofs::Shorter::forms))]
-    fn read_first(&mut self) -> Result<bool, AllocError>
-        ensures reads { Gives result self.new (spec.first_as (first_form self.old.rest.now) (state self.old)) }
-        ensures run { OnRead result (IsRun self.old.buffer self.new.buffer) }
-        ensures saved { OnRead result (saves_first (first_form self.old.rest.now) ≡ true → 0 < length (saved self.new.buffer)) }
-        ensures bounds { Bounds 2 result (state self.old) (state self.new) }
-    {
-        match first_form(self.rest) {
-            FirstForm::StdFirst => {
-                self.skip(2);
-                self.found = self.buffer.push(b"std")?;
-                Ok(true)
-            }
-            FirstForm::NameFirst => {
-                if !self.read_unqualified(None)? {
-                    return Ok(false);
-                }
-                let name = self.found;
-                self.save(name)?;
-                self.found = name;
-                Ok(true)
-            }
-            FirstForm::ParameterFirst | FirstForm::SubstitutionFirst => Ok(false),
-        }
-    }
-
-    /// `<nested-name> ::= N [<CV-qualifiers>] [<ref-qualifier>] <prefix> <unqualified-name> E`, behind its `N`.
-    #[tactic(auto, using(demangle_text::proofs::Laws::laws, demangle_text::proofs::Laws::runs, crate::proofs::Opens::nested_opens))]
-    fn read_nested(&mut self, context: Context) -> Result<bool, AllocError>
-        ensures reads { Gives result self.new (spec.read_nested context (state self.old)) }
-        ensures run { OnRead result (IsRun self.old.buffer self.new.buffer) }
-        ensures bounds { Bounds 1 result (state self.old) (state self.new) }
-    {
-        let (quals, rest) = name_quals(self.rest);
-        self.rest = rest;
-        let takes = saves_first(first_form(self.rest));
-        if !self.read_first()? {
-            return Ok(false);
-        }
-        let first = self.found;
-        self.skip_initializer();
-        if !self.read_components(takes, first)? {
-            return Ok(false);
-        }
-        self.found = apply_name_qualifiers(&mut self.buffer, self.found, quals, context.shown)?;
-        Ok(true)
-    }
-
-    /// `<template-args>` behind a name, or none.
-    fn read_listed(&mut self, name: Piece) -> Result<bool, AllocError>
+    #[cycle(reader)]
+    fn read_listed(
+        &mut self,
+        depth: usize,
+        context: Context,
+        name: Piece,
+    ) -> Result<bool, AllocError>
+        requires room { HasRoom 1 (state self.old) }
         requires living { IsLiving self.old.buffer name }
-        ensures reads { Gives result self.new
-            (spec.listed_as (list_form self.old.rest.now) (shape self.old.buffer name) (state self.old)) }
+        ensures reads { Gives result self.new (spec.listed_as (list_form self.old.rest.now) (spec.read_args depth context true)
+            (shape self.old.buffer name) (state self.old)) }
         ensures run { OnRead result (IsRun self.old.buffer self.new.buffer) }
         ensures bounds { OptionalBounds result (state self.old) (state self.new) }
     {
@@ -170,14 +250,24 @@ impl<'a> Reader<'a> {
                 self.found = name;
                 Ok(true)
             }
-            ListForm::ArgumentList => Ok(false),
+            ListForm::ArgumentList => {
+                self.save(name)?;
+                if !self.read_attached(depth, context, true, name)? {
+                    return Ok(false);
+                }
+                Ok(true)
+            }
         }
     }
 
-    /// `<unscoped-name> ::= [St] <unqualified-name>`, and `<template-args>` behind it or none.
-    #[tactic(auto, using(demangle_text::proofs::Laws::laws, demangle_text::proofs::Laws::runs, crate::proofs::Opens::unscoped_opens))]
-    fn read_unscoped(&mut self) -> Result<bool, AllocError>
-        ensures reads { Gives result self.new (spec.read_unscoped (state self.old)) }
+    /// `<unscoped-name> ::= [St] <unqualified-name>` and `<template-args>` behind it or none, or a `<substitution>` and
+    /// `<template-args>`.
+    #[tactic(auto, using(demangle_text::proofs::Laws::laws, demangle_text::proofs::Laws::runs, crate::proofs::Shorter::forms))]
+    #[cycle(reader)]
+    fn read_unscoped(&mut self, depth: usize, context: Context) -> Result<bool, AllocError>
+        requires room { HasRoom 0 (state self.old) }
+        ensures reads { Gives result self.new
+            (spec.unscoped_as (unscoped_form self.old.rest.now) (spec.read_args depth context true) (state self.old)) }
         ensures run { OnRead result (IsRun self.old.buffer self.new.buffer) }
         ensures bounds { Bounds 2 result (state self.old) (state self.new) }
     {
@@ -188,20 +278,41 @@ impl<'a> Reader<'a> {
                 if !self.read_unqualified(Some(scope))? {
                     return Ok(false);
                 }
-                self.read_listed(self.found)
+                if !self.read_listed(depth, context, self.found)? {
+                    return Ok(false);
+                }
+                Ok(true)
             }
-            UnscopedForm::SubstitutionName => Ok(false),
+            UnscopedForm::SubstitutionName => {
+                if !self.read_substitution()? {
+                    return Ok(false);
+                }
+                match list_form(self.rest) {
+                    ListForm::NoList => Ok(false),
+                    ListForm::ArgumentList => {
+                        if !self.read_attached(depth, context, true, self.found)? {
+                            return Ok(false);
+                        }
+                        Ok(true)
+                    }
+                }
+            }
             UnscopedForm::PlainName => {
                 if !self.read_unqualified(None)? {
                     return Ok(false);
                 }
-                self.read_listed(self.found)
+                if !self.read_listed(depth, context, self.found)? {
+                    return Ok(false);
+                }
+                Ok(true)
             }
         }
     }
 
-    /// `<name> ::= <nested-name> | <unscoped-name>`, within `depth` open productions.
-    #[tactic(auto, using(demangle_text::proofs::Laws::laws, demangle_text::proofs::Laws::runs, crate::proofs::Opens::name_opens, crate::proofs::Opens::no_name))]
+    /// `<name> ::= <nested-name> | <unscoped-name> | <unscoped-template-name> <template-args>`, within `depth` open
+    /// productions.
+    #[tactic(auto, using(demangle_text::proofs::Laws::laws, demangle_text::proofs::Laws::runs, crate::proofs::Opens::name_opens, crate::proofs::Opens::no_name, crate::proofs::Shorter::forms))]
+    #[cycle(reader)]
     pub fn read_name(&mut self, depth: usize, context: Context) -> Result<bool, AllocError>
         requires room { HasRoom 1 (state self.old) }
         ensures reads { Gives result self.new (spec.read_name depth context (state self.old)) }
@@ -215,10 +326,18 @@ impl<'a> Reader<'a> {
         match name_form(self.rest) {
             NameForm::NestedName => {
                 self.skip(1);
-                self.read_nested(context)
+                if !self.read_nested(depth - 1, context)? {
+                    return Ok(false);
+                }
+                Ok(true)
             }
             NameForm::LocalName => Ok(false),
-            NameForm::UnscopedName => self.read_unscoped(),
+            NameForm::UnscopedName => {
+                if !self.read_unscoped(depth - 1, context)? {
+                    return Ok(false);
+                }
+                Ok(true)
+            }
         }
     }
 

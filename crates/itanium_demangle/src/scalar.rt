@@ -4,7 +4,7 @@ ghost use Rattle.itanium_demangle.specs.Scalars as spec;
 
 /// The digits that a numeral is written in.
 #[derive(Clone, Copy)]
-enum Radix {
+pub(crate) enum Radix {
     Decimal,
     Base36,
 }
@@ -71,6 +71,42 @@ pub fn number(input: &[u8], pos: usize) -> Option<(u64, usize)>
     match numeral(Radix::Decimal, &input[pos..]) {
         Some((value, count)) => Some((value, pos + count)),
         None => None,
+    }
+}
+
+/// `<seq-id>`: as many digits in base 36, `0` to `9` and `A` to `Z`, as stand at `pos`, at least one. The value, and the
+/// place after the digits, in bytes; `None` where no digit stands there or the value is past 2^64 - 1.
+#[tactic(auto, using(crate::proofs::Numerals::dropped), unfolding(crate::specs::Scalars::sequence_id))]
+pub fn sequence_id(input: &[u8], pos: usize) -> Option<(u64, usize)>
+    requires place { pos ≤ length input.now }
+    ensures value { option_map (λ found. (found.0, drop found.1 input.now)) result ≡ spec.sequence_id (drop pos input.now) }
+    ensures after { IfSome result (λ found. pos < found.1) }
+    ensures within { IfSome result (λ found. found.1 ≤ length input.now) }
+{
+    match numeral(Radix::Base36, &input[pos..]) {
+        Some((value, count)) => Some((value, pos + count)),
+        None => None,
+    }
+}
+
+/// `[<numeral>] _`: 0 where the numeral is left out, else the number that follows it, and what is behind the `_`.
+#[tactic(auto, unfolding(crate::specs::Scalars::index_of))]
+pub(crate) fn index_of(radix: Radix, bytes: &[u8]) -> Option<(usize, &[u8])>
+    ensures value { option_map (λ found. (found.0, found.1.now)) result ≡ spec.index_of radix bytes.now }
+    ensures shorter { IfSome result (λ found. length found.1.now < length bytes.now) }
+{
+    if let [b'_', rest @ ..] = bytes {
+        return Some((0, rest));
+    }
+    let Some((value, count)) = numeral(radix, bytes) else {
+        return None;
+    };
+    if value == u64::MAX {
+        return None;
+    }
+    match &bytes[count..] {
+        [b'_', rest @ ..] => Some((value as usize + 1, rest)),
+        _ => None,
     }
 }
 

@@ -1,5 +1,5 @@
-use Rattle.std.proofs.Common.{◌≡◌, ◌++◌, ◌-◌, ℕ, List, codes, ap, ◌∙◌, refl}
-use Rattle.demangle_text.specs.Shape.{Shape, text, text_len, plain_shape, front_text, gap_after}
+use Rattle.std.proofs.Common.{◌++◌, ◌-◌, ℕ, List, codes, ap, ◌∙◌, refl}
+use Rattle.demangle_text.specs.Shape.{text, text_len, plain_shape, front_text, gap_after}
 use Rattle.demangle_text.specs.State.{shape}
 use Rattle.demangle_edit.proofs.Members.{member_shape_is}
 use Rattle.demangle_edit.proofs.types.open_member.Goals as goal

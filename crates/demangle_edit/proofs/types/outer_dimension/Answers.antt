@@ -1,4 +1,4 @@
-use Rattle.std.proofs.Common.{◌≡◌, Some, sym, ◌∙◌}
+use Rattle.std.proofs.Common.{◌≡◌, ◌+◌, ◌-◌, min, Some, sym, ◌∙◌, arith}
 use Rattle.demangle_text.specs.Shape.{after_of}
 use Rattle.demangle_text.specs.State.{shape}
 use Rattle.demangle_edit.proofs.Arrays.{outer_fits, outer_shape}
@@ -6,14 +6,18 @@ use Rattle.demangle_edit.proofs.types.outer_dimension.Goals as goal
 
 pub declare-requires-clause-within : goal.declare-requires-clause-within
 declare-requires-clause-within c =
-    let at_is : Some c.unwrap-at.result ≡ after_of (shape c.args.buf.now c.args.elem).form = sym c.unwrap-at.ensures ∙ c.after_at.ensures.value in
-    outer_fits _ _ _ _ _ c.args.dim _ c.requires.kind c.requires.group c.requires.dimension at_is
+    let at = c.unwrap-at.result in
+    let at_is : Some at ≡ after_of (shape c.args.buf.now c.args.elem).form = sym c.unwrap-at.ensures ∙ c.after_at.ensures.value in
+    let behind_is : at + c.min.result ≡ at + min (c.len-len.result - at) 1 = omega (arith, c.min.ensures) in
+    outer_fits _ _ _ _ _ c.args.dim _ _ _ c.requires.kind c.requires.group at_is c.len-len.ensures.value behind_is
     c.plain-flat.ensures.shape.shape_is c.declare-cut.ensures.shape.shape_is c.in_ok-longer.ensures.shape.shape_is c.plain-whole.ensures.shape.shape_is
 
 pub returns-clause-shape : goal.returns-clause-shape
 returns-clause-shape c =
-    let at_is : Some c.unwrap-at.result ≡ after_of (shape c.args.buf.now c.args.elem).form = sym c.unwrap-at.ensures ∙ c.after_at.ensures.value in
-    let is = outer_shape _ _ _ _ _ c.args.dim _ _ c.requires.kind c.requires.group c.requires.dimension at_is
+    let at = c.unwrap-at.result in
+    let at_is : Some at ≡ after_of (shape c.args.buf.now c.args.elem).form = sym c.unwrap-at.ensures ∙ c.after_at.ensures.value in
+    let behind_is : at + c.min.result ≡ at + min (c.len-len.result - at) 1 = omega (arith, c.min.ensures) in
+    let is = outer_shape _ _ _ _ _ c.args.dim _ _ _ _ c.requires.kind c.requires.group at_is c.len-len.ensures.value behind_is
     c.plain-flat.ensures.shape.shape_is c.declare-cut.ensures.shape.shape_is c.in_ok-longer.ensures.shape.shape_is c.plain-whole.ensures.shape.shape_is
     c.declare.ensures.shape.shape_is in
     record { living = c.declare.ensures.shape.living; shape_is = is }

@@ -15,12 +15,12 @@ loop-byte-preserved c =
 
 pub returns-then-count-eq0-clause-value : goal.returns-then-count-eq0-clause-value
 returns-then-count-eq0-clause-value c = numeral_empty c.loop-byte.invariant (elim c.loop-byte-test.branch [
-    else-loop-byte-test w ↦ no_bytes _ _ _ w.loop-byte-test.false
+  | else-loop-byte-test w ↦ no_bytes _ _ _ w.loop-byte-test.false
   | then-loop-byte-test+in_default w ↦ no_digit _ _ _ w.loop-byte-test.true (sym w.in_default.ensures.value)
-  ]) c.if-count-eq0.true
+]) c.if-count-eq0.true
 
 pub returns-clause-value : goal.returns-clause-value
 returns-clause-value c = numeral_end c.loop-byte.invariant (elim c.loop-byte-test.branch [
-    else-loop-byte-test w ↦ no_bytes _ _ _ w.loop-byte-test.false
+  | else-loop-byte-test w ↦ no_bytes _ _ _ w.loop-byte-test.false
   | then-loop-byte-test+in_default w ↦ no_digit _ _ _ w.loop-byte-test.true (sym w.in_default.ensures.value)
-  ]) (omega arith)
+]) (omega arith)

@@ -1,5 +1,5 @@
 -- A text is added at the end.
-use Rattle.std.proofs.Common.{◌≡◌, List, [], ◌∷◌, ◌++◌, refl, ap, ◌∙◌, map}
+use Rattle.std.proofs.Common.{refl, ap, ◌∙◌, map}
 use Rattle.std.proofs.lemmas.List.{map_push}
 use Rattle.demangle_text.specs.View.{store_of}
 use Rattle.demangle_text.proofs.States.{added}

@@ -1,10 +1,8 @@
 -- The last scope begins at the last place.
-use Rattle.std.proofs.Common.{◌≡◌, ℕ, ◌-◌, ◌<◌, List, length, drop, get_or, slice_get, option_map, IfSome, sym, ap, ◌∙◌, arith}
+use Rattle.std.proofs.Common.{◌≡◌, ◌-◌, List, length, drop, slice_get, ap, ◌∙◌, arith}
 use Rattle.std.proofs.lemmas.List.{get_or_default}
 use Rattle.demangle_text.specs.declared.shape.Piece.{Piece}
-use Rattle.demangle_text.specs.Pieces.{Store}
 use Rattle.demangle_text.specs.View.{store_of}
-use Rattle.demangle_text.specs.State.{shape, IsLiving, scopes, last_args}
 use Rattle.demangle_text.proofs.Scopes.{arg_within, arg_found, arg_lives, length-starts}
 use Rattle.demangle_text.proofs.buffer.Buffer.arg.Goals as goal
 

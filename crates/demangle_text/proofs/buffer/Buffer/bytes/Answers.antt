@@ -1,9 +1,9 @@
 -- The text of a span is that of the piece's shape.
-use Rattle.std.proofs.Common.{◌≡◌, ℕ, ◌<◌, ◌-◌, List, [], length, take, drop, slice_index_or, sym, ap, ◌∙◌, subst, arith, map}
+use Rattle.std.proofs.Common.{◌<◌, [], length, sym, ap, ◌∙◌, subst, arith}
 use Rattle.std.proofs.lemmas.List.{get_or-map, length-map}
 use Rattle.demangle_text.specs.Pieces.{Store}
 use Rattle.demangle_text.specs.View.{store_of}
-use Rattle.demangle_text.specs.State.{shape, IsLiving}
+use Rattle.demangle_text.specs.State.{IsLiving}
 use Rattle.demangle_text.proofs.States.{text_is}
 use Rattle.demangle_text.proofs.buffer.Buffer.bytes.Goals as goal
 

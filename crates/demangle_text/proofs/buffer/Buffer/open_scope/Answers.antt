@@ -1,5 +1,5 @@
 -- A place at the end of the arguments.
-use Rattle.std.proofs.Common.{◌≡◌, ℕ, List, [], ◌∷◌, ◌++◌, length, refl, ap, ◌∙◌, arith}
+use Rattle.std.proofs.Common.{◌≡◌, ℕ, [], ◌∷◌, ◌++◌, length, refl, ap, ◌∙◌, arith}
 use Rattle.demangle_text.specs.View.{store_of}
 use Rattle.demangle_text.proofs.Scopes.{scopes-open, IsStore-open}
 use Rattle.demangle_text.proofs.buffer.Buffer.open_scope.Goals as goal

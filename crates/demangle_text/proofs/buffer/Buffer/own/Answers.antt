@@ -1,10 +1,9 @@
 -- A part of a text, as a piece of its own.
-use Rattle.std.proofs.Common.{◌≡◌, ℕ, ◌+◌, ◌-◌, ◌<◌, ◌≤◌, List, [], length, get_or, take, drop, slice_range, sym, ap, ◌∙◌, refl, arith, false}
+use Rattle.std.proofs.Common.{◌≡◌, ℕ, ◌+◌, ◌-◌, ◌≤◌, List, [], length, get_or, slice_range, sym, ap, ◌∙◌, arith, false}
 use Rattle.std.proofs.lemmas.List.Edits.{length-between}
-use Rattle.demangle_text.specs.declared.shape.Marks.{Marks}
-use Rattle.demangle_text.specs.Shape.{Shape, Plain, text, own_shape, plain_shape}
-use Rattle.demangle_text.specs.Pieces.{span_text, shape_of}
-use Rattle.demangle_text.specs.State.{shape, IsLiving, Lives}
+use Rattle.demangle_text.specs.Shape.{Shape, Plain, plain_shape}
+use Rattle.demangle_text.specs.Pieces.{span_text}
+use Rattle.demangle_text.specs.State.{shape, IsLiving}
 use Rattle.demangle_text.proofs.States.{text_is}
 use Rattle.demangle_text.proofs.Texts.{part-part}
 use Rattle.demangle_text.proofs.buffer.Buffer.own.Goals as goal

@@ -1,0 +1,74 @@
+use Rattle.std.proofs.Common.{◌≡◌, ◌+◌, ◌-◌, ◌*◌, ◌<◌, ◌≤◌, length, true}
+use Rattle.demangle_text.specs.State.{IsLiving, IsRun, shape, saved, scopes}
+use Rattle.itanium_demangle.specs.Reading as spec
+use Rattle.itanium_demangle.specs.Outcome.{state}
+use Rattle.itanium_demangle.proofs.Opens.{ComponentsSoFar, ListSoFar}
+use Rattle.itanium_demangle.proofs.reader.Reader.+reader.Given as goal
+
+abbrev pub decreases-read_name : goal.decreases-read_name
+decreases-read_name l = 8 * l.depth
+
+abbrev pub decreases-read_args : goal.decreases-read_args
+decreases-read_args l = 8 * l.depth
+
+abbrev pub decreases-read_type : goal.decreases-read_type
+decreases-read_type l = 8 * l.depth
+
+abbrev pub decreases-framed_args : goal.decreases-framed_args
+decreases-framed_args l = 8 * l.depth + 1
+
+abbrev pub decreases-read_argument : goal.decreases-read_argument
+decreases-read_argument l = 8 * l.depth + 1
+
+abbrev pub decreases-framed_argument : goal.decreases-framed_argument
+decreases-framed_argument l = 8 * l.depth + 2
+
+abbrev pub decreases-read_attached : goal.decreases-read_attached
+decreases-read_attached l = 8 * l.depth + 2
+
+abbrev pub decreases-read_listed : goal.decreases-read_listed
+decreases-read_listed l = 8 * l.depth + 3
+
+abbrev pub decreases-read_type_listed : goal.decreases-read_type_listed
+decreases-read_type_listed l = 8 * l.depth + 3
+
+abbrev pub decreases-read_components : goal.decreases-read_components
+decreases-read_components l = 8 * l.depth + 3
+
+abbrev pub decreases-read_unscoped : goal.decreases-read_unscoped
+decreases-read_unscoped l = 8 * l.depth + 4
+
+abbrev pub decreases-read_nested : goal.decreases-read_nested
+decreases-read_nested l = 8 * l.depth + 4
+
+abbrev pub invariant-read_components-loop-self : goal.invariant-read_components-loop-self
+invariant-read_components-loop-self l = record {
+  reads : ComponentsSoFar (spec.read_prefix (spec.read_args l.depth l.context true) l.fn.takes (shape l.fn.self.buffer l.fn.first) (state l.fn.self))
+      (spec.read_args l.depth l.context true) l.takes (shape l.self.buffer l.name) (state l.self);
+  living : IsLiving l.self.buffer l.name;
+  run : IsRun l.fn.self.buffer l.self.buffer;
+  saved : l.takes ≡ true → 0 < length (saved l.self.buffer);
+  taken : length l.self.rest.now ≤ length l.fn.self.rest.now;
+  counted : l.self.entered + 2 * length l.self.rest.now ≤ l.fn.self.entered + 2 * length l.fn.self.rest.now;
+  scopes_stand : length (scopes l.fn.self.buffer) ≤ length (scopes l.self.buffer);
+}
+
+abbrev pub decreases-read_components-loop-self : goal.decreases-read_components-loop-self
+decreases-read_components-loop-self l = length l.self.rest.now
+
+abbrev pub invariant-read_args-loop-self : goal.invariant-read_args-loop-self
+invariant-read_args-loop-self l = record {
+  positive : 0 < l.depth;
+  reads : ListSoFar (spec.read_args l.depth l.context l.of_name (state l.fn.self)) l.opens l.kept (spec.argument_by (spec.read_type (l.depth - 1) l.context))
+      l.first (shape l.self.buffer l.list) (state l.self);
+  living : IsLiving l.self.buffer l.list;
+  run : IsRun l.fn.self.buffer l.self.buffer;
+  scopes_stand : length (scopes l.fn.self.buffer) ≤ l.kept;
+  scopes_kept : l.kept ≤ length (scopes l.self.buffer);
+  opened : l.opens ≡ true → 0 < l.kept;
+  taken : length l.self.rest.now < length l.fn.self.rest.now;
+  counted : l.self.entered + 2 * length l.self.rest.now + 1 ≤ l.fn.self.entered + 2 * length l.fn.self.rest.now;
+}
+
+abbrev pub decreases-read_args-loop-self : goal.decreases-read_args-loop-self
+decreases-read_args-loop-self l = length l.self.rest.now
