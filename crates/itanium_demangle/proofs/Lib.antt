@@ -1,6 +1,7 @@
 pub mod Numerals
 pub mod Shorter
 pub mod Opens
+pub mod Rules
 pub mod See
 pub mod One
 pub mod Complete

@@ -9,6 +9,7 @@ use Rattle.itanium_demangle.specs.declared.scalar.Radix.TheVariants.{Decimal, Ba
 use Rattle.itanium_demangle.specs.Known.{known_of, known_shape}
 use Rattle.itanium_demangle.specs.Tree.{between, closed, worded}
 use Rattle.demangle_edit.specs.declared.quals.Quals.{Quals}
+use Rattle.demangle_edit.specs.declared.quals.Pointer.{Pointer}
 use Rattle.demangle_edit.specs.Types.{wrapped, cv_wrapped, arrayed, membered, function_of}
 use Rattle.itanium_demangle.specs.Around.{opens_scope, inside_type}
 use Rattle.itanium_demangle.specs.Forms.{symbol_form, name_form, unscoped_form, list_form, first_form, component_form, unqualified_form, tag_form, past_internal, past_member, source_text, name_quals, past_name_quals, saves_first, substitution_form, args_form, argument_form, type_form, builtin_text, past_builtin, cv_quals, past_cv, reference_of, past_reference, no_quals, qualified_form, function_form, params_form, types_form, elaborated_text}
@@ -280,22 +281,39 @@ saved_member class member s = membered class member >>= λ whole. saved_as whole
 abbrev pub read_member : Reads Shape → Reads Shape
 read_member type s = type (skip 1 s) >>= λ class. type class.1 >>= λ member. saved_member class.0 member.0 member.1
 
+-- what a reader reads is saved
+abbrev pub saved_by : Reads Shape → Reads Shape
+saved_by reads s = reads s >>= λ found. saved_as found.0 found.1
+
+abbrev pub read_array : Reads Shape → Reads Shape
+read_array type s = bound_of (drop 1 s.rest) >>= λ dim. type (at dim.1 s) >>= λ elem. saved_array dim.0 elem.0 elem.1
+
+abbrev pub read_pointer : Reads Shape → Pointer → Reads Shape
+read_pointer type kind s = type (skip 1 s) >>= λ inner. saved_as (wrapped kind inner.0) inner.1
+
+abbrev pub read_elaborated : Reads Shape → Reads Shape
+read_elaborated name s = name (skip 2 s) >>= λ found. saved_as (worded (elaborated_text s.rest) found.0) found.1
+
+abbrev pub parameter_type : Reads Shape → Context → Reads Shape
+parameter_type args x s = saved_parameter x s >>= λ found. type_listed_as (list_form found.1.rest) args found.0 found.1
+
+abbrev pub substitution_type : Reads Shape → Reads Shape
+substitution_type args s = read_substitution s >>= λ found. type_listed_as (list_form found.1.rest) args found.0 found.1
+
 abbrev pub type_as : TypeForm → Reads Shape → Reads Shape → Reads Shape → Context → Reads Shape
 type_as BuiltinType type name args x s = Some (plain_shape (builtin_text s.rest), at (past_builtin s.rest) s)
 type_as ExpansionType type name args x s = None
 type_as VendorType type name args x s = read_vendor s
-type_as ArrayType type name args x s = bound_of (drop 1 s.rest) >>= λ dim. type (at dim.1 s) >>= λ elem. saved_array dim.0 elem.0 elem.1
-type_as FunctionType type name args x s = read_function type no_quals s >>= λ whole. saved_as whole.0 whole.1
+type_as ArrayType type name args x s = read_array type s
+type_as FunctionType type name args x s = saved_by (read_function type no_quals) s
 type_as MemberType type name args x s = read_member type s
-type_as (PointerType kind) type name args x s = type (skip 1 s) >>= λ inner. saved_as (wrapped kind inner.0) inner.1
-type_as QualifiedType type name args x s =
-    qualified_by type s >>= λ whole. saved_as whole.0 whole.1
-type_as ElaboratedType type name args x s = name (skip 2 s) >>= λ found. saved_as (worded (elaborated_text s.rest) found.0) found.1
-type_as ParameterType type name args x s =
-    saved_parameter x s >>= λ found. type_listed_as (list_form found.1.rest) args found.0 found.1
-type_as SubstitutionType type name args x s = read_substitution s >>= λ found. type_listed_as (list_form found.1.rest) args found.0 found.1
+type_as (PointerType kind) type name args x s = read_pointer type kind s
+type_as QualifiedType type name args x s = saved_by (qualified_by type) s
+type_as ElaboratedType type name args x s = read_elaborated name s
+type_as ParameterType type name args x s = parameter_type args x s
+type_as SubstitutionType type name args x s = substitution_type args s
 type_as UnreadType type name args x s = None
-type_as NameType type name args x s = name s >>= λ found. saved_as found.0 found.1
+type_as NameType type name args x s = saved_by name s
 
 -- The first number is how many counted productions may still open.
 unfoldable mutual

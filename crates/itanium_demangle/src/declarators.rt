@@ -16,13 +16,15 @@ use demangle_edit::{
 use demangle_text::Piece;
 use std::alloc::AllocError;
 
-#[tactic(auto, using(demangle_text::proofs::Laws::laws, demangle_text::proofs::Laws::runs))]
+#[tactic(auto, using(crate::proofs::Rules::buffers))]
 impl<'a> Reader<'a> {
     /// A pointer or a reference to what was found.
     pub fn save_pointer(&mut self, kind: Pointer) -> Result<(), AllocError>
         requires living { IsLiving self.old.buffer self.old.found }
-        ensures shape { OnOk result (Lives self.new.buffer self.new.found (wrapped kind (shape self.old.buffer self.old.found))) }
-        ensures state { OnOk result (state self.new ≡ spec.save (wrapped kind (shape self.old.buffer self.old.found)) (state self.old)) }
+        ensures shape { OnOk result (Lives self.new.buffer self.new.found (wrapped kind
+            (shape self.old.buffer self.old.found))) }
+        ensures state { OnOk result (state self.new ≡ spec.save (wrapped kind
+            (shape self.old.buffer self.old.found)) (state self.old)) }
         ensures run { OnOk result (IsRun self.old.buffer self.new.buffer) }
     {
         self.found = wrap_pointer(&mut self.buffer, self.found, kind)?;
@@ -33,7 +35,8 @@ impl<'a> Reader<'a> {
     /// What was found with the words of its qualifiers.
     pub fn qualify_found(&mut self, quals: Quals) -> Result<(), AllocError>
         requires living { IsLiving self.old.buffer self.old.found }
-        ensures shape { OnOk result (Lives self.new.buffer self.new.found (cv_wrapped quals (shape self.old.buffer self.old.found))) }
+        ensures shape { OnOk result (Lives self.new.buffer self.new.found (cv_wrapped quals
+            (shape self.old.buffer self.old.found))) }
         ensures state { OnOk result (state self.new ≡ state self.old) }
         ensures run { OnOk result (IsRun self.old.buffer self.new.buffer) }
     {
@@ -44,7 +47,8 @@ impl<'a> Reader<'a> {
     /// The array of what was found, where there is one.
     pub fn save_array(&mut self, dim: Option<u64>) -> Result<bool, AllocError>
         requires living { IsLiving self.old.buffer self.old.found }
-        ensures reads { Gives result self.new (spec.saved_array dim (shape self.old.buffer self.old.found) (state self.old)) }
+        ensures reads { Gives result self.new (spec.saved_array dim
+            (shape self.old.buffer self.old.found) (state self.old)) }
         ensures run { OnRead result (IsRun self.old.buffer self.new.buffer) }
         ensures bounds { OptionalBounds result (state self.old) (state self.new) }
     {
@@ -102,8 +106,10 @@ impl<'a> Reader<'a> {
     /// The word of an elaborated type in front of the name that was found.
     pub fn save_elaborated(&mut self, word: &[u8]) -> Result<(), AllocError>
         requires living { IsLiving self.old.buffer self.old.found }
-        ensures shape { OnOk result (Lives self.new.buffer self.new.found (worded word.now (shape self.old.buffer self.old.found))) }
-        ensures state { OnOk result (state self.new ≡ spec.save (worded word.now (shape self.old.buffer self.old.found)) (state self.old)) }
+        ensures shape { OnOk result (Lives self.new.buffer self.new.found (worded word.now
+            (shape self.old.buffer self.old.found))) }
+        ensures state { OnOk result (state self.new ≡ spec.save (worded word.now
+            (shape self.old.buffer self.old.found)) (state self.old)) }
         ensures run { OnOk result (IsRun self.old.buffer self.new.buffer) }
     {
         let parts = [Glue::Text(word), Glue::Piece(self.found)];

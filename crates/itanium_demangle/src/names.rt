@@ -16,7 +16,7 @@ use demangle_edit::{apply_name_qualifiers, qualify, qualify_ctor};
 use demangle_text::Piece;
 use std::alloc::AllocError;
 
-#[tactic(auto, using(demangle_text::proofs::Laws::laws, demangle_text::proofs::Laws::runs))]
+#[tactic(auto, using(crate::proofs::Rules::buffers))]
 impl<'a> Reader<'a> {
     /// The name in its scope, where there is one.
     fn enclose(&mut self, scope: Option<Piece>, name: Piece) -> Result<(), AllocError>
@@ -68,7 +68,7 @@ impl<'a> Reader<'a> {
     }
 
     /// `<source-name> [<abi-tags>]`
-    #[tactic(auto, using(demangle_text::proofs::Laws::laws, demangle_text::proofs::Laws::runs, crate::proofs::Opens::kept_scope))]
+    #[tactic(auto, using(crate::proofs::Rules::components))]
     fn read_source_component(&mut self, scope: Option<Piece>) -> Result<bool, AllocError>
         requires scope { IfSome scope (IsLiving self.old.buffer) }
         ensures reads { Gives result self.new
@@ -88,7 +88,7 @@ impl<'a> Reader<'a> {
 
     /// `<unqualified-name> ::= [L] <source-name> [<abi-tags>] | <ctor-dtor-name> [<abi-tags>]`, in the scope that stands
     /// in front of it, if one does.
-    #[tactic(auto, using(demangle_text::proofs::Laws::laws, demangle_text::proofs::Laws::runs, crate::proofs::Opens::unqualified_opens, crate::proofs::Opens::kept_scope, crate::proofs::Opens::some_scope, crate::proofs::Shorter::forms))]
+    #[tactic(auto, using(crate::proofs::Rules::unqualified_names))]
     fn read_unqualified(&mut self, scope: Option<Piece>) -> Result<bool, AllocError>
         requires scope { IfSome scope (IsLiving self.old.buffer) }
         ensures reads { Gives result self.new
@@ -121,11 +121,13 @@ impl<'a> Reader<'a> {
     }
 
     /// The first component of a `<nested-name>`.
-    #[tactic(auto, using(demangle_text::proofs::Laws::laws, demangle_text::proofs::Laws::runs, crate::proofs::Shorter::forms))]
+    #[tactic(auto, using(crate::proofs::Rules::fronts))]
     fn read_first(&mut self, context: Context) -> Result<bool, AllocError>
-        ensures reads { Gives result self.new (spec.first_as (first_form self.old.rest.now) context (state self.old)) }
+        ensures reads { Gives result self.new
+            (spec.first_as (first_form self.old.rest.now) context (state self.old)) }
         ensures run { OnRead result (IsRun self.old.buffer self.new.buffer) }
-        ensures saved { OnRead result (saves_first (first_form self.old.rest.now) ≡ true → 0 < length (saved self.new.buffer)) }
+        ensures saved { OnRead result (saves_first (first_form self.old.rest.now) ≡ true
+            → 0 < length (saved self.new.buffer)) }
         ensures bounds { Bounds 2 result (state self.old) (state self.new) }
     {
         match first_form(self.rest) {
@@ -157,11 +159,12 @@ impl<'a> Reader<'a> {
     }
 
     /// `<nested-name> ::= N [<CV-qualifiers>] [<ref-qualifier>] <prefix> <unqualified-name> E`, behind its `N`.
-    #[tactic(auto, using(demangle_text::proofs::Laws::laws, demangle_text::proofs::Laws::runs, crate::proofs::Opens::nested_opens))]
+    #[tactic(auto, using(crate::proofs::Rules::nested_names))]
     #[cycle(reader)]
     fn read_nested(&mut self, depth: usize, context: Context) -> Result<bool, AllocError>
         requires room { HasRoom 2 (state self.old) }
-        ensures reads { Gives result self.new (spec.read_nested (spec.read_args depth context true) context (state self.old)) }
+        ensures reads { Gives result self.new (spec.read_nested
+            (spec.read_args depth context true) context (state self.old)) }
         ensures run { OnRead result (IsRun self.old.buffer self.new.buffer) }
         ensures bounds { Bounds 1 result (state self.old) (state self.new) }
     {
@@ -230,7 +233,7 @@ impl<'a> Reader<'a> {
     }
 
     /// `<template-args>` behind a name, which is saved in front of them, or none.
-    #[tactic(auto, using(demangle_text::proofs::Laws::laws, demangle_text::proofs::Laws::runs, crate::proofs::Shorter::forms))]
+    #[tactic(auto, using(crate::proofs::Rules::fronts))]
     #[cycle(reader)]
     fn read_listed(
         &mut self,
@@ -240,7 +243,8 @@ impl<'a> Reader<'a> {
     ) -> Result<bool, AllocError>
         requires room { HasRoom 1 (state self.old) }
         requires living { IsLiving self.old.buffer name }
-        ensures reads { Gives result self.new (spec.listed_as (list_form self.old.rest.now) (spec.read_args depth context true)
+        ensures reads { Gives result self.new (spec.listed_as (list_form self.old.rest.now)
+            (spec.read_args depth context true)
             (shape self.old.buffer name) (state self.old)) }
         ensures run { OnRead result (IsRun self.old.buffer self.new.buffer) }
         ensures bounds { OptionalBounds result (state self.old) (state self.new) }
@@ -262,7 +266,7 @@ impl<'a> Reader<'a> {
 
     /// `<unscoped-name> ::= [St] <unqualified-name>` and `<template-args>` behind it or none, or a `<substitution>` and
     /// `<template-args>`.
-    #[tactic(auto, using(demangle_text::proofs::Laws::laws, demangle_text::proofs::Laws::runs, crate::proofs::Shorter::forms))]
+    #[tactic(auto, using(crate::proofs::Rules::fronts))]
     #[cycle(reader)]
     fn read_unscoped(&mut self, depth: usize, context: Context) -> Result<bool, AllocError>
         requires room { HasRoom 0 (state self.old) }
@@ -311,7 +315,7 @@ impl<'a> Reader<'a> {
 
     /// `<name> ::= <nested-name> | <unscoped-name> | <unscoped-template-name> <template-args>`, within `depth` open
     /// productions.
-    #[tactic(auto, using(demangle_text::proofs::Laws::laws, demangle_text::proofs::Laws::runs, crate::proofs::Opens::name_opens, crate::proofs::Opens::no_name, crate::proofs::Shorter::forms))]
+    #[tactic(auto, using(crate::proofs::Rules::names))]
     #[cycle(reader)]
     pub fn read_name(&mut self, depth: usize, context: Context) -> Result<bool, AllocError>
         requires room { HasRoom 1 (state self.old) }
@@ -342,7 +346,7 @@ impl<'a> Reader<'a> {
     }
 
     /// What follows the prefix of a symbol, within `depth` open productions: a name, without its parameters.
-    #[tactic(auto, using(demangle_text::proofs::Laws::laws, demangle_text::proofs::Laws::runs, crate::proofs::Opens::symbol_opens))]
+    #[tactic(auto, using(crate::proofs::Rules::symbols))]
     pub fn read_symbol(&mut self, depth: usize, context: Context) -> Result<bool, AllocError>
         requires room { HasRoom 1 (state self.old) }
         ensures reads { Gives result self.new (spec.read_symbol depth context (state self.old)) }

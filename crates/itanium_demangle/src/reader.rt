@@ -29,7 +29,7 @@ pub struct Reader<'a> {
     pub alloc: Global,
 }
 
-#[tactic(auto, using(demangle_text::proofs::Laws::laws, demangle_text::proofs::Laws::runs))]
+#[tactic(auto, using(crate::proofs::Rules::buffers))]
 impl<'a> Reader<'a> {
     /// A reader at the front of the bytes, over a buffer that is cleared.
     pub fn new(alloc: Global, buffer: Buffer, bytes: &'a [u8]) -> Result<Self, AllocError>
@@ -85,7 +85,8 @@ impl<'a> Reader<'a> {
     pub fn save_found(&mut self) -> Result<(), AllocError>
         requires living { IsLiving self.old.buffer self.old.found }
         ensures shape { OnOk result (Lives self.new.buffer self.new.found (shape self.old.buffer self.old.found)) }
-        ensures state { OnOk result (state self.new ≡ spec.save (shape self.old.buffer self.old.found) (state self.old)) }
+        ensures state { OnOk result (state self.new ≡ spec.save
+            (shape self.old.buffer self.old.found) (state self.old)) }
         ensures some { OnOk result (0 < length (saved self.new.buffer)) }
         ensures kept { OnOk result (SameFrame self.old.buffer self.new.buffer) }
     {
@@ -134,7 +135,7 @@ impl<'a> Reader<'a> {
     }
 
     /// `<substitution> ::= S [<seq-id>] _ | Sa | Sb | Ss | Si | So | Sd`
-    #[tactic(auto, using(demangle_text::proofs::Laws::laws, demangle_text::proofs::Laws::runs, crate::proofs::Opens::substitution_opens))]
+    #[tactic(auto, using(crate::proofs::Rules::substitutions))]
     pub fn read_substitution(&mut self) -> Result<bool, AllocError>
         ensures reads { Gives result self.new (spec.read_substitution (state self.old)) }
         ensures kept { OnRead result (SameFrame self.old.buffer self.new.buffer) }
@@ -165,7 +166,7 @@ impl<'a> Reader<'a> {
     }
 
     /// `<template-param> ::= T [<number>] _`: an argument of the last scope, or `auto` in a lambda's signature.
-    #[tactic(auto, using(demangle_text::proofs::Laws::laws, demangle_text::proofs::Laws::runs, crate::proofs::Opens::parameter_opens))]
+    #[tactic(auto, using(crate::proofs::Rules::parameters))]
     pub fn read_parameter(&mut self, context: Context) -> Result<bool, AllocError>
         ensures reads { Gives result self.new (spec.read_parameter context (state self.old)) }
         ensures kept { OnRead result (SameFrame self.old.buffer self.new.buffer) }
@@ -230,7 +231,8 @@ impl<'a> Reader<'a> {
         requires living { IsLiving self.old.buffer piece }
         requires scopes { kept ≤ length (scopes self.old.buffer) }
         requires opened { opens ≡ true → 0 < kept }
-        ensures state { OnOk result (state self.new ≡ spec.put opens kept (shape self.old.buffer piece) (state self.old)) }
+        ensures state { OnOk result (state self.new ≡ spec.put opens kept
+            (shape self.old.buffer piece) (state self.old)) }
         ensures stand { OnOk result (length (scopes self.new.buffer) ≡ kept) }
         ensures kept { OnOk result (SameFrame self.old.buffer self.new.buffer) }
     {
@@ -252,7 +254,8 @@ pub fn list_more(
 ) -> Result<Piece, AllocError>
     requires list { IsLiving buf.old list }
     requires argument { IsLiving buf.old argument }
-    ensures shape { IfOk result (λ p. Lives buf.new p (joined (shape buf.old list) (between first) (shape buf.old argument))) }
+    ensures shape { IfOk result (λ p. Lives buf.new p (joined (shape buf.old list) (between first)
+        (shape buf.old argument))) }
     ensures edit { OnOk result (IsEdit buf.old buf.new) }
 {
     if first {

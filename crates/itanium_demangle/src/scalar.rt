@@ -64,7 +64,8 @@ fn numeral(radix: Radix, bytes: &[u8]) -> Option<(u64, usize)>
 #[tactic(auto, using(crate::proofs::Numerals::dropped), unfolding(crate::specs::Scalars::number))]
 pub fn number(input: &[u8], pos: usize) -> Option<(u64, usize)>
     requires place { pos ≤ length input.now }
-    ensures value { option_map (λ found. (found.0, drop found.1 input.now)) result ≡ spec.number (drop pos input.now) }
+    ensures value { option_map (λ found. (found.0, drop found.1 input.now)) result
+        ≡ spec.number (drop pos input.now) }
     ensures after { IfSome result (λ found. pos < found.1) }
     ensures within { IfSome result (λ found. found.1 ≤ length input.now) }
 {
@@ -79,7 +80,8 @@ pub fn number(input: &[u8], pos: usize) -> Option<(u64, usize)>
 #[tactic(auto, using(crate::proofs::Numerals::dropped), unfolding(crate::specs::Scalars::sequence_id))]
 pub fn sequence_id(input: &[u8], pos: usize) -> Option<(u64, usize)>
     requires place { pos ≤ length input.now }
-    ensures value { option_map (λ found. (found.0, drop found.1 input.now)) result ≡ spec.sequence_id (drop pos input.now) }
+    ensures value { option_map (λ found. (found.0, drop found.1 input.now)) result
+        ≡ spec.sequence_id (drop pos input.now) }
     ensures after { IfSome result (λ found. pos < found.1) }
     ensures within { IfSome result (λ found. found.1 ≤ length input.now) }
 {

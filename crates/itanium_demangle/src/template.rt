@@ -11,10 +11,10 @@ use demangle_edit::attach_template_args;
 use demangle_text::Piece;
 use std::alloc::AllocError;
 
-#[tactic(auto, using(demangle_text::proofs::Laws::laws, demangle_text::proofs::Laws::runs))]
+#[tactic(auto, using(crate::proofs::Rules::buffers))]
 impl<'a> Reader<'a> {
     /// `<template-args> ::= I <template-arg>* E`, of a name or of a type, within `depth` open productions.
-    #[tactic(auto, using(demangle_text::proofs::Laws::laws, demangle_text::proofs::Laws::runs, crate::proofs::Opens::args_opens, crate::proofs::Opens::no_args))]
+    #[tactic(auto, using(crate::proofs::Rules::argument_lists))]
     #[cycle(reader)]
     pub fn read_args(
         &mut self,

@@ -1,7 +1,7 @@
 //! Types (Itanium C++ ABI 5.1.5).
 ghost use Rattle.std.specs.Prelude.{◌≡◌, ◌<◌, length, false};
 ghost use Rattle.demangle_text.specs.State.{IsLiving, shape, IsRun, SameFrame};
-ghost use Rattle.itanium_demangle.specs.Forms.{list_form, params_form, past_cv};
+ghost use Rattle.itanium_demangle.specs.Forms.{list_form, params_form, past_cv, no_quals};
 ghost use Rattle.itanium_demangle.specs.Reading as spec;
 ghost use Rattle.itanium_demangle.specs.Outcome.{state, Gives, OnRead, HasRoom, Bounds, OptionalBounds, GivesList, OnListRead, ListBounds};
 
@@ -13,14 +13,14 @@ use crate::forms::{
 };
 use crate::reader::Reader;
 use crate::scalar::bound_of;
-use demangle_edit::Quals;
+use demangle_edit::{Pointer, Quals};
 use demangle_text::Piece;
 use std::alloc::AllocError;
 
-#[tactic(auto, using(demangle_text::proofs::Laws::laws, demangle_text::proofs::Laws::runs))]
+#[tactic(auto, using(crate::proofs::Rules::buffers))]
 impl<'a> Reader<'a> {
     /// `<template-args>` behind a type, which is saved with them, or none.
-    #[tactic(auto, using(demangle_text::proofs::Laws::laws, demangle_text::proofs::Laws::runs, crate::proofs::Shorter::forms))]
+    #[tactic(auto, using(crate::proofs::Rules::fronts))]
     #[cycle(reader)]
     fn read_type_listed(
         &mut self,
@@ -51,7 +51,7 @@ impl<'a> Reader<'a> {
     }
 
     /// `<type>`, within `depth` open productions.
-    #[tactic(auto, using(demangle_text::proofs::Laws::laws, demangle_text::proofs::Laws::runs, crate::proofs::Opens::type_opens, crate::proofs::Opens::no_type, crate::proofs::Shorter::forms))]
+    #[tactic(auto, using(crate::proofs::Rules::kinds))]
     #[cycle(reader)]
     pub fn read_type(&mut self, depth: usize, context: Context) -> Result<bool, AllocError>
         requires room { HasRoom 2 (state self.old) }
@@ -69,90 +69,166 @@ impl<'a> Reader<'a> {
                 self.read_builtin()?;
                 Ok(true)
             }
-            TypeForm::ParameterType => {
-                if !self.read_saved_parameter(inside)? {
-                    return Ok(false);
-                }
-                if !self.read_type_listed(depth - 1, inside, self.found)? {
-                    return Ok(false);
-                }
-                Ok(true)
-            }
-            TypeForm::SubstitutionType => {
-                if !self.read_substitution()? {
-                    return Ok(false);
-                }
-                if !self.read_type_listed(depth - 1, inside, self.found)? {
-                    return Ok(false);
-                }
-                Ok(true)
-            }
-            TypeForm::NameType => {
-                if !self.read_name(depth - 1, inside)? {
-                    return Ok(false);
-                }
-                self.save_found()?;
-                Ok(true)
-            }
-            TypeForm::VendorType => {
-                if !self.read_vendor()? {
-                    return Ok(false);
-                }
-                Ok(true)
-            }
-            TypeForm::ArrayType => {
-                self.skip(1);
-                let Some((dim, rest)) = bound_of(self.rest) else {
-                    return Ok(false);
-                };
-                self.rest = rest;
-                if !self.read_type(depth - 1, inside)? {
-                    return Ok(false);
-                }
-                if !self.save_array(dim)? {
-                    return Ok(false);
-                }
-                Ok(true)
-            }
-            TypeForm::FunctionType => {
-                if !self.read_function(depth - 1, inside, no_quals())? {
-                    return Ok(false);
-                }
-                self.save_found()?;
-                Ok(true)
-            }
-            TypeForm::MemberType => {
-                if !self.read_member(depth - 1, inside)? {
-                    return Ok(false);
-                }
-                Ok(true)
-            }
-            TypeForm::PointerType(kind) => {
-                self.skip(1);
-                if !self.read_type(depth - 1, inside)? {
-                    return Ok(false);
-                }
-                self.save_pointer(kind)?;
-                Ok(true)
-            }
-            TypeForm::QualifiedType => {
-                if !self.read_qualified(depth - 1, inside)? {
-                    return Ok(false);
-                }
-                self.save_found()?;
-                Ok(true)
-            }
-            TypeForm::ElaboratedType => {
-                let word = elaborated_text(self.rest);
-                self.skip(2);
-                if !self.read_name(depth - 1, inside)? {
-                    return Ok(false);
-                }
-                self.save_elaborated(word)?;
-                Ok(true)
-            }
             TypeForm::ExpansionType | TypeForm::UnreadType => Ok(false),
+            TypeForm::VendorType => self.read_vendor(),
+            TypeForm::ArrayType => self.read_array(depth - 1, inside),
+            TypeForm::FunctionType => self.read_function_type(depth - 1, inside),
+            TypeForm::MemberType => self.read_member(depth - 1, inside),
+            TypeForm::PointerType(kind) => self.read_pointer(depth - 1, inside, kind),
+            TypeForm::QualifiedType => self.read_qualified_type(depth - 1, inside),
+            TypeForm::ElaboratedType => self.read_elaborated(depth - 1, inside),
+            TypeForm::ParameterType => self.read_parameter_type(depth - 1, inside),
+            TypeForm::SubstitutionType => self.read_substitution_type(depth - 1, inside),
+            TypeForm::NameType => self.read_name_type(depth - 1, inside),
         }
+    }
+
+    /// `<array-type> ::= A [<number>] _ <type>`
+    #[cycle(reader)]
+    fn read_array(&mut self, depth: usize, context: Context) -> Result<bool, AllocError>
+        requires room { HasRoom 1 (state self.old) }
+        requires some { 0 < length self.old.rest.now }
+        ensures reads { Gives result self.new (spec.read_array (spec.read_type depth context) (state self.old)) }
+        ensures run { OnRead result (IsRun self.old.buffer self.new.buffer) }
+        ensures bounds { Bounds 2 result (state self.old) (state self.new) }
+    {
+        self.skip(1);
+        let Some((dim, rest)) = bound_of(self.rest) else {
+            return Ok(false);
+        };
+        self.rest = rest;
+        if !self.read_type(depth, context)? {
+            return Ok(false);
+        }
+        if !self.save_array(dim)? {
+            return Ok(false);
+        }
+        Ok(true)
+    }
+
+    /// `P <type>`, `R <type>` and `O <type>`
+    #[cycle(reader)]
+    fn read_pointer(
+        &mut self,
+        depth: usize,
+        context: Context,
+        kind: Pointer,
+    ) -> Result<bool, AllocError>
+        requires room { HasRoom 1 (state self.old) }
+        requires some { 0 < length self.old.rest.now }
+        ensures reads { Gives result self.new (spec.read_pointer
+            (spec.read_type depth context) kind (state self.old)) }
+        ensures run { OnRead result (IsRun self.old.buffer self.new.buffer) }
+        ensures bounds { Bounds 2 result (state self.old) (state self.new) }
+    {
+        self.skip(1);
+        if !self.read_type(depth, context)? {
+            return Ok(false);
+        }
+        self.save_pointer(kind)?;
+        Ok(true)
+    }
+
+    /// A `<function-type>` without qualifiers, which is saved.
+    #[cycle(reader)]
+    fn read_function_type(&mut self, depth: usize, context: Context) -> Result<bool, AllocError>
+        requires room { HasRoom 1 (state self.old) }
+        requires some { 0 < length self.old.rest.now }
+        ensures reads { Gives result self.new
+            (spec.saved_by (spec.read_function (spec.read_type depth context) no_quals) (state self.old)) }
+        ensures run { OnRead result (IsRun self.old.buffer self.new.buffer) }
+        ensures bounds { Bounds 2 result (state self.old) (state self.new) }
+    {
+        if !self.read_function(depth, context, no_quals())? {
+            return Ok(false);
+        }
+        self.save_found()?;
+        Ok(true)
+    }
+
+    /// A `<qualified-type>`, which is saved once.
+    #[cycle(reader)]
+    fn read_qualified_type(&mut self, depth: usize, context: Context) -> Result<bool, AllocError>
+        requires room { HasRoom 1 (state self.old) }
+        requires some { length (past_cv self.old.rest.now) < length self.old.rest.now }
+        ensures reads { Gives result self.new
+            (spec.saved_by (spec.qualified_by (spec.read_type depth context)) (state self.old)) }
+        ensures run { OnRead result (IsRun self.old.buffer self.new.buffer) }
+        ensures bounds { Bounds 2 result (state self.old) (state self.new) }
+    {
+        if !self.read_qualified(depth, context)? {
+            return Ok(false);
+        }
+        self.save_found()?;
+        Ok(true)
+    }
+
+    /// `<class-enum-type> ::= Ts <name> | Tu <name> | Te <name>`
+    #[cycle(reader)]
+    fn read_elaborated(&mut self, depth: usize, context: Context) -> Result<bool, AllocError>
+        requires room { HasRoom 1 (state self.old) }
+        ensures reads { Gives result self.new (spec.read_elaborated (spec.read_name depth context) (state self.old)) }
+        ensures run { OnRead result (IsRun self.old.buffer self.new.buffer) }
+        ensures bounds { Bounds 1 result (state self.old) (state self.new) }
+    {
+        let word = elaborated_text(self.rest);
+        self.skip(2);
+        if !self.read_name(depth, context)? {
+            return Ok(false);
+        }
+        self.save_elaborated(word)?;
+        Ok(true)
+    }
+
+    /// `<template-param> [<template-args>]`: saved without and with its arguments.
+    #[cycle(reader)]
+    fn read_parameter_type(&mut self, depth: usize, context: Context) -> Result<bool, AllocError>
+        requires room { HasRoom 1 (state self.old) }
+        ensures reads { Gives result self.new
+            (spec.parameter_type (spec.read_args depth context false) context (state self.old)) }
+        ensures run { OnRead result (IsRun self.old.buffer self.new.buffer) }
+        ensures bounds { Bounds 1 result (state self.old) (state self.new) }
+    {
+        if !self.read_saved_parameter(context)? {
+            return Ok(false);
+        }
+        if !self.read_type_listed(depth, context, self.found)? {
+            return Ok(false);
+        }
+        Ok(true)
+    }
+
+    /// `<substitution> [<template-args>]`: saved with its arguments alone.
+    #[cycle(reader)]
+    fn read_substitution_type(&mut self, depth: usize, context: Context) -> Result<bool, AllocError>
+        requires room { HasRoom 1 (state self.old) }
+        ensures reads { Gives result self.new
+            (spec.substitution_type (spec.read_args depth context false) (state self.old)) }
+        ensures run { OnRead result (IsRun self.old.buffer self.new.buffer) }
+        ensures bounds { Bounds 1 result (state self.old) (state self.new) }
+    {
+        if !self.read_substitution()? {
+            return Ok(false);
+        }
+        if !self.read_type_listed(depth, context, self.found)? {
+            return Ok(false);
+        }
+        Ok(true)
+    }
+
+    /// `<class-enum-type> ::= <name>`, which is saved.
+    #[cycle(reader)]
+    fn read_name_type(&mut self, depth: usize, context: Context) -> Result<bool, AllocError>
+        requires room { HasRoom 1 (state self.old) }
+        ensures reads { Gives result self.new (spec.saved_by (spec.read_name depth context) (state self.old)) }
+        ensures run { OnRead result (IsRun self.old.buffer self.new.buffer) }
+        ensures bounds { Bounds 1 result (state self.old) (state self.new) }
+    {
+        if !self.read_name(depth, context)? {
+            return Ok(false);
+        }
+        self.save_found()?;
+        Ok(true)
     }
 
     /// A `<type>` in a frame of its own: what lived keeps its shape.
@@ -232,7 +308,8 @@ impl<'a> Reader<'a> {
     ) -> Result<bool, AllocError>
         requires room { HasRoom 1 (state self.old) }
         requires some { 0 < length self.old.rest.now }
-        ensures reads { Gives result self.new (spec.read_function (spec.read_type depth context) quals (state self.old)) }
+        ensures reads { Gives result self.new (spec.read_function
+            (spec.read_type depth context) quals (state self.old)) }
         ensures run { OnRead result (IsRun self.old.buffer self.new.buffer) }
         ensures bounds { Bounds 2 result (state self.old) (state self.new) }
     {

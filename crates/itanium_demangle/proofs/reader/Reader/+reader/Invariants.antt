@@ -103,3 +103,27 @@ decreases-read_types-loop-list l = length l.self.rest.now
 
 abbrev pub decreases-read_member : goal.decreases-read_member
 decreases-read_member l = 8 * l.depth + 2
+
+abbrev pub decreases-read_array : goal.decreases-read_array
+decreases-read_array l = 8 * l.depth + 1
+
+abbrev pub decreases-read_pointer : goal.decreases-read_pointer
+decreases-read_pointer l = 8 * l.depth + 1
+
+abbrev pub decreases-read_function_type : goal.decreases-read_function_type
+decreases-read_function_type l = 8 * l.depth + 5
+
+abbrev pub decreases-read_qualified_type : goal.decreases-read_qualified_type
+decreases-read_qualified_type l = 8 * l.depth + 6
+
+abbrev pub decreases-read_elaborated : goal.decreases-read_elaborated
+decreases-read_elaborated l = 8 * l.depth + 1
+
+abbrev pub decreases-read_parameter_type : goal.decreases-read_parameter_type
+decreases-read_parameter_type l = 8 * l.depth + 4
+
+abbrev pub decreases-read_substitution_type : goal.decreases-read_substitution_type
+decreases-read_substitution_type l = 8 * l.depth + 4
+
+abbrev pub decreases-read_name_type : goal.decreases-read_name_type
+decreases-read_name_type l = 8 * l.depth + 1

@@ -1,0 +1,26 @@
+-- What the check may use for the readers: the laws of the buffer, and what opens each reader.
+use Rattle.demangle_text.proofs.Laws.{laws, runs}
+use Rattle.itanium_demangle.proofs.Shorter.{forms}
+use Rattle.itanium_demangle.proofs.Opens.{name_opens, no_name, args_opens, no_args, type_opens, no_type, substitution_opens, parameter_opens, unqualified_opens, symbol_opens, nested_opens, kept_scope, some_scope}
+
+pub ruleset buffers = (laws, runs)
+
+pub ruleset fronts = (buffers, forms)
+
+pub ruleset substitutions = (buffers, substitution_opens)
+
+pub ruleset parameters = (buffers, parameter_opens)
+
+pub ruleset components = (buffers, kept_scope)
+
+pub ruleset unqualified_names = (fronts, unqualified_opens, kept_scope, some_scope)
+
+pub ruleset nested_names = (buffers, nested_opens)
+
+pub ruleset names = (fronts, name_opens, no_name)
+
+pub ruleset symbols = (buffers, symbol_opens)
+
+pub ruleset argument_lists = (buffers, args_opens, no_args)
+
+pub ruleset kinds = (fronts, type_opens, no_type)
