@@ -1,7 +1,7 @@
 -- What the grammar reads, the functions read.
-use Rattle.std.proofs.Common.{◌≡◌, ◌≤◌, ℕ, zero, suc, ◌+◌, max, Bool, true, false, List, map, length, drop, refl, ◌∙◌, sym, arith, Option, Some, None, ap}
+use Rattle.std.proofs.Common.{◌≡◌, ◌≤◌, ℕ, zero, suc, ◌+◌, max, Bool, true, false, List, map, length, refl, ◌∙◌, sym, arith, Option, Some, ap}
 use Rattle.std.proofs.lemmas.List.{length-map}
-use Rattle.std.specs.Prelude.{codes, option_map, slice_get}
+use Rattle.std.specs.Prelude.{codes, option_map}
 use Rattle.std.proofs.lemmas.Option.{slice_get-map}
 use Rattle.demangle_text.specs.Shape.{Shape, plain_shape}
 use Rattle.itanium_demangle.specs.declared.context.Context.{Context}
@@ -21,13 +21,11 @@ use Rattle.itanium_demangle.specs.declared.forms.ParamsForm.{ParamsForm}
 use Rattle.itanium_demangle.specs.declared.forms.TypesForm.{TypesForm}
 use Rattle.itanium_demangle.specs.declared.forms.TypeForm.{TypeForm}
 use Rattle.demangle_edit.specs.declared.quals.Quals.{Quals}
-use Rattle.demangle_text.specs.Shape.{is_plain}
-use Rattle.demangle_edit.specs.Types.{has_array, has_member, arrayed, membered, function_of}
-use Rattle.itanium_demangle.specs.Around.{opens_scope, inside_type}
-use Rattle.itanium_demangle.specs.Forms.{source_text, builtin_text, cv_quals, reference_of, elaborated_text, name_quals, past_name_quals, saves_first}
-use Rattle.itanium_demangle.specs.Tree.{Tree, plain_name, known_name, structor_of, with_args, nested_of, pointer_to, cv_of, array_of, member_of, function_to, elaborated, trees, in_scope, shape_of, list_from, closed, list_shape}
-use Rattle.itanium_demangle.specs.Grammar.{Place, Cost, at, counted, saving, save, put, begin, past_initializer, both, SubstitutionAs, Substitution, ParameterAs, Parameter, TaggedAs, UnqualifiedAs, Unqualified, FirstAs, Name, NameAs, UnscopedAs, ListedAs, Nested, Components, ComponentsAs, Args, ArgsUpTo, ArgsAs, ArgumentAs, TypeOf, TypeAs, QualifiedAs, Function, ParamsAs, Types, TypesAs, TypeListedAs, SymbolAs, Symbol, known_substitution, saved_substitution, substitution, auto_parameter, scope_parameter, parameter, no_tag, source_component, constructor_component, destructor_component, unqualified, parameter_first, std_first, substitution_first, name_first, name, nested_name, unscoped_name, std_name, substitution_name, global_name, no_list, argument_list, nested, components, last_component, list_component, name_component, args, args_up_to, no_more_args, one_more_arg, type_argument, type, builtin_type, vendor_type, array_type, function_type, member_type, pointer_type, qualified_type, elaborated_type, parameter_type, substitution_type, name_type, qualified_function, qualified_other, function, no_params, some_params, types, no_more_types, one_more_type, no_type_list, type_list, name_symbol, symbol, last_of}
-use Rattle.itanium_demangle.specs.Reading.{State, enter, substitution_as, read_substitution, parameter_as, read_parameter, tagged_as, unqualified_as, read_unqualified, first_as, attached_by, component_as, read_components, read_nested, listed_as, unscoped_as, name_as, argument_as, argument_by, args_as, read_list, types_as, read_types, params_as, read_function, qualified_as, type_listed_as, type_as, read_name, read_args, read_type, symbol_as, read_symbol}
+use Rattle.itanium_demangle.specs.Around.{opens_scope}
+use Rattle.itanium_demangle.specs.Forms.{source_text, builtin_text, reference_of, elaborated_text, name_quals}
+use Rattle.itanium_demangle.specs.Tree.{Tree, plain_name, with_args, pointer_to, array_of, member_of, elaborated, trees, shape_of, list_from, closed, list_shape}
+use Rattle.itanium_demangle.specs.Grammar.{Place, Cost, begin, past_initializer, SubstitutionAs, Substitution, ParameterAs, Parameter, TaggedAs, UnqualifiedAs, Unqualified, FirstAs, Name, NameAs, UnscopedAs, ListedAs, Nested, Components, ComponentsAs, Args, ArgsUpTo, ArgsAs, ArgumentAs, TypeOf, TypeAs, QualifiedAs, Function, ParamsAs, Types, TypesAs, TypeListedAs, SymbolAs, Symbol, known_substitution, saved_substitution, substitution, auto_parameter, scope_parameter, parameter, no_tag, source_component, constructor_component, destructor_component, unqualified, parameter_first, std_first, substitution_first, name_first, name, nested_name, unscoped_name, std_name, substitution_name, global_name, no_list, argument_list, nested, components, last_component, list_component, name_component, args, args_up_to, no_more_args, one_more_arg, type_argument, type, builtin_type, vendor_type, array_type, function_type, member_type, pointer_type, qualified_type, elaborated_type, parameter_type, substitution_type, name_type, qualified_function, qualified_other, function, no_params, some_params, types, no_more_types, one_more_type, no_type_list, type_list, name_symbol, symbol, last_of}
+use Rattle.itanium_demangle.specs.Reading.{substitution_as, read_substitution, parameter_as, read_parameter, tagged_as, unqualified_as, read_unqualified, first_as, component_as, read_components, read_nested, listed_as, unscoped_as, name_as, argument_as, argument_by, args_as, read_list, types_as, read_types, params_as, read_function, qualified_as, type_listed_as, type_as, read_name, read_args, read_type, symbol_as, read_symbol}
 use Rattle.itanium_demangle.proofs.See.{state_at, same_read, one_more, taken-map, some-map, last-map, put-scopes, begin-scopes, shape-plain_name, shape-known_name, shape-structor_of, shape-with_args, shape-in_scope, shape-nested_of, shape-pointer_to, shape-cv_of, shape-array_of, shape-member_of, shape-function_to, shape-elaborated}
 use Rattle.itanium_demangle.proofs.Shorter.{components_takes, unqualified_takes, args_takes, up_to_takes, argument_takes, type_takes, types_some, member_behind, behind_drop, behind-le}
 

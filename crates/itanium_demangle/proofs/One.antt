@@ -1,5 +1,5 @@
 -- Of one place there is at most one reading.
-use Rattle.std.proofs.Common.{◌≡◌, ℕ, Bool, true, false, ◌∷◌, drop, length, codes, List, Option, Some, refl, sym, subst, ap, ap₂, ◌∙◌}
+use Rattle.std.proofs.Common.{◌≡◌, ℕ, Bool, true, false, ◌∷◌, List, Option, refl, sym, subst, ap, ap₂, ◌∙◌}
 use Rattle.std.proofs.lemmas.Option.{some_pair_parts, same_Some}
 use Rattle.itanium_demangle.specs.declared.context.Context.{Context}
 use Rattle.itanium_demangle.specs.declared.forms.NameForm.{NameForm}
@@ -18,10 +18,10 @@ use Rattle.itanium_demangle.specs.declared.forms.ParamsForm.{ParamsForm}
 use Rattle.itanium_demangle.specs.declared.forms.TypesForm.{TypesForm}
 use Rattle.itanium_demangle.specs.declared.forms.TypeForm.{TypeForm}
 use Rattle.demangle_edit.specs.declared.quals.Quals.{Quals}
-use Rattle.itanium_demangle.specs.Forms.{source_text, tag_form, list_form, argument_form, params_form, elaborated_text, cv_quals, past_cv, reference_of, past_reference, builtin_text, past_builtin, past_internal, past_name_quals, name_quals, saves_first}
+use Rattle.itanium_demangle.specs.Forms.{source_text, tag_form, list_form, params_form, elaborated_text, cv_quals, past_cv, reference_of, past_reference, past_internal, past_name_quals, name_quals, saves_first}
 use Rattle.itanium_demangle.specs.Tree.{Tree, plain_name, known_name, structor_of, with_args, pointer_to, cv_of, array_of, member_of, function_to, elaborated, trees, in_scope, nested_of}
 use Rattle.itanium_demangle.specs.Around.{inside_type}
-use Rattle.itanium_demangle.specs.Grammar.{Place, Cost, at, skip, counted, saving, save, put, begin, past_initializer, both, SubstitutionAs, Substitution, ParameterAs, Parameter, TaggedAs, UnqualifiedAs, Unqualified, FirstAs, Name, NameAs, UnscopedAs, ListedAs, Nested, Components, ComponentsAs, Args, ArgsUpTo, ArgsAs, ArgumentAs, TypeOf, TypeAs, QualifiedAs, Function, ParamsAs, Types, TypesAs, TypeListedAs, SymbolAs, Symbol, known_substitution, saved_substitution, substitution, auto_parameter, scope_parameter, parameter, no_tag, source_component, constructor_component, destructor_component, unqualified, parameter_first, std_first, substitution_first, name_first, name, nested_name, unscoped_name, std_name, substitution_name, global_name, no_list, argument_list, nested, components, last_component, list_component, name_component, args, args_up_to, no_more_args, one_more_arg, type_argument, type, builtin_type, vendor_type, array_type, function_type, member_type, pointer_type, qualified_type, elaborated_type, parameter_type, substitution_type, name_type, qualified_function, qualified_other, function, no_params, some_params, types, no_more_types, one_more_type, no_type_list, type_list, name_symbol, symbol}
+use Rattle.itanium_demangle.specs.Grammar.{Place, Cost, at, skip, counted, saving, save, put, past_initializer, both, SubstitutionAs, Substitution, ParameterAs, Parameter, TaggedAs, UnqualifiedAs, Unqualified, FirstAs, Name, NameAs, UnscopedAs, ListedAs, Nested, Components, ComponentsAs, Args, ArgsUpTo, ArgsAs, ArgumentAs, TypeOf, TypeAs, QualifiedAs, Function, ParamsAs, Types, TypesAs, TypeListedAs, SymbolAs, Symbol, known_substitution, saved_substitution, substitution, auto_parameter, scope_parameter, parameter, no_tag, source_component, constructor_component, destructor_component, unqualified, parameter_first, std_first, substitution_first, name_first, name, nested_name, unscoped_name, std_name, substitution_name, global_name, no_list, argument_list, nested, components, last_component, list_component, name_component, args, args_up_to, no_more_args, one_more_arg, type_argument, type, builtin_type, vendor_type, array_type, function_type, member_type, pointer_type, qualified_type, elaborated_type, parameter_type, substitution_type, name_type, qualified_function, qualified_other, function, no_params, some_params, types, no_more_types, one_more_type, no_type_list, type_list, name_symbol, symbol}
 
 -- two readings have the same tree, the same place behind them and the same cost
 pub record Same {T : Type 0} (t u : T) (q r : Place) (c d : Cost) : Type 0 where

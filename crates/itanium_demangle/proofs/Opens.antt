@@ -1,6 +1,6 @@
 -- One level of the reading functions, and their loops turn by turn.
 use Rattle.std.proofs.Common.{◌≡◌, ◌<◌, ◌≤◌, ℕ, zero, suc, ◌-◌, Bool, true, false, List, [], ◌∷◌, ◌++◌, length, drop, map, All, refl, sym, ap, ap₂, ◌∙◌, arith, Option, Some, None, codes}
-use Rattle.std.specs.Prelude.{IfSome, option_map, is_some, slice_get}
+use Rattle.std.specs.Prelude.{IfSome, option_map, is_some}
 use Rattle.std.proofs.lemmas.List.{append-nil, append_assoc}
 use Rattle.demangle_text.specs.declared.shape.Piece.{Piece}
 use Rattle.demangle_text.specs.declared.buffer.Buffer.{Buffer}

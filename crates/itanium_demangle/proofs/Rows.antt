@@ -1,6 +1,6 @@
 -- Answers by computation, and the laws of answers.
-use Rattle.std.proofs.Common.{◌≡◌, ℕ, List, [], ◌∷◌, ◌++◌, Bool, true, false, Option, Some, None, refl, ap, ap₂, arith, ◌∙◌, sym, subst, codes, length, drop}
-use Rattle.std.specs.Str.{IsUtf8, is_utf8, chars}
+use Rattle.std.proofs.Common.{◌≡◌, ℕ, List, [], ◌∷◌, ◌++◌, Bool, true, false, Option, Some, None, refl, ap, ap₂, arith, ◌∙◌, sym, codes}
+use Rattle.std.specs.Str.{is_utf8, chars}
 use Rattle.std.specs.Fmt.{digits}
 use Rattle.std.proofs.lemmas.Str.{IsUtf8-from_is_utf8, is_utf8-from_IsUtf8}
 use Rattle.std.specs.Prelude.{option_map, ◌==◌, ◌&&◌}
@@ -12,7 +12,7 @@ use Rattle.itanium_demangle.specs.Forms.{begins}
 use Rattle.itanium_demangle.specs.Tree.{Tree, printing}
 use Rattle.itanium_demangle.specs.Grammar.{Place, Cost}
 use Rattle.itanium_demangle.specs.Reading.{State, begun, read_unqualified, read_substitution, read_parameter, read_list, read_types, read_components, read_nested, read_name, read_symbol}
-use Rattle.itanium_demangle.specs.Answer.{after_prefix, outside, suffix, max_depth, IsReading, HasAnswer, HasNoAnswer, IsAnswer}
+use Rattle.itanium_demangle.specs.Answer.{after_prefix, outside, suffix, max_depth, IsReading, HasAnswer, IsAnswer}
 use Rattle.itanium_demangle.specs.Rows.{WorkedSymbols, LawsOfAnswers, e_acute}
 use Rattle.itanium_demangle.proofs.Whole.{one_reading, no_prefix, not_read, read_wrongly, read_rightly}
 

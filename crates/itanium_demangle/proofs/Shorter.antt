@@ -1,5 +1,5 @@
 -- Each reading takes a front of the bytes, of one byte at least.
-use Rattle.std.proofs.Common.{◌≡◌, ◌<◌, ◌≤◌, ℕ, suc, ◌+◌, ◌-◌, ◌^◌, Bool, true, false, List, [], ◌∷◌, length, drop, take, refl, sym, ap, ◌∙◌, arith, Option, Some, None, length-drop, if◌then◌else◌, nat_lt, nat_le, ◌&&◌, codes}
+use Rattle.std.proofs.Common.{◌≡◌, ◌<◌, ◌≤◌, ℕ, suc, ◌+◌, ◌^◌, Bool, true, false, List, [], ◌∷◌, length, drop, refl, sym, ap, ◌∙◌, arith, Option, Some, None, length-drop, if◌then◌else◌, nat_lt, nat_le, ◌&&◌, codes}
 use Rattle.std.specs.Prelude.{◌==◌, ◌||◌, option_map, is_some}
 use Rattle.itanium_demangle.specs.declared.known.Known.{Known}
 use Rattle.itanium_demangle.specs.Known.{known_of}
@@ -11,7 +11,6 @@ use Rattle.itanium_demangle.specs.declared.scalar.Radix.{Radix}
 use Rattle.itanium_demangle.specs.declared.scalar.Radix.TheVariants.{Decimal, Base36}
 use Rattle.itanium_demangle.specs.declared.forms.NameForm.{NameForm}
 use Rattle.itanium_demangle.specs.declared.forms.UnscopedForm.{UnscopedForm}
-use Rattle.itanium_demangle.specs.declared.forms.UnscopedForm.TheVariants.{StdName}
 use Rattle.itanium_demangle.specs.declared.forms.ListForm.{ListForm}
 use Rattle.itanium_demangle.specs.declared.forms.ListForm.TheVariants.{ArgumentList}
 use Rattle.itanium_demangle.specs.declared.forms.ArgsForm.{ArgsForm}
@@ -23,14 +22,11 @@ use Rattle.itanium_demangle.specs.declared.forms.TypesForm.{TypesForm}
 use Rattle.itanium_demangle.specs.declared.forms.TypesForm.TheVariants.{LastType}
 use Rattle.itanium_demangle.specs.declared.forms.QualifiedForm.{QualifiedForm}
 use Rattle.itanium_demangle.specs.declared.forms.QualifiedForm.TheVariants.{FunctionQualified}
-use Rattle.itanium_demangle.specs.declared.forms.FunctionForm.{FunctionForm}
 use Rattle.itanium_demangle.specs.declared.forms.ParamsForm.{ParamsForm}
 use Rattle.itanium_demangle.specs.declared.forms.ParamsForm.TheVariants.{NoParams}
 use Rattle.demangle_edit.specs.declared.quals.Pointer.{Pointer}
-use Rattle.demangle_edit.specs.declared.quals.Pointer.TheVariants as Pointer
 use Rattle.demangle_edit.specs.declared.quals.Quals.{Quals}
 use Rattle.itanium_demangle.specs.declared.forms.SubstitutionForm.{SubstitutionForm}
-use Rattle.itanium_demangle.specs.declared.forms.SubstitutionForm.TheVariants.{KnownSubstitution}
 use Rattle.itanium_demangle.specs.declared.forms.FirstForm.{FirstForm}
 use Rattle.itanium_demangle.specs.declared.forms.FirstForm.TheVariants.{StdFirst}
 use Rattle.itanium_demangle.specs.declared.forms.ComponentForm.{ComponentForm}
@@ -42,7 +38,7 @@ use Rattle.itanium_demangle.specs.declared.forms.SymbolForm.{SymbolForm}
 use Rattle.itanium_demangle.specs.Scalars.{front_digits, with_digit, digit_of, weighted, base, numeral, number, source_name, past_underscore, next_number, index_by, index_of, bound_by, bound_of}
 use Rattle.itanium_demangle.specs.Forms.{begins, first_form, component_form, unqualified_form, args_form, list_form, type_form, types_form, qualified_form, params_form, begins_one_of, is_builtin, past_builtin, past_internal, past_letter, past_member, past_cv, past_reference, past_name_quals}
 use Rattle.itanium_demangle.specs.Tree.{Tree}
-use Rattle.itanium_demangle.specs.Grammar.{Place, Cost, save, SubstitutionAs, Substitution, Parameter, TaggedAs, UnqualifiedAs, Unqualified, FirstAs, Name, NameAs, UnscopedAs, ListedAs, Nested, Components, ComponentsAs, Args, ArgsUpTo, ArgsAs, ArgumentAs, TypeOf, TypeAs, QualifiedAs, Function, ParamsAs, Types, TypesAs, TypeListedAs, SymbolAs, Symbol, known_substitution, saved_substitution, substitution, parameter, no_tag, source_component, constructor_component, destructor_component, unqualified, parameter_first, std_first, substitution_first, name_first, name, nested_name, unscoped_name, std_name, substitution_name, global_name, no_list, argument_list, nested, components, last_component, list_component, name_component, args, args_up_to, no_more_args, one_more_arg, type_argument, type, builtin_type, vendor_type, array_type, function_type, member_type, pointer_type, qualified_type, elaborated_type, parameter_type, substitution_type, name_type, qualified_function, qualified_other, function, no_params, some_params, types, no_more_types, one_more_type, no_type_list, type_list, name_symbol, symbol}
+use Rattle.itanium_demangle.specs.Grammar.{Place, Cost, SubstitutionAs, Substitution, Parameter, TaggedAs, UnqualifiedAs, Unqualified, FirstAs, Name, NameAs, UnscopedAs, ListedAs, Nested, Components, ComponentsAs, Args, ArgsUpTo, ArgsAs, ArgumentAs, TypeOf, TypeAs, QualifiedAs, Function, ParamsAs, Types, TypesAs, TypeListedAs, SymbolAs, Symbol, known_substitution, saved_substitution, substitution, parameter, no_tag, source_component, constructor_component, destructor_component, unqualified, parameter_first, std_first, substitution_first, name_first, name, nested_name, unscoped_name, std_name, substitution_name, global_name, no_list, argument_list, nested, components, last_component, list_component, name_component, args, args_up_to, no_more_args, one_more_arg, type_argument, type, builtin_type, vendor_type, array_type, function_type, member_type, pointer_type, qualified_type, elaborated_type, parameter_type, substitution_type, name_type, qualified_function, qualified_other, function, no_params, some_params, types, no_more_types, one_more_type, no_type_list, type_list, name_symbol, symbol}
 
 -- the rest lies behind a front of the bytes
 pub record IsBehind (rest bytes : List ℕ) : Type 0 where

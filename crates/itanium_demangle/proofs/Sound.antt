@@ -4,7 +4,6 @@ use Rattle.std.proofs.lemmas.Option.{same_Some, cond_some, option_and_then_some}
 use Rattle.std.specs.Prelude.{option_map, slice_get, is_some}
 use Rattle.std.proofs.lemmas.List.{length-map}
 use Rattle.std.proofs.lemmas.Option.{slice_get-map}
-use Rattle.demangle_text.specs.State.{last_args}
 use Rattle.demangle_text.specs.Shape.{Shape, plain_shape, joined}
 use Rattle.itanium_demangle.specs.declared.context.Context.{Context}
 use Rattle.itanium_demangle.specs.declared.forms.NameForm.{NameForm}
@@ -38,23 +37,21 @@ use Rattle.itanium_demangle.specs.declared.forms.ParamsForm.TheVariants.{NoParam
 use Rattle.itanium_demangle.specs.declared.forms.TypesForm.{TypesForm}
 use Rattle.itanium_demangle.specs.declared.forms.TypesForm.TheVariants.{LastType, NextType}
 use Rattle.demangle_edit.specs.declared.quals.Quals.{Quals}
-use Rattle.demangle_edit.specs.declared.quals.Pointer.{Pointer}
 use Rattle.demangle_text.specs.Shape.{is_plain}
 use Rattle.demangle_edit.specs.Types.{has_array, has_member, arrayed, membered, function_of}
 use Rattle.itanium_demangle.specs.declared.forms.TypeForm.{TypeForm}
 use Rattle.itanium_demangle.specs.declared.forms.TypeForm.TheVariants.{BuiltinType, ExpansionType, VendorType, ArrayType, FunctionType, MemberType, PointerType, QualifiedType, ElaboratedType, ParameterType, SubstitutionType, UnreadType, NameType}
 use Rattle.itanium_demangle.specs.declared.scalar.Radix.TheVariants.{Decimal, Base36}
-use Rattle.itanium_demangle.specs.declared.known.Known.{Known}
-use Rattle.itanium_demangle.specs.Known.{known_of, known_shape}
+use Rattle.itanium_demangle.specs.Known.{known_of}
 use Rattle.itanium_demangle.specs.Around.{opens_scope, inside_type}
 use Rattle.itanium_demangle.specs.Scalars.{source_name, index_of, bound_of}
-use Rattle.itanium_demangle.specs.Forms.{symbol_form, name_form, unscoped_form, list_form, first_form, component_form, unqualified_form, tag_form, substitution_form, args_form, argument_form, type_form, qualified_form, function_form, params_form, types_form, cv_quals, past_cv, reference_of, past_reference, no_quals, elaborated_text, past_internal, source_text, past_name_quals, saves_first}
-use Rattle.itanium_demangle.specs.Tree.{Tree, plain_name, known_name, structor_of, with_args, trees, shape_of, between, list_from, closed, list_shape}
-use Rattle.itanium_demangle.specs.Grammar.{Place, Cost, at, counted, saving, save, put, begin, past_initializer, both, SubstitutionAs, Substitution, ParameterAs, Parameter, TaggedAs, UnqualifiedAs, Unqualified, FirstAs, Name, NameAs, UnscopedAs, ListedAs, Nested, Components, ComponentsAs, Args, ArgsUpTo, ArgsAs, ArgumentAs, TypeOf, TypeAs, QualifiedAs, Function, ParamsAs, Types, TypesAs, TypeListedAs, SymbolAs, Symbol, known_substitution, saved_substitution, substitution, auto_parameter, scope_parameter, parameter, no_tag, source_component, constructor_component, destructor_component, unqualified, parameter_first, std_first, substitution_first, name_first, name, nested_name, unscoped_name, std_name, substitution_name, global_name, no_list, argument_list, nested, components, last_component, list_component, name_component, args, args_up_to, no_more_args, one_more_arg, type_argument, type, builtin_type, vendor_type, array_type, function_type, member_type, pointer_type, qualified_type, elaborated_type, parameter_type, substitution_type, name_type, qualified_function, qualified_other, function, no_params, some_params, types, no_more_types, one_more_type, no_type_list, type_list, name_symbol, symbol, skip, last_of}
-use Rattle.itanium_demangle.specs.Reading.{State, enter, read_source, substitution_as, read_substitution, parameter_as, read_parameter, saved_parameter, tagged_as, structor_as, unqualified_as, read_unqualified, first_as, attached_by, template_as, component_as, read_components, read_prefix, read_nested, listed_as, unscoped_as, name_as, argument_as, argument_by, args_as, read_list, types_as, read_types, params_as, function_end, function_as, read_function, qualified_as, vendor_as, saved_array, saved_member, type_listed_as, type_as, read_name, read_args, read_type, symbol_as, read_symbol}
-use Rattle.itanium_demangle.proofs.See.{state_at, one_more, some-map, last-map, put-scopes, begin-scopes, shape-plain_name, shape-known_name, shape-structor_of, shape-with_args}
+use Rattle.itanium_demangle.specs.Forms.{symbol_form, name_form, unscoped_form, list_form, first_form, component_form, unqualified_form, tag_form, substitution_form, args_form, argument_form, type_form, qualified_form, function_form, params_form, types_form, cv_quals, past_cv, reference_of, no_quals, past_internal, source_text, past_name_quals, saves_first}
+use Rattle.itanium_demangle.specs.Tree.{Tree, plain_name, known_name, structor_of, with_args, trees, shape_of, between, list_shape}
+use Rattle.itanium_demangle.specs.Grammar.{Place, Cost, at, save, put, begin, past_initializer, SubstitutionAs, Substitution, ParameterAs, Parameter, TaggedAs, UnqualifiedAs, Unqualified, FirstAs, Name, NameAs, UnscopedAs, ListedAs, Nested, Components, ComponentsAs, Args, ArgsUpTo, ArgsAs, ArgumentAs, TypeOf, TypeAs, QualifiedAs, Function, ParamsAs, Types, TypesAs, TypeListedAs, SymbolAs, Symbol, known_substitution, saved_substitution, substitution, auto_parameter, scope_parameter, parameter, no_tag, source_component, constructor_component, destructor_component, unqualified, parameter_first, std_first, substitution_first, name_first, name, nested_name, unscoped_name, std_name, substitution_name, global_name, no_list, argument_list, nested, components, last_component, list_component, name_component, args, args_up_to, no_more_args, one_more_arg, type_argument, type, builtin_type, vendor_type, array_type, function_type, member_type, pointer_type, qualified_type, elaborated_type, parameter_type, substitution_type, name_type, qualified_function, qualified_other, function, no_params, some_params, types, no_more_types, one_more_type, no_type_list, type_list, name_symbol, symbol, skip, last_of}
+use Rattle.itanium_demangle.specs.Reading.{State, read_source, substitution_as, read_substitution, parameter_as, read_parameter, saved_parameter, tagged_as, structor_as, unqualified_as, read_unqualified, first_as, attached_by, template_as, component_as, read_components, read_prefix, read_nested, listed_as, unscoped_as, name_as, argument_as, argument_by, args_as, read_list, types_as, read_types, params_as, function_as, read_function, qualified_as, vendor_as, type_listed_as, type_as, read_name, read_args, read_type, symbol_as, read_symbol}
+use Rattle.itanium_demangle.proofs.See.{state_at, one_more, some-map, last-map, put-scopes, begin-scopes, shape-plain_name, shape-structor_of, shape-with_args}
 use Rattle.itanium_demangle.proofs.Shorter.{unqualified_takes, args_takes, argument_takes, type_takes, member_behind, behind_drop, behind-le}
-use Rattle.itanium_demangle.proofs.Complete.{substitution_complete, parameter_complete, unqualified_complete, first_complete, listed_complete, components_complete, name_complete, args_complete, up_to_complete, argument_complete, function_complete, params_complete, types_complete, type_complete, symbol_complete}
+use Rattle.itanium_demangle.proofs.Complete.{substitution_complete, parameter_complete, unqualified_complete, first_complete, components_complete, name_complete, args_complete, argument_complete, params_complete, types_complete, type_complete, symbol_complete}
 
 -- a reading within the depth
 pub record Within {T : Type 0} (R : T → Place → Cost → Type 0) (d : ℕ) : Type 0 where

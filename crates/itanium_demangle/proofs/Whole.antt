@@ -1,19 +1,17 @@
 -- What the functions say of a whole symbol, in the grammar's words.
-use Rattle.std.proofs.Common.{◌≡◌, ◌<◌, ◌≤◌, ℕ, max, ◌+◌, ◌++◌, List, [], ◌∷◌, Bool, true, false, Option, Some, None, ap, if◌then◌else◌, ◌∙◌, sym, refl, subst, arith, length, drop, get_or}
-use Rattle.std.specs.Prelude.{is_some}
+use Rattle.std.proofs.Common.{◌≡◌, ◌<◌, ℕ, ◌++◌, List, [], ◌∷◌, Bool, true, false, Option, Some, None, ap, if◌then◌else◌, ◌∙◌, sym, refl, subst, arith, length, drop, get_or}
 use Rattle.std.proofs.lemmas.Grind.{common_steps}
 use Rattle.std.proofs.lemmas.Option.{some_pair_parts}
-use Rattle.std.proofs.lemmas.List.{length-drop, get_or-drop, drop-drop}
+use Rattle.std.proofs.lemmas.List.{length-drop, get_or-drop}
 use Rattle.std.proofs.lemmas.Str.{IsUtf8-nil, IsUtf8-drop, IsCharBoundary-before_ascii}
 use Rattle.std.specs.Str.{IsUtf8}
 use Rattle.demangle_text.specs.Shape.{Shape, text}
 use Rattle.itanium_demangle.specs.Forms.{begins}
-use Rattle.itanium_demangle.specs.Tree.{Tree, shape_of, printing}
-use Rattle.itanium_demangle.specs.Grammar.{Place, Cost, Symbol}
+use Rattle.itanium_demangle.specs.Tree.{shape_of, printing}
+use Rattle.itanium_demangle.specs.Grammar.{Symbol}
 use Rattle.itanium_demangle.specs.Reading.{State, begun, read_symbol}
-use Rattle.itanium_demangle.specs.Answer.{after_prefix, start, outside, suffix, max_depth, IsReading, HasAnswer, HasNoAnswer, HasOneReading, IsAnswer}
+use Rattle.itanium_demangle.specs.Answer.{after_prefix, start, outside, suffix, max_depth, HasAnswer, HasNoAnswer, HasOneReading, IsAnswer}
 use Rattle.itanium_demangle.specs.Kept.{IsPrinted}
-use Rattle.itanium_demangle.proofs.See.{state_at}
 use Rattle.itanium_demangle.proofs.One.{one_symbol}
 use Rattle.itanium_demangle.proofs.Complete.{symbol_complete}
 use Rattle.itanium_demangle.proofs.Sound.{symbol_sound}

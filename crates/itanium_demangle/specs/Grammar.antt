@@ -1,7 +1,7 @@
 -- The grammar: which front of the bytes is which tree (Itanium C++ ABI 5.1). Each relation is indexed by the context, the place
 -- where a reading begins, the tree, the place behind it, and the cost. A form with no case isn't read.
 use Rattle.std.specs.Prelude.{◌≡◌, ℕ, ◌+◌, ◌-◌, max, Bool, true, false, if◌then◌else◌, slice_get, slice_set, slice_index_or, List, [], ◌∷◌, ◌++◌, Option, Some, None, is_some, take, drop, length, codes}
-use Rattle.itanium_demangle.specs.Tree.{Tree, plain_name, known_name, name_in, structor_of, with_args, nested_of, pointer_to, cv_of, array_of, member_of, function_to, elaborated, trees, in_scope, shape_of}
+use Rattle.itanium_demangle.specs.Tree.{Tree, plain_name, known_name, structor_of, with_args, nested_of, pointer_to, cv_of, array_of, member_of, function_to, elaborated, trees, in_scope, shape_of}
 use Rattle.demangle_text.specs.Shape.{is_plain}
 use Rattle.demangle_edit.specs.declared.quals.Pointer.{Pointer}
 use Rattle.demangle_edit.specs.declared.quals.Quals.{Quals}
@@ -39,7 +39,6 @@ use Rattle.itanium_demangle.specs.declared.forms.TypeForm.{TypeForm}
 use Rattle.itanium_demangle.specs.declared.forms.TypeForm.TheVariants.{BuiltinType, VendorType, ArrayType, FunctionType, MemberType, PointerType, QualifiedType, ElaboratedType, ParameterType, SubstitutionType, NameType}
 use Rattle.itanium_demangle.specs.declared.forms.QualifiedForm.{QualifiedForm}
 use Rattle.itanium_demangle.specs.declared.forms.QualifiedForm.TheVariants.{FunctionQualified, TypeQualified}
-use Rattle.itanium_demangle.specs.declared.forms.FunctionForm.{FunctionForm}
 use Rattle.itanium_demangle.specs.declared.forms.FunctionForm.TheVariants.{PlainFunction}
 use Rattle.itanium_demangle.specs.declared.forms.ParamsForm.{ParamsForm}
 use Rattle.itanium_demangle.specs.declared.forms.ParamsForm.TheVariants.{NoParams, SomeParams}

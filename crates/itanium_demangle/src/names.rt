@@ -86,8 +86,8 @@ impl<'a> Reader<'a> {
         Ok(true)
     }
 
-    /// `<unqualified-name> ::= [L] <source-name> [<abi-tags>] | <ctor-dtor-name> [<abi-tags>]`, in the scope that stands
-    /// in front of it, if one does.
+    /// `<unqualified-name> ::= [L] <source-name> [<abi-tags>] | <ctor-dtor-name> [<abi-tags>]`, in the scope that
+    /// stands in front of it, if one does.
     #[tactic(auto, using(crate::proofs::Rules::unqualified_names))]
     fn read_unqualified(&mut self, scope: Option<Piece>) -> Result<bool, AllocError>
         requires scope { IfSome scope (IsLiving self.old.buffer) }
@@ -196,7 +196,8 @@ impl<'a> Reader<'a> {
         requires living { IsLiving self.old.buffer first }
         requires saved { takes ≡ true → 0 < length (saved self.old.buffer) }
         ensures reads { Gives result self.new
-            (spec.read_prefix (spec.read_args depth context true) takes (shape self.old.buffer first) (state self.old)) }
+            (spec.read_prefix (spec.read_args depth context true) takes (shape self.old.buffer first)
+                (state self.old)) }
         ensures run { OnRead result (IsRun self.old.buffer self.new.buffer) }
         ensures bounds { Bounds 1 result (state self.old) (state self.new) }
     {

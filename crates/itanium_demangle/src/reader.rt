@@ -204,7 +204,8 @@ impl<'a> Reader<'a> {
 
     /// `<builtin-type>`, which stands there.
     pub fn read_builtin(&mut self) -> Result<(), AllocError>
-        ensures shape { OnOk result (Lives self.new.buffer self.new.found (plain_shape (builtin_text self.old.rest.now))) }
+        ensures shape { OnOk result
+            (Lives self.new.buffer self.new.found (plain_shape (builtin_text self.old.rest.now))) }
         ensures state { OnOk result (state self.new ≡ spec.at (past_builtin self.old.rest.now) (state self.old)) }
         ensures kept { OnOk result (SameFrame self.old.buffer self.new.buffer) }
     {

@@ -75,8 +75,8 @@ pub fn number(input: &[u8], pos: usize) -> Option<(u64, usize)>
     }
 }
 
-/// `<seq-id>`: as many digits in base 36, `0` to `9` and `A` to `Z`, as stand at `pos`, at least one. The value, and the
-/// place after the digits, in bytes; `None` where no digit stands there or the value is past 2^64 - 1.
+/// `<seq-id>`: as many digits in base 36, `0` to `9` and `A` to `Z`, as stand at `pos`, at least one. The value, and
+/// the place after the digits, in bytes; `None` where no digit stands there or the value is past 2^64 - 1.
 #[tactic(auto, using(crate::proofs::Numerals::dropped), unfolding(crate::specs::Scalars::sequence_id))]
 pub fn sequence_id(input: &[u8], pos: usize) -> Option<(u64, usize)>
     requires place { pos ≤ length input.now }
