@@ -4,3 +4,4 @@ pub mod Declarators
 pub mod Cuts
 pub mod Arrays
 pub mod Members
+mod Digits

@@ -1,5 +1,5 @@
 -- The shapes of types, and which types there are.
-use Rattle.std.specs.Prelude.{ℕ, ◌+◌, ◌<◌, List, [], ◌++◌, length, map, take, drop, codes, Bool, true, false, not, ◌&&◌, ◌||◌, if◌then◌else◌, Option, Some, None, unwrap_or, nat_eq, decimal}
+use Rattle.std.specs.Prelude.{ℕ, List, [], ◌++◌, length, map, take, drop, codes, Bool, true, false, not, ◌&&◌, ◌||◌, if◌then◌else◌, Option, Some, None, unwrap_or, nat_eq, decimal}
 use Rattle.std.specs.List.{ends_with}
 use Rattle.demangle_text.specs.declared.shape.Kind.TheVariants.{Array, Function}
 use Rattle.demangle_text.specs.declared.shape.Place.{Place}

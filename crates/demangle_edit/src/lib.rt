@@ -6,6 +6,7 @@
 //! scopes. After an `AllocError` `clear` of the buffer is the only call that is promised.
 #![tactic(auto)]
 
+mod extents;
 mod lists;
 mod names;
 mod parts;

@@ -5,6 +5,7 @@ ghost use Rattle.demangle_text.specs.State.{IsLiving, shape, Lives, IsEdit, Keep
 ghost use Rattle.demangle_edit.specs.Answers.{Answers, OnNone};
 ghost use Rattle.demangle_edit.specs.Types.{pointed, collapsed, wrapped, cv_place, cv_wrapped, extent_text, array_shape, arrayed, member_gap, after_text, member_shape, membered, function_of};
 
+use crate::extents::{MOST_DIGITS, extent_bytes};
 use crate::lists::list_pieces;
 use crate::names::range_before;
 use crate::quals::{Pointer, Quals, reference_bytes};
@@ -113,16 +114,6 @@ pub fn wrap_cv(buf: &mut Buffer, inner: Piece, quals: Quals) -> Result<Piece, Al
     buf.insert(inner, place, quals.words())
 }
 
-// The digits of a dimension, none where it isn't known.
-fn extent_bytes(digits: &mut itoa::Buffer, dim: Option<u64>) -> &[u8]
-    ensures value { result.now ≡ extent_text dim }
-{
-    match dim {
-        None => b"",
-        Some(extent) => digits.format(extent).as_bytes(),
-    }
-}
-
 // The opening bytes, the digits of a dimension and `]`, at a place of the piece's text.
 #[tactic(auto, using(demangle_text::proofs::Laws::laws, crate::proofs::Appends::appends))]
 fn insert_dimension(
@@ -139,8 +130,8 @@ fn insert_dimension(
         (inserted place (opening.now ++ (extent_text dim ++ codes "]")) (shape buf.old piece))) }
     ensures edit { OnOk result (IsEdit buf.old buf.new) }
 {
-    let mut digits = itoa::Buffer::new();
-    let extent = extent_bytes(&mut digits, dim);
+    let mut room = [0; MOST_DIGITS];
+    let extent = extent_bytes(&mut room, dim);
     let opened = buf.insert(piece, place, opening)?;
     let filled = buf.insert(opened, place, extent)?;
     buf.insert(filled, place, b"]")

@@ -16,14 +16,20 @@ use Rattle.itanium_demangle.specs.declared.forms.SymbolForm.{SymbolForm}
 use Rattle.itanium_demangle.specs.declared.forms.SubstitutionForm.{SubstitutionForm}
 use Rattle.itanium_demangle.specs.declared.forms.ArgsForm.{ArgsForm}
 use Rattle.itanium_demangle.specs.declared.forms.ArgumentForm.{ArgumentForm}
+use Rattle.itanium_demangle.specs.declared.forms.QualifiedForm.{QualifiedForm}
+use Rattle.itanium_demangle.specs.declared.forms.ParamsForm.{ParamsForm}
+use Rattle.itanium_demangle.specs.declared.forms.TypesForm.{TypesForm}
 use Rattle.itanium_demangle.specs.declared.forms.TypeForm.{TypeForm}
+use Rattle.demangle_edit.specs.declared.quals.Quals.{Quals}
+use Rattle.demangle_text.specs.Shape.{is_plain}
+use Rattle.demangle_edit.specs.Types.{has_array, has_member, arrayed, membered, function_of}
 use Rattle.itanium_demangle.specs.Around.{opens_scope, inside_type}
-use Rattle.itanium_demangle.specs.Forms.{source_text, builtin_text, name_quals, past_name_quals, saves_first}
-use Rattle.itanium_demangle.specs.Tree.{Tree, plain_name, known_name, structor_of, with_args, nested_of, trees, in_scope, shape_of, list_from, closed, list_shape}
-use Rattle.itanium_demangle.specs.Grammar.{Place, Cost, at, counted, saving, save, put, begin, past_initializer, both, SubstitutionAs, Substitution, ParameterAs, Parameter, TaggedAs, UnqualifiedAs, Unqualified, FirstAs, Name, NameAs, UnscopedAs, ListedAs, Nested, Components, ComponentsAs, Args, ArgsUpTo, ArgsAs, ArgumentAs, TypeOf, TypeAs, TypeListedAs, SymbolAs, Symbol, known_substitution, saved_substitution, substitution, auto_parameter, scope_parameter, parameter, no_tag, source_component, constructor_component, destructor_component, unqualified, parameter_first, std_first, substitution_first, name_first, name, nested_name, unscoped_name, std_name, substitution_name, global_name, no_list, argument_list, nested, components, last_component, list_component, name_component, args, args_up_to, no_more_args, one_more_arg, type_argument, type, builtin_type, parameter_type, substitution_type, name_type, no_type_list, type_list, name_symbol, symbol, last_of}
-use Rattle.itanium_demangle.specs.Reading.{State, enter, substitution_as, read_substitution, parameter_as, read_parameter, tagged_as, unqualified_as, read_unqualified, first_as, attached_by, component_as, read_components, read_nested, listed_as, unscoped_as, name_as, argument_as, argument_by, args_as, read_list, type_listed_as, type_as, read_name, read_args, read_type, symbol_as, read_symbol}
-use Rattle.itanium_demangle.proofs.See.{state_at, same_read, one_more, taken-map, some-map, last-map, put-scopes, begin-scopes, shape-plain_name, shape-known_name, shape-structor_of, shape-with_args, shape-in_scope, shape-nested_of}
-use Rattle.itanium_demangle.proofs.Shorter.{components_takes, unqualified_takes, args_takes, up_to_takes, argument_takes, member_behind, behind_drop, behind-le}
+use Rattle.itanium_demangle.specs.Forms.{source_text, builtin_text, cv_quals, reference_of, elaborated_text, name_quals, past_name_quals, saves_first}
+use Rattle.itanium_demangle.specs.Tree.{Tree, plain_name, known_name, structor_of, with_args, nested_of, pointer_to, cv_of, array_of, member_of, function_to, elaborated, trees, in_scope, shape_of, list_from, closed, list_shape}
+use Rattle.itanium_demangle.specs.Grammar.{Place, Cost, at, counted, saving, save, put, begin, past_initializer, both, SubstitutionAs, Substitution, ParameterAs, Parameter, TaggedAs, UnqualifiedAs, Unqualified, FirstAs, Name, NameAs, UnscopedAs, ListedAs, Nested, Components, ComponentsAs, Args, ArgsUpTo, ArgsAs, ArgumentAs, TypeOf, TypeAs, QualifiedAs, Function, ParamsAs, Types, TypesAs, TypeListedAs, SymbolAs, Symbol, known_substitution, saved_substitution, substitution, auto_parameter, scope_parameter, parameter, no_tag, source_component, constructor_component, destructor_component, unqualified, parameter_first, std_first, substitution_first, name_first, name, nested_name, unscoped_name, std_name, substitution_name, global_name, no_list, argument_list, nested, components, last_component, list_component, name_component, args, args_up_to, no_more_args, one_more_arg, type_argument, type, builtin_type, vendor_type, array_type, function_type, member_type, pointer_type, qualified_type, elaborated_type, parameter_type, substitution_type, name_type, qualified_function, qualified_other, function, no_params, some_params, types, no_more_types, one_more_type, no_type_list, type_list, name_symbol, symbol, last_of}
+use Rattle.itanium_demangle.specs.Reading.{State, enter, substitution_as, read_substitution, parameter_as, read_parameter, tagged_as, unqualified_as, read_unqualified, first_as, attached_by, component_as, read_components, read_nested, listed_as, unscoped_as, name_as, argument_as, argument_by, args_as, read_list, types_as, read_types, params_as, read_function, qualified_as, type_listed_as, type_as, read_name, read_args, read_type, symbol_as, read_symbol}
+use Rattle.itanium_demangle.proofs.See.{state_at, same_read, one_more, taken-map, some-map, last-map, put-scopes, begin-scopes, shape-plain_name, shape-known_name, shape-structor_of, shape-with_args, shape-in_scope, shape-nested_of, shape-pointer_to, shape-cv_of, shape-array_of, shape-member_of, shape-function_to, shape-elaborated}
+use Rattle.itanium_demangle.proofs.Shorter.{components_takes, unqualified_takes, args_takes, up_to_takes, argument_takes, type_takes, types_some, member_behind, behind_drop, behind-le}
 
 -- without a counted production the depth is no matter
 substitution_as_complete : {form : SubstitutionForm} {p q : Place} {t : Tree} → SubstitutionAs form p t q → (e m : ℕ)
@@ -72,7 +78,7 @@ first_complete (name_first {q = q} {t = t} a) e m =
     rw (unqualified_complete a e m) (same_read refl (one_more q.saved t) refl (omega arith) (omega (arith, length-map q.saved shape_of)))
 
 mutual
-  unfolding read_name read_nested read_components read_list
+  unfolding read_name read_nested read_components read_list read_types
 
   pub name_complete : {x : Context} {p q : Place} {t : Tree} {c : Cost} → Name x p t q c → (d e m : ℕ) → c.depth ≤ d
       → read_name d x (state_at p e m) ≡ Some (shape_of t, state_at q (e + c.count) (max m c.peak))
@@ -118,8 +124,12 @@ mutual
   component_complete (list_component {q = q} {t = t} {list = ts} {c = c} a b) d e m n deep room =
       let shorter = (args_takes a).shorter in
       let within = behind-le (member_behind q.rest) in
-      rw (args_complete a d e m (omega arith), ← shape-with_args t ts, one_more q.saved (with_args t (trees ts)),
-      components_complete b d (e + c.count) (max (max m c.peak) (length (map shape_of q.saved) + 1)) n (omega arith) (omega arith))
+      rw (
+        args_complete a d e m (omega arith),
+        ← shape-with_args t ts,
+        one_more q.saved (with_args t (trees ts)),
+        components_complete b d (e + c.count) (max (max m c.peak) (length (map shape_of q.saved) + 1)) n (omega arith) (omega arith),
+      )
       (same_read refl refl refl (omega arith) (omega (arith, length-map q.saved shape_of)))
   component_complete (name_component {q = q} {u = u} {c = c} a b) d e m n deep room =
       let shorter = (unqualified_takes a).shorter in
@@ -163,12 +173,66 @@ mutual
   type_as_complete : {form : TypeForm} {x : Context} {p q : Place} {t : Tree} {c : Cost} → TypeAs form x p t q c → (d e m : ℕ) → c.depth ≤ d
       → type_as form (read_type d x) (read_name d x) (read_args d x false) x (state_at p e m) ≡ Some (shape_of t, state_at q (e + c.count) (max m c.peak))
   type_as_complete (builtin_type {p = p}) d e m deep = same_read (sym (shape-plain_name (builtin_text p.rest))) refl refl (omega arith) (omega arith)
+  type_as_complete (vendor_type {p = p} {bytes = b} found list) d e m deep =
+      rw (found, list, ← shape-plain_name (source_text b)) (same_read refl (one_more p.saved (plain_name (source_text b))) refl (omega arith) (omega (arith, length-map p.saved shape_of)))
+  type_as_complete (array_type {q = q} {t = t} {dim = dim} found a there) d e m deep =
+      rw (found, type_complete a d e m (omega arith), there, ← shape-array_of dim t)
+      (same_read refl (one_more q.saved (array_of dim t)) refl (omega arith) (omega (arith, length-map q.saved shape_of)))
+  type_as_complete (function_type {q = q} {t = t} a) d e m deep =
+      rw (function_complete a d e m (omega arith)) (same_read refl (one_more q.saved t) refl (omega arith) (omega (arith, length-map q.saved shape_of)))
+  type_as_complete (member_type {r = r} {t = t} {u = u} {c = c} a b there) d e m deep =
+      rw (type_complete a d e m (omega arith), type_complete b d (e + c.count) (max m c.peak) (omega arith), there, ← shape-member_of t u)
+      (same_read refl (one_more r.saved (member_of t u)) refl (omega arith) (omega (arith, length-map r.saved shape_of)))
+  type_as_complete (pointer_type {kind = kind} {q = q} {t = t} a) d e m deep =
+      rw (type_complete a d e m (omega arith), ← shape-pointer_to kind t)
+      (same_read refl (one_more q.saved (pointer_to kind t)) refl (omega arith) (omega (arith, length-map q.saved shape_of)))
+  type_as_complete (qualified_type {q = q} {t = t} form a) d e m deep =
+      rw (form, qualified_complete a d e m (omega arith)) (same_read refl (one_more q.saved t) refl (omega arith) (omega (arith, length-map q.saved shape_of)))
+  type_as_complete (elaborated_type {p = p} {q = q} {t = t} a) d e m deep =
+      rw (name_complete a d e m (omega arith), ← shape-elaborated (elaborated_text p.rest) t)
+      (same_read refl (one_more q.saved (elaborated (elaborated_text p.rest) t)) refl (omega arith) (omega (arith, length-map q.saved shape_of)))
   type_as_complete (parameter_type {q = q} {t = t} a form b) d e m deep =
       rw (parameter_complete a e m, form, one_more q.saved t, type_listed_complete b d e (max m (length (map shape_of q.saved) + 1)) (omega arith))
       (same_read refl refl refl (omega arith) (omega (arith, length-map q.saved shape_of)))
   type_as_complete (substitution_type a form b) d e m deep = rw (substitution_complete a e m, form, type_listed_complete b d e m deep) refl
   type_as_complete (name_type {q = q} {t = t} a) d e m deep =
       rw (name_complete a d e m (omega arith)) (same_read refl (one_more q.saved t) refl (omega arith) (omega (arith, length-map q.saved shape_of)))
+
+  pub qualified_complete : {form : QualifiedForm} {x : Context} {quals : Quals} {p q : Place} {t : Tree} {c : Cost} → QualifiedAs form x quals p t q c → (d e m : ℕ) → c.depth ≤ d
+      → qualified_as form (read_type d x) quals (state_at p e m) ≡ Some (shape_of t, state_at q (e + c.count) (max m c.peak))
+  qualified_complete (qualified_function a) d e m deep = function_complete a d e m deep
+  qualified_complete (qualified_other {quals = quals} {t = t} a) d e m deep = rw (type_complete a d e m deep, ← shape-cv_of quals t) refl
+
+  pub function_complete : {x : Context} {quals : Quals} {p q : Place} {t : Tree} {c : Cost} → Function x quals p t q c → (d e m : ℕ) → c.depth ≤ d
+      → read_function (read_type d x) quals (state_at p e m) ≡ Some (shape_of t, state_at q (e + c.count) (max m c.peak))
+  function_complete (function {quals = quals} {r = r} {t = t} {ts = ts} {c = c} plain a form b there) d e m deep =
+      rw (
+        plain,
+        type_complete a d e m (omega arith),
+        form,
+        params_complete b d (e + c.count) (max m c.peak) (omega arith),
+        there,
+        ← shape-function_to t ts (record quals { reference = reference_of r.rest }),
+      )
+      (same_read refl refl refl (omega arith) (omega arith))
+
+  pub params_complete : {form : ParamsForm} {x : Context} {p q : Place} {ts : List Tree} {c : Cost} → ParamsAs form x p ts q c → (d e m : ℕ) → c.depth ≤ d
+      → params_as form (read_type d x) (state_at p e m) ≡ Some (map shape_of ts, state_at q (e + c.count) (max m c.peak))
+  params_complete no_params d e m deep = same_read refl refl refl (omega arith) (omega arith)
+  params_complete (some_params {p = p} a) d e m deep = types_complete a d e m (length p.rest) deep (omega arith)
+
+  pub types_complete : {x : Context} {p q : Place} {ts : List Tree} {c : Cost} → Types x p ts q c → (d e m n : ℕ) → c.depth ≤ d → length p.rest ≤ n
+      → read_types (read_type d x) n (state_at p e m) ≡ Some (map shape_of ts, state_at q (e + c.count) (max m c.peak))
+  types_complete (types form a) d e m zero deep room = let some = types_some (types form a) in absurd (omega arith)
+  types_complete (types form a) d e m (suc n) deep room = rw form (types_as_complete a d e m n deep room)
+
+  types_as_complete : {form : TypesForm} {x : Context} {p q : Place} {ts : List Tree} {c : Cost} → TypesAs form x p ts q c → (d e m n : ℕ) → c.depth ≤ d → length p.rest ≤ suc n
+      → types_as form (read_type d x) (read_types (read_type d x) n) (state_at p e m) ≡ Some (map shape_of ts, state_at q (e + c.count) (max m c.peak))
+  types_as_complete no_more_types d e m n deep room = same_read refl refl refl (omega arith) (omega arith)
+  types_as_complete (one_more_type {c = c} first others) d e m n deep room =
+      let shorter = (type_takes first).shorter in
+      rw (type_complete first d e m (omega arith), types_complete others d (e + c.count) (max m c.peak) n (omega arith) (omega arith))
+      (same_read refl refl refl (omega arith) (omega arith))
 
   pub type_listed_complete : {form : ListForm} {x : Context} {t u : Tree} {p q : Place} {c : Cost} → TypeListedAs form x t p u q c → (d e m : ℕ) → c.depth ≤ d
       → type_listed_as form (read_args d x false) (shape_of t) (state_at p e m) ≡ Some (shape_of u, state_at q (e + c.count) (max m c.peak))

@@ -7,3 +7,4 @@ pub mod Complete
 pub mod Sound
 pub mod Whole
 pub mod Rows
+pub mod Answered

@@ -13,11 +13,15 @@ use Rattle.itanium_demangle.specs.declared.forms.SymbolForm.{SymbolForm}
 use Rattle.itanium_demangle.specs.declared.forms.SubstitutionForm.{SubstitutionForm}
 use Rattle.itanium_demangle.specs.declared.forms.ArgsForm.{ArgsForm}
 use Rattle.itanium_demangle.specs.declared.forms.ArgumentForm.{ArgumentForm}
+use Rattle.itanium_demangle.specs.declared.forms.QualifiedForm.{QualifiedForm}
+use Rattle.itanium_demangle.specs.declared.forms.ParamsForm.{ParamsForm}
+use Rattle.itanium_demangle.specs.declared.forms.TypesForm.{TypesForm}
 use Rattle.itanium_demangle.specs.declared.forms.TypeForm.{TypeForm}
-use Rattle.itanium_demangle.specs.Forms.{source_text, tag_form, list_form, argument_form, builtin_text, past_builtin, past_internal, past_name_quals, name_quals, saves_first}
-use Rattle.itanium_demangle.specs.Tree.{Tree, plain_name, known_name, structor_of, with_args, trees, in_scope, nested_of}
+use Rattle.demangle_edit.specs.declared.quals.Quals.{Quals}
+use Rattle.itanium_demangle.specs.Forms.{source_text, tag_form, list_form, argument_form, params_form, elaborated_text, cv_quals, past_cv, reference_of, past_reference, builtin_text, past_builtin, past_internal, past_name_quals, name_quals, saves_first}
+use Rattle.itanium_demangle.specs.Tree.{Tree, plain_name, known_name, structor_of, with_args, pointer_to, cv_of, array_of, member_of, function_to, elaborated, trees, in_scope, nested_of}
 use Rattle.itanium_demangle.specs.Around.{inside_type}
-use Rattle.itanium_demangle.specs.Grammar.{Place, Cost, at, skip, counted, saving, save, put, begin, past_initializer, both, SubstitutionAs, Substitution, ParameterAs, Parameter, TaggedAs, UnqualifiedAs, Unqualified, FirstAs, Name, NameAs, UnscopedAs, ListedAs, Nested, Components, ComponentsAs, Args, ArgsUpTo, ArgsAs, ArgumentAs, TypeOf, TypeAs, TypeListedAs, SymbolAs, Symbol, known_substitution, saved_substitution, substitution, auto_parameter, scope_parameter, parameter, no_tag, source_component, constructor_component, destructor_component, unqualified, parameter_first, std_first, substitution_first, name_first, name, nested_name, unscoped_name, std_name, substitution_name, global_name, no_list, argument_list, nested, components, last_component, list_component, name_component, args, args_up_to, no_more_args, one_more_arg, type_argument, type, builtin_type, parameter_type, substitution_type, name_type, no_type_list, type_list, name_symbol, symbol}
+use Rattle.itanium_demangle.specs.Grammar.{Place, Cost, at, skip, counted, saving, save, put, begin, past_initializer, both, SubstitutionAs, Substitution, ParameterAs, Parameter, TaggedAs, UnqualifiedAs, Unqualified, FirstAs, Name, NameAs, UnscopedAs, ListedAs, Nested, Components, ComponentsAs, Args, ArgsUpTo, ArgsAs, ArgumentAs, TypeOf, TypeAs, QualifiedAs, Function, ParamsAs, Types, TypesAs, TypeListedAs, SymbolAs, Symbol, known_substitution, saved_substitution, substitution, auto_parameter, scope_parameter, parameter, no_tag, source_component, constructor_component, destructor_component, unqualified, parameter_first, std_first, substitution_first, name_first, name, nested_name, unscoped_name, std_name, substitution_name, global_name, no_list, argument_list, nested, components, last_component, list_component, name_component, args, args_up_to, no_more_args, one_more_arg, type_argument, type, builtin_type, vendor_type, array_type, function_type, member_type, pointer_type, qualified_type, elaborated_type, parameter_type, substitution_type, name_type, qualified_function, qualified_other, function, no_params, some_params, types, no_more_types, one_more_type, no_type_list, type_list, name_symbol, symbol}
 
 -- two readings have the same tree, the same place behind them and the same cost
 pub record Same {T : Type 0} (t u : T) (q r : Place) (c d : Cost) : Type 0 where
@@ -148,6 +152,33 @@ mutual
 
   one_type_as : {form : TypeForm} {x : Context} {p q r : Place} {t u : Tree} {c d : Cost} → TypeAs form x p t q c → TypeAs form x p u r d → Same t u q r c d
   one_type_as builtin_type builtin_type = record { tree = refl; next = refl; cost = refl }
+  one_type_as (vendor_type {p = p} e f) (vendor_type g h) =
+      let found = some_pair_parts _ _ _ _ (sym e ∙ g) in
+      let name = ap (λ v. plain_name (source_text v)) found.0 in
+      record { tree = name; next = ap₂ save name (ap (λ v. at v p) found.1); cost = refl }
+  one_type_as (array_type {x = x} {p = p} e a there) (array_type {q = r} {t = u} {c = d} g b here) =
+      let found = some_pair_parts _ _ _ _ (sym g ∙ e) in
+      let same = one_type a (subst (λ v. TypeOf x (at v p) u r d) found.1 b) in
+      let whole = ap₂ array_of (sym found.0) same.tree in
+      record { tree = whole; next = ap₂ save whole same.next; cost = ap₂ both same.cost (ap saving same.next) }
+  one_type_as (function_type a) (function_type b) =
+      let same = one_function a b in record { tree = same.tree; next = ap₂ save same.tree same.next; cost = ap₂ both same.cost (ap saving same.next) }
+  one_type_as (member_type {x = x} a b there) (member_type {r = r} {u = v} {d = d} e f here) =
+      let class = one_type a e in
+      let inner = one_type b (subst (λ o. TypeOf x o v r d) (sym class.next) f) in
+      let whole = ap₂ member_of class.tree inner.tree in
+      record { tree = whole; next = ap₂ save whole inner.next; cost = ap₂ both class.cost (ap₂ both inner.cost (ap saving inner.next)) }
+  one_type_as (pointer_type {kind = kind} a) (pointer_type b) =
+      let same = one_type a b in
+      let whole = ap (pointer_to kind) same.tree in
+      record { tree = whole; next = ap₂ save whole same.next; cost = ap₂ both same.cost (ap saving same.next) }
+  one_type_as (qualified_type {x = x} {p = p} e a) (qualified_type {q = r} {t = u} {c = d} g b) =
+      let same = one_qualified a (subst (λ k. QualifiedAs k x (cv_quals p.rest) (at (past_cv p.rest) p) u r d) (sym g ∙ e) b) in
+      record { tree = same.tree; next = ap₂ save same.tree same.next; cost = ap₂ both same.cost (ap saving same.next) }
+  one_type_as (elaborated_type {p = p} a) (elaborated_type b) =
+      let same = one_name a b in
+      let whole = ap (elaborated (elaborated_text p.rest)) same.tree in
+      record { tree = whole; next = ap₂ save whole same.next; cost = ap₂ both same.cost (ap saving same.next) }
   one_type_as (parameter_type {x = x} a e b) (parameter_type {r = r} {u = v} {c = d} f g h) =
       let found = one_parameter a f in
       let same = one_type_listed b (along3 (λ k s o. TypeListedAs k x s o v r d) (sym g ∙ ap (λ o. list_form o.rest) (sym found.1) ∙ e) (sym found.0) (ap₂ save (sym found.0) (sym found.1)) h) in
@@ -158,6 +189,36 @@ mutual
       record { tree = same.tree; next = same.next; cost = same.cost }
   one_type_as (name_type a) (name_type b) =
       let same = one_name a b in record { tree = same.tree; next = ap₂ save same.tree same.next; cost = ap₂ both same.cost (ap saving same.next) }
+
+  one_qualified : {form : QualifiedForm} {x : Context} {quals : Quals} {p q r : Place} {t u : Tree} {c d : Cost} → QualifiedAs form x quals p t q c → QualifiedAs form x quals p u r d → Same t u q r c d
+  one_qualified (qualified_function a) (qualified_function b) = one_function a b
+  one_qualified (qualified_other {quals = quals} a) (qualified_other b) =
+      let same = one_type a b in record { tree = ap (cv_of quals) same.tree; next = same.next; cost = same.cost }
+
+  one_function : {x : Context} {quals : Quals} {p q r : Place} {t u : Tree} {c d : Cost} → Function x quals p t q c → Function x quals p u r d → Same t u q r c d
+  one_function (function {x = x} {quals = quals} plain a e b there) (function {r = r} {ts = us} {d = d} other f g h here) =
+      let ret = one_type a f in
+      let params = one_params b (along (λ k o. ParamsAs k x o us r d) (sym g ∙ ap (λ o. params_form o.rest) (sym ret.next) ∙ e) (sym ret.next) h) in
+      let quals_same = ap (λ o. record quals { reference = reference_of o.rest }) params.next in
+      record {
+        tree = λ j. function_to (ret.tree j) (trees (params.tree j)) (quals_same j);
+        next = ap (λ o. skip 1 (at (past_reference o.rest) o)) params.next;
+        cost = ap₂ both ret.cost params.cost;
+      }
+
+  one_params : {form : ParamsForm} {x : Context} {p q r : Place} {ts us : List Tree} {c d : Cost} → ParamsAs form x p ts q c → ParamsAs form x p us r d → Same ts us q r c d
+  one_params no_params no_params = record { tree = refl; next = refl; cost = refl }
+  one_params (some_params a) (some_params b) = one_types a b
+
+  one_types : {x : Context} {p q r : Place} {ts us : List Tree} {c d : Cost} → Types x p ts q c → Types x p us r d → Same ts us q r c d
+  one_types (types {x = x} {p = p} e a) (types {q = r} {ts = us} {c = d} g b) = one_types_as a (subst (λ k. TypesAs k x p us r d) (sym g ∙ e) b)
+
+  one_types_as : {form : TypesForm} {x : Context} {p q r : Place} {ts us : List Tree} {c d : Cost} → TypesAs form x p ts q c → TypesAs form x p us r d → Same ts us q r c d
+  one_types_as no_more_types no_more_types = record { tree = refl; next = refl; cost = refl }
+  one_types_as (one_more_type {x = x} a b) (one_more_type {r = r} {ts = us} {d = d} e f) =
+      let first = one_type a e in
+      let others = one_types b (subst (λ o. Types x o us r d) (sym first.next) f) in
+      record { tree = ap₂ (λ t ts. t ∷ ts) first.tree others.tree; next = others.next; cost = ap₂ both first.cost others.cost }
 
   one_type_listed : {form : ListForm} {x : Context} {t u v : Tree} {p q r : Place} {c d : Cost} → TypeListedAs form x t p u q c → TypeListedAs form x t p v r d → Same u v q r c d
   one_type_listed no_type_list no_type_list = record { tree = refl; next = refl; cost = refl }

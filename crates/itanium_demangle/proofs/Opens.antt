@@ -1,22 +1,24 @@
 -- One level of the reading functions, and their loops turn by turn.
-use Rattle.std.proofs.Common.{◌≡◌, ◌<◌, ◌≤◌, ℕ, zero, suc, ◌-◌, Bool, true, false, List, [], ◌∷◌, length, drop, refl, ap, ◌∙◌, arith, Option, Some, None, codes}
+use Rattle.std.proofs.Common.{◌≡◌, ◌<◌, ◌≤◌, ℕ, zero, suc, ◌-◌, Bool, true, false, List, [], ◌∷◌, ◌++◌, length, drop, map, All, refl, sym, ap, ap₂, ◌∙◌, arith, Option, Some, None, codes}
 use Rattle.std.specs.Prelude.{IfSome, option_map, is_some, slice_get}
+use Rattle.std.proofs.lemmas.List.{append-nil, append_assoc}
 use Rattle.demangle_text.specs.declared.shape.Piece.{Piece}
 use Rattle.demangle_text.specs.declared.buffer.Buffer.{Buffer}
 use Rattle.demangle_text.specs.State.{IsLiving, shape, SameFrame}
 use Rattle.demangle_text.specs.Shape.{Shape, plain_shape, joined}
 use Rattle.demangle_edit.specs.Names.{name_qualified}
-use Rattle.itanium_demangle.proofs.Shorter.{end_shorter, args_end_shorter}
+use Rattle.itanium_demangle.proofs.Shorter.{end_shorter, args_end_shorter, types_end_some}
 use Rattle.itanium_demangle.specs.declared.context.Context.{Context}
 use Rattle.itanium_demangle.specs.declared.scalar.Radix.TheVariants.{Decimal}
 use Rattle.itanium_demangle.specs.declared.forms.ComponentForm.{ComponentForm}
 use Rattle.itanium_demangle.specs.declared.forms.ComponentForm.TheVariants.{LastComponent, ListComponent, NameComponent}
 use Rattle.itanium_demangle.specs.declared.forms.ArgsForm.TheVariants.{LastArgument, NextArgument}
+use Rattle.itanium_demangle.specs.declared.forms.TypesForm.TheVariants.{LastType, NextType}
 use Rattle.itanium_demangle.specs.Scalars.{index_of}
 use Rattle.itanium_demangle.specs.Around.{opens_scope, inside_type}
 use Rattle.itanium_demangle.specs.Tree.{between, closed}
-use Rattle.itanium_demangle.specs.Forms.{symbol_form, name_form, component_form, unqualified_form, first_form, args_form, type_form, substitution_form, past_internal, past_name_quals, name_quals, saves_first}
-use Rattle.itanium_demangle.specs.Reading.{State, Reads, ◌>>=◌, enter, at, save, skip, begin, put, taken_back, past_initializer, substitution_as, read_substitution, parameter_as, read_parameter, unqualified_as, read_unqualified, first_as, attached_by, component_as, read_components, read_prefix, read_nested, name_as, read_name, argument_by, args_as, read_list, list_at, read_args, type_as, read_type, symbol_as, read_symbol}
+use Rattle.itanium_demangle.specs.Forms.{symbol_form, name_form, component_form, unqualified_form, first_form, args_form, types_form, type_form, substitution_form, past_internal, past_name_quals, name_quals, saves_first}
+use Rattle.itanium_demangle.specs.Reading.{State, Reads, ◌>>=◌, enter, at, save, skip, begin, put, taken_back, past_initializer, substitution_as, read_substitution, parameter_as, read_parameter, unqualified_as, read_unqualified, first_as, attached_by, component_as, read_components, read_prefix, read_nested, name_as, read_name, argument_by, args_as, read_list, list_at, read_args, types_as, read_types, types_by, type_as, read_type, symbol_as, read_symbol}
 
 pub name_opens : (d : ℕ) (x : Context) (s : State) → 0 < d → read_name d x s ≡ name_as (name_form s.rest) (read_args (d - 1) x true) x (enter s)
 unfolding read_name
@@ -194,3 +196,69 @@ list_start {n = n} s whole same built left held room = record {
   room = room;
   is = whole ∙ rw (← same, built, held, left) refl;
 }
+
+module _ (type : Reads Shape) where
+  no_types_turns : (s : State) → read_types type 0 s ≡ None
+  unfolding read_types
+  no_types_turns s = refl
+
+  types_turn : (n : ℕ) (s : State) → 0 < n → read_types type n s ≡ types_as (types_form s.rest) type (read_types type (n - 1)) s
+  unfolding read_types
+  types_turn zero s h = absurd (omega arith)
+  types_turn (suc n) s h = let less : suc n - 1 ≡ n = omega arith in rw less refl
+
+-- the whole is what the rest of the turns give, behind the front
+abbrev pub behind : List Shape → Option (List Shape × State) → Option (List Shape × State)
+behind front read = option_map (λ r. (front ++ r.0, r.1)) read
+
+-- The types up to here are read.
+pub record TypesSoFar (whole : Option (List Shape × State)) (type : Reads Shape) (front : List Shape) (s : State) : Type 0 where
+  pub turns : ℕ
+  pub room : length s.rest ≤ turns
+  pub is : whole ≡ behind front (read_types type turns s)
+
+behind-nothing : (o : Option (List Shape × State)) → o ≡ behind [] o
+behind-nothing None = refl
+behind-nothing (Some r) = refl
+
+pub types_start : (type : Reads Shape) (s : State) → TypesSoFar (types_by type s) type [] s
+types_start type s = record { turns = length s.rest; room = omega arith; is = behind-nothing _ }
+
+pub types_end : {whole : Option (List Shape × State)} {type : Reads Shape} {front : List Shape} {s : State} → TypesSoFar whole type front s
+    → types_form s.rest ≡ LastType → whole ≡ Some (front, s)
+types_end {type = type} {front = front} {s = s} sofar form =
+    let some = types_end_some s.rest form in
+    let turn : read_types type sofar.turns s ≡ Some ([], s) = types_turn type sofar.turns s (omega (arith, sofar.room)) ∙ rw form refl in
+    sofar.is ∙ ap (behind front) turn ∙ ap (λ texts. Some (texts, s)) (append-nil front)
+
+pub types_fail : {whole : Option (List Shape × State)} {type : Reads Shape} {front : List Shape} {s : State} → TypesSoFar whole type front s
+    → types_form s.rest ≡ NextType → type s ≡ None → whole ≡ None
+types_fail {type = type} {front = front} {s = s} sofar form none = sofar.is ∙ ap (behind front) (none_at sofar.turns)
+  where
+    none_at : (n : ℕ) → read_types type n s ≡ None
+    none_at zero = no_types_turns type s
+    none_at (suc n) = types_turn type (suc n) s (omega arith) ∙ rw (form, none) refl
+
+pub types_more : {whole : Option (List Shape × State)} {type : Reads Shape} {front : List Shape} {s after : State} {t : Shape} → TypesSoFar whole type front s
+    → types_form s.rest ≡ NextType → type s ≡ Some (t, after) → length after.rest < length s.rest → TypesSoFar whole type (front ++ t ∷ []) after
+types_more {type = type} {front = front} {s = s} {after = after} {t = t} sofar form first shorter =
+    let turn : read_types type sofar.turns s ≡ (read_types type (sofar.turns - 1) after >>= λ others. Some (t ∷ others.0, others.1)) =
+    types_turn type sofar.turns s (omega (arith, sofar.room)) ∙ rw (form, first) refl in
+    record { turns = sofar.turns - 1; room = omega (arith, sofar.room); is = sofar.is ∙ ap (behind front) turn ∙ moved (read_types type (sofar.turns - 1) after) }
+  where
+    moved : (o : Option (List Shape × State)) → behind front (o >>= λ others. Some (t ∷ others.0, others.1)) ≡ behind (front ++ t ∷ []) o
+    moved None = refl
+    moved (Some r) = ap (λ texts. Some (texts, r.1)) (sym (append_assoc front (t ∷ []) r.0))
+
+-- what lived keeps its shape
+pub kept_shapes : (old new : Buffer) (ps : List Piece) → SameFrame old new → All (IsLiving old) ps → map (shape new) ps ≡ map (shape old) ps
+kept_shapes old new [] kept live = refl
+kept_shapes old new (p ∷ ps) kept live =
+    ap₂ (λ t ts. t ∷ ts) (kept.pieces p (live 0 p (omega arith))).shape_is (kept_shapes old new ps kept (λ k d h. live (suc k) d (omega arith)))
+
+-- and one more piece lives
+pub one_more_lives : (old new : Buffer) (ps : List Piece) (p : Piece) → SameFrame old new → All (IsLiving old) ps → IsLiving new p → All (IsLiving new) (ps ++ p ∷ [])
+one_more_lives old new [] p kept live lives zero d h = lives
+one_more_lives old new [] p kept live lives (suc k) d h = absurd (omega arith)
+one_more_lives old new (q ∷ ps) p kept live lives zero d h = (kept.pieces q (live 0 q (omega arith))).living
+one_more_lives old new (q ∷ ps) p kept live lives (suc k) d h = one_more_lives old new ps p kept (λ i e g. live (suc i) e (omega arith)) lives k d (omega arith)

@@ -1,16 +1,17 @@
 -- Answers by computation, and the laws of answers.
 use Rattle.std.proofs.Common.{◌≡◌, ℕ, List, [], ◌∷◌, ◌++◌, Bool, true, false, Option, Some, None, refl, ap, ap₂, arith, ◌∙◌, sym, subst, codes, length, drop}
 use Rattle.std.specs.Str.{IsUtf8, is_utf8, chars}
+use Rattle.std.specs.Fmt.{digits}
 use Rattle.std.proofs.lemmas.Str.{IsUtf8-from_is_utf8, is_utf8-from_IsUtf8}
 use Rattle.std.specs.Prelude.{option_map, ◌==◌, ◌&&◌}
 use Rattle.std.proofs.lemmas.Grind.{common_steps}
 use Rattle.std.proofs.lemmas.Option.{some_pair_parts}
 use Rattle.demangle_text.specs.Shape.{Shape, text}
-use Rattle.itanium_demangle.specs.Scalars.{front_digits, weighted, number, index_of, source_name}
+use Rattle.itanium_demangle.specs.Scalars.{front_digits, weighted, number, index_of, bound_of, source_name}
 use Rattle.itanium_demangle.specs.Forms.{begins}
 use Rattle.itanium_demangle.specs.Tree.{Tree, printing}
 use Rattle.itanium_demangle.specs.Grammar.{Place, Cost}
-use Rattle.itanium_demangle.specs.Reading.{State, begun, read_unqualified, read_substitution, read_parameter, read_list, read_components, read_nested, read_name, read_symbol}
+use Rattle.itanium_demangle.specs.Reading.{State, begun, read_unqualified, read_substitution, read_parameter, read_list, read_types, read_components, read_nested, read_name, read_symbol}
 use Rattle.itanium_demangle.specs.Answer.{after_prefix, outside, suffix, max_depth, IsReading, HasAnswer, HasNoAnswer, IsAnswer}
 use Rattle.itanium_demangle.specs.Rows.{WorkedSymbols, LawsOfAnswers, e_acute}
 use Rattle.itanium_demangle.proofs.Whole.{one_reading, no_prefix, not_read, read_wrongly, read_rightly}
@@ -45,7 +46,7 @@ not_text symbol inside answer prefix is = go (read_symbol max_depth outside (beg
         read_wrongly symbol inside s rest prefix e (λ u. let yes = is_utf8-from_IsUtf8 (text s) u in cc)
 
 pub worked_symbols : WorkedSymbols
-unfolding read_symbol read_name read_nested read_components read_list read_unqualified read_substitution read_parameter source_name number index_of front_digits weighted is_utf8 chars lib.Utf8.encode
+unfolding read_symbol read_name read_nested read_components read_list read_types read_unqualified read_substitution read_parameter source_name number index_of bound_of front_digits weighted digits is_utf8 chars lib.Utf8.encode
 worked_symbols = record {
   nested = some_answer (codes "_ZN3Foo3barEv") (codes "N3Foo3barEv") (codes "Foo::bar") refl refl;
   reference_qualified = some_answer (codes "_ZNO3Foo3barEv") (codes "NO3Foo3barEv") (codes "Foo::bar &&") refl refl;
@@ -66,6 +67,11 @@ worked_symbols = record {
   last_own_name = some_answer (codes "_ZNSaIcED2Ev") (codes "NSaIcED2Ev") (codes "std::allocator<char>::~allocator") refl refl;
   parameter = some_answer (codes "_Z1fIiT_Evv") (codes "1fIiT_Evv") (codes "f<int, int>") refl refl;
   no_parameter_yet = no_reading (codes "_Z1fIT_iEvv") (codes "1fIT_iEvv") refl refl;
+  pointer_to_function = some_answer (codes "_Z1fIPFvvES1_Evv") (codes "1fIPFvvES1_Evv") (codes "f<void (*)(), void (*)()>") refl refl;
+  arrays = some_answer (codes "_Z1fIA2_A3_iS0_Evv") (codes "1fIA2_A3_iS0_Evv") (codes "f<int [2][3], int [3]>") refl refl;
+  reference_to_array = some_answer (codes "_Z1fIRKA3_iEvv") (codes "1fIRKA3_iEvv") (codes "f<int const (&) [3]>") refl refl;
+  no_array_of_functions = no_reading (codes "_Z1fIA3_FvvEEvv") (codes "1fIA3_FvvEEvv") refl refl;
+  member_function = some_answer (codes "_Z1fIM1AFvvREEvv") (codes "1fIM1AFvvREEvv") (codes "f<void (A::*)(void) &>") refl refl;
   no_scope_of_a_type = some_answer (codes "_Z1fI1AIiET_Evv") (codes "1fI1AIiET_Evv") (codes "f<A<int>, A<int> >") refl refl;
 }
 

@@ -9,8 +9,10 @@ use Rattle.demangle_text.specs.State.{with_arg, last_args}
 use Rattle.itanium_demangle.specs.declared.known.Known.{Known}
 use Rattle.itanium_demangle.specs.Known.{known_shape}
 use Rattle.demangle_edit.specs.declared.quals.Quals.{Quals}
+use Rattle.demangle_edit.specs.declared.quals.Pointer.{Pointer}
+use Rattle.demangle_edit.specs.Types.{wrapped, cv_wrapped, array_shape, member_shape, function_shape}
 use Rattle.demangle_edit.specs.Names.{qualified, qualified_ctor, attached, name_qualified}
-use Rattle.itanium_demangle.specs.Tree.{Tree, plain_name, known_name, name_in, structor_of, with_args, nested_of, trees, shape_of, shape_each, list_shape, in_scope}
+use Rattle.itanium_demangle.specs.Tree.{Tree, plain_name, known_name, name_in, structor_of, with_args, nested_of, pointer_to, cv_of, array_of, member_of, function_to, elaborated, worded, trees, shape_of, shape_each, list_shape, in_scope}
 use Rattle.itanium_demangle.specs.Reading as reading
 use Rattle.itanium_demangle.specs.Reading.{State}
 use Rattle.itanium_demangle.specs.Grammar.{Place, last_of, with_last}
@@ -39,6 +41,30 @@ shape_each-trees (t ∷ ts) = ap (λ us. shape_of t ∷ us) (shape_each-trees ts
 pub shape-with_args : (name : Tree) (list : List Tree) → shape_of (with_args name (trees list)) ≡ attached (shape_of name) (list_shape (map shape_of list))
 unfolding shape_of
 shape-with_args name list = ap (λ us. attached (shape_of name) (list_shape us)) (shape_each-trees list)
+
+pub shape-pointer_to : (kind : Pointer) (t : Tree) → shape_of (pointer_to kind t) ≡ wrapped kind (shape_of t)
+unfolding shape_of
+shape-pointer_to kind t = refl
+
+pub shape-cv_of : (quals : Quals) (t : Tree) → shape_of (cv_of quals t) ≡ cv_wrapped quals (shape_of t)
+unfolding shape_of
+shape-cv_of quals t = refl
+
+pub shape-array_of : (dim : Option ℕ) (t : Tree) → shape_of (array_of dim t) ≡ array_shape dim (shape_of t)
+unfolding shape_of
+shape-array_of dim t = refl
+
+pub shape-member_of : (class t : Tree) → shape_of (member_of class t) ≡ member_shape (shape_of class) (shape_of t)
+unfolding shape_of
+shape-member_of class t = refl
+
+pub shape-function_to : (ret : Tree) (params : List Tree) (quals : Quals) → shape_of (function_to ret (trees params) quals) ≡ function_shape (shape_of ret) (map shape_of params) quals
+unfolding shape_of
+shape-function_to ret params quals = ap (λ us. function_shape (shape_of ret) us quals) (shape_each-trees params)
+
+pub shape-elaborated : (word : List ℕ) (t : Tree) → shape_of (elaborated word t) ≡ worded word (shape_of t)
+unfolding shape_of
+shape-elaborated word t = refl
 
 pub shape-nested_of : (name : Tree) (quals : Quals) (shown : Bool) → shape_of (nested_of name quals shown) ≡ name_qualified (shape_of name) quals shown
 unfolding shape_of

@@ -1,6 +1,6 @@
 -- Each reading takes a front of the bytes, of one byte at least.
 use Rattle.std.proofs.Common.{◌≡◌, ◌<◌, ◌≤◌, ℕ, suc, ◌+◌, ◌-◌, ◌^◌, Bool, true, false, List, [], ◌∷◌, length, drop, take, refl, sym, ap, ◌∙◌, arith, Option, Some, None, length-drop, if◌then◌else◌, nat_lt, nat_le, ◌&&◌, codes}
-use Rattle.std.specs.Prelude.{◌==◌, option_map, is_some}
+use Rattle.std.specs.Prelude.{◌==◌, ◌||◌, option_map, is_some}
 use Rattle.itanium_demangle.specs.declared.known.Known.{Known}
 use Rattle.itanium_demangle.specs.Known.{known_of}
 use Rattle.std.proofs.lemmas.List.{drop-drop}
@@ -18,7 +18,17 @@ use Rattle.itanium_demangle.specs.declared.forms.ArgsForm.{ArgsForm}
 use Rattle.itanium_demangle.specs.declared.forms.ArgsForm.TheVariants.{LastArgument}
 use Rattle.itanium_demangle.specs.declared.forms.ArgumentForm.{ArgumentForm}
 use Rattle.itanium_demangle.specs.declared.forms.TypeForm.{TypeForm}
-use Rattle.itanium_demangle.specs.declared.forms.TypeForm.TheVariants.{BuiltinType}
+use Rattle.itanium_demangle.specs.declared.forms.TypeForm.TheVariants.{BuiltinType, ExpansionType, VendorType, ArrayType, FunctionType, MemberType, PointerType, QualifiedType, ElaboratedType, ParameterType, SubstitutionType, UnreadType, NameType}
+use Rattle.itanium_demangle.specs.declared.forms.TypesForm.{TypesForm}
+use Rattle.itanium_demangle.specs.declared.forms.TypesForm.TheVariants.{LastType}
+use Rattle.itanium_demangle.specs.declared.forms.QualifiedForm.{QualifiedForm}
+use Rattle.itanium_demangle.specs.declared.forms.QualifiedForm.TheVariants.{FunctionQualified}
+use Rattle.itanium_demangle.specs.declared.forms.FunctionForm.{FunctionForm}
+use Rattle.itanium_demangle.specs.declared.forms.ParamsForm.{ParamsForm}
+use Rattle.itanium_demangle.specs.declared.forms.ParamsForm.TheVariants.{NoParams}
+use Rattle.demangle_edit.specs.declared.quals.Pointer.{Pointer}
+use Rattle.demangle_edit.specs.declared.quals.Pointer.TheVariants as Pointer
+use Rattle.demangle_edit.specs.declared.quals.Quals.{Quals}
 use Rattle.itanium_demangle.specs.declared.forms.SubstitutionForm.{SubstitutionForm}
 use Rattle.itanium_demangle.specs.declared.forms.SubstitutionForm.TheVariants.{KnownSubstitution}
 use Rattle.itanium_demangle.specs.declared.forms.FirstForm.{FirstForm}
@@ -29,10 +39,10 @@ use Rattle.itanium_demangle.specs.declared.forms.UnqualifiedForm.{UnqualifiedFor
 use Rattle.itanium_demangle.specs.declared.forms.UnqualifiedForm.TheVariants.{ConstructorName, DestructorName}
 use Rattle.itanium_demangle.specs.declared.forms.TagForm.{TagForm}
 use Rattle.itanium_demangle.specs.declared.forms.SymbolForm.{SymbolForm}
-use Rattle.itanium_demangle.specs.Scalars.{front_digits, with_digit, digit_of, weighted, base, numeral, number, source_name, past_underscore, next_number, index_by, index_of}
-use Rattle.itanium_demangle.specs.Forms.{begins, first_form, component_form, unqualified_form, args_form, list_form, type_form, past_builtin, past_internal, past_letter, past_member, past_cv, past_reference, past_name_quals}
+use Rattle.itanium_demangle.specs.Scalars.{front_digits, with_digit, digit_of, weighted, base, numeral, number, source_name, past_underscore, next_number, index_by, index_of, bound_by, bound_of}
+use Rattle.itanium_demangle.specs.Forms.{begins, first_form, component_form, unqualified_form, args_form, list_form, type_form, types_form, qualified_form, params_form, begins_one_of, is_builtin, past_builtin, past_internal, past_letter, past_member, past_cv, past_reference, past_name_quals}
 use Rattle.itanium_demangle.specs.Tree.{Tree}
-use Rattle.itanium_demangle.specs.Grammar.{Place, Cost, save, SubstitutionAs, Substitution, Parameter, TaggedAs, UnqualifiedAs, Unqualified, FirstAs, Name, NameAs, UnscopedAs, ListedAs, Nested, Components, ComponentsAs, Args, ArgsUpTo, ArgsAs, ArgumentAs, TypeOf, TypeAs, TypeListedAs, SymbolAs, Symbol, known_substitution, saved_substitution, substitution, parameter, no_tag, source_component, constructor_component, destructor_component, unqualified, parameter_first, std_first, substitution_first, name_first, name, nested_name, unscoped_name, std_name, substitution_name, global_name, no_list, argument_list, nested, components, last_component, list_component, name_component, args, args_up_to, no_more_args, one_more_arg, type_argument, type, builtin_type, parameter_type, substitution_type, name_type, no_type_list, type_list, name_symbol, symbol}
+use Rattle.itanium_demangle.specs.Grammar.{Place, Cost, save, SubstitutionAs, Substitution, Parameter, TaggedAs, UnqualifiedAs, Unqualified, FirstAs, Name, NameAs, UnscopedAs, ListedAs, Nested, Components, ComponentsAs, Args, ArgsUpTo, ArgsAs, ArgumentAs, TypeOf, TypeAs, QualifiedAs, Function, ParamsAs, Types, TypesAs, TypeListedAs, SymbolAs, Symbol, known_substitution, saved_substitution, substitution, parameter, no_tag, source_component, constructor_component, destructor_component, unqualified, parameter_first, std_first, substitution_first, name_first, name, nested_name, unscoped_name, std_name, substitution_name, global_name, no_list, argument_list, nested, components, last_component, list_component, name_component, args, args_up_to, no_more_args, one_more_arg, type_argument, type, builtin_type, vendor_type, array_type, function_type, member_type, pointer_type, qualified_type, elaborated_type, parameter_type, substitution_type, name_type, qualified_function, qualified_other, function, no_params, some_params, types, no_more_types, one_more_type, no_type_list, type_list, name_symbol, symbol}
 
 -- the rest lies behind a front of the bytes
 pub record IsBehind (rest bytes : List ℕ) : Type 0 where
@@ -175,7 +185,84 @@ destructor_some : (bytes : List ℕ) → unqualified_form true bytes ≡ Destruc
 destructor_some [] e = cc
 destructor_some (b ∷ bytes) e = omega arith
 
-pub ruleset forms = (std_shorter, end_shorter, args_end_shorter, list_some, component_list_some, builtin_shorter)
+pub types_end_some : (bytes : List ℕ) → types_form bytes ≡ LastType → 0 < length bytes
+types_end_some [] e = cc
+types_end_some (b ∷ bytes) e = omega arith
+
+-- these types have a letter of their own
+pub array_some : (bytes : List ℕ) → type_form bytes ≡ ArrayType → 0 < length bytes
+array_some [] e = cc
+array_some (b ∷ bytes) e = omega arith
+
+pub member_some : (bytes : List ℕ) → type_form bytes ≡ MemberType → 0 < length bytes
+member_some [] e = cc
+member_some (b ∷ bytes) e = omega arith
+
+pub function_some : (bytes : List ℕ) → type_form bytes ≡ FunctionType → 0 < length bytes
+function_some [] e = cc
+function_some (b ∷ bytes) e = omega arith
+
+pub pointer_some : (bytes : List ℕ) (kind : Pointer) → type_form bytes ≡ PointerType kind → 0 < length bytes
+pointer_some [] kind e = cc
+pointer_some (b ∷ bytes) kind e = omega arith
+
+pub qualified_some : (bytes : List ℕ) → qualified_form bytes ≡ FunctionQualified → 0 < length bytes
+qualified_some [] e = cc
+qualified_some (b ∷ bytes) e = omega arith
+
+pub no_params_some : (bytes : List ℕ) → params_form bytes ≡ NoParams → 0 < length bytes
+no_params_some [] e = cc
+no_params_some (b ∷ bytes) e = omega arith
+
+-- a type of qualifiers begins with one of their letters
+tenth : (a b c d e f g h i j : Bool) (y : TypeForm) → (y ≡ QualifiedType → ⊥)
+    → ◌≡◌ {A = TypeForm} (if a then BuiltinType else (if b then ExpansionType else (if c then VendorType else (if d then ArrayType else (if e then FunctionType else (if f then MemberType else
+    (if g then PointerType Pointer.Star else (if h then PointerType Pointer.Left else (if i then PointerType Pointer.Right else (if j then QualifiedType else y)))))))))) QualifiedType
+    → j ≡ true
+tenth true b c d e f g h i j y n q = cc
+tenth false true c d e f g h i j y n q = cc
+tenth false false true d e f g h i j y n q = cc
+tenth false false false true e f g h i j y n q = cc
+tenth false false false false true f g h i j y n q = cc
+tenth false false false false false true g h i j y n q = cc
+tenth false false false false false false true h i j y n q = cc
+tenth false false false false false false false true i j y n q = cc
+tenth false false false false false false false false true j y n q = cc
+tenth false false false false false false false false false true y n q = refl
+tenth false false false false false false false false false false y n q = absurd (n q)
+
+later : (a b c d e : Bool) → ◌≡◌ {A = TypeForm} (if a then ElaboratedType else (if b then ParameterType else (if c then NameType else (if d then SubstitutionType else (if e then UnreadType else NameType))))) QualifiedType → ⊥
+later true b c d e q = cc
+later false true c d e q = cc
+later false false true d e q = cc
+later false false false true e q = cc
+later false false false false true q = cc
+later false false false false false q = cc
+
+qualified_first : (bytes : List ℕ) → type_form bytes ≡ QualifiedType → begins_one_of (codes "rVK") bytes ≡ true
+qualified_first bytes e = tenth (is_builtin bytes) (begins (codes "Dp") bytes) (begins (codes "u") bytes) (begins (codes "A") bytes) (begins (codes "F") bytes) (begins (codes "M") bytes)
+    (begins (codes "P") bytes) (begins (codes "R") bytes) (begins (codes "O") bytes) (begins_one_of (codes "rVK") bytes) _
+    (later (begins (codes "T") bytes && begins_one_of (codes "sue") (drop 1 bytes)) (begins (codes "T") bytes) (begins (codes "St") bytes) (begins (codes "S") bytes) (begins (codes "U") bytes)) e
+
+-- a letter that stands there is gone past
+letter_shorter : (letter : ℕ) (bytes : List ℕ) → begins (letter ∷ []) bytes ≡ true → length (past_letter letter bytes) < length bytes
+letter_shorter letter [] e = cc
+letter_shorter letter (b ∷ bytes) e = rw e (omega arith)
+
+cv_shorter : (bytes : List ℕ) → begins_one_of (codes "rVK") bytes ≡ true → length (past_cv bytes) < length bytes
+cv_shorter [] e = cc
+cv_shorter (b ∷ bytes) e = go (b == 114) (b == 86) (b == 75) refl refl refl e
+  where
+    go : (r v k : Bool) → (b == 114) ≡ r → (b == 86) ≡ v → (b == 75) ≡ k → (r || (v || (k || false))) ≡ true → length (past_cv (b ∷ bytes)) < length (b ∷ bytes)
+    go true v k er ev ek h = rw er (omega (arith, behind-le (behind_then (letter_behind 86 bytes) (letter_behind 75 (past_letter 86 bytes)))))
+    go false true k er ev ek h = rw (er, ev) (omega (arith, behind-le (letter_behind 75 bytes)))
+    go false false true er ev ek h = rw (er, ev, ek) (omega arith)
+    go false false false er ev ek h = cc
+
+pub qualified_shorter : (bytes : List ℕ) → type_form bytes ≡ QualifiedType → length (past_cv bytes) < length bytes
+qualified_shorter bytes e = cv_shorter bytes (qualified_first bytes e)
+
+pub ruleset forms = (types_end_some, array_some, member_some, function_some, pointer_some, qualified_some, no_params_some, qualified_shorter, std_shorter, end_shorter, args_end_shorter, list_some, component_list_some, builtin_shorter)
 
 take_none : (b : ℕ) (bytes : List ℕ) (found : List ℕ) → past_underscore (b ∷ bytes) ≡ Some found → found ≡ bytes
 take_none b bytes found e = sym ((cond_some (b == 95) bytes found e).1)
@@ -199,6 +286,23 @@ index_takes r bytes found e = go (past_underscore bytes) refl e
     go None f g = option_and_then_some _ (numeral r bytes) found g (λ n read more.
         option_and_then_some _ (next_number n.0) found more (λ i next there.
         takes_takes (numeral_takes r bytes n read) (behind_number n i (past_underscore n.1) refl there)))
+
+pub bound_takes : (bytes : List ℕ) (found : Option ℕ × List ℕ) → bound_of bytes ≡ Some found → Takes found.1 bytes
+unfolding bound_of
+bound_takes bytes found e = go (past_underscore bytes) refl e
+  where
+    go : (o : Option (List ℕ)) → past_underscore bytes ≡ o → bound_by bytes o ≡ Some found → Takes found.1 bytes
+    go (Some rest) f g = let is : rest ≡ found.1 = (some_pair_parts None found.0 rest found.1 g).1 in rw (← is) (underscore_takes bytes rest f)
+    go None f g = option_and_then_some _ (number bytes) found g (λ n read more. behind_number n (past_underscore n.1) refl (number_takes bytes n read) more)
+      where
+        behind_number : (n : ℕ × List ℕ) (o : Option (List ℕ)) → past_underscore n.1 ≡ o → Takes n.1 bytes → option_map (λ rest. (Some n.0, rest)) o ≡ Some found → Takes found.1 bytes
+        behind_number n None f a g = cc
+        behind_number n (Some rest) f a g =
+            let is : rest ≡ found.1 = (some_pair_parts (Some n.0) found.0 rest found.1 g).1 in
+            rw (← is) (takes_takes a (underscore_takes n.1 rest f))
+
+reference_behind : (bytes : List ℕ) → IsBehind (past_reference bytes) bytes
+reference_behind bytes = if_behind _ 1 bytes
 
 pub substitution_behind : {form : SubstitutionForm} {p q : Place} {t : Tree} → SubstitutionAs form p t q → IsBehind q.rest p.rest
 substitution_behind (known_substitution {p = p} known) = behind_drop 1 p.rest
@@ -281,13 +385,45 @@ mutual
 
   type_as_takes : {form : TypeForm} {x : Context} {p q : Place} {t : Tree} {c : Cost} → type_form p.rest ≡ form → TypeAs form x p t q c → Takes q.rest p.rest
   type_as_takes form (builtin_type {p = p}) = record { behind = builtin_behind p.rest; shorter = builtin_shorter p.rest form }
+  type_as_takes form (vendor_type {p = p} {bytes = b} {rest = r} found list) = behind_takes (behind_drop 1 p.rest) (source_takes (drop 1 p.rest) (b, r) found)
+  type_as_takes form (array_type {p = p} {dim = n} {rest = r} found a there) =
+      behind_takes (behind_drop 1 p.rest) (takes_takes (bound_takes (drop 1 p.rest) (n, r) found) (type_takes a))
+  type_as_takes form (function_type a) = function_takes a
+  type_as_takes form (member_type {p = p} a b there) = behind_takes (behind_drop 1 p.rest) (takes_takes (type_takes a) (type_takes b))
+  type_as_takes form (pointer_type {p = p} a) = behind_takes (behind_drop 1 p.rest) (type_takes a)
+  type_as_takes form (qualified_type {p = p} other a) = behind_takes (cv_behind p.rest) (qualified_takes a)
+  type_as_takes form (elaborated_type {p = p} a) = behind_takes (behind_drop 2 p.rest) (name_takes a)
   type_as_takes form (parameter_type a list b) = takes_then (parameter_takes a) (type_listed_behind b)
   type_as_takes form (substitution_type a list b) = takes_then (substitution_takes a) (type_listed_behind b)
   type_as_takes form (name_type a) = name_takes a
 
+  qualified_takes : {form : QualifiedForm} {x : Context} {quals : Quals} {p q : Place} {t : Tree} {c : Cost} → QualifiedAs form x quals p t q c → Takes q.rest p.rest
+  qualified_takes (qualified_function a) = function_takes a
+  qualified_takes (qualified_other a) = type_takes a
+
+  function_takes : {x : Context} {quals : Quals} {p q : Place} {t : Tree} {c : Cost} → Function x quals p t q c → Takes q.rest p.rest
+  function_takes (function {p = p} {r = r} plain a form b there) =
+      behind_takes (behind_drop 1 p.rest) (takes_then (type_takes a) (behind_then (params_behind b) (behind_then (reference_behind r.rest) (behind_drop 1 (past_reference r.rest)))))
+
+  params_behind : {form : ParamsForm} {x : Context} {p q : Place} {ts : List Tree} {c : Cost} → ParamsAs form x p ts q c → IsBehind q.rest p.rest
+  params_behind (no_params {p = p}) = behind_drop 1 p.rest
+  params_behind (some_params a) = types_behind a
+
+  pub types_behind : {x : Context} {p q : Place} {ts : List Tree} {c : Cost} → Types x p ts q c → IsBehind q.rest p.rest
+  types_behind (types form a) = types_as_behind a
+
+  types_as_behind : {form : TypesForm} {x : Context} {p q : Place} {ts : List Tree} {c : Cost} → TypesAs form x p ts q c → IsBehind q.rest p.rest
+  types_as_behind (no_more_types {p = p}) = behind_none p.rest
+  types_as_behind (one_more_type a b) = behind_then (type_takes a).behind (types_behind b)
+
   type_listed_behind : {form : ListForm} {x : Context} {t u : Tree} {p q : Place} {c : Cost} → TypeListedAs form x t p u q c → IsBehind q.rest p.rest
   type_listed_behind (no_type_list {p = p}) = behind_none p.rest
   type_listed_behind (type_list a) = args_behind a
+
+-- types have an end, or a type
+pub types_some : {x : Context} {p q : Place} {ts : List Tree} {c : Cost} → Types x p ts q c → 0 < length p.rest
+types_some (types {p = p} form no_more_types) = types_end_some p.rest form
+types_some (types form (one_more_type a b)) = let shorter = (type_takes a).shorter in omega arith
 
 symbol_as_takes : {form : SymbolForm} {x : Context} {p q : Place} {t : Tree} {c : Cost} → SymbolAs form x p t q c → Takes q.rest p.rest
 symbol_as_takes (name_symbol a) = name_takes a

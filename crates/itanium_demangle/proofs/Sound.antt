@@ -1,6 +1,6 @@
 -- What the functions read, the grammar reads.
 use Rattle.std.proofs.Common.{◌≡◌, ◌≤◌, ℕ, zero, suc, ◌+◌, max, Bool, true, false, ◌∷◌, List, map, length, drop, refl, ap, ◌∙◌, sym, arith, Option, Some, None, codes}
-use Rattle.std.proofs.lemmas.Option.{same_Some, option_and_then_some}
+use Rattle.std.proofs.lemmas.Option.{same_Some, cond_some, option_and_then_some}
 use Rattle.std.specs.Prelude.{option_map, slice_get, is_some}
 use Rattle.std.proofs.lemmas.List.{length-map}
 use Rattle.std.proofs.lemmas.Option.{slice_get-map}
@@ -29,20 +29,32 @@ use Rattle.itanium_demangle.specs.declared.forms.ArgsForm.{ArgsForm}
 use Rattle.itanium_demangle.specs.declared.forms.ArgsForm.TheVariants.{LastArgument, NextArgument}
 use Rattle.itanium_demangle.specs.declared.forms.ArgumentForm.{ArgumentForm}
 use Rattle.itanium_demangle.specs.declared.forms.ArgumentForm.TheVariants.{ExpressionArgument, PackArgument, LiteralArgument, ConstraintArgument, TypeArgument}
+use Rattle.itanium_demangle.specs.declared.forms.QualifiedForm.{QualifiedForm}
+use Rattle.itanium_demangle.specs.declared.forms.QualifiedForm.TheVariants.{FunctionQualified, TypeQualified}
+use Rattle.itanium_demangle.specs.declared.forms.FunctionForm.{FunctionForm}
+use Rattle.itanium_demangle.specs.declared.forms.FunctionForm.TheVariants.{ExternFunction, PlainFunction}
+use Rattle.itanium_demangle.specs.declared.forms.ParamsForm.{ParamsForm}
+use Rattle.itanium_demangle.specs.declared.forms.ParamsForm.TheVariants.{NoParams, SomeParams}
+use Rattle.itanium_demangle.specs.declared.forms.TypesForm.{TypesForm}
+use Rattle.itanium_demangle.specs.declared.forms.TypesForm.TheVariants.{LastType, NextType}
+use Rattle.demangle_edit.specs.declared.quals.Quals.{Quals}
+use Rattle.demangle_edit.specs.declared.quals.Pointer.{Pointer}
+use Rattle.demangle_text.specs.Shape.{is_plain}
+use Rattle.demangle_edit.specs.Types.{has_array, has_member, arrayed, membered, function_of}
 use Rattle.itanium_demangle.specs.declared.forms.TypeForm.{TypeForm}
-use Rattle.itanium_demangle.specs.declared.forms.TypeForm.TheVariants.{BuiltinType, ExpansionType, VendorType, ArrayType, FunctionType, MemberType, PointerType, ReferenceType, RvalueType, QualifiedType, ElaboratedType, ParameterType, SubstitutionType, UnreadType, NameType}
+use Rattle.itanium_demangle.specs.declared.forms.TypeForm.TheVariants.{BuiltinType, ExpansionType, VendorType, ArrayType, FunctionType, MemberType, PointerType, QualifiedType, ElaboratedType, ParameterType, SubstitutionType, UnreadType, NameType}
 use Rattle.itanium_demangle.specs.declared.scalar.Radix.TheVariants.{Decimal, Base36}
 use Rattle.itanium_demangle.specs.declared.known.Known.{Known}
 use Rattle.itanium_demangle.specs.Known.{known_of, known_shape}
 use Rattle.itanium_demangle.specs.Around.{opens_scope, inside_type}
-use Rattle.itanium_demangle.specs.Scalars.{source_name, index_of}
-use Rattle.itanium_demangle.specs.Forms.{symbol_form, name_form, unscoped_form, list_form, first_form, component_form, unqualified_form, tag_form, substitution_form, args_form, argument_form, type_form, past_internal, source_text, past_name_quals, saves_first}
+use Rattle.itanium_demangle.specs.Scalars.{source_name, index_of, bound_of}
+use Rattle.itanium_demangle.specs.Forms.{symbol_form, name_form, unscoped_form, list_form, first_form, component_form, unqualified_form, tag_form, substitution_form, args_form, argument_form, type_form, qualified_form, function_form, params_form, types_form, cv_quals, past_cv, reference_of, past_reference, no_quals, elaborated_text, past_internal, source_text, past_name_quals, saves_first}
 use Rattle.itanium_demangle.specs.Tree.{Tree, plain_name, known_name, structor_of, with_args, trees, shape_of, between, list_from, closed, list_shape}
-use Rattle.itanium_demangle.specs.Grammar.{Place, Cost, at, counted, saving, save, put, begin, past_initializer, both, SubstitutionAs, Substitution, ParameterAs, Parameter, TaggedAs, UnqualifiedAs, Unqualified, FirstAs, Name, NameAs, UnscopedAs, ListedAs, Nested, Components, ComponentsAs, Args, ArgsUpTo, ArgsAs, ArgumentAs, TypeOf, TypeAs, TypeListedAs, SymbolAs, Symbol, known_substitution, saved_substitution, substitution, auto_parameter, scope_parameter, parameter, no_tag, source_component, constructor_component, destructor_component, unqualified, parameter_first, std_first, substitution_first, name_first, name, nested_name, unscoped_name, std_name, substitution_name, global_name, no_list, argument_list, nested, components, last_component, list_component, name_component, args, args_up_to, no_more_args, one_more_arg, type_argument, type, builtin_type, parameter_type, substitution_type, name_type, no_type_list, type_list, name_symbol, symbol, skip, last_of}
-use Rattle.itanium_demangle.specs.Reading.{State, enter, read_source, substitution_as, read_substitution, parameter_as, read_parameter, saved_parameter, tagged_as, structor_as, unqualified_as, read_unqualified, first_as, attached_by, template_as, component_as, read_components, read_prefix, read_nested, listed_as, unscoped_as, name_as, argument_as, argument_by, args_as, read_list, type_listed_as, type_as, read_name, read_args, read_type, symbol_as, read_symbol}
+use Rattle.itanium_demangle.specs.Grammar.{Place, Cost, at, counted, saving, save, put, begin, past_initializer, both, SubstitutionAs, Substitution, ParameterAs, Parameter, TaggedAs, UnqualifiedAs, Unqualified, FirstAs, Name, NameAs, UnscopedAs, ListedAs, Nested, Components, ComponentsAs, Args, ArgsUpTo, ArgsAs, ArgumentAs, TypeOf, TypeAs, QualifiedAs, Function, ParamsAs, Types, TypesAs, TypeListedAs, SymbolAs, Symbol, known_substitution, saved_substitution, substitution, auto_parameter, scope_parameter, parameter, no_tag, source_component, constructor_component, destructor_component, unqualified, parameter_first, std_first, substitution_first, name_first, name, nested_name, unscoped_name, std_name, substitution_name, global_name, no_list, argument_list, nested, components, last_component, list_component, name_component, args, args_up_to, no_more_args, one_more_arg, type_argument, type, builtin_type, vendor_type, array_type, function_type, member_type, pointer_type, qualified_type, elaborated_type, parameter_type, substitution_type, name_type, qualified_function, qualified_other, function, no_params, some_params, types, no_more_types, one_more_type, no_type_list, type_list, name_symbol, symbol, skip, last_of}
+use Rattle.itanium_demangle.specs.Reading.{State, enter, read_source, substitution_as, read_substitution, parameter_as, read_parameter, saved_parameter, tagged_as, structor_as, unqualified_as, read_unqualified, first_as, attached_by, template_as, component_as, read_components, read_prefix, read_nested, listed_as, unscoped_as, name_as, argument_as, argument_by, args_as, read_list, types_as, read_types, params_as, function_end, function_as, read_function, qualified_as, vendor_as, saved_array, saved_member, type_listed_as, type_as, read_name, read_args, read_type, symbol_as, read_symbol}
 use Rattle.itanium_demangle.proofs.See.{state_at, one_more, some-map, last-map, put-scopes, begin-scopes, shape-plain_name, shape-known_name, shape-structor_of, shape-with_args}
-use Rattle.itanium_demangle.proofs.Shorter.{unqualified_takes, args_takes, argument_takes, member_behind, behind_drop, behind-le}
-use Rattle.itanium_demangle.proofs.Complete.{substitution_complete, parameter_complete, unqualified_complete, first_complete, listed_complete, components_complete, name_complete, args_complete, up_to_complete, argument_complete, type_complete, symbol_complete}
+use Rattle.itanium_demangle.proofs.Shorter.{unqualified_takes, args_takes, argument_takes, type_takes, member_behind, behind_drop, behind-le}
+use Rattle.itanium_demangle.proofs.Complete.{substitution_complete, parameter_complete, unqualified_complete, first_complete, listed_complete, components_complete, name_complete, args_complete, up_to_complete, argument_complete, function_complete, params_complete, types_complete, type_complete, symbol_complete}
 
 -- a reading within the depth
 pub record Within {T : Type 0} (R : T → Place → Cost → Type 0) (d : ℕ) : Type 0 where
@@ -355,19 +367,125 @@ type_listed_sound d lists ArgumentList x t p e m y is =
     let a = (attached_sound d lists x false t p e m z list).within in
     record { tree = _; next = _; cost = _; reading = type_list a.reading; deep = omega (arith, a.deep) })
 
+-- types up to their end, in n turns
+abbrev TypesSound : ℕ → ℕ → Type 0
+TypesSound d n = (x : Context) (p : Place) (e m : ℕ) (y : List Shape × State) → length p.rest ≤ n
+    → read_types (read_type d x) n (state_at p e m) ≡ Some y → Found (Types x p) (map shape_of) d e m y
+
+types_as_sound : (d n : ℕ) → TypeSound d → TypesSound d n → (form : TypesForm) (x : Context) (p : Place) (e m : ℕ) (y : List Shape × State) → length p.rest ≤ suc n
+    → types_as form (read_type d x) (read_types (read_type d x) n) (state_at p e m) ≡ Some y → Within (TypesAs form x p) d
+types_as_sound d n kinds again LastType x p e m y room is = record { tree = _; next = _; cost = _; reading = no_more_types; deep = omega arith }
+types_as_sound d n kinds again NextType x p e m y room is =
+    option_and_then_some _ (read_type d x (state_at p e m)) y is (λ z first more.
+    let found = kinds x p e m z first in
+    let i = found.within in
+    let shorter = (type_takes i.reading).shorter in
+    option_and_then_some _ (read_types (read_type d x) n z.1) y more (λ v others _.
+    let o = (again x i.next (e + i.cost.count) (max m i.cost.peak) v (omega arith) (rw found.is at others)).within in
+    record { tree = i.tree ∷ o.tree; next = o.next; cost = _; reading = one_more_type i.reading o.reading; deep = omega (arith, i.deep, o.deep) }))
+
+types_sound : (d n : ℕ) → TypeSound d → TypesSound d n
+unfolding read_types
+types_sound d zero kinds x p e m y room is = cc
+types_sound d (suc n) kinds x p e m y room is =
+    let r = types_as_sound d n kinds (types_sound d n kinds) (types_form p.rest) x p e m y room is in
+    let w : Within (Types x p) d = record { tree = _; next = _; cost = _; reading = types refl r.reading; deep = r.deep } in
+    record { within = w; is = same_Some _ _ (sym is ∙ types_complete w.reading d e m (suc n) w.deep room) }
+
+params_sound : (d : ℕ) → TypeSound d → (form : ParamsForm) (x : Context) (p : Place) (e m : ℕ) (y : List Shape × State)
+    → params_as form (read_type d x) (state_at p e m) ≡ Some y → Found (ParamsAs form x p) (map shape_of) d e m y
+params_sound d kinds NoParams x p e m y is =
+    let w : Within (ParamsAs NoParams x p) d = record { tree = _; next = _; cost = _; reading = no_params; deep = omega arith } in
+    record { within = w; is = same_Some _ _ (sym is ∙ params_complete w.reading d e m w.deep) }
+params_sound d kinds SomeParams x p e m y is =
+    let i = (types_sound d (length p.rest) kinds x p e m y (omega arith) is).within in
+    let w : Within (ParamsAs SomeParams x p) d = record { tree = i.tree; next = i.next; cost = i.cost; reading = some_params i.reading; deep = i.deep } in
+    record { within = w; is = same_Some _ _ (sym is ∙ params_complete w.reading d e m w.deep) }
+
+-- a step that may not exist, exists where it has an answer
+plain_sound : (ret : Shape) (params : List Shape) (quals : Quals) (v : Shape) → function_of ret params quals ≡ Some v → is_plain ret.form ≡ true
+plain_sound ret params quals v is = (cond_some (is_plain ret.form) _ v is).0
+
+array_sound : (dim : Option ℕ) (elem v : Shape) → arrayed dim elem ≡ Some v → has_array elem.form ≡ true
+array_sound dim elem v is = (cond_some (has_array elem.form) _ v is).0
+
+member_sound : (class member v : Shape) → membered class member ≡ Some v → has_member member.form ≡ true
+member_sound class member v is = (cond_some (has_member member.form) _ v is).0
+
+function_as_sound : (d : ℕ) → TypeSound d → (form : FunctionForm) (x : Context) (quals : Quals) (p : Place) (e m : ℕ) (y : Shape × State) → function_form p.rest ≡ form
+    → function_as form (read_type d x) quals (state_at p e m) ≡ Some y → Within (Function x quals p) d
+function_as_sound d kinds ExternFunction x quals p e m y form is = cc
+function_as_sound d kinds PlainFunction x quals p e m y form is =
+    option_and_then_some _ (read_type d x (state_at (skip 1 p) e m)) y is (λ z ret more.
+    let found = kinds x (skip 1 p) e m z ret in
+    let i = found.within in
+    let there = rw found.is at more in
+    option_and_then_some _ (params_as (params_form i.next.rest) (read_type d x) (state_at i.next (e + i.cost.count) (max m i.cost.peak))) y there (λ v params ends.
+    let listed = params_sound d kinds (params_form i.next.rest) x i.next (e + i.cost.count) (max m i.cost.peak) v params in
+    let o = listed.within in
+    let all : Quals = record quals { reference = reference_of v.1.rest } in
+    option_and_then_some _ (function_of (shape_of i.tree) v.0 all) y ends (λ w made _.
+    let plain = plain_sound (shape_of i.tree) v.0 all w made in
+    record { tree = _; next = _; cost = _; reading = function form i.reading refl o.reading plain; deep = omega (arith, i.deep, o.deep) })))
+
+function_sound : (d : ℕ) → TypeSound d → (x : Context) (quals : Quals) (p : Place) (e m : ℕ) (y : Shape × State)
+    → read_function (read_type d x) quals (state_at p e m) ≡ Some y → Within (Function x quals p) d
+function_sound d kinds x quals p e m y is = function_as_sound d kinds (function_form p.rest) x quals p e m y refl is
+
+qualified_sound : (d : ℕ) → TypeSound d → (form : QualifiedForm) (x : Context) (quals : Quals) (p : Place) (e m : ℕ) (y : Shape × State)
+    → qualified_as form (read_type d x) quals (state_at p e m) ≡ Some y → Within (QualifiedAs form x quals p) d
+qualified_sound d kinds FunctionQualified x quals p e m y is =
+    let i = function_sound d kinds x quals p e m y is in record { tree = _; next = _; cost = _; reading = qualified_function i.reading; deep = i.deep }
+qualified_sound d kinds TypeQualified x quals p e m y is =
+    option_and_then_some _ (read_type d x (state_at p e m)) y is (λ z inner _.
+    let i = (kinds x p e m z inner).within in record { tree = _; next = _; cost = _; reading = qualified_other i.reading; deep = i.deep })
+
+vendor_sound : (form : ListForm) (t : Shape) (s : State) (y : Shape × State) → vendor_as form t s ≡ Some y → form ≡ NoList
+vendor_sound NoList t s y is = refl
+vendor_sound ArgumentList t s y is = cc
+
 type_as_sound : (d : ℕ) → TypeSound d → NameSound d → ArgsSound d → (form : TypeForm) (x : Context) (p : Place) (e m : ℕ) (y : Shape × State)
     → type_as form (read_type d x) (read_name d x) (read_args d x false) x (state_at p e m) ≡ Some y → Within (TypeAs form x p) d
 type_as_sound d kinds names lists BuiltinType x p e m y is = record { tree = _; next = _; cost = _; reading = builtin_type; deep = omega arith }
 type_as_sound d kinds names lists ExpansionType x p e m y is = cc
-type_as_sound d kinds names lists VendorType x p e m y is = cc
-type_as_sound d kinds names lists ArrayType x p e m y is = cc
-type_as_sound d kinds names lists FunctionType x p e m y is = cc
-type_as_sound d kinds names lists MemberType x p e m y is = cc
-type_as_sound d kinds names lists PointerType x p e m y is = cc
-type_as_sound d kinds names lists ReferenceType x p e m y is = cc
-type_as_sound d kinds names lists RvalueType x p e m y is = cc
-type_as_sound d kinds names lists QualifiedType x p e m y is = cc
-type_as_sound d kinds names lists ElaboratedType x p e m y is = cc
+type_as_sound d kinds names lists VendorType x p e m y is =
+    option_and_then_some _ (read_source (state_at (skip 1 p) e m)) y is (λ z first more.
+    option_and_then_some _ (source_name (drop 1 p.rest)) z first (λ b found made.
+    let there = rw (source_is (skip 1 p) e m z b made) at more in
+    let form = vendor_sound (list_form b.1) (shape_of (plain_name (source_text b.0))) (state_at (at b.1 p) e m) y there in
+    record { tree = _; next = _; cost = _; reading = vendor_type found form; deep = omega arith }))
+type_as_sound d kinds names lists ArrayType x p e m y is =
+    option_and_then_some _ (bound_of (drop 1 p.rest)) y is (λ dim found more.
+    option_and_then_some _ (read_type d x (state_at (at dim.1 p) e m)) y more (λ z elem ends.
+    let inner = kinds x (at dim.1 p) e m z elem in
+    let i = inner.within in
+    let there = rw inner.is at ends in
+    option_and_then_some _ (arrayed dim.0 (shape_of i.tree)) y there (λ w made _.
+    record { tree = _; next = _; cost = _; reading = array_type found i.reading (array_sound dim.0 (shape_of i.tree) w made); deep = omega (arith, i.deep) })))
+type_as_sound d kinds names lists FunctionType x p e m y is =
+    option_and_then_some _ (read_function (read_type d x) no_quals (state_at p e m)) y is (λ z found _.
+    let i = function_sound d kinds x no_quals p e m z found in record { tree = _; next = _; cost = _; reading = function_type i.reading; deep = omega (arith, i.deep) })
+type_as_sound d kinds names lists MemberType x p e m y is =
+    option_and_then_some _ (read_type d x (state_at (skip 1 p) e m)) y is (λ z class more.
+    let first = kinds x (skip 1 p) e m z class in
+    let i = first.within in
+    let there = rw first.is at more in
+    option_and_then_some _ (read_type d x (state_at i.next (e + i.cost.count) (max m i.cost.peak))) y there (λ v inner ends.
+    let second = kinds x i.next (e + i.cost.count) (max m i.cost.peak) v inner in
+    let o = second.within in
+    let here = rw second.is at ends in
+    option_and_then_some _ (membered (shape_of i.tree) (shape_of o.tree)) y here (λ w made _.
+    record { tree = _; next = _; cost = _; reading = member_type i.reading o.reading (member_sound (shape_of i.tree) (shape_of o.tree) w made); deep = omega (arith, i.deep, o.deep) })))
+type_as_sound d kinds names lists (PointerType kind) x p e m y is =
+    option_and_then_some _ (read_type d x (state_at (skip 1 p) e m)) y is (λ z inner _.
+    let i = (kinds x (skip 1 p) e m z inner).within in record { tree = _; next = _; cost = _; reading = pointer_type i.reading; deep = omega (arith, i.deep) })
+type_as_sound d kinds names lists QualifiedType x p e m y is =
+    option_and_then_some _ (qualified_as (qualified_form (past_cv p.rest)) (read_type d x) (cv_quals p.rest) (state_at (at (past_cv p.rest) p) e m)) y is (λ z found _.
+    let i = qualified_sound d kinds (qualified_form (past_cv p.rest)) x (cv_quals p.rest) (at (past_cv p.rest) p) e m z found in
+    record { tree = _; next = _; cost = _; reading = qualified_type refl i.reading; deep = omega (arith, i.deep) })
+type_as_sound d kinds names lists ElaboratedType x p e m y is =
+    option_and_then_some _ (read_name d x (state_at (skip 2 p) e m)) y is (λ z inner _.
+    let i = (names x (skip 2 p) e m z inner).within in record { tree = _; next = _; cost = _; reading = elaborated_type i.reading; deep = omega (arith, i.deep) })
 type_as_sound d kinds names lists UnreadType x p e m y is = cc
 type_as_sound d kinds names lists ParameterType x p e m y is =
     option_and_then_some _ (saved_parameter x (state_at p e m)) y is (λ v saved more.

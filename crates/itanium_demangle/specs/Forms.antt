@@ -1,6 +1,7 @@
 -- Which case of a production the next bytes begin. Of several cases the first one that fits holds.
 use Rattle.std.specs.Prelude.{ℕ, List, [], ◌∷◌, Bool, true, false, ◌&&◌, ◌||◌, ◌==◌, nat_le, nat_lt, length, drop, codes, if◌then◌else◌, Option, Some, None}
 use Rattle.demangle_edit.specs.declared.quals.Quals.{Quals}
+use Rattle.demangle_edit.specs.declared.quals.Pointer.TheVariants as Pointer
 use Rattle.demangle_edit.specs.declared.quals.Reference.{Reference}
 use Rattle.demangle_edit.specs.declared.quals.Reference.TheVariants.{Left, Right}
 use Rattle.itanium_demangle.specs.declared.forms.SymbolForm.{SymbolForm}
@@ -26,7 +27,15 @@ use Rattle.itanium_demangle.specs.declared.forms.ArgsForm.TheVariants.{LastArgum
 use Rattle.itanium_demangle.specs.declared.forms.ArgumentForm.{ArgumentForm}
 use Rattle.itanium_demangle.specs.declared.forms.ArgumentForm.TheVariants.{ExpressionArgument, PackArgument, LiteralArgument, ConstraintArgument, TypeArgument}
 use Rattle.itanium_demangle.specs.declared.forms.TypeForm.{TypeForm}
-use Rattle.itanium_demangle.specs.declared.forms.TypeForm.TheVariants.{BuiltinType, ExpansionType, VendorType, ArrayType, FunctionType, MemberType, PointerType, ReferenceType, RvalueType, QualifiedType, ElaboratedType, ParameterType, SubstitutionType, UnreadType, NameType}
+use Rattle.itanium_demangle.specs.declared.forms.TypeForm.TheVariants.{BuiltinType, ExpansionType, VendorType, ArrayType, FunctionType, MemberType, PointerType, QualifiedType, ElaboratedType, ParameterType, SubstitutionType, UnreadType, NameType}
+use Rattle.itanium_demangle.specs.declared.forms.QualifiedForm.{QualifiedForm}
+use Rattle.itanium_demangle.specs.declared.forms.QualifiedForm.TheVariants.{FunctionQualified, TypeQualified}
+use Rattle.itanium_demangle.specs.declared.forms.FunctionForm.{FunctionForm}
+use Rattle.itanium_demangle.specs.declared.forms.FunctionForm.TheVariants.{ExternFunction, PlainFunction}
+use Rattle.itanium_demangle.specs.declared.forms.ParamsForm.{ParamsForm}
+use Rattle.itanium_demangle.specs.declared.forms.ParamsForm.TheVariants.{NoParams, SomeParams}
+use Rattle.itanium_demangle.specs.declared.forms.TypesForm.{TypesForm}
+use Rattle.itanium_demangle.specs.declared.forms.TypesForm.TheVariants.{LastType, NextType}
 
 -- the bytes begin with the word
 abbrev pub begins : List ℕ → List ℕ → Bool
@@ -235,15 +244,37 @@ type_form bytes =
     if begins (codes "A") bytes then ArrayType else
     if begins (codes "F") bytes then FunctionType else
     if begins (codes "M") bytes then MemberType else
-    if begins (codes "P") bytes then PointerType else
-    if begins (codes "R") bytes then ReferenceType else
-    if begins (codes "O") bytes then RvalueType else
+    if begins (codes "P") bytes then PointerType Pointer.Star else
+    if begins (codes "R") bytes then PointerType Pointer.Left else
+    if begins (codes "O") bytes then PointerType Pointer.Right else
     if begins_one_of (codes "rVK") bytes then QualifiedType else
     if begins (codes "T") bytes && begins_one_of (codes "sue") (drop 1 bytes) then ElaboratedType else
     if begins (codes "T") bytes then ParameterType else
     if begins (codes "St") bytes then NameType else
     if begins (codes "S") bytes then SubstitutionType else
     if begins (codes "U") bytes then UnreadType else NameType
+
+-- what qualifiers stand in front of: a function type takes them in
+abbrev pub qualified_form : List ℕ → QualifiedForm
+qualified_form bytes = if begins (codes "F") bytes then FunctionQualified else TypeQualified
+
+-- <function-type>: FY isn't read
+abbrev pub function_form : List ℕ → FunctionForm
+function_form bytes = if begins (codes "FY") bytes then ExternFunction else PlainFunction
+
+-- v is no parameter right in front of the E
+abbrev pub params_form : List ℕ → ParamsForm
+params_form bytes = if begins (codes "vE") bytes then NoParams else SomeParams
+
+-- the parameters end at E, or at a <ref-qualifier> in front of it
+abbrev pub types_form : List ℕ → TypesForm
+types_form bytes = if begins (codes "E") bytes || (begins (codes "RE") bytes || begins (codes "OE") bytes) then LastType else NextType
+
+-- the word in front of an elaborated type's name, and a space
+abbrev pub elaborated_text : List ℕ → List ℕ
+elaborated_text bytes =
+    if begins (codes "Ts") bytes then codes "struct " else
+    if begins (codes "Tu") bytes then codes "union " else codes "enum "
 
 -- whether the first component of a <nested-name> is saved: all but a substitution is
 abbrev pub saves_first : FirstForm → Bool

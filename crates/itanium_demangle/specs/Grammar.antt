@@ -1,13 +1,17 @@
 -- The grammar: which front of the bytes is which tree (Itanium C++ ABI 5.1). Each relation is indexed by the context, the place
 -- where a reading begins, the tree, the place behind it, and the cost. A form with no case isn't read.
 use Rattle.std.specs.Prelude.{◌≡◌, ℕ, ◌+◌, ◌-◌, max, Bool, true, false, if◌then◌else◌, slice_get, slice_set, slice_index_or, List, [], ◌∷◌, ◌++◌, Option, Some, None, is_some, take, drop, length, codes}
-use Rattle.itanium_demangle.specs.Tree.{Tree, plain_name, known_name, name_in, structor_of, with_args, nested_of, trees, in_scope}
+use Rattle.itanium_demangle.specs.Tree.{Tree, plain_name, known_name, name_in, structor_of, with_args, nested_of, pointer_to, cv_of, array_of, member_of, function_to, elaborated, trees, in_scope, shape_of}
+use Rattle.demangle_text.specs.Shape.{is_plain}
+use Rattle.demangle_edit.specs.declared.quals.Pointer.{Pointer}
+use Rattle.demangle_edit.specs.declared.quals.Quals.{Quals}
+use Rattle.demangle_edit.specs.Types.{has_array, has_member}
 use Rattle.itanium_demangle.specs.Around.{opens_scope, inside_type}
-use Rattle.itanium_demangle.specs.Scalars.{source_name, index_of}
+use Rattle.itanium_demangle.specs.Scalars.{source_name, index_of, bound_of}
 use Rattle.itanium_demangle.specs.declared.scalar.Radix.TheVariants.{Decimal, Base36}
 use Rattle.itanium_demangle.specs.declared.known.Known.{Known}
 use Rattle.itanium_demangle.specs.Known.{known_of}
-use Rattle.itanium_demangle.specs.Forms.{symbol_form, name_form, unscoped_form, list_form, first_form, component_form, unqualified_form, tag_form, past_internal, past_member, source_text, name_quals, past_name_quals, saves_first, substitution_form, args_form, argument_form, type_form, builtin_text, past_builtin}
+use Rattle.itanium_demangle.specs.Forms.{symbol_form, name_form, unscoped_form, list_form, first_form, component_form, unqualified_form, tag_form, past_internal, past_member, source_text, name_quals, past_name_quals, saves_first, substitution_form, args_form, argument_form, type_form, builtin_text, past_builtin, cv_quals, past_cv, reference_of, past_reference, no_quals, qualified_form, function_form, params_form, types_form, elaborated_text}
 use Rattle.itanium_demangle.specs.declared.context.Context.{Context}
 use Rattle.itanium_demangle.specs.declared.forms.SymbolForm.{SymbolForm}
 use Rattle.itanium_demangle.specs.declared.forms.SymbolForm.TheVariants.{NameSymbol}
@@ -32,7 +36,15 @@ use Rattle.itanium_demangle.specs.declared.forms.ArgsForm.TheVariants.{LastArgum
 use Rattle.itanium_demangle.specs.declared.forms.ArgumentForm.{ArgumentForm}
 use Rattle.itanium_demangle.specs.declared.forms.ArgumentForm.TheVariants.{TypeArgument}
 use Rattle.itanium_demangle.specs.declared.forms.TypeForm.{TypeForm}
-use Rattle.itanium_demangle.specs.declared.forms.TypeForm.TheVariants.{BuiltinType, ParameterType, SubstitutionType, NameType}
+use Rattle.itanium_demangle.specs.declared.forms.TypeForm.TheVariants.{BuiltinType, VendorType, ArrayType, FunctionType, MemberType, PointerType, QualifiedType, ElaboratedType, ParameterType, SubstitutionType, NameType}
+use Rattle.itanium_demangle.specs.declared.forms.QualifiedForm.{QualifiedForm}
+use Rattle.itanium_demangle.specs.declared.forms.QualifiedForm.TheVariants.{FunctionQualified, TypeQualified}
+use Rattle.itanium_demangle.specs.declared.forms.FunctionForm.{FunctionForm}
+use Rattle.itanium_demangle.specs.declared.forms.FunctionForm.TheVariants.{PlainFunction}
+use Rattle.itanium_demangle.specs.declared.forms.ParamsForm.{ParamsForm}
+use Rattle.itanium_demangle.specs.declared.forms.ParamsForm.TheVariants.{NoParams, SomeParams}
+use Rattle.itanium_demangle.specs.declared.forms.TypesForm.{TypesForm}
+use Rattle.itanium_demangle.specs.declared.forms.TypesForm.TheVariants.{LastType, NextType}
 
 -- where a reading stands: the bytes that are left, the trees saved so far, and the scopes with their arguments
 pub record Place : Type 0 where
@@ -215,6 +227,26 @@ mutual
   pub data TypeAs : TypeForm → Context → Place → Tree → Place → Cost → Type 0 where
     -- <builtin-type>
     builtin_type : {x : Context} {p : Place} → TypeAs BuiltinType x p (plain_name (builtin_text p.rest)) (at (past_builtin p.rest) p) nothing
+    -- u <source-name>, without <template-args>
+    vendor_type : {x : Context} {p : Place} {bytes rest : List ℕ} → source_name (drop 1 p.rest) ≡ Some (bytes, rest) → list_form rest ≡ NoList
+        → TypeAs VendorType x p (plain_name (source_text bytes)) (save (plain_name (source_text bytes)) (at rest p)) (saving p)
+    -- <array-type> ::= A [<number>] _ <type>
+    array_type : {x : Context} {p q : Place} {t : Tree} {c : Cost} {dim : Option ℕ} {rest : List ℕ} → bound_of (drop 1 p.rest) ≡ Some (dim, rest)
+        → TypeOf x (at rest p) t q c → has_array (shape_of t).form ≡ true → TypeAs ArrayType x p (array_of dim t) (save (array_of dim t) q) (both c (saving q))
+    -- <function-type>
+    function_type : {x : Context} {p q : Place} {t : Tree} {c : Cost} → Function x no_quals p t q c → TypeAs FunctionType x p t (save t q) (both c (saving q))
+    -- <pointer-to-member-type> ::= M <type> <type>
+    member_type : {x : Context} {p q r : Place} {t u : Tree} {c d : Cost} → TypeOf x (skip 1 p) t q c → TypeOf x q u r d → has_member (shape_of u).form ≡ true
+        → TypeAs MemberType x p (member_of t u) (save (member_of t u) r) (both c (both d (saving r)))
+    -- P <type>, R <type> and O <type>
+    pointer_type : {kind : Pointer} {x : Context} {p q : Place} {t : Tree} {c : Cost} → TypeOf x (skip 1 p) t q c
+        → TypeAs (PointerType kind) x p (pointer_to kind t) (save (pointer_to kind t) q) (both c (saving q))
+    -- <qualified-type> ::= <CV-qualifiers> <type>: saved once
+    qualified_type : {x : Context} {p q : Place} {t : Tree} {c : Cost} {form : QualifiedForm} → qualified_form (past_cv p.rest) ≡ form
+        → QualifiedAs form x (cv_quals p.rest) (at (past_cv p.rest) p) t q c → TypeAs QualifiedType x p t (save t q) (both c (saving q))
+    -- <class-enum-type> ::= Ts <name> | Tu <name> | Te <name>
+    elaborated_type : {x : Context} {p q : Place} {t : Tree} {c : Cost} → Name x (skip 2 p) t q c
+        → TypeAs ElaboratedType x p (elaborated (elaborated_text p.rest) t) (save (elaborated (elaborated_text p.rest) t) q) (both c (saving q))
     -- <template-param> [<template-args>]: saved without and with its arguments
     parameter_type : {x : Context} {p q r : Place} {t u : Tree} {c : Cost} {form : ListForm} → Parameter x p t q
         → list_form q.rest ≡ form → TypeListedAs form x t (save t q) u r c → TypeAs ParameterType x p u r (both (saving q) c)
@@ -223,6 +255,31 @@ mutual
         → list_form q.rest ≡ form → TypeListedAs form x t q u r c → TypeAs SubstitutionType x p u r c
     -- <class-enum-type> ::= <name>
     name_type : {x : Context} {p q : Place} {t : Tree} {c : Cost} → Name x p t q c → TypeAs NameType x p t (save t q) (both c (saving q))
+
+  -- what <CV-qualifiers> stand in front of: a function takes them in, and its F is no type of its own
+  pub data QualifiedAs : QualifiedForm → Context → Quals → Place → Tree → Place → Cost → Type 0 where
+    qualified_function : {x : Context} {quals : Quals} {p q : Place} {t : Tree} {c : Cost} → Function x quals p t q c → QualifiedAs FunctionQualified x quals p t q c
+    qualified_other : {x : Context} {quals : Quals} {p q : Place} {t : Tree} {c : Cost} → TypeOf x p t q c → QualifiedAs TypeQualified x quals p (cv_of quals t) q c
+
+  -- <function-type> ::= F <return type> <parameter types> [<ref-qualifier>] E
+  pub data Function : Context → Quals → Place → Tree → Place → Cost → Type 0 where
+    function : {x : Context} {quals : Quals} {p q r : Place} {t : Tree} {ts : List Tree} {c d : Cost} {form : ParamsForm} → function_form p.rest ≡ PlainFunction
+        → TypeOf x (skip 1 p) t q c → params_form q.rest ≡ form → ParamsAs form x q ts r d → is_plain (shape_of t).form ≡ true
+        → Function x quals p (function_to t (trees ts) (record quals { reference = reference_of r.rest })) (skip 1 (at (past_reference r.rest) r)) (both c d)
+
+  -- the parameters: none, or types
+  pub data ParamsAs : ParamsForm → Context → Place → List Tree → Place → Cost → Type 0 where
+    no_params : {x : Context} {p : Place} → ParamsAs NoParams x p [] (skip 1 p) nothing
+    some_params : {x : Context} {p q : Place} {ts : List Tree} {c : Cost} → Types x p ts q c → ParamsAs SomeParams x p ts q c
+
+  -- types up to the E, or to a <ref-qualifier> in front of it
+  pub data Types : Context → Place → List Tree → Place → Cost → Type 0 where
+    types : {x : Context} {p q : Place} {ts : List Tree} {c : Cost} {form : TypesForm} → types_form p.rest ≡ form → TypesAs form x p ts q c → Types x p ts q c
+
+  pub data TypesAs : TypesForm → Context → Place → List Tree → Place → Cost → Type 0 where
+    no_more_types : {x : Context} {p : Place} → TypesAs LastType x p [] p nothing
+    one_more_type : {x : Context} {p q r : Place} {t : Tree} {ts : List Tree} {c d : Cost} → TypeOf x p t q c → Types x q ts r d
+        → TypesAs NextType x p (t ∷ ts) r (both c d)
 
   -- <template-args> behind a type, which is saved with them, or none
   pub data TypeListedAs : ListForm → Context → Tree → Place → Tree → Place → Cost → Type 0 where

@@ -1,6 +1,8 @@
 -- What a reader says of a call.
-use Rattle.std.specs.Prelude.{◌≡◌, ◌≤◌, ℕ, ◌+◌, ◌*◌, ◌^◌, ◌<◌, Bool, true, false, length, Option, Some, None, Result, Ok, Err}
+use Rattle.std.specs.Prelude.{◌≡◌, ◌≤◌, ℕ, ◌+◌, ◌*◌, ◌^◌, ◌<◌, Bool, true, false, List, length, map, All, Vec, Option, Some, None, Result, Ok, Err}
+use Rattle.std.specs.Global.{Global}
 use Rattle.std.specs.declared.alloc.AllocError.{AllocError}
+use Rattle.demangle_text.specs.declared.shape.Piece.{Piece}
 use Rattle.demangle_text.specs.Shape.{Shape}
 use Rattle.demangle_text.specs.State.{IsLiving, shape, saved, scopes}
 use Rattle.itanium_demangle.specs.Reading.{State}
@@ -43,3 +45,23 @@ OptionalBounds (Ok true) before after =
     × (length before.scopes ≤ length after.scopes)
 OptionalBounds (Ok false) before after = after.entered ≤ before.entered + 2 * length before.rest + 1
 OptionalBounds (Err e) before after = Unit {0}
+
+-- the same of a call that answers several pieces
+abbrev pub GivesList : Result (Option (Vec Piece Global)) AllocError → Reader → Option (List Shape × State) → Type 0
+GivesList (Ok (Some ps)) after read = All (IsLiving after.buffer) ps.items × (read ≡ Some (map (shape after.buffer) ps.items, state after))
+GivesList (Ok None) after read = read ≡ None
+GivesList (Err e) after read = Unit {0}
+
+abbrev pub OnListRead : Result (Option (Vec Piece Global)) AllocError → Type 0 → Type 0
+OnListRead (Ok (Some ps)) A = A
+OnListRead (Ok None) A = Unit {0}
+OnListRead (Err e) A = Unit {0}
+
+-- a list may be empty, and a failing run of it enters two productions more than it has bytes at most
+abbrev pub ListBounds : Result (Option (Vec Piece Global)) AllocError → State → State → Type 0
+ListBounds (Ok (Some ps)) before after =
+    (length after.rest ≤ length before.rest)
+    × (after.entered + 2 * length after.rest ≤ before.entered + 2 * length before.rest)
+    × (length before.scopes ≤ length after.scopes)
+ListBounds (Ok None) before after = after.entered ≤ before.entered + 2 * length before.rest + 2
+ListBounds (Err e) before after = Unit {0}

@@ -4,12 +4,14 @@ use Rattle.std.specs.Prelude.{ℕ, zero, suc, ◌+◌, ◌-◌, max, Bool, true,
 use Rattle.demangle_text.specs.Shape.{Shape, plain_shape, joined}
 use Rattle.demangle_text.specs.State.{last_args, with_arg}
 use Rattle.demangle_edit.specs.Names.{qualified, qualified_ctor, attached, name_qualified}
-use Rattle.itanium_demangle.specs.Scalars.{source_name, index_of}
+use Rattle.itanium_demangle.specs.Scalars.{source_name, index_of, bound_of}
 use Rattle.itanium_demangle.specs.declared.scalar.Radix.TheVariants.{Decimal, Base36}
 use Rattle.itanium_demangle.specs.Known.{known_of, known_shape}
-use Rattle.itanium_demangle.specs.Tree.{between, closed}
+use Rattle.itanium_demangle.specs.Tree.{between, closed, worded}
+use Rattle.demangle_edit.specs.declared.quals.Quals.{Quals}
+use Rattle.demangle_edit.specs.Types.{wrapped, cv_wrapped, arrayed, membered, function_of}
 use Rattle.itanium_demangle.specs.Around.{opens_scope, inside_type}
-use Rattle.itanium_demangle.specs.Forms.{symbol_form, name_form, unscoped_form, list_form, first_form, component_form, unqualified_form, tag_form, past_internal, past_member, source_text, name_quals, past_name_quals, saves_first, substitution_form, args_form, argument_form, type_form, builtin_text, past_builtin}
+use Rattle.itanium_demangle.specs.Forms.{symbol_form, name_form, unscoped_form, list_form, first_form, component_form, unqualified_form, tag_form, past_internal, past_member, source_text, name_quals, past_name_quals, saves_first, substitution_form, args_form, argument_form, type_form, builtin_text, past_builtin, cv_quals, past_cv, reference_of, past_reference, no_quals, qualified_form, function_form, params_form, types_form, elaborated_text}
 use Rattle.itanium_demangle.specs.declared.context.Context.{Context}
 use Rattle.itanium_demangle.specs.declared.forms.SymbolForm.{SymbolForm}
 use Rattle.itanium_demangle.specs.declared.forms.SymbolForm.TheVariants.{SpecialSymbol, NameSymbol}
@@ -33,8 +35,16 @@ use Rattle.itanium_demangle.specs.declared.forms.ArgsForm.{ArgsForm}
 use Rattle.itanium_demangle.specs.declared.forms.ArgsForm.TheVariants.{LastArgument, NextArgument}
 use Rattle.itanium_demangle.specs.declared.forms.ArgumentForm.{ArgumentForm}
 use Rattle.itanium_demangle.specs.declared.forms.ArgumentForm.TheVariants.{ExpressionArgument, PackArgument, LiteralArgument, ConstraintArgument, TypeArgument}
+use Rattle.itanium_demangle.specs.declared.forms.QualifiedForm.{QualifiedForm}
+use Rattle.itanium_demangle.specs.declared.forms.QualifiedForm.TheVariants.{FunctionQualified, TypeQualified}
+use Rattle.itanium_demangle.specs.declared.forms.FunctionForm.{FunctionForm}
+use Rattle.itanium_demangle.specs.declared.forms.FunctionForm.TheVariants.{ExternFunction, PlainFunction}
+use Rattle.itanium_demangle.specs.declared.forms.ParamsForm.{ParamsForm}
+use Rattle.itanium_demangle.specs.declared.forms.ParamsForm.TheVariants.{NoParams, SomeParams}
+use Rattle.itanium_demangle.specs.declared.forms.TypesForm.{TypesForm}
+use Rattle.itanium_demangle.specs.declared.forms.TypesForm.TheVariants.{LastType, NextType}
 use Rattle.itanium_demangle.specs.declared.forms.TypeForm.{TypeForm}
-use Rattle.itanium_demangle.specs.declared.forms.TypeForm.TheVariants.{BuiltinType, ExpansionType, VendorType, ArrayType, FunctionType, MemberType, PointerType, ReferenceType, RvalueType, QualifiedType, ElaboratedType, ParameterType, SubstitutionType, UnreadType, NameType}
+use Rattle.itanium_demangle.specs.declared.forms.TypeForm.TheVariants.{BuiltinType, ExpansionType, VendorType, ArrayType, FunctionType, MemberType, PointerType, QualifiedType, ElaboratedType, ParameterType, SubstitutionType, UnreadType, NameType}
 
 infixl 10 ◌>>=◌
 abbrev pub ◌>>=◌ : {A B : Type 0} → Option A → (A → Option B) → Option B
@@ -210,23 +220,82 @@ abbrev pub type_listed_as : ListForm → Reads Shape → Shape → Reads Shape
 type_listed_as NoList args name s = Some (name, s)
 type_listed_as ArgumentList args name s = attached_by args name s >>= λ whole. Some (whole.0, save whole.0 whole.1)
 
+abbrev pub types_as : TypesForm → Reads Shape → Reads (List Shape) → Reads (List Shape)
+types_as LastType type again s = Some ([], s)
+types_as NextType type again s = type s >>= λ first. again first.1 >>= λ others. Some (first.0 ∷ others.0, others.1)
+
+unfoldable pub read_types : Reads Shape → ℕ → Reads (List Shape)
+read_types type zero s = None
+read_types type (suc n) s = types_as (types_form s.rest) type (read_types type n) s
+
+-- types up to their end
+abbrev pub types_by : Reads Shape → Reads (List Shape)
+types_by type s = read_types type (length s.rest) s
+
+abbrev pub params_as : ParamsForm → Reads Shape → Reads (List Shape)
+params_as NoParams type s = Some ([], skip 1 s)
+params_as SomeParams type s = types_by type s
+
+-- what is behind the parameters of a function
+abbrev pub function_end : Quals → Shape → List Shape → Reads Shape
+function_end quals ret params s =
+    let all = record quals { reference = reference_of s.rest } in
+    function_of ret params all >>= λ whole. Some (whole, skip 1 (at (past_reference s.rest) s))
+
+abbrev pub function_as : FunctionForm → Reads Shape → Quals → Reads Shape
+function_as ExternFunction type quals s = None
+function_as PlainFunction type quals s =
+    type (skip 1 s) >>= λ ret. params_as (params_form ret.1.rest) type ret.1 >>= λ params. function_end quals ret.0 params.0 params.1
+
+abbrev pub read_function : Reads Shape → Quals → Reads Shape
+read_function type quals s = function_as (function_form s.rest) type quals s
+
+abbrev pub qualified_as : QualifiedForm → Reads Shape → Quals → Reads Shape
+qualified_as FunctionQualified type quals s = read_function type quals s
+qualified_as TypeQualified type quals s = type s >>= λ inner. Some (cv_wrapped quals inner.0, inner.1)
+
+-- a type behind <CV-qualifiers>
+abbrev pub qualified_by : Reads Shape → Reads Shape
+qualified_by type s = qualified_as (qualified_form (past_cv s.rest)) type (cv_quals s.rest) (at (past_cv s.rest) s)
+
+-- what was read is saved
+abbrev pub saved_as : Shape → Reads Shape
+saved_as t s = Some (t, save t s)
+
+abbrev pub vendor_as : ListForm → Shape → Reads Shape
+vendor_as NoList t s = saved_as t s
+vendor_as ArgumentList t s = None
+
+abbrev pub read_vendor : Reads Shape
+read_vendor s = read_source (skip 1 s) >>= λ found. vendor_as (list_form found.1.rest) found.0 found.1
+
+-- the array of what was read, where there is one
+abbrev pub saved_array : Option ℕ → Shape → Reads Shape
+saved_array dim elem s = arrayed dim elem >>= λ whole. saved_as whole s
+
+-- the pointer to a member that was read, where there is one
+abbrev pub saved_member : Shape → Shape → Reads Shape
+saved_member class member s = membered class member >>= λ whole. saved_as whole s
+
+abbrev pub read_member : Reads Shape → Reads Shape
+read_member type s = type (skip 1 s) >>= λ class. type class.1 >>= λ member. saved_member class.0 member.0 member.1
+
 abbrev pub type_as : TypeForm → Reads Shape → Reads Shape → Reads Shape → Context → Reads Shape
 type_as BuiltinType type name args x s = Some (plain_shape (builtin_text s.rest), at (past_builtin s.rest) s)
 type_as ExpansionType type name args x s = None
-type_as VendorType type name args x s = None
-type_as ArrayType type name args x s = None
-type_as FunctionType type name args x s = None
-type_as MemberType type name args x s = None
-type_as PointerType type name args x s = None
-type_as ReferenceType type name args x s = None
-type_as RvalueType type name args x s = None
-type_as QualifiedType type name args x s = None
-type_as ElaboratedType type name args x s = None
+type_as VendorType type name args x s = read_vendor s
+type_as ArrayType type name args x s = bound_of (drop 1 s.rest) >>= λ dim. type (at dim.1 s) >>= λ elem. saved_array dim.0 elem.0 elem.1
+type_as FunctionType type name args x s = read_function type no_quals s >>= λ whole. saved_as whole.0 whole.1
+type_as MemberType type name args x s = read_member type s
+type_as (PointerType kind) type name args x s = type (skip 1 s) >>= λ inner. saved_as (wrapped kind inner.0) inner.1
+type_as QualifiedType type name args x s =
+    qualified_by type s >>= λ whole. saved_as whole.0 whole.1
+type_as ElaboratedType type name args x s = name (skip 2 s) >>= λ found. saved_as (worded (elaborated_text s.rest) found.0) found.1
 type_as ParameterType type name args x s =
     saved_parameter x s >>= λ found. type_listed_as (list_form found.1.rest) args found.0 found.1
 type_as SubstitutionType type name args x s = read_substitution s >>= λ found. type_listed_as (list_form found.1.rest) args found.0 found.1
 type_as UnreadType type name args x s = None
-type_as NameType type name args x s = name s >>= λ found. Some (found.0, save found.0 found.1)
+type_as NameType type name args x s = name s >>= λ found. saved_as found.0 found.1
 
 -- The first number is how many counted productions may still open.
 unfoldable mutual

@@ -28,6 +28,11 @@ pub record WorkedSymbols : Type 0 where
   pub last_own_name : IsAnswer (codes "_ZNSaIcED2Ev") (Some (codes "std::allocator<char>::~allocator"))
   pub parameter : IsAnswer (codes "_Z1fIiT_Evv") (Some (codes "f<int, int>"))
   pub no_parameter_yet : IsAnswer (codes "_Z1fIT_iEvv") None
+  pub pointer_to_function : IsAnswer (codes "_Z1fIPFvvES1_Evv") (Some (codes "f<void (*)(), void (*)()>"))
+  pub arrays : IsAnswer (codes "_Z1fIA2_A3_iS0_Evv") (Some (codes "f<int [2][3], int [3]>"))
+  pub reference_to_array : IsAnswer (codes "_Z1fIRKA3_iEvv") (Some (codes "f<int const (&) [3]>"))
+  pub no_array_of_functions : IsAnswer (codes "_Z1fIA3_FvvEEvv") None
+  pub member_function : IsAnswer (codes "_Z1fIM1AFvvREEvv") (Some (codes "f<void (A::*)(void) &>"))
   pub no_scope_of_a_type : IsAnswer (codes "_Z1fI1AIiET_Evv") (Some (codes "f<A<int>, A<int> >"))
 
 -- what holds of the answers of all symbols

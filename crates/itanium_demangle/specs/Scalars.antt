@@ -66,3 +66,12 @@ index_by r bytes None =
 -- [<numeral>] _: 0 where the numeral is left out, else the number that follows it
 unfoldable pub index_of : Radix → List ℕ → Option (ℕ × List ℕ)
 index_of r bytes = index_by r bytes (past_underscore bytes)
+
+-- behind the `_` of an array without a bound; else the bound and `_`
+abbrev pub bound_by : List ℕ → Option (List ℕ) → Option (Option ℕ × List ℕ)
+bound_by bytes (Some rest) = Some (None, rest)
+bound_by bytes None = option_and_then (λ n. option_map (λ rest. (Some n.0, rest)) (past_underscore n.1)) (number bytes)
+
+-- [<number>] _: the bound of an array, which may be left out
+unfoldable pub bound_of : List ℕ → Option (Option ℕ × List ℕ)
+bound_of bytes = bound_by bytes (past_underscore bytes)

@@ -1,8 +1,10 @@
 -- What a symbol says, as a tree, and the shape of its printing. The shape is total: whether a step exists is a test beside it.
-use Rattle.std.specs.Prelude.{ℕ, Bool, true, false, List, [], ◌∷◌, codes, Option, Some, None, if◌then◌else◌, nat_eq}
+use Rattle.std.specs.Prelude.{ℕ, Bool, true, false, List, [], ◌∷◌, ◌++◌, codes, Option, Some, None, if◌then◌else◌, nat_eq}
 use Rattle.std.specs.List.{ends_with}
 use Rattle.demangle_text.specs.Shape.{Shape, plain_shape, appended, joined, text}
 use Rattle.demangle_edit.specs.declared.quals.Quals.{Quals}
+use Rattle.demangle_edit.specs.declared.quals.Pointer.{Pointer}
+use Rattle.demangle_edit.specs.Types.{wrapped, cv_wrapped, array_shape, member_shape, function_shape}
 use Rattle.demangle_edit.specs.Names.{qualified, qualified_ctor, attached, name_qualified}
 use Rattle.itanium_demangle.specs.declared.known.Known.{Known}
 use Rattle.itanium_demangle.specs.Known.{known_shape}
@@ -15,6 +17,12 @@ mutual
     structor_of : Tree → Bool → Tree
     with_args : Tree → Trees → Tree
     nested_of : Tree → Quals → Bool → Tree
+    pointer_to : Pointer → Tree → Tree
+    cv_of : Quals → Tree → Tree
+    array_of : Option ℕ → Tree → Tree
+    member_of : Tree → Tree → Tree
+    function_to : Tree → Trees → Quals → Tree
+    elaborated : List ℕ → Tree → Tree
 
   pub data Trees : Type 0 where
     no_trees : Trees
@@ -40,6 +48,10 @@ closed list = appended (if ends_with nat_eq (text list) (codes ">") then codes "
 abbrev pub list_shape : List Shape → Shape
 list_shape args = closed (list_from true (plain_shape (codes "<")) args)
 
+-- a word in front of a name, as a plain text
+abbrev pub worded : List ℕ → Shape → Shape
+worded word name = plain_shape (word ++ text name)
+
 -- the shape that the tree prints
 unfoldable mutual
   pub shape_of : Tree → Shape
@@ -49,6 +61,12 @@ unfoldable mutual
   shape_of (structor_of scope destructor) = qualified_ctor (shape_of scope) destructor
   shape_of (with_args name list) = attached (shape_of name) (list_shape (shape_each list))
   shape_of (nested_of name quals shown) = name_qualified (shape_of name) quals shown
+  shape_of (pointer_to kind t) = wrapped kind (shape_of t)
+  shape_of (cv_of quals t) = cv_wrapped quals (shape_of t)
+  shape_of (array_of dim t) = array_shape dim (shape_of t)
+  shape_of (member_of class t) = member_shape (shape_of class) (shape_of t)
+  shape_of (function_to ret params quals) = function_shape (shape_of ret) (shape_each params) quals
+  shape_of (elaborated word name) = worded word (shape_of name)
 
   pub shape_each : Trees → List Shape
   shape_each no_trees = []

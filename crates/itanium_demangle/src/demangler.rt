@@ -106,7 +106,7 @@ impl Demangler {
             Some(buffer) => buffer,
             None => Buffer::new(alloc),
         };
-        let mut reader = Reader::new(buffer, inside)?;
+        let mut reader = Reader::new(alloc, buffer, inside)?;
         if !reader.read_symbol(MAX_DEPTH, OUTSIDE)? {
             self.buffer = Some(reader.buffer);
             return Ok(false);

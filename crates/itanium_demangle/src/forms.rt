@@ -2,7 +2,7 @@
 ghost use Rattle.std.specs.Prelude.{◌≡◌, ◌≤◌, length};
 ghost use Rattle.itanium_demangle.specs.Forms as spec;
 
-use demangle_edit::{Quals, Reference};
+use demangle_edit::{Pointer, Quals, Reference};
 
 /// What follows the prefix of a symbol.
 #[derive(Clone, Copy)]
@@ -100,15 +100,88 @@ pub enum TypeForm {
     ArrayType,
     FunctionType,
     MemberType,
-    PointerType,
-    ReferenceType,
-    RvalueType,
+    PointerType(Pointer),
     QualifiedType,
     ElaboratedType,
     ParameterType,
     SubstitutionType,
     UnreadType,
     NameType,
+}
+
+/// What qualifiers stand in front of.
+#[derive(Clone, Copy)]
+pub enum QualifiedForm {
+    FunctionQualified,
+    TypeQualified,
+}
+
+/// `<function-type>`: one with `Y` isn't read.
+#[derive(Clone, Copy)]
+pub enum FunctionForm {
+    ExternFunction,
+    PlainFunction,
+}
+
+/// The parameters of a `<function-type>`.
+#[derive(Clone, Copy)]
+pub enum ParamsForm {
+    NoParams,
+    SomeParams,
+}
+
+/// The end of a function's parameters, with or without a `<ref-qualifier>`, or one more type.
+#[derive(Clone, Copy)]
+pub enum TypesForm {
+    LastType,
+    NextType,
+}
+
+pub fn qualified_form(bytes: &[u8]) -> QualifiedForm
+    ensures form { result ≡ spec.qualified_form bytes.now }
+{
+    match bytes {
+        [b'F', ..] => QualifiedForm::FunctionQualified,
+        _ => QualifiedForm::TypeQualified,
+    }
+}
+
+pub fn function_form(bytes: &[u8]) -> FunctionForm
+    ensures form { result ≡ spec.function_form bytes.now }
+{
+    match bytes {
+        [b'F', b'Y', ..] => FunctionForm::ExternFunction,
+        _ => FunctionForm::PlainFunction,
+    }
+}
+
+pub fn params_form(bytes: &[u8]) -> ParamsForm
+    ensures form { result ≡ spec.params_form bytes.now }
+{
+    match bytes {
+        [b'v', b'E', ..] => ParamsForm::NoParams,
+        _ => ParamsForm::SomeParams,
+    }
+}
+
+pub fn types_form(bytes: &[u8]) -> TypesForm
+    ensures form { result ≡ spec.types_form bytes.now }
+{
+    match bytes {
+        [b'E', ..] | [b'R', b'E', ..] | [b'O', b'E', ..] => TypesForm::LastType,
+        _ => TypesForm::NextType,
+    }
+}
+
+/// The word in front of an elaborated type's name: `struct`, `union` or `enum`, and a space.
+pub fn elaborated_text(bytes: &[u8]) -> &'static [u8]
+    ensures text { result.now ≡ spec.elaborated_text bytes.now }
+{
+    match bytes {
+        [b'T', b's', ..] => b"struct ",
+        [b'T', b'u', ..] => b"union ",
+        _ => b"enum ",
+    }
 }
 
 pub fn substitution_form(bytes: &[u8]) -> SubstitutionForm
@@ -153,9 +226,9 @@ pub fn type_form(bytes: &[u8]) -> TypeForm
         [b'A', ..] => TypeForm::ArrayType,
         [b'F', ..] => TypeForm::FunctionType,
         [b'M', ..] => TypeForm::MemberType,
-        [b'P', ..] => TypeForm::PointerType,
-        [b'R', ..] => TypeForm::ReferenceType,
-        [b'O', ..] => TypeForm::RvalueType,
+        [b'P', ..] => TypeForm::PointerType(Pointer::Star),
+        [b'R', ..] => TypeForm::PointerType(Pointer::Left),
+        [b'O', ..] => TypeForm::PointerType(Pointer::Right),
         [b'r' | b'V' | b'K', ..] => TypeForm::QualifiedType,
         [b'T', b's' | b'u' | b'e', ..] => TypeForm::ElaboratedType,
         [b'T', ..] => TypeForm::ParameterType,
@@ -411,13 +484,7 @@ pub fn name_quals(bytes: &[u8]) -> (Quals, &[u8])
     ensures within { length result.1.now ≤ length bytes.now }
 {
     if let [b'H', rest @ ..] = bytes {
-        let none = Quals {
-            constant: false,
-            volatile: false,
-            restrict: false,
-            reference: None,
-        };
-        return (none, rest);
+        return (no_quals(), rest);
     }
     let (words, rest) = cv_quals(bytes);
     let (reference, rest) = ref_qualifier(rest);
@@ -429,4 +496,16 @@ pub fn saves_first(form: FirstForm) -> bool
     ensures value { result ≡ spec.saves_first form }
 {
     matches!(form, FirstForm::ParameterFirst | FirstForm::NameFirst)
+}
+
+/// No qualifiers.
+pub fn no_quals() -> Quals
+    ensures quals { result ≡ spec.no_quals }
+{
+    Quals {
+        constant: false,
+        volatile: false,
+        restrict: false,
+        reference: None,
+    }
 }

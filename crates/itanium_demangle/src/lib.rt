@@ -2,6 +2,7 @@
 #![tactic(auto)]
 
 mod context;
+mod declarators;
 mod demangler;
 mod forms;
 mod known;

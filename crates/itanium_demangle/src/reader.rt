@@ -15,7 +15,7 @@ use crate::forms::{
 use crate::known::{Known, known_of, known_own_len, known_text};
 use crate::scalar::{Radix, index_of, source_name};
 use demangle_text::{Buffer, Piece};
-use std::alloc::AllocError;
+use std::alloc::{AllocError, Global};
 
 /// A reader of mangled bytes. Each production has a method that answers true where it was read: then `found` is the
 /// piece of its printing.
@@ -26,12 +26,13 @@ pub struct Reader<'a> {
     pub found: Piece,
     pub entered: usize,
     pub most_saved: usize,
+    pub alloc: Global,
 }
 
 #[tactic(auto, using(demangle_text::proofs::Laws::laws, demangle_text::proofs::Laws::runs))]
 impl<'a> Reader<'a> {
     /// A reader at the front of the bytes, over a buffer that is cleared.
-    pub fn new(buffer: Buffer, bytes: &'a [u8]) -> Result<Self, AllocError>
+    pub fn new(alloc: Global, buffer: Buffer, bytes: &'a [u8]) -> Result<Self, AllocError>
         ensures state { IfOk result (λ reader. state reader ≡ spec.begun bytes.entry.now) }
     {
         let mut buffer = buffer;
@@ -43,6 +44,7 @@ impl<'a> Reader<'a> {
             found,
             entered: 0,
             most_saved: 0,
+            alloc,
         })
     }
 
@@ -152,11 +154,11 @@ impl<'a> Reader<'a> {
                 let Some((index, rest)) = index_of(Radix::Base36, self.rest) else {
                     return Ok(false);
                 };
-                let Some(piece) = self.buffer.saved(index) else {
+                let Some(component) = self.buffer.saved(index) else {
                     return Ok(false);
                 };
                 self.rest = rest;
-                self.found = piece;
+                self.found = component;
                 Ok(true)
             }
         }
@@ -178,10 +180,10 @@ impl<'a> Reader<'a> {
             self.found = self.buffer.push(b"auto")?;
             return Ok(true);
         }
-        let Some(piece) = self.buffer.arg(index) else {
+        let Some(argument) = self.buffer.arg(index) else {
             return Ok(false);
         };
-        self.found = piece;
+        self.found = argument;
         Ok(true)
     }
 

@@ -129,3 +129,21 @@ pub fn source_name(input: &[u8], pos: usize) -> Option<(usize, usize)>
     }
     Some((first, first + len as usize))
 }
+
+/// `[<number>] _`: the bound of an array, which may be left out, and what is behind the `_`.
+#[tactic(auto, unfolding(crate::specs::Scalars::bound_of, crate::specs::Scalars::number))]
+pub(crate) fn bound_of(bytes: &[u8]) -> Option<(Option<u64>, &[u8])>
+    ensures value { option_map (λ found. (found.0, found.1.now)) result ≡ spec.bound_of bytes.now }
+    ensures shorter { IfSome result (λ found. length found.1.now < length bytes.now) }
+{
+    if let [b'_', rest @ ..] = bytes {
+        return Some((None, rest));
+    }
+    let Some((value, count)) = numeral(Radix::Decimal, bytes) else {
+        return None;
+    };
+    match &bytes[count..] {
+        [b'_', rest @ ..] => Some((Some(value), rest)),
+        _ => None,
+    }
+}

@@ -7,7 +7,7 @@ use Rattle.symfilter_engine.specs.declared.fault.FilterFault.TheVariants.{Read, 
 use Rattle.symfilter_engine.specs.Fault.{IsRunOutcome}
 use Rattle.std.proofs.KnownBytes.{Appends-trans, Consumes-nil, Consumes-trans, Consumes-kept, Keeps-refl}
 use Rattle.std.specs.Io.KnownBytes.{Appends, Consumes, IsAtEnd, Keeps}
-use Rattle.symfilter_engine.specs.Filtered.{line_feed, HasNoLineFeed, IsFiltered, ended, unended, of_all, WritesFiltered, WritesBeginning, FiltersFront}
+use Rattle.symfilter_engine.specs.Filtered.{line_feed, HasNoLineFeed, IsFiltered, ended, unended, WritesFiltered, WritesBeginning, FiltersFront}
 use Rattle.symfilter_engine.specs.Progress.{WritesLine, WritesLineFront, nothing, front, HasFiltered, HasCopied}
 use Rattle.symfilter_engine.proofs.FilteredText.{IsFront-append, none_filtered, filtered_begins, piece_filtered, piece_begins}
 
@@ -105,8 +105,11 @@ last_fault line s s' t t' t'' so_far unended_line some (front {answer} is_answer
       consumed = so_far.consumed;
       begins = (
         so_far.filtered.text ++ writes.front,
-        of_all (subst (λ l. IsFiltered l (so_far.filtered.text ++ answer)) (sym so_far.filtered.given_is) (unended so_far.filtered.filtered some unended_line is_answer))
-            (IsFront-append so_far.filtered.text writes.front answer (rest, sym (append-nil answer) ∙ writes.bytes_are)),
+        (
+          so_far.filtered.text ++ answer,
+          subst (λ l. IsFiltered l (so_far.filtered.text ++ answer)) (sym so_far.filtered.given_is) (unended so_far.filtered.filtered some unended_line is_answer),
+          IsFront-append so_far.filtered.text writes.front answer (rest, sym (append-nil answer) ∙ writes.bytes_are),
+        ),
         Appends-trans t t' t'' so_far.filtered.text writes.front so_far.filtered.written writes.written,
       );
     }

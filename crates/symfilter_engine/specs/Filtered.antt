@@ -42,13 +42,9 @@ pub data IsFiltered : List ℕ → List ℕ → Type 0 where
 abbrev pub IsFront : List ℕ → List ℕ → Type 0
 IsFront written text = (rest : List ℕ) × (text ≡ written ++ rest)
 
--- bytes that were given, and a beginning of their filtered text
-pub data IsBeginning (given written : List ℕ) : Type 0 where
-  -- a front of the filtered text of their first lines, which end in a line feed
-  of_lines : {lines text : List ℕ} → (rest : List ℕ) → given ≡ lines ++ rest → AreLinesFiltered lines text
-      → IsFront written text → IsBeginning given written
-  -- a front of the filtered text of them all
-  of_all : {text : List ℕ} → IsFiltered given text → IsFront written text → IsBeginning given written
+-- a beginning of the filtered text of the bytes given was written
+abbrev pub IsBeginning : List ℕ → List ℕ → Type 0
+IsBeginning given written = (text : List ℕ) × IsFiltered given text × IsFront written text
 
 -- the writer got the filtered text of what was given and nothing else, where it tells its bytes
 abbrev pub WritesFiltered : List ℕ → Option (List ℕ) → Option (List ℕ) → Type 0

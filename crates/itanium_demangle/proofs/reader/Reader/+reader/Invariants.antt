@@ -1,8 +1,8 @@
-use Rattle.std.proofs.Common.{◌≡◌, ◌+◌, ◌-◌, ◌*◌, ◌<◌, ◌≤◌, length, true}
-use Rattle.demangle_text.specs.State.{IsLiving, IsRun, shape, saved, scopes}
+use Rattle.std.proofs.Common.{◌≡◌, ◌+◌, ◌-◌, ◌*◌, ◌<◌, ◌≤◌, length, true, map, All}
+use Rattle.demangle_text.specs.State.{IsLiving, IsRun, SameFrame, shape, saved, scopes}
 use Rattle.itanium_demangle.specs.Reading as spec
 use Rattle.itanium_demangle.specs.Outcome.{state}
-use Rattle.itanium_demangle.proofs.Opens.{ComponentsSoFar, ListSoFar}
+use Rattle.itanium_demangle.proofs.Opens.{ComponentsSoFar, ListSoFar, TypesSoFar}
 use Rattle.itanium_demangle.proofs.reader.Reader.+reader.Given as goal
 
 abbrev pub decreases-read_name : goal.decreases-read_name
@@ -72,3 +72,34 @@ invariant-read_args-loop-self l = record {
 
 abbrev pub decreases-read_args-loop-self : goal.decreases-read_args-loop-self
 decreases-read_args-loop-self l = length l.self.rest.now
+
+abbrev pub decreases-framed_type : goal.decreases-framed_type
+decreases-framed_type l = 8 * l.depth + 1
+
+abbrev pub decreases-read_types : goal.decreases-read_types
+decreases-read_types l = 8 * l.depth + 2
+
+abbrev pub decreases-read_params : goal.decreases-read_params
+decreases-read_params l = 8 * l.depth + 3
+
+abbrev pub decreases-read_function : goal.decreases-read_function
+decreases-read_function l = 8 * l.depth + 4
+
+abbrev pub decreases-read_qualified : goal.decreases-read_qualified
+decreases-read_qualified l = 8 * l.depth + 5
+
+abbrev pub invariant-read_types-loop-list : goal.invariant-read_types-loop-list
+invariant-read_types-loop-list l = record {
+  reads : TypesSoFar (spec.types_by (spec.read_type l.depth l.context) (state l.fn.self)) (spec.read_type l.depth l.context) (map (shape l.self.buffer) l.list.items) (state l.self);
+  living : All (IsLiving l.self.buffer) l.list.items;
+  kept : SameFrame l.fn.self.buffer l.self.buffer;
+  scopes_stand : length (scopes l.fn.self.buffer) ≤ length (scopes l.self.buffer);
+  taken : length l.self.rest.now ≤ length l.fn.self.rest.now;
+  counted : l.self.entered + 2 * length l.self.rest.now ≤ l.fn.self.entered + 2 * length l.fn.self.rest.now;
+}
+
+abbrev pub decreases-read_types-loop-list : goal.decreases-read_types-loop-list
+decreases-read_types-loop-list l = length l.self.rest.now
+
+abbrev pub decreases-read_member : goal.decreases-read_member
+decreases-read_member l = 8 * l.depth + 2

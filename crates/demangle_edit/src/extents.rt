@@ -1,0 +1,38 @@
+//! The digits of an array's dimension.
+ghost use Rattle.std.specs.Prelude.{◌≡◌, ◌≤◌, drop, length, decimal};
+ghost use Rattle.demangle_edit.specs.Types.{extent_text};
+
+/// The most digits that a dimension has.
+pub const MOST_DIGITS: usize = 20;
+
+// Writes the digits of the number at the end of the room, and answers the place of the first.
+fn put_digits(room: &mut [u8], number: u64) -> usize
+    requires room { MOST_DIGITS ≤ length room.old }
+    ensures value { drop result room.new ≡ decimal number }
+    ensures within { result ≤ length room.new }
+{
+    let mut left = number;
+    let mut at = room.len();
+    while left >= 10 {
+        at -= 1;
+        room[at] = b'0' + (left % 10) as u8;
+        left /= 10;
+    }
+    at -= 1;
+    room[at] = b'0' + left as u8;
+    at
+}
+
+/// The digits of a dimension, written into the room, and none where it isn't known.
+pub fn extent_bytes(room: &mut [u8], dim: Option<u64>) -> &[u8]
+    requires room { MOST_DIGITS ≤ length room.old }
+    ensures value { result.now ≡ extent_text dim }
+{
+    match dim {
+        None => b"",
+        Some(extent) => {
+            let at = put_digits(room, extent);
+            &room[at..]
+        }
+    }
+}

@@ -1,0 +1,133 @@
+//! The steps of types that read no type: each makes a type of those that were found, and saves it.
+ghost use Rattle.std.specs.Prelude.{◌≡◌, ◌≤◌, OnOk, All, map, length};
+ghost use Rattle.demangle_text.specs.State.{IsLiving, shape, Lives, IsRun, SameFrame, scopes};
+ghost use Rattle.demangle_edit.specs.Types.{wrapped, cv_wrapped};
+ghost use Rattle.itanium_demangle.specs.Forms.{list_form};
+ghost use Rattle.itanium_demangle.specs.Tree.{worded};
+ghost use Rattle.itanium_demangle.specs.Reading as spec;
+ghost use Rattle.itanium_demangle.specs.Outcome.{state, Gives, OnRead, Bounds, OptionalBounds};
+
+use crate::forms::{ListForm, list_form, ref_qualifier};
+use crate::reader::Reader;
+use demangle_edit::{
+    Glue, Pointer, Quals, function_type, glue, wrap_array, wrap_cv, wrap_member_pointer,
+    wrap_pointer,
+};
+use demangle_text::Piece;
+use std::alloc::AllocError;
+
+#[tactic(auto, using(demangle_text::proofs::Laws::laws, demangle_text::proofs::Laws::runs))]
+impl<'a> Reader<'a> {
+    /// A pointer or a reference to what was found.
+    pub fn save_pointer(&mut self, kind: Pointer) -> Result<(), AllocError>
+        requires living { IsLiving self.old.buffer self.old.found }
+        ensures shape { OnOk result (Lives self.new.buffer self.new.found (wrapped kind (shape self.old.buffer self.old.found))) }
+        ensures state { OnOk result (state self.new ≡ spec.save (wrapped kind (shape self.old.buffer self.old.found)) (state self.old)) }
+        ensures run { OnOk result (IsRun self.old.buffer self.new.buffer) }
+    {
+        self.found = wrap_pointer(&mut self.buffer, self.found, kind)?;
+        self.save_found()?;
+        Ok(())
+    }
+
+    /// What was found with the words of its qualifiers.
+    pub fn qualify_found(&mut self, quals: Quals) -> Result<(), AllocError>
+        requires living { IsLiving self.old.buffer self.old.found }
+        ensures shape { OnOk result (Lives self.new.buffer self.new.found (cv_wrapped quals (shape self.old.buffer self.old.found))) }
+        ensures state { OnOk result (state self.new ≡ state self.old) }
+        ensures run { OnOk result (IsRun self.old.buffer self.new.buffer) }
+    {
+        self.found = wrap_cv(&mut self.buffer, self.found, quals)?;
+        Ok(())
+    }
+
+    /// The array of what was found, where there is one.
+    pub fn save_array(&mut self, dim: Option<u64>) -> Result<bool, AllocError>
+        requires living { IsLiving self.old.buffer self.old.found }
+        ensures reads { Gives result self.new (spec.saved_array dim (shape self.old.buffer self.old.found) (state self.old)) }
+        ensures run { OnRead result (IsRun self.old.buffer self.new.buffer) }
+        ensures bounds { OptionalBounds result (state self.old) (state self.new) }
+    {
+        let Some(whole) = wrap_array(&mut self.buffer, self.found, dim)? else {
+            return Ok(false);
+        };
+        self.found = whole;
+        self.save_found()?;
+        Ok(true)
+    }
+
+    /// The pointer to what was found as a member of the class, where there is one.
+    pub fn save_member(&mut self, class: Piece) -> Result<bool, AllocError>
+        requires class { IsLiving self.old.buffer class }
+        requires living { IsLiving self.old.buffer self.old.found }
+        ensures reads { Gives result self.new
+            (spec.saved_member (shape self.old.buffer class) (shape self.old.buffer self.old.found) (state self.old)) }
+        ensures run { OnRead result (IsRun self.old.buffer self.new.buffer) }
+        ensures bounds { OptionalBounds result (state self.old) (state self.new) }
+    {
+        let Some(whole) = wrap_member_pointer(&mut self.buffer, class, self.found)? else {
+            return Ok(false);
+        };
+        self.found = whole;
+        self.save_found()?;
+        Ok(true)
+    }
+
+    /// The function type, where there is one, and what is behind its parameters: `[<ref-qualifier>] E`.
+    pub fn end_function(
+        &mut self,
+        quals: Quals,
+        ret: Piece,
+        params: &[Piece],
+    ) -> Result<bool, AllocError>
+        requires ret { IsLiving self.old.buffer ret }
+        requires params { All (IsLiving self.old.buffer) params.now }
+        ensures reads { Gives result self.new
+            (spec.function_end quals (shape self.old.buffer ret) (map (shape self.old.buffer) params.now) (state self.old)) }
+        ensures run { OnRead result (IsRun self.old.buffer self.new.buffer) }
+        ensures bounds { OptionalBounds result (state self.old) (state self.new) }
+    {
+        let (reference, rest) = ref_qualifier(self.rest);
+        let all = Quals { reference, ..quals };
+        let Some(whole) = function_type(&mut self.buffer, ret, params, all)? else {
+            return Ok(false);
+        };
+        self.found = whole;
+        self.rest = rest;
+        self.skip(1);
+        self.found = whole;
+        Ok(true)
+    }
+
+    /// The word of an elaborated type in front of the name that was found.
+    pub fn save_elaborated(&mut self, word: &[u8]) -> Result<(), AllocError>
+        requires living { IsLiving self.old.buffer self.old.found }
+        ensures shape { OnOk result (Lives self.new.buffer self.new.found (worded word.now (shape self.old.buffer self.old.found))) }
+        ensures state { OnOk result (state self.new ≡ spec.save (worded word.now (shape self.old.buffer self.old.found)) (state self.old)) }
+        ensures run { OnOk result (IsRun self.old.buffer self.new.buffer) }
+    {
+        let parts = [Glue::Text(word), Glue::Piece(self.found)];
+        self.found = glue(&mut self.buffer, &parts)?;
+        self.save_found()?;
+        Ok(())
+    }
+
+    /// `u <source-name>`, which no `<template-args>` follow.
+    pub fn read_vendor(&mut self) -> Result<bool, AllocError>
+        ensures reads { Gives result self.new (spec.read_vendor (state self.old)) }
+        ensures run { OnRead result (IsRun self.old.buffer self.new.buffer) }
+        ensures bounds { Bounds 2 result (state self.old) (state self.new) }
+    {
+        self.skip(1);
+        if !self.read_source()? {
+            return Ok(false);
+        }
+        match list_form(self.rest) {
+            ListForm::NoList => {
+                self.save_found()?;
+                Ok(true)
+            }
+            ListForm::ArgumentList => Ok(false),
+        }
+    }
+}
