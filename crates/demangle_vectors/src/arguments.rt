@@ -81,7 +81,10 @@ fn argument_lists(rt: HostRuntime) -> Result<(), Fail> {
 #[test]
 fn vectors(rt: HostRuntime) -> Result<(), Fail> {
     let rows = [
-        ("_ZNSt6vectorIiE9push_backERKi", "std::vector<int>::push_back"),
+        (
+            "_ZNSt6vectorIiE9push_backERKi",
+            "std::vector<int>::push_back",
+        ),
         (
             "_ZNSt6vectorIS_IiEE4sizeEv",
             "std::vector<std::vector<int> >::size",
@@ -142,7 +145,13 @@ fn constructors_and_destructors(rt: HostRuntime) -> Result<(), Fail> {
         ("_ZN1A3FooIiED2Ev", "A::Foo<int>::~Foo"),
     ];
     assert_answers(&rt, rt.alloc(), rows.as_slice())?;
-    let symbols = ["_ZN3FooC0Ev", "_ZN3FooC6Ev", "_ZN3FooD3Ev", "_ZNC1Ev", "_ZC1v"];
+    let symbols = [
+        "_ZN3FooC0Ev",
+        "_ZN3FooC6Ev",
+        "_ZN3FooD3Ev",
+        "_ZNC1Ev",
+        "_ZC1v",
+    ];
     assert_unread(&rt, rt.alloc(), symbols.as_slice())
 }
 

@@ -13,10 +13,7 @@ fn pointers_to_functions(rt: HostRuntime) -> Result<(), Fail> {
         ("_Z1fIRPFvvEEvv", "f<void (*&)()>"),
         ("_Z1fIOPFvvEEvv", "f<void (*&&)()>"),
         ("_Z1fIRKPFvvEEvv", "f<void (* const&)()>"),
-        (
-            "_Z1fIPFbRKiS1_EEv",
-            "f<bool (*)(int const&, int const&)>",
-        ),
+        ("_Z1fIPFbRKiS1_EEv", "f<bool (*)(int const&, int const&)>"),
     ];
     assert_answers(&rt, rt.alloc(), rows.as_slice())
 }

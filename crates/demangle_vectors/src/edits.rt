@@ -53,7 +53,10 @@ fn constructor(rt: HostRuntime) -> Result<(), Fail> {
     let named = buf.own_at(class, 5, 14);
     let flagged = buf.with_flags(named, true, false);
     let constructor = qualify_ctor(&mut buf, flagged, false)?;
-    assert_eq!(rt; buf.bytes(constructor), b"std::allocator<char>::allocator".as_slice());
+    assert_eq!(rt;
+        buf.bytes(constructor),
+        b"std::allocator<char>::allocator".as_slice()
+    );
     assert_eq!(rt; buf.own_range(constructor), (22, 31));
     assert!(rt; buf.ctor(constructor));
     assert!(rt; !buf.templ(constructor));
@@ -111,7 +114,10 @@ fn qualifiers_of_a_name(rt: HostRuntime) -> Result<(), Fail> {
     assert_eq!(rt; buf.own_range(hidden), (0, 1));
     let name = buf.push(b"f")?;
     let shown = apply_name_qualifiers(&mut buf, name, ALL_QUALS, true)?;
-    assert_eq!(rt; buf.bytes(shown), b"f const volatile restrict &&".as_slice());
+    assert_eq!(rt;
+        buf.bytes(shown),
+        b"f const volatile restrict &&".as_slice()
+    );
     let name = buf.push(b"f")?;
     let bare = apply_name_qualifiers(&mut buf, name, NO_QUALS, true)?;
     assert_eq!(rt; buf.bytes(bare), b"f".as_slice());
@@ -131,7 +137,10 @@ fn glued_parts(rt: HostRuntime) -> Result<(), Fail> {
         Glue::Piece(second),
     ];
     let whole = glue(&mut buf, parts.as_slice())?;
-    assert_eq!(rt; buf.bytes(whole), b"construction vtable for A-in-B".as_slice());
+    assert_eq!(rt;
+        buf.bytes(whole),
+        b"construction vtable for A-in-B".as_slice()
+    );
     assert_eq!(rt; buf.own_range(whole), (0, 30));
     let nothing = glue(&mut buf, [].as_slice())?;
     assert_eq!(rt; buf.bytes(nothing), b"".as_slice());
@@ -243,7 +252,10 @@ fn arrays_of_functions(rt: HostRuntime) -> Result<(), Fail> {
     let Some(array) = wrap_array(&mut buf, pointer, Some(18_446_744_073_709_551_615))? else {
         return Err("no array".into());
     };
-    assert_eq!(rt; buf.bytes(array), b"void (* [18446744073709551615])()".as_slice());
+    assert_eq!(rt;
+        buf.bytes(array),
+        b"void (* [18446744073709551615])()".as_slice()
+    );
     let text = buf.push(b"void ()")?;
     let function = buf.declare(text, Kind::Function, 5);
     assert!(rt; wrap_array(&mut buf, function, Some(3))?.is_none());

@@ -7,10 +7,22 @@
 #[cfg(test)]
 mod arguments;
 #[cfg(test)]
+mod buffer;
+#[cfg(test)]
 mod declarators;
+#[cfg(test)]
+mod edits;
+#[cfg(test)]
+mod filter;
+#[cfg(test)]
+mod memory;
 #[cfg(test)]
 mod names;
 #[cfg(test)]
 mod sample;
+#[cfg(test)]
+mod scalars;
+#[cfg(test)]
+mod serving;
 #[cfg(test)]
 mod tables;

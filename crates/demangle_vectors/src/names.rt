@@ -74,7 +74,16 @@ fn suffixes(rt: HostRuntime) -> Result<(), Fail> {
 
 #[test]
 fn no_symbols(rt: HostRuntime) -> Result<(), Fail> {
-    let symbols = ["", "_", "_Z", "__Z", "malloc", "_RNvC3foo3bar", "Z3foo", "___Z3foo"];
+    let symbols = [
+        "",
+        "_",
+        "_Z",
+        "__Z",
+        "malloc",
+        "_RNvC3foo3bar",
+        "Z3foo",
+        "___Z3foo",
+    ];
     assert_unread(&rt, rt.alloc(), symbols.as_slice())
 }
 

@@ -11,22 +11,34 @@ const NAMES: [(&str, &str); 40] = [
     ("_Z10IL_ZN2abIE1aB1AERVFiFvMS1_S1_EE1bEE", "IL_ZN2abIE"),
     ("_Z10IMNV1E1fEVKFwEE", "IMNV1E1fEV"),
     ("_Z10IXLDnnEELrKSb0EE", "IXLDnnEELr"),
-    ("_Z15PyCache_FromCppRKP8pkgCachebP7_object", "PyCache_FromCpp"),
+    (
+        "_Z15PyCache_FromCppRKP8pkgCachebP7_object",
+        "PyCache_FromCpp",
+    ),
     ("_Z2d&&IXLi1EEE", "d&"),
     ("_Z2int", "in"),
     ("_Z5vectorIJLinES_XgtdvLDpn1ELi1ELi1EEEE", "vecto"),
     ("_ZL1f.cold", "f.cold"),
     ("_ZL5vectorIE", "vecto"),
     ("_ZN12_GLOBAL__N_1MEDv4_f", "(anonymous namespace)"),
-    ("_ZN13vtkPythonArgs9GetBufferEP7_objectRPKyP9Py_buffer", "vtkPythonArgs::GetBuffer"),
+    (
+        "_ZN13vtkPythonArgs9GetBufferEP7_objectRPKyP9Py_buffer",
+        "vtkPythonArgs::GetBuffer",
+    ),
     (
         "_ZN29vtkStructuredGridConnectivity12SetNeighborsEiiPiS0_S0_",
         "vtkStructuredGridConnectivity::SetNeighbors",
     ),
-    ("_ZN8tinyxml27StrPair9ParseTextEPcPKciPi", "tinyxml2::StrPair::ParseText"),
+    (
+        "_ZN8tinyxml27StrPair9ParseTextEPcPKciPi",
+        "tinyxml2::StrPair::ParseText",
+    ),
     ("_ZNH1fL1fE.cold", "f::f.cold"),
     ("_ZNHStM1x1fE", "std::x::f"),
-    ("_ZNK5Botan4OAEP3padEPKhmmRNS_21RandomNumberGeneratorE", "Botan::OAEP::pad"),
+    (
+        "_ZNK5Botan4OAEP3padEPKhmmRNS_21RandomNumberGeneratorE",
+        "Botan::OAEP::pad",
+    ),
     (
         "_ZNK5ceres15GradientChecker5ProbeEPKPKddPNS0_12ProbeResultsE",
         "ceres::GradientChecker::Probe",
@@ -56,7 +68,10 @@ const NAMES: [(&str, &str); 40] = [
 
 /// Names with lists of builtin types and of names.
 const LISTS: [(&str, &str); 80] = [
-    ("_Z11CppTraverseI14RDepListStructEiP7_objectPFiS2_PvES3_", "CppTraverse<RDepListStruct>"),
+    (
+        "_Z11CppTraverseI14RDepListStructEiP7_objectPFiS2_PvES3_",
+        "CppTraverse<RDepListStruct>",
+    ),
     ("_Z1AISaS_E", "A<std::allocator, A>"),
     ("_Z1AItE", "A<unsigned short>"),
     ("_Z1CIwbE", "C<wchar_t, bool>"),
@@ -67,28 +82,55 @@ const LISTS: [(&str, &str); 80] = [
     ("_ZN1xD4C3E", "x::~x::~x"),
     ("_ZN2abIDfE1EMEv", "ab<decimal32>::E"),
     ("_ZN2abL1BIcEE", "ab::B<char>"),
-    ("_ZN2~AIS_IitET_E1gEDv4_f", "~A<~A<int, unsigned short>, ~A<int, unsigned short> >::g"),
-    ("_ZN3re212re2_internal5ParseIsEEbPKcmPT_i", "re2::re2_internal::Parse<short>"),
+    (
+        "_ZN2~AIS_IitET_E1gEDv4_f",
+        "~A<~A<int, unsigned short>, ~A<int, unsigned short> >::g",
+    ),
+    (
+        "_ZN3re212re2_internal5ParseIsEEbPKcmPT_i",
+        "re2::re2_internal::Parse<short>",
+    ),
     (
         "_ZN9vtkmetaio9MetaImageC1EiiidddNS_17MET_ValueEnumTypeEiPv",
         "vtkmetaio::MetaImage::MetaImage",
     ),
     ("_ZNH3fooM3BarIbEE", "foo::Bar<bool>"),
     ("_ZNHSbD5E.cold", "std::basic_string::~basic_string.cold"),
-    ("_ZNHSdD5MEDv4_f", "std::basic_iostream<char, std::char_traits<char> >::~basic_iostream"),
+    (
+        "_ZNHSdD5MEDv4_f",
+        "std::basic_iostream<char, std::char_traits<char> >::~basic_iostream",
+    ),
     ("_ZNHSoImEE", "std::ostream<unsigned long>"),
     ("_ZNHSs2abC5C1E", "std::string::ab::ab::ab"),
     ("_ZNK2abD5IiEE", "ab::~ab<int>"),
     ("_ZNKOSa1fE", "std::allocator::f &&"),
     ("_ZNKRSaC3E", "std::allocator::allocator &"),
-    ("_ZNKRSiME", "std::basic_istream<char, std::char_traits<char> > &"),
-    ("_ZNKSdC11xE", "std::basic_iostream<char, std::char_traits<char> >::basic_iostream::x"),
-    ("_ZNKSiIEC4IEE", "std::basic_istream<char, std::char_traits<char> ><>::basic_istream<>"),
+    (
+        "_ZNKRSiME",
+        "std::basic_istream<char, std::char_traits<char> > &",
+    ),
+    (
+        "_ZNKSdC11xE",
+        "std::basic_iostream<char, std::char_traits<char> >::basic_iostream::x",
+    ),
+    (
+        "_ZNKSiIEC4IEE",
+        "std::basic_istream<char, std::char_traits<char> ><>::basic_istream<>",
+    ),
     ("_ZNKStMD21bE", "std::~std::b"),
     ("_ZNL1xC4D5E", "x::x::~x"),
-    ("_ZNO2ab10_GLOBAL__NIxEEDv4_f", "ab::(anonymous namespace)<long long> &&"),
-    ("_ZNOSb4boolD4C1E", "std::basic_string::bool::~bool::~bool &&"),
-    ("_ZNOSdMIEE", "std::basic_iostream<char, std::char_traits<char> ><> &&"),
+    (
+        "_ZNO2ab10_GLOBAL__NIxEEDv4_f",
+        "ab::(anonymous namespace)<long long> &&",
+    ),
+    (
+        "_ZNOSb4boolD4C1E",
+        "std::basic_string::bool::~bool::~bool &&",
+    ),
+    (
+        "_ZNOSdMIEE",
+        "std::basic_iostream<char, std::char_traits<char> ><> &&",
+    ),
     ("_ZNOSoC21f1aEv", "std::ostream::ostream::f::a &&"),
     ("_ZNOSsC4E", "std::string::string &&"),
     ("_ZNOStI2x EMD5E", "std<x >::~std &&"),
@@ -98,10 +140,22 @@ const LISTS: [(&str, &str); 80] = [
     ("_ZNSaD2L3stdE", "std::allocator::~allocator::std"),
     ("_ZNSaIhEE", "std::allocator<unsigned char>"),
     ("_ZNSbC3E.cold", "std::basic_string::basic_string.cold"),
-    ("_ZNSbMC33a b3intE", "std::basic_string::basic_string::a b::int"),
-    ("_ZNSiC2E.cold", "std::basic_istream<char, std::char_traits<char> >::basic_istream.cold"),
-    ("_ZNSiD4Ev", "std::basic_istream<char, std::char_traits<char> >::~basic_istream"),
-    ("_ZNSiIDuEE", "std::basic_istream<char, std::char_traits<char> ><char8_t>"),
+    (
+        "_ZNSbMC33a b3intE",
+        "std::basic_string::basic_string::a b::int",
+    ),
+    (
+        "_ZNSiC2E.cold",
+        "std::basic_istream<char, std::char_traits<char> >::basic_istream.cold",
+    ),
+    (
+        "_ZNSiD4Ev",
+        "std::basic_istream<char, std::char_traits<char> >::~basic_istream",
+    ),
+    (
+        "_ZNSiIDuEE",
+        "std::basic_istream<char, std::char_traits<char> ><char8_t>",
+    ),
     ("_ZNSoD11BC3EDv4_f", "std::ostream::~ostream::B::B"),
     ("_ZNSs7replaceEmmPKcm", "std::string::replace"),
     ("_ZNSsI1TEIEC1E", "std::string<T><>::string"),
@@ -118,7 +172,10 @@ const LISTS: [(&str, &str); 80] = [
     ("_ZNrK1TIaED2E", "T<signed char>::~T"),
     ("_ZNrKRStD5D1E", "std::~std::~~std &"),
     ("_ZNrKSo1TE.cold", "std::ostream::T.cold"),
-    ("_ZNrOSd3fooME", "std::basic_iostream<char, std::char_traits<char> >::foo &&"),
+    (
+        "_ZNrOSd3fooME",
+        "std::basic_iostream<char, std::char_traits<char> >::foo &&",
+    ),
     ("_ZNrRL1aMC4E", "a::a &"),
     ("_ZNrSoE", "std::ostream"),
     ("_ZNrStC41b2(bE", "std::std::b::(b"),
@@ -132,29 +189,50 @@ const LISTS: [(&str, &str); 80] = [
     ("_ZSaIyE", "std::allocator<unsigned long long>"),
     ("_ZSbInwEv", "std::basic_string<__int128, wchar_t>"),
     ("_ZSbIzE", "std::basic_string<...>"),
-    ("_ZSdIcvN1BEE", "std::basic_iostream<char, std::char_traits<char> ><char, void, B>"),
-    ("_ZSdIdE", "std::basic_iostream<char, std::char_traits<char> ><double>"),
-    ("_ZSiI1ADeE", "std::basic_istream<char, std::char_traits<char> ><A, decimal128>"),
+    (
+        "_ZSdIcvN1BEE",
+        "std::basic_iostream<char, std::char_traits<char> ><char, void, B>",
+    ),
+    (
+        "_ZSdIdE",
+        "std::basic_iostream<char, std::char_traits<char> ><double>",
+    ),
+    (
+        "_ZSiI1ADeE",
+        "std::basic_istream<char, std::char_traits<char> ><A, decimal128>",
+    ),
     ("_ZSoIDnE.cold", "std::ostream<std::nullptr_t>.cold"),
     ("_ZSoIbwE", "std::ostream<bool, wchar_t>"),
     ("_ZSsIfEv", "std::string<float>"),
     ("_ZSt1bIDhE", "std::b<half>"),
     ("_ZSt1bIgE", "std::b<__float128>"),
-    ("__ZNKSaI1fE1TI1agT0_EE", "std::allocator<f>::T<a, __float128, __float128>"),
+    (
+        "__ZNKSaI1fE1TI1agT0_EE",
+        "std::allocator<f>::T<a, __float128, __float128>",
+    ),
     ("__ZNStIDaEE", "std<auto>"),
 ];
 
 /// Names with lists of declarators.
 const DECLARATORS: [(&str, &str); 85] = [
-    ("_Z1(IPFhOSt2d_OA9_u1(EE", "(<unsigned char (*)(std::d_&&, ((&&) [9])>"),
-    ("_Z1AIPRtS1_tzvE", "A<unsigned short&*, unsigned short&*, unsigned short, ..., void>"),
+    (
+        "_Z1(IPFhOSt2d_OA9_u1(EE",
+        "(<unsigned char (*)(std::d_&&, ((&&) [9])>",
+    ),
+    (
+        "_Z1AIPRtS1_tzvE",
+        "A<unsigned short&*, unsigned short&*, unsigned short, ..., void>",
+    ),
     (
         "_Z1AIRSdIyVPS_EE",
         "A<std::basic_iostream<char, std::char_traits<char> ><unsigned long long, A* volatile>&>",
     ),
     ("_Z1BIA_ROOFavEE", "B<signed char (&&&&& [])()>"),
     ("_Z1BIRPNStMC3EE", "B<std::std*&>"),
-    ("_Z1EIRFvEA1_RrVKmEv", "E<void (&)(), unsigned long const volatile restrict& [1]>"),
+    (
+        "_Z1EIRFvEA1_RrVKmEv",
+        "E<void (&)(), unsigned long const volatile restrict& [1]>",
+    ),
     ("_Z1TINH1fEPRA_VA_DuE", "T<f, char8_t volatile (&*) [][]>"),
     ("_Z1aIRA39_fT_E", "a<float (&) [39], float (&) [39]>"),
     ("_Z1aIzPnE", "a<..., __int128*>"),
@@ -163,53 +241,104 @@ const DECLARATORS: [(&str, &str); 85] = [
         "b<long long (b, std::basic_istream<char, std::char_traits<char> >), decltype(auto) const>",
     ),
     ("_Z1fIOMhsE", "f<short unsigned char::*&&>"),
-    ("_Z1fIRP1AjT0_T0_S3_E", "f<A*&, unsigned int, unsigned int, unsigned int, unsigned int>"),
-    ("_Z1fIS_MSoT_sT_S2_E", "f<f, f std::ostream::*, short, f, f>"),
+    (
+        "_Z1fIRP1AjT0_T0_S3_E",
+        "f<A*&, unsigned int, unsigned int, unsigned int, unsigned int>",
+    ),
+    (
+        "_Z1fIS_MSoT_sT_S2_E",
+        "f<f, f std::ostream::*, short, f, f>",
+    ),
     (
         "_Z1fIrKFSaS_RET_nE",
         "f<std::allocator (f) const restrict &, std::allocator (f) const restrict &, __int128>",
     ),
-    ("_Z1fIrODuRNVRS_2abC1EE.cold", "f<char8_t&& restrict, f::ab::ab &>.cold"),
+    (
+        "_Z1fIrODuRNVRS_2abC1EE.cold",
+        "f<char8_t&& restrict, f::ab::ab &>.cold",
+    ),
     ("_Z1vIVA22_A_Ru3fooE", "v<foo& volatile [22][]>"),
-    ("_Z1xIA2_OclT_bcE", "x<char&& [2], long, char&& [2], bool, char>"),
+    (
+        "_Z1xIA2_OclT_bcE",
+        "x<char&& [2], long, char&& [2], bool, char>",
+    ),
     (
         "_Z2::IPVKFw3foobRElS0_S_T2_Ev",
         "::<wchar_t (*)(foo, bool) const volatile &, long, foo, ::, ::>",
     ),
-    ("_Z2a)IS_MA_S_PFdA19_S0_OEE", "a)<a), double (*) (a) []::*)(a) [19][]) &&>"),
+    (
+        "_Z2a)IS_MA_S_PFdA19_S0_OEE",
+        "a)<a), double (*) (a) []::*)(a) [19][]) &&>",
+    ),
     ("_Z2abIFnvOERzE", "ab<__int128 (void) &&, ...&>"),
-    ("_Z2abIOVS_hT0_zT1_E", "ab<ab volatile&&, unsigned char, unsigned char, ..., unsigned char>"),
-    ("_Z2abIPFlv2éEebEv", "ab<long (*)(void, é), long double, bool>"),
+    (
+        "_Z2abIOVS_hT0_zT1_E",
+        "ab<ab volatile&&, unsigned char, unsigned char, ..., unsigned char>",
+    ),
+    (
+        "_Z2abIPFlv2éEebEv",
+        "ab<long (*)(void, é), long double, bool>",
+    ),
     ("_Z3fooIA_dS_flS_E", "foo<double [], foo, float, long, foo>"),
-    ("_Z3fooIFgrKn2a)EzE", "foo<__float128 (__int128 const restrict, a)), ...>"),
-    ("_Z3fooIFsS_ES_xT_T0_E", "foo<short (foo), foo, long long, short (foo), foo>"),
+    (
+        "_Z3fooIFgrKn2a)EzE",
+        "foo<__float128 (__int128 const restrict, a)), ...>",
+    ),
+    (
+        "_Z3fooIFsS_ES_xT_T0_E",
+        "foo<short (foo), foo, long long, short (foo), foo>",
+    ),
     (
         "_Z3fooIli2abgMVu3foooS_S1_E",
         "foo<long, int, ab, __float128, unsigned __int128 foo volatile::*, foo, foo>",
     ),
     ("_ZL1aIVKjE", "a<unsigned int const volatile>"),
-    ("_ZN1TIOPFtvEOT_FsvEEE", "T<unsigned short (*&&)(), unsigned short (*&&&&)(), short ()>"),
-    ("_ZN1aIKPrKTsNrVKR1xEEE", "a<struct x & const restrict* const>"),
+    (
+        "_ZN1TIOPFtvEOT_FsvEEE",
+        "T<unsigned short (*&&)(), unsigned short (*&&&&)(), short ()>",
+    ),
+    (
+        "_ZN1aIKPrKTsNrVKR1xEEE",
+        "a<struct x & const restrict* const>",
+    ),
     ("_ZN1bIrKRxEC2E", "b<long long& const restrict>::b"),
     (
         "_ZN1bIu5floatRRFdvErVKli1AEE",
         "b<float, double (&&)(), long const volatile restrict, int, A>",
     ),
-    ("_ZN2(bIKFcPFhFbvEREhEEE", "(b<char (unsigned char (*)(bool ()) &, unsigned char) const>"),
-    ("_ZN2b>IfA0_KS_IESbEEDv4_f", "b><float, b><> const [0], std::basic_string>"),
+    (
+        "_ZN2(bIKFcPFhFbvEREhEEE",
+        "(b<char (unsigned char (*)(bool ()) &, unsigned char) const>",
+    ),
+    (
+        "_ZN2b>IfA0_KS_IESbEEDv4_f",
+        "b><float, b><> const [0], std::basic_string>",
+    ),
     (
         "_ZNH1aIEIFfju1)OET_IT_EEE",
         "a<><float (unsigned int, )) &&, float (unsigned int, )) &&<float (unsigned int, )) &&> >",
     ),
-    ("_ZNHSaIFDhDuFjEEEE", "std::allocator<half (char8_t, unsigned int ())>"),
-    ("_ZNHSbIM1AS_EC5E", "std::basic_string<A A::*>::basic_string"),
-    ("_ZNHSi1bIPPDsEE", "std::basic_istream<char, std::char_traits<char> >::b<char16_t**>"),
+    (
+        "_ZNHSaIFDhDuFjEEEE",
+        "std::allocator<half (char8_t, unsigned int ())>",
+    ),
+    (
+        "_ZNHSbIM1AS_EC5E",
+        "std::basic_string<A A::*>::basic_string",
+    ),
+    (
+        "_ZNHSi1bIPPDsEE",
+        "std::basic_istream<char, std::char_traits<char> >::b<char16_t**>",
+    ),
     (
         "_ZNHSt1TIMKVA_S_IA_SsEmzEEv",
         "std::T<unsigned long std::T<std::string []> volatile const []::*, ...>",
     ),
     ("_ZNK1fMIMS_lE2abEv", "f<long f::*>::ab"),
-    ("_ZNKO1xIFyvEKPS_EE", "x<unsigned long long (), x* const> &&"),
+    (
+        "_ZNKO1xIFyvEKPS_EE",
+        "x<unsigned long long (), x* const> &&",
+    ),
     (
         "_ZNKRSiIVKOPFiEEIiEE.cold",
         "std::basic_istream<char, std::char_traits<char> ><int (*&& const volatile)()><int> &.cold",
@@ -224,15 +353,24 @@ const DECLARATORS: [(&str, &str); 85] = [
         "_ZNR1)IRjKOA_T_ImS1_EED4E",
         ")<unsigned int&, unsigned int&<unsigned long, unsigned int&> (&& const) []>::~) &",
     ),
-    ("_ZNRStIPPKrKFTeN1aEvESbEE", "std<enum a (**)() const restrict const, std::basic_string> &"),
-    ("_ZNSaIu1xEIVFyEEE", "std::allocator<x><unsigned long long () volatile>"),
+    (
+        "_ZNRStIPPKrKFTeN1aEvESbEE",
+        "std<enum a (**)() const restrict const, std::basic_string> &",
+    ),
+    (
+        "_ZNSaIu1xEIVFyEEE",
+        "std::allocator<x><unsigned long long () volatile>",
+    ),
     (
         "_ZNSb4autoIFzS_IA0_DdEDuEEE",
         "std::basic_string::auto<... (std::basic_string::auto<decimal64 [0]>, char8_t)>",
     ),
     ("_ZNSsIP1ADfEE", "std::string<A*, decimal32>"),
     ("_ZNSsIRRDiE1vE", "std::string<char32_t&>::v"),
-    ("_ZNSt1f1xIS0_IA33_u1AERcrS_EE", "std::f::x<std::f::x<A [33]>, char&, std::f restrict>"),
+    (
+        "_ZNSt1f1xIS0_IA33_u1AERcrS_EE",
+        "std::f::x<std::f::x<A [33]>, char&, std::f restrict>",
+    ),
     (
         "_ZNSt3__16__sortIRNS_6__lessImmEEPmEEvT0_S5_T_",
         "std::__1::__sort<std::__1::__less<unsigned long, unsigned long>&, unsigned long*>",
@@ -241,21 +379,48 @@ const DECLARATORS: [(&str, &str); 85] = [
         "_ZNStIFhRVFs1_A1_u2abEjEEE",
         "std<unsigned char (short (&)(_, ab [1]) volatile, unsigned int)>",
     ),
-    ("_ZNStIKFaPsDaESoEE", "std<signed char (short*, auto) const, std::ostream>"),
-    ("_ZNV1bIPFhvREFmmEEE", "b<unsigned char (*)(void) &, unsigned long (unsigned long)>"),
+    (
+        "_ZNStIKFaPsDaESoEE",
+        "std<signed char (short*, auto) const, std::ostream>",
+    ),
+    (
+        "_ZNV1bIPFhvREFmmEEE",
+        "b<unsigned char (*)(void) &, unsigned long (unsigned long)>",
+    ),
     ("_ZNVKOL1AIvA_T_EMEv", "A<void, void []> &&"),
-    ("_ZNVSbITs1aS_E1fD0E.cold", "std::basic_string<struct a, struct a>::f::~f.cold"),
+    (
+        "_ZNVSbITs1aS_E1fD0E.cold",
+        "std::basic_string<struct a, struct a>::f::~f.cold",
+    ),
     ("_ZNr1bIrVTe1fdEE", "b<enum f volatile restrict, double>"),
-    ("_ZNrK1CIA_A9223372036854775801_PA007_wEE", "C<wchar_t (* [9223372036854775801] []) [7]>"),
-    ("_ZNrKO1T1fITeSt1TT_EME", "T::f<enum std::T, enum std::T> &&"),
+    (
+        "_ZNrK1CIA_A9223372036854775801_PA007_wEE",
+        "C<wchar_t (* [9223372036854775801] []) [7]>",
+    ),
+    (
+        "_ZNrKO1T1fITeSt1TT_EME",
+        "T::f<enum std::T, enum std::T> &&",
+    ),
     (
         "_ZNrR3fooIPrVKrFMrKz1fvOEE1)E",
         "foo<f ... const restrict::* (*)(void) restrict && const volatile restrict>::) &",
     ),
-    ("_ZSaIPFwvErKu4a(b)E", "std::allocator<wchar_t (*)(), a(b) const restrict>"),
-    ("_ZSbIA18446744073709551613_PF1TvEE", "std::basic_string<T (* [18446744073709551613])()>"),
-    ("_ZSbIDcA007_nE", "std::basic_string<decltype(auto), __int128 [7]>"),
-    ("_ZSbIFR3foontEaE", "std::basic_string<foo& (__int128, unsigned short), signed char>"),
+    (
+        "_ZSaIPFwvErKu4a(b)E",
+        "std::allocator<wchar_t (*)(), a(b) const restrict>",
+    ),
+    (
+        "_ZSbIA18446744073709551613_PF1TvEE",
+        "std::basic_string<T (* [18446744073709551613])()>",
+    ),
+    (
+        "_ZSbIDcA007_nE",
+        "std::basic_string<decltype(auto), __int128 [7]>",
+    ),
+    (
+        "_ZSbIFR3foontEaE",
+        "std::basic_string<foo& (__int128, unsigned short), signed char>",
+    ),
     (
         "_ZSbIK5floatngSbSbE",
         "std::basic_string<float const, __int128, __float128, std::basic_string, std::basic_string>",
@@ -268,7 +433,10 @@ const DECLARATORS: [(&str, &str); 85] = [
         "_ZSbIRMu3fooFaNS_2éC15floatExEiE",
         "std::basic_string<signed char (foo::*&)(foo::é::é::float, long long), int>",
     ),
-    ("_ZSbIrPMSoIEPeE", "std::basic_string<long double* std::ostream<>::** restrict>"),
+    (
+        "_ZSbIrPMSoIEPeE",
+        "std::basic_string<long double* std::ostream<>::** restrict>",
+    ),
     (
         "_ZSdIMrVFlENH1f1AEE",
         "std::basic_iostream<char, std::char_traits<char> ><f::A long () volatile restrict::*>",
@@ -277,15 +445,27 @@ const DECLARATORS: [(&str, &str); 85] = [
         "_ZSdIrV1BS_gE",
         "std::basic_iostream<char, std::char_traits<char> ><B volatile restrict, B, __float128>",
     ),
-    ("_ZSiIRTeNH1TEwE", "std::basic_istream<char, std::char_traits<char> ><enum T&, wchar_t>"),
+    (
+        "_ZSiIRTeNH1TEwE",
+        "std::basic_istream<char, std::char_traits<char> ><enum T&, wchar_t>",
+    ),
     (
         "_ZSiITeNVKRSa5floatC4EE",
         "std::basic_istream<char, std::char_traits<char> ><enum std::allocator::float::float &>",
     ),
-    ("_ZSoIA1_sFgvETuN1xEE", "std::ostream<short [1], __float128 (), union x>"),
-    ("_ZSoIPFbREnoE.cold", "std::ostream<bool (*)() &, __int128, unsigned __int128>.cold"),
+    (
+        "_ZSoIA1_sFgvETuN1xEE",
+        "std::ostream<short [1], __float128 (), union x>",
+    ),
+    (
+        "_ZSoIPFbREnoE.cold",
+        "std::ostream<bool (*)() &, __int128, unsigned __int128>.cold",
+    ),
     ("_ZSoIRKMDhNH1 EE", "std::ostream< half::* const&>"),
-    ("_ZSoIVKMibEDv4_f", "std::ostream<bool int::* const volatile>"),
+    (
+        "_ZSoIVKMibEDv4_f",
+        "std::ostream<bool int::* const volatile>",
+    ),
     (
         "_ZSsIFjvEA_SiEDv4_f",
         "std::string<unsigned int (), std::basic_istream<char, std::char_traits<char> > []>",
@@ -298,11 +478,26 @@ const DECLARATORS: [(&str, &str); 85] = [
         "_ZSsIMMxrVKFV3foovEFzu1xEE",
         "std::string<... (foo volatile (long long::*)() const volatile restrict::*)(x)>",
     ),
-    ("_ZSsIcvM1fPFfvEE", "std::string<char, void, float (*) (f::*)()>"),
-    ("_ZSt1xIDsN1BE1EIKSaES0_eE", "std::x<char16_t, B, E<std::allocator const>, B, long double>"),
-    ("_ZSt2abIPF2~AS0_jET_cE", "std::ab<~A (*)(~A, unsigned int), ~A (*)(~A, unsigned int), char>"),
-    ("_ZSt2d_IPFdDcOEmE", "std::d_<double (*)(decltype(auto)) &&, unsigned long>"),
-    ("__ZNVOSoD2IPFsVu1xEEE", "std::ostream::~ostream<short (*)(x volatile)> &&"),
+    (
+        "_ZSsIcvM1fPFfvEE",
+        "std::string<char, void, float (*) (f::*)()>",
+    ),
+    (
+        "_ZSt1xIDsN1BE1EIKSaES0_eE",
+        "std::x<char16_t, B, E<std::allocator const>, B, long double>",
+    ),
+    (
+        "_ZSt2abIPF2~AS0_jET_cE",
+        "std::ab<~A (*)(~A, unsigned int), ~A (*)(~A, unsigned int), char>",
+    ),
+    (
+        "_ZSt2d_IPFdDcOEmE",
+        "std::d_<double (*)(decltype(auto)) &&, unsigned long>",
+    ),
+    (
+        "__ZNVOSoD2IPFsVu1xEEE",
+        "std::ostream::~ostream<short (*)(x volatile)> &&",
+    ),
 ];
 
 /// Symbols that aren't read.

@@ -62,8 +62,16 @@ fn arguments_of_an_earlier_symbol_are_gone(rt: HostRuntime) -> Result<(), Fail> 
     // Both are refused while a list is open.
     for refused in ["_Z1fIiT0_E", "_Z1fIi1A1B"] {
         assert_eq!(rt; demangler.demangle(rt.alloc(), refused)?, None, "{refused}");
-        assert_eq!(rt; demangler.demangle(rt.alloc(), "_Z1fIT_E")?, None, "behind {refused}");
-        assert_eq!(rt; demangler.demangle(rt.alloc(), "_ZS0_IiE")?, None, "behind {refused}");
+        assert_eq!(rt;
+            demangler.demangle(rt.alloc(), "_Z1fIT_E")?,
+            None,
+            "behind {refused}"
+        );
+        assert_eq!(rt;
+            demangler.demangle(rt.alloc(), "_ZS0_IiE")?,
+            None,
+            "behind {refused}"
+        );
         let found = demangler.demangle(rt.alloc(), "_Z1fIcT_E")?;
         assert_eq!(rt; found, Some("f<char, char>"), "behind {refused}");
     }
