@@ -1,0 +1,152 @@
+//! Pointers, references, qualifiers, arrays, pointers to members, functions and elaborated types.
+
+use crate::tables::{assert_answers, assert_unread};
+use std::alloc::{AllocError, Global};
+use std::test::Fail;
+
+#[test]
+fn pointers_to_functions(rt: HostRuntime) -> Result<(), Fail> {
+    let rows = [
+        ("_Z1fIPFvvES1_Evv", "f<void (*)(), void (*)()>"),
+        ("_Z1fIPFvvES0_Evv", "f<void (*)(), void ()>"),
+        ("_Z1fIPPFvvEEvv", "f<void (**)()>"),
+        ("_Z1fIRPFvvEEvv", "f<void (*&)()>"),
+        ("_Z1fIOPFvvEEvv", "f<void (*&&)()>"),
+        ("_Z1fIRKPFvvEEvv", "f<void (* const&)()>"),
+        ("_Z1fIPFbRKiS1_EEv", "f<bool (*)(int const&, int const&)>"),
+    ];
+    assert_answers(&rt, rt.alloc(), rows.as_slice())
+}
+
+#[test]
+fn functions(rt: HostRuntime) -> Result<(), Fail> {
+    let rows = [
+        ("_Z1fIFvvEEvv", "f<void ()>"),
+        ("_Z1fIKFvvEEvv", "f<void () const>"),
+        ("_Z1fIFivREEvv", "f<int (void) &>"),
+        ("_Z1fIFiiOEEvv", "f<int (int) &&>"),
+    ];
+    assert_answers(&rt, rt.alloc(), rows.as_slice())
+}
+
+#[test]
+fn references(rt: HostRuntime) -> Result<(), Fail> {
+    let rows = [
+        ("_Z1fIOiRS0_Evv", "f<int&&, int&>"),
+        ("_Z1fIRiOS0_Evv", "f<int&, int&>"),
+        ("_Z1fIRKiEvv", "f<int const&>"),
+        ("_Z1fIPRiEvv", "f<int&*>"),
+        // In a group no reference collapses.
+        ("_Z1fIORA3_iEvv", "f<int (&&&) [3]>"),
+    ];
+    assert_answers(&rt, rt.alloc(), rows.as_slice())
+}
+
+#[test]
+fn arrays(rt: HostRuntime) -> Result<(), Fail> {
+    let rows = [
+        ("_Z1fIA2_A3_iS0_Evv", "f<int [2][3], int [3]>"),
+        ("_Z1fIRKA3_iEvv", "f<int const (&) [3]>"),
+        ("_Z1fIA10_iEv", "f<int [10]>"),
+        ("_Z1fIA_cEv", "f<char []>"),
+        ("_Z1fIRA12_KcEv", "f<char const (&) [12]>"),
+        ("_Z1fIRPA3_iEvv", "f<int (*&) [3]>"),
+        ("_Z1fIPA3_PFvvEEvv", "f<void (* [3]*)()>"),
+        (
+            "_Z1fIA18446744073709551615_iEvv",
+            "f<int [18446744073709551615]>",
+        ),
+    ];
+    assert_answers(&rt, rt.alloc(), rows.as_slice())
+}
+
+#[test]
+fn pointers_to_members(rt: HostRuntime) -> Result<(), Fail> {
+    let rows = [
+        ("_Z1fIM3FooiE", "f<int Foo::*>"),
+        ("_Z1fIM3FooFvvEE", "f<void (Foo::*)()>"),
+        ("_Z1fIM3FooKFbvEE", "f<bool (Foo::*)() const>"),
+        ("_Z1fIM3FooFiEE", "f<int (Foo::*)()>"),
+        ("_Z1fIM3FooFiiEE", "f<int (Foo::*)(int)>"),
+        ("_Z1fIM1AFvvREEvv", "f<void (A::*)(void) &>"),
+        // A parenthesis inside a name is no group.
+        ("_Z1fIPM2a)FvvEEvv", "f<void (a)::**)()>"),
+    ];
+    assert_answers(&rt, rt.alloc(), rows.as_slice())
+}
+
+#[test]
+fn constant_members(rt: HostRuntime) -> Result<(), Fail> {
+    let rows = [
+        ("_Z1fIN3Foo3BarERKS1_Ev", "f<Foo::Bar, Foo::Bar const&>"),
+        (
+            "_Z1fIN3Foo3BarENS1_3BazERKS2_Ev",
+            "f<Foo::Bar, Foo::Bar::Baz, Foo::Bar::Baz const&>",
+        ),
+        (
+            "_Z1fIN3Foo3BarENS1_3BazERS2_Ev",
+            "f<Foo::Bar, Foo::Bar::Baz, Foo::Bar::Baz&>",
+        ),
+        (
+            "_Z1fIN3Foo3BarENS1_3BazEPS2_Ev",
+            "f<Foo::Bar, Foo::Bar::Baz, Foo::Bar::Baz*>",
+        ),
+        (
+            "_Z1fIN3Foo3BarENS1_3BazERVKS2_Ev",
+            "f<Foo::Bar, Foo::Bar::Baz, Foo::Bar::Baz const volatile&>",
+        ),
+        (
+            "_Z1fIN3Foo3BarENS1_IiE3BazERKS3_Ev",
+            "f<Foo::Bar, Foo::Bar<int>::Baz, Foo::Bar<int>::Baz const&>",
+        ),
+    ];
+    assert_answers(&rt, rt.alloc(), rows.as_slice())
+}
+
+#[test]
+fn elaborated_types(rt: HostRuntime) -> Result<(), Fail> {
+    let rows = [
+        ("_Z1fITs1AEvv", "f<struct A>"),
+        ("_Z1fITu1AEvv", "f<union A>"),
+        ("_Z1fITe1AEvv", "f<enum A>"),
+        ("_Z1fIu3fooEvv", "f<foo>"),
+    ];
+    assert_answers(&rt, rt.alloc(), rows.as_slice())
+}
+
+#[test]
+fn no_declarators(rt: HostRuntime) -> Result<(), Fail> {
+    let symbols = [
+        // A pointer to a member of an array type, an array of functions, a function that returns a
+        // pointer to a function.
+        "_Z1fIM1AA3_iEvv",
+        "_Z1fIA3_FvvEEvv",
+        "_Z1fIFPFvvEvEEvv",
+        "_Z1fIA18446744073709551616_iEvv",
+        "_Z1fIFYvvEEvv",
+        "_Z1fIu3fooIiEEvv",
+        "_Z1fIPEvv",
+    ];
+    assert_unread(&rt, rt.alloc(), symbols.as_slice())
+}
+
+/// The text that many times.
+fn times(alloc: Global, text: &str, count: usize) -> Result<String, AllocError> {
+    let mut all = String::new(alloc);
+    for _ in 0..count {
+        all.push_str(text)?;
+    }
+    Ok(all)
+}
+
+#[test]
+fn nested_pointers(rt: HostRuntime) -> Result<(), Fail> {
+    let alloc = rt.alloc();
+    let marks = times(alloc, "P", 125)?;
+    let stars = times(alloc, "*", 125)?;
+    let deepest = format!(in alloc; "_Z1fI{marks}iEvv")?;
+    let answer = format!(in alloc; "f<int{stars}>")?;
+    assert_answers(&rt, alloc, [(deepest.as_str(), answer.as_str())].as_slice())?;
+    let deeper = format!(in alloc; "_Z1fIP{marks}iEvv")?;
+    assert_unread(&rt, alloc, [deeper.as_str()].as_slice())
+}

@@ -1,0 +1,332 @@
+//! Each edit of the tree steps, with the texts, the last own names and the flags of its answers.
+
+use demangle_edit::{
+    Glue, Pointer, Quals, Reference, apply_name_qualifiers, attach_template_args, collapse_ref,
+    function_type, glue, qualify, qualify_ctor, wrap_array, wrap_cv, wrap_member_pointer,
+    wrap_pointer,
+};
+use demangle_text::{Buffer, Kind};
+use std::test::Fail;
+
+const NO_QUALS: Quals = Quals {
+    constant: false,
+    volatile: false,
+    restrict: false,
+    reference: None,
+};
+
+const CONSTANT: Quals = Quals {
+    constant: true,
+    volatile: false,
+    restrict: false,
+    reference: None,
+};
+
+const ALL_QUALS: Quals = Quals {
+    constant: true,
+    volatile: true,
+    restrict: true,
+    reference: Some(Reference::Right),
+};
+
+#[test]
+#[tactic(auto, using(demangle_text::proofs::Laws::laws))]
+fn qualified_name(rt: HostRuntime) -> Result<(), Fail> {
+    let mut buf = Buffer::new(rt.alloc());
+    let scope = buf.push(b"Foo")?;
+    let leaf = buf.push(b"bar<int>")?;
+    let named = buf.own_at(leaf, 0, 3);
+    let flagged = buf.with_flags(named, true, false);
+    let name = qualify(&mut buf, scope, flagged)?;
+    assert_eq!(rt; buf.bytes(name), b"Foo::bar<int>".as_slice());
+    assert_eq!(rt; buf.own_range(name), (5, 8));
+    assert!(rt; buf.templ(name));
+    assert!(rt; !buf.ctor(name));
+    Ok(())
+}
+
+#[test]
+#[tactic(auto, using(demangle_text::proofs::Laws::laws))]
+fn constructor(rt: HostRuntime) -> Result<(), Fail> {
+    let mut buf = Buffer::new(rt.alloc());
+    let class = buf.push(b"std::allocator<char>")?;
+    let named = buf.own_at(class, 5, 14);
+    let flagged = buf.with_flags(named, true, false);
+    let constructor = qualify_ctor(&mut buf, flagged, false)?;
+    assert_eq!(rt;
+        buf.bytes(constructor),
+        b"std::allocator<char>::allocator".as_slice()
+    );
+    assert_eq!(rt; buf.own_range(constructor), (22, 31));
+    assert!(rt; buf.ctor(constructor));
+    assert!(rt; !buf.templ(constructor));
+    Ok(())
+}
+
+#[test]
+#[tactic(auto, using(demangle_text::proofs::Laws::laws))]
+fn destructor(rt: HostRuntime) -> Result<(), Fail> {
+    let mut buf = Buffer::new(rt.alloc());
+    let class = buf.push(b"A::Foo")?;
+    let named = buf.own_at(class, 3, 6);
+    let destructor = qualify_ctor(&mut buf, named, true)?;
+    assert_eq!(rt; buf.bytes(destructor), b"A::Foo::~Foo".as_slice());
+    assert_eq!(rt; buf.own_range(destructor), (8, 12));
+    assert!(rt; buf.ctor(destructor));
+    Ok(())
+}
+
+#[test]
+#[tactic(auto, using(demangle_text::proofs::Laws::laws))]
+fn template_arguments(rt: HostRuntime) -> Result<(), Fail> {
+    let mut buf = Buffer::new(rt.alloc());
+    let name = buf.push(b"A::f")?;
+    let args = buf.push(b"<int>")?;
+    let own = buf.own_at(name, 3, 4);
+    let flagged = buf.with_flags(own, false, true);
+    let whole = attach_template_args(&mut buf, flagged, args)?;
+    assert_eq!(rt; buf.bytes(whole), b"A::f<int>".as_slice());
+    assert_eq!(rt; buf.own_range(whole), (3, 4));
+    assert!(rt; buf.templ(whole));
+    assert!(rt; buf.ctor(whole));
+    Ok(())
+}
+
+#[test]
+#[tactic(auto, using(demangle_text::proofs::Laws::laws))]
+fn template_arguments_of_an_operator(rt: HostRuntime) -> Result<(), Fail> {
+    let mut buf = Buffer::new(rt.alloc());
+    let operator = buf.push(b"operator<")?;
+    let args = buf.push(b"<int>")?;
+    let whole = attach_template_args(&mut buf, operator, args)?;
+    assert_eq!(rt; buf.bytes(whole), b"operator< <int>".as_slice());
+    assert_eq!(rt; buf.own_range(whole), (0, 9));
+    Ok(())
+}
+
+#[test]
+#[tactic(auto, using(demangle_text::proofs::Laws::laws))]
+fn qualifiers_of_a_name(rt: HostRuntime) -> Result<(), Fail> {
+    let mut buf = Buffer::new(rt.alloc());
+    let name = buf.push(b"f")?;
+    let hidden = apply_name_qualifiers(&mut buf, name, ALL_QUALS, false)?;
+    assert_eq!(rt; buf.bytes(hidden), b"f &&".as_slice());
+    assert_eq!(rt; buf.own_range(hidden), (0, 1));
+    let name = buf.push(b"f")?;
+    let shown = apply_name_qualifiers(&mut buf, name, ALL_QUALS, true)?;
+    assert_eq!(rt;
+        buf.bytes(shown),
+        b"f const volatile restrict &&".as_slice()
+    );
+    let name = buf.push(b"f")?;
+    let bare = apply_name_qualifiers(&mut buf, name, NO_QUALS, true)?;
+    assert_eq!(rt; buf.bytes(bare), b"f".as_slice());
+    Ok(())
+}
+
+#[test]
+#[tactic(auto, using(demangle_text::proofs::Laws::laws))]
+fn glued_parts(rt: HostRuntime) -> Result<(), Fail> {
+    let mut buf = Buffer::new(rt.alloc());
+    let first = buf.push(b"A")?;
+    let second = buf.push(b"B")?;
+    let parts = [
+        Glue::Text(b"construction vtable for "),
+        Glue::Piece(first),
+        Glue::Text(b"-in-"),
+        Glue::Piece(second),
+    ];
+    let whole = glue(&mut buf, parts.as_slice())?;
+    assert_eq!(rt;
+        buf.bytes(whole),
+        b"construction vtable for A-in-B".as_slice()
+    );
+    assert_eq!(rt; buf.own_range(whole), (0, 30));
+    let nothing = glue(&mut buf, [].as_slice())?;
+    assert_eq!(rt; buf.bytes(nothing), b"".as_slice());
+    Ok(())
+}
+
+#[test]
+#[tactic(auto, using(demangle_text::proofs::Laws::laws))]
+fn pointers_to_a_plain_type(rt: HostRuntime) -> Result<(), Fail> {
+    let mut buf = Buffer::new(rt.alloc());
+    let int = buf.push(b"int")?;
+    let pointer = wrap_pointer(&mut buf, int, Pointer::Star)?;
+    assert_eq!(rt; buf.bytes(pointer), b"int*".as_slice());
+    assert_eq!(rt; buf.own_range(pointer), (0, 3));
+    let right = wrap_pointer(&mut buf, pointer, Pointer::Right)?;
+    assert_eq!(rt; buf.bytes(right), b"int*&&".as_slice());
+    let left = wrap_pointer(&mut buf, right, Pointer::Left)?;
+    assert_eq!(rt; buf.bytes(left), b"int*&".as_slice());
+    let same = wrap_pointer(&mut buf, left, Pointer::Right)?;
+    assert_eq!(rt; buf.bytes(same), b"int*&".as_slice());
+    Ok(())
+}
+
+#[test]
+#[tactic(auto, using(demangle_text::proofs::Laws::laws))]
+fn pointers_to_a_declarator(rt: HostRuntime) -> Result<(), Fail> {
+    let mut buf = Buffer::new(rt.alloc());
+    let text = buf.push(b"int [3]")?;
+    let array = buf.declare(text, Kind::Array, 3);
+    let left = wrap_pointer(&mut buf, array, Pointer::Left)?;
+    assert_eq!(rt; buf.bytes(left), b"int (&) [3]".as_slice());
+    let right = wrap_pointer(&mut buf, left, Pointer::Right)?;
+    assert_eq!(rt; buf.bytes(right), b"int (&&&) [3]".as_slice());
+    let text = buf.push(b"int* ()")?;
+    let function = buf.declare(text, Kind::Function, 5);
+    let pointer = wrap_pointer(&mut buf, function, Pointer::Star)?;
+    assert_eq!(rt; buf.bytes(pointer), b"int* (*)()".as_slice());
+    Ok(())
+}
+
+#[test]
+#[tactic(auto, using(demangle_text::proofs::Laws::laws))]
+fn collapsed_references(rt: HostRuntime) -> Result<(), Fail> {
+    let mut buf = Buffer::new(rt.alloc());
+    let right = buf.push(b"A&&")?;
+    let Some(same) = collapse_ref(&mut buf, right, true)? else {
+        return Err("no reference".into());
+    };
+    assert_eq!(rt; buf.bytes(same), b"A&&".as_slice());
+    let Some(left) = collapse_ref(&mut buf, same, false)? else {
+        return Err("no reference".into());
+    };
+    assert_eq!(rt; buf.bytes(left), b"A&".as_slice());
+    assert_eq!(rt; buf.own_range(left), (0, 2));
+    let text = buf.push(b"int &")?;
+    let array = buf.declare(text, Kind::Array, 3);
+    assert!(rt; collapse_ref(&mut buf, array, false)?.is_none());
+    let plain = buf.push(b"A")?;
+    assert!(rt; collapse_ref(&mut buf, plain, false)?.is_none());
+    Ok(())
+}
+
+#[test]
+#[tactic(auto, using(demangle_text::proofs::Laws::laws))]
+fn qualified_types(rt: HostRuntime) -> Result<(), Fail> {
+    let mut buf = Buffer::new(rt.alloc());
+    let char = buf.push(b"char")?;
+    let constant = wrap_cv(&mut buf, char, CONSTANT)?;
+    assert_eq!(rt; buf.bytes(constant), b"char const".as_slice());
+    let text = buf.push(b"int [3]")?;
+    let array = buf.declare(text, Kind::Array, 3);
+    let constant = wrap_cv(&mut buf, array, CONSTANT)?;
+    assert_eq!(rt; buf.bytes(constant), b"int const [3]".as_slice());
+    let text = buf.push(b"void ()")?;
+    let function = buf.declare(text, Kind::Function, 5);
+    let constant = wrap_cv(&mut buf, function, CONSTANT)?;
+    assert_eq!(rt; buf.bytes(constant), b"void () const".as_slice());
+    let text = buf.push(b"void (*)()")?;
+    let pointer = buf.declare_group(text, Kind::Function, 5, 8);
+    let constant = wrap_cv(&mut buf, pointer, CONSTANT)?;
+    assert_eq!(rt; buf.bytes(constant), b"void (* const)()".as_slice());
+    Ok(())
+}
+
+#[test]
+#[tactic(auto, using(demangle_text::proofs::Laws::laws))]
+fn arrays(rt: HostRuntime) -> Result<(), Fail> {
+    let mut buf = Buffer::new(rt.alloc());
+    let char = buf.push(b"char")?;
+    let Some(inner) = wrap_array(&mut buf, char, Some(3))? else {
+        return Err("no array".into());
+    };
+    assert_eq!(rt; buf.bytes(inner), b"char [3]".as_slice());
+    assert_eq!(rt; buf.after_at(inner), Some(4));
+    let Some(outer) = wrap_array(&mut buf, inner, None)? else {
+        return Err("no array".into());
+    };
+    assert_eq!(rt; buf.bytes(outer), b"char [][3]".as_slice());
+    assert_eq!(rt; buf.own_range(outer), (0, 4));
+    Ok(())
+}
+
+#[test]
+#[tactic(auto, using(demangle_text::proofs::Laws::laws))]
+fn arrays_of_functions(rt: HostRuntime) -> Result<(), Fail> {
+    let mut buf = Buffer::new(rt.alloc());
+    let text = buf.push(b"void (*)()")?;
+    let pointer = buf.declare_group(text, Kind::Function, 5, 8);
+    let Some(array) = wrap_array(&mut buf, pointer, Some(18_446_744_073_709_551_615))? else {
+        return Err("no array".into());
+    };
+    assert_eq!(rt;
+        buf.bytes(array),
+        b"void (* [18446744073709551615])()".as_slice()
+    );
+    let text = buf.push(b"void ()")?;
+    let function = buf.declare(text, Kind::Function, 5);
+    assert!(rt; wrap_array(&mut buf, function, Some(3))?.is_none());
+    assert_eq!(rt; buf.bytes(function), b"void ()".as_slice());
+    Ok(())
+}
+
+#[test]
+#[tactic(auto, using(demangle_text::proofs::Laws::laws))]
+fn pointers_to_a_plain_member(rt: HostRuntime) -> Result<(), Fail> {
+    let mut buf = Buffer::new(rt.alloc());
+    let class = buf.push(b"A")?;
+    let member = buf.push(b"int")?;
+    let Some(pointer) = wrap_member_pointer(&mut buf, class, member)? else {
+        return Err("no pointer".into());
+    };
+    assert_eq!(rt; buf.bytes(pointer), b"int A::*".as_slice());
+    assert_eq!(rt; buf.own_range(pointer), (0, 3));
+    let class = buf.push(b"A")?;
+    let member = buf.push(b"x(")?;
+    let Some(pointer) = wrap_member_pointer(&mut buf, class, member)? else {
+        return Err("no pointer".into());
+    };
+    assert_eq!(rt; buf.bytes(pointer), b"x(A::*".as_slice());
+    let class = buf.push(b"A")?;
+    let member = buf.push(b"")?;
+    let Some(pointer) = wrap_member_pointer(&mut buf, class, member)? else {
+        return Err("no pointer".into());
+    };
+    assert_eq!(rt; buf.bytes(pointer), b" A::*".as_slice());
+    Ok(())
+}
+
+#[test]
+#[tactic(auto, using(demangle_text::proofs::Laws::laws))]
+fn pointers_to_a_declared_member(rt: HostRuntime) -> Result<(), Fail> {
+    let mut buf = Buffer::new(rt.alloc());
+    let class = buf.push(b"A")?;
+    let text = buf.push(b"int [3]")?;
+    let array = buf.declare(text, Kind::Array, 3);
+    assert!(rt; wrap_member_pointer(&mut buf, class, array)?.is_none());
+    let text = buf.push(b"void () const")?;
+    let function = buf.declare(text, Kind::Function, 5);
+    let Some(pointer) = wrap_member_pointer(&mut buf, class, function)? else {
+        return Err("no pointer".into());
+    };
+    assert_eq!(rt; buf.bytes(pointer), b"void (A::*)() const".as_slice());
+    assert_eq!(rt; buf.kind(pointer), Some(Kind::Function));
+    Ok(())
+}
+
+#[test]
+#[tactic(auto, using(demangle_text::proofs::Laws::laws))]
+fn function_types(rt: HostRuntime) -> Result<(), Fail> {
+    let mut buf = Buffer::new(rt.alloc());
+    let ret = buf.push(b"void")?;
+    let int = buf.push(b"int")?;
+    let char = buf.push(b"char")?;
+    let params = [int, char];
+    let Some(function) = function_type(&mut buf, ret, params.as_slice(), ALL_QUALS)? else {
+        return Err("no function".into());
+    };
+    let expected = b"void (int, char) const volatile restrict &&";
+    assert_eq!(rt; buf.bytes(function), expected.as_slice());
+    assert_eq!(rt; buf.after_at(function), Some(5));
+    assert!(rt; function_type(&mut buf, function, [].as_slice(), NO_QUALS)?.is_none());
+    let ret = buf.push(b"int")?;
+    let Some(function) = function_type(&mut buf, ret, [].as_slice(), NO_QUALS)? else {
+        return Err("no function".into());
+    };
+    assert_eq!(rt; buf.bytes(function), b"int ()".as_slice());
+    assert_eq!(rt; buf.own_range(function), (0, 6));
+    Ok(())
+}

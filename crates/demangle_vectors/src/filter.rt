@@ -1,0 +1,74 @@
+//! The filter over bytes in memory.
+
+use crate::memory::{MemorySink, MemorySource};
+use std::alloc::Global;
+use std::process::Abort;
+use std::test::Fail;
+use symfilter_engine::{FilterFault, Sink, Source, filter};
+
+/// The filtered text of some bytes is as expected, whether the ends give and take one byte a call,
+/// a few or all.
+fn assert_filtered(rt: &impl Abort, alloc: Global, text: &[u8], expected: &[u8]) {
+    for most in [1, 3, 1000] {
+        let mut reader = MemorySource::new(text, most, 1000);
+        let mut writer = MemorySink::new(alloc, most, 1000);
+        assert_eq!(rt; filter(alloc, &mut reader, &mut writer), Ok(()));
+        assert_eq!(rt; writer.bytes.as_slice(), expected);
+        assert!(rt; reader.rest.is_empty());
+    }
+}
+
+#[test]
+fn last_line_without_a_line_feed(rt: HostRuntime) {
+    assert_filtered(&rt, rt.alloc(), b"_Z3foov\nx\n_Z3bar", b"foo\nx\nbar");
+}
+
+#[test]
+fn each_line_has_its_answer(rt: HostRuntime) {
+    assert_filtered(
+        &rt,
+        rt.alloc(),
+        b"_ZNSt6vectorIS_IiEE4sizeEv\nmalloc\n_Z1fIT_iEvv\n\n_ZN3FooD1Ev.cold\n",
+        b"std::vector<std::vector<int> >::size\nmalloc\n_Z1fIT_iEvv\n\nFoo::~Foo\n",
+    );
+}
+
+#[test]
+fn lines_that_are_not_utf8(rt: HostRuntime) {
+    assert_filtered(
+        &rt,
+        rt.alloc(),
+        b"_Z1\xc3\n_Z2\xc3\xa9\r\n\xff\n_Z3foo",
+        b"_Z1\xc3\n\xc3\xa9\n\xff\nfoo",
+    );
+}
+
+#[test]
+fn a_reader_that_fails(rt: HostRuntime) -> Result<(), Fail> {
+    let mut reader = MemorySource::new(b"_Z3foov\n_Z3barv\n", 8, 1);
+    let mut writer = MemorySink::new(rt.alloc(), 100, 100);
+    let outcome = filter(rt.alloc(), &mut reader, &mut writer);
+    assert_eq!(rt; outcome, Err(FilterFault::Read));
+    assert!(rt; b"foo\n".starts_with(writer.bytes.as_slice()));
+    assert!(rt; reader.failed());
+    assert!(rt; !writer.failed());
+    Ok(())
+}
+
+#[test]
+fn a_writer_that_fails(rt: HostRuntime) {
+    let mut reader = MemorySource::new(b"_Z3foov\nx\n", 100, 100);
+    let mut writer = MemorySink::new(rt.alloc(), 2, 1);
+    let outcome = filter(rt.alloc(), &mut reader, &mut writer);
+    assert_eq!(rt; outcome, Err(FilterFault::Write));
+    assert_eq!(rt; writer.bytes.as_slice(), b"fo".as_slice());
+    assert!(rt; writer.failed());
+    assert!(rt; !reader.failed());
+}
+
+#[test]
+fn the_words_of_the_faults(rt: HostRuntime) {
+    assert_eq!(rt; FilterFault::Read.line(), "symfilter: read failed");
+    assert_eq!(rt; FilterFault::Write.line(), "symfilter: write failed");
+    assert_eq!(rt; FilterFault::Memory.line(), "symfilter: out of memory");
+}

@@ -1,0 +1,28 @@
+//! Tests that cross crates: symbols with their answers, scripts over the buffer, each edit, and the
+//! filter, over texts in memory.
+//!
+//! The expected texts come from the grammar's definition, and not from what the crates answer.
+#![tactic(auto)]
+
+#[cfg(test)]
+mod arguments;
+#[cfg(test)]
+mod buffer;
+#[cfg(test)]
+mod declarators;
+#[cfg(test)]
+mod edits;
+#[cfg(test)]
+mod filter;
+#[cfg(test)]
+mod memory;
+#[cfg(test)]
+mod names;
+#[cfg(test)]
+mod sample;
+#[cfg(test)]
+mod scalars;
+#[cfg(test)]
+mod serving;
+#[cfg(test)]
+mod tables;

@@ -1,0 +1,43 @@
+//! Numbers, sequence ids and source names, read by themselves.
+
+use itanium_demangle::scalar::{number, sequence_id, source_name};
+
+#[test]
+fn numbers(rt: HostRuntime) {
+    assert_eq!(rt; number(b"0", 0), Some((0, 1)));
+    assert_eq!(rt; number(b"x0070y", 1), Some((70, 5)));
+    assert_eq!(rt;
+        number(b"18446744073709551615_", 0),
+        Some((18_446_744_073_709_551_615, 20))
+    );
+    assert_eq!(rt; number(b"18446744073709551616", 0), None);
+    assert_eq!(rt; number(b"184467440737095516150", 0), None);
+    assert_eq!(rt; number(b"n1", 0), None);
+    assert_eq!(rt; number(b"1", 1), None);
+    assert_eq!(rt; number(b"", 0), None);
+}
+
+#[test]
+fn sequence_ids(rt: HostRuntime) {
+    assert_eq!(rt; sequence_id(b"S1_", 1), Some((1, 2)));
+    assert_eq!(rt; sequence_id(b"Z_", 0), Some((35, 1)));
+    assert_eq!(rt; sequence_id(b"10_", 0), Some((36, 2)));
+    assert_eq!(rt;
+        sequence_id(b"3W5E11264SGSF_", 0),
+        Some((18_446_744_073_709_551_615, 13))
+    );
+    assert_eq!(rt; sequence_id(b"3W5E11264SGSG_", 0), None);
+    assert_eq!(rt; sequence_id(b"_", 0), None);
+    assert_eq!(rt; sequence_id(b"a_", 0), None);
+}
+
+#[test]
+fn source_names(rt: HostRuntime) {
+    assert_eq!(rt; source_name(b"3foo", 0), Some((1, 4)));
+    assert_eq!(rt; source_name(b"N03food", 1), Some((3, 6)));
+    assert_eq!(rt; source_name(b"12_GLOBAL__N_1x", 0), Some((2, 14)));
+    assert_eq!(rt; source_name(b"4foo", 0), None);
+    assert_eq!(rt; source_name(b"0", 0), None);
+    assert_eq!(rt; source_name(b"18446744073709551615", 0), None);
+    assert_eq!(rt; source_name(b"foo", 0), None);
+}
