@@ -139,6 +139,7 @@ impl Demangler {
         symbol: &'a str,
     ) -> Result<Option<&'a str>, AllocError>
         ensures answer { IfOk result (λ found. IsAnswer symbol.now (option_map (λ text. text.now) found)) }
+        ensures no_prefix { spec.after_prefix symbol.now ≡ None → result ≡ Ok None }
     {
         self.prepare(alloc, symbol)?;
         Ok(self.text())

@@ -1,4 +1,4 @@
-//! Names (Itanium C++ ABI 5.1.3).
+//! Names (Itanium C++ ABI 5.1.2).
 ghost use Rattle.std.specs.Prelude.{◌≡◌, ◌<◌, length, option_map, IfSome, OnOk, true};
 ghost use Rattle.demangle_text.specs.State.{IsLiving, shape, Lives, IsEdit, IsRun, SameFrame, saved};
 ghost use Rattle.itanium_demangle.specs.Reading as spec;

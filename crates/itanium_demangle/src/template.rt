@@ -1,4 +1,4 @@
-//! Template arguments (Itanium C++ ABI 5.1.8).
+//! Template arguments (Itanium C++ ABI 5.1.5).
 ghost use Rattle.std.specs.Prelude.{◌≡◌, ◌<◌, length};
 ghost use Rattle.demangle_text.specs.State.{IsLiving, shape, IsRun, SameFrame};
 ghost use Rattle.itanium_demangle.specs.Reading as spec;

@@ -18,7 +18,9 @@ fn main(rt: HostRuntime) -> ExitCode {
             &mut Tally::new(reader),
             &mut Tally::new(&mut writer),
         );
-        if outcome.is_ok() && writer.flush().is_err() {
+        // Lines that were put before a fault are written all the same.
+        let flushed = writer.flush();
+        if outcome.is_ok() && flushed.is_err() {
             outcome = Err(FilterFault::Write);
         }
     }
