@@ -103,6 +103,11 @@ fn substitutions(rt: HostRuntime) -> Result<(), Fail> {
         ("_Z1fI1AS_Evv", "f<A, f>"),
         ("_Z1fI1AS0_Evv", "f<A, A>"),
         ("_Z1fIN1A1BES0_S1_Evv", "f<A::B, A, A::B>"),
+        // An abbreviation alone in a nested name takes no component back.
+        (
+            "_Z1fI1ANSaES1_S0_Evv",
+            "f<A, std::allocator, std::allocator, A>",
+        ),
     ];
     assert_answers(&rt, rt.alloc(), rows.as_slice())?;
     // The component isn't saved yet.
@@ -143,6 +148,9 @@ fn constructors_and_destructors(rt: HostRuntime) -> Result<(), Fail> {
         ("_ZNStC1Ev", "std::std"),
         ("_ZN3FooIiEC2Ev", "Foo<int>::Foo"),
         ("_ZN1A3FooIiED2Ev", "A::Foo<int>::~Foo"),
+        ("_ZN1EC4IS_EE", "E::E<E>"),
+        ("_ZNStD1IEC1E", "std::~std<>::~std"),
+        ("__ZNSt1aC1IS_IEEE", "std::a::a<std::a<> >"),
     ];
     assert_answers(&rt, rt.alloc(), rows.as_slice())?;
     let symbols = [

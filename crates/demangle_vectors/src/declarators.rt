@@ -115,6 +115,59 @@ fn elaborated_types(rt: HostRuntime) -> Result<(), Fail> {
 }
 
 #[test]
+fn back_references(rt: HostRuntime) -> Result<(), Fail> {
+    let rows = [
+        ("_ZSbI1bOT_IS0_EE", "std::basic_string<b, b<b>&&>"),
+        (
+            "_Z1TIiMS_T_S1_vSaE",
+            "T<int, int T::*, int T::*, void, std::allocator>",
+        ),
+        (
+            "_Z2n1IKRS_T_S0_S1_hEv",
+            "n1<n1& const, n1& const, n1&, n1& const, unsigned char>",
+        ),
+        (
+            "_ZNR1TIS_RNT_D5EPMS_T_S2_T0_EE",
+            "T<T, T::~T&, T T::**, T::~T&, T::~T&> &",
+        ),
+        (
+            "_Z1TITe2abIErKT_IEE",
+            "T<enum ab<>, enum ab<><> const restrict>",
+        ),
+        (
+            "_ZSt3fooIPS_ItET_E",
+            "std::foo<std::foo<unsigned short>*, std::foo<unsigned short>*>",
+        ),
+        (
+            "_ZN2abIRS_IS_S_S_ET_T_E1BE.cold",
+            "ab<ab<ab, ab, ab>&, ab<ab, ab, ab>&, ab<ab, ab, ab>&>::B.cold",
+        ),
+    ];
+    assert_answers(&rt, rt.alloc(), rows.as_slice())
+}
+
+#[test]
+fn groups(rt: HostRuntime) -> Result<(), Fail> {
+    let rows = [
+        // No space stands between a `*` and a group behind it.
+        (
+            "_ZSsIPMPRA3_Mt1AdcnwS2_E",
+            "std::string<double A unsigned short::*(&*) [3]::**, char, __int128, wchar_t, A unsigned short::*(&) [3]>",
+        ),
+        // A member pointer opens a group in front of the one that stands there.
+        (
+            "_ZN1bIM2abPFmS_NVK1xM2a<EEEE",
+            "b<unsigned long (*) (ab::*)(b, x::a<)>",
+        ),
+        (
+            "_ZSsIcvM1fPFfvEE",
+            "std::string<char, void, float (*) (f::*)()>",
+        ),
+    ];
+    assert_answers(&rt, rt.alloc(), rows.as_slice())
+}
+
+#[test]
 fn no_declarators(rt: HostRuntime) -> Result<(), Fail> {
     let symbols = [
         // A pointer to a member of an array type, an array of functions, a function that returns a
