@@ -88,7 +88,7 @@ impl<'a> Reader<'a> {
         requires params { All (IsLiving self.old.buffer) params.now }
         ensures reads { Gives result self.new
             (spec.function_end quals (shape self.old.buffer ret) (map (shape self.old.buffer) params.now)
-                (state self.old)) }
+            (state self.old)) }
         ensures run { OnRead result (IsRun self.old.buffer self.new.buffer) }
         ensures bounds { OptionalBounds result (state self.old) (state self.new) }
     {

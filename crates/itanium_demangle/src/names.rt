@@ -197,7 +197,7 @@ impl<'a> Reader<'a> {
         requires saved { takes ≡ true → 0 < length (saved self.old.buffer) }
         ensures reads { Gives result self.new
             (spec.read_prefix (spec.read_args depth context true) takes (shape self.old.buffer first)
-                (state self.old)) }
+            (state self.old)) }
         ensures run { OnRead result (IsRun self.old.buffer self.new.buffer) }
         ensures bounds { Bounds 1 result (state self.old) (state self.new) }
     {
