@@ -9,7 +9,7 @@ const SIZE_OF_VECTORS: (&str, &str) = (
     "std::vector<std::vector<int> >::size",
 );
 
-/// Symbols that are read, and others that are refused in the middle of a list, of a name or at once.
+/// Symbols that are read, and others that are refused at once, in a name or in a list.
 const OTHERS: [&str; 8] = [
     "_ZN3Foo3barEv",
     "malloc",
