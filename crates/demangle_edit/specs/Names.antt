@@ -34,6 +34,7 @@ words_text q =
     ++ ((if q.volatile then codes " volatile" else [])
     ++ (if q.restrict then codes " restrict" else []))
 
+-- a reference qualifier, with a space in front
 abbrev pub reference_text : Option Reference → List ℕ
 reference_text None = []
 reference_text (Some Left) = codes " &"

@@ -11,6 +11,7 @@ use Rattle.demangle_edit.specs.declared.quals.Pointer.TheVariants.{Star, Left, R
 use Rattle.demangle_edit.specs.Lists.{listed}
 use Rattle.demangle_edit.specs.Names.{words_text, quals_text}
 
+-- the token of a pointer or a reference
 abbrev pub pointer_text : Pointer → List ℕ
 pointer_text Star = codes "*"
 pointer_text Left = codes "&"
@@ -22,6 +23,7 @@ pointed_in (Plain t) token s = appended token s
 pointed_in (Declared k before None after) token s = opened_group token s
 pointed_in (Declared k before (Some group) after) token s = inserted Close token s
 
+-- the token put on a type
 abbrev pub pointed : List ℕ → Shape → Shape
 pointed token s = pointed_in s.form token s
 
@@ -70,6 +72,7 @@ dimensioned_in (Declared Array before None after) dim s =
       own = moved (length (before ++ take 1 after)) (length (dimension dim)) s.own;
     }
 
+-- an array of these elements, with its dimension where one is given
 abbrev pub array_shape : Option ℕ → Shape → Shape
 array_shape dim s = dimensioned_in s.form dim s
 

@@ -27,8 +27,8 @@ fn with_part(buf: &mut Buffer, all: Piece, part: &Glue) -> Result<Piece, AllocEr
     }
 }
 
-/// The parts, one behind the other, as a plain piece whose last own name is the whole. Of no parts
-/// it is empty.
+/// The parts, one behind the other, as a plain piece whose last own name is the whole, with no flag
+/// set. Of no parts it is empty.
 ///
 /// An error comes where memory is refused, and then only `clear` of the buffer is promised.
 #[tactic(auto, using(demangle_text::proofs::Laws::laws))]

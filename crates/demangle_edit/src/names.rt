@@ -1,4 +1,4 @@
-//! Edits that make a name out of names.
+//! Edits that make a name out of names (Itanium C++ ABI 5.1.2).
 ghost use Rattle.std.specs.Prelude.{◌≡◌, ◌+◌, ◌^◌, ◌<◌, ◌≤◌, ◌++◌, IfOk, OnOk};
 ghost use Rattle.demangle_text.specs.Shape.{moved};
 ghost use Rattle.demangle_text.specs.State.{IsLiving, shape, Lives, IsEdit};

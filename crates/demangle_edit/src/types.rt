@@ -1,4 +1,5 @@
-//! Edits that make a type out of types: pointers, references, qualifiers, arrays and functions.
+//! Edits that make a type out of types: pointers, references, qualifiers, arrays and functions
+//! (Itanium C++ ABI 5.1.5).
 ghost use Rattle.std.specs.Prelude.{◌≡◌, ◌≢◌, ◌++◌, All, map, codes, is_some, false, IfOk, OnOk};
 ghost use Rattle.demangle_text.specs.Shape.{CanInsert, IsPlain, IsDeclared, text, plain_shape, inserted, kind_of, group_of, gap_after, front_text};
 ghost use Rattle.demangle_text.specs.State.{IsLiving, shape, Lives, IsEdit, KeepsAll};

@@ -188,7 +188,7 @@ CanInsert Suffix (Plain t) = ⊥
 CanInsert Suffix (Declared k before None after) = Unit {0}
 CanInsert Suffix (Declared k before (Some group) after) = ⊥
 
--- `own_at` asks for another kind
+-- the form isn't a function's
 abbrev pub IsNotFunction : Form → Type 0
 IsNotFunction (Plain t) = Unit {0}
 IsNotFunction (Declared Array before group after) = Unit {0}

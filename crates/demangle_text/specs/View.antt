@@ -3,6 +3,7 @@ use Rattle.std.specs.Prelude.{map}
 use Rattle.demangle_text.specs.declared.buffer.Buffer.TheInside.{Inside}
 use Rattle.demangle_text.specs.Pieces.{Store, IsStore}
 
+-- the storage that the fields hold
 abbrev pub store_of : Inside → Store
 store_of a = record {
   texts = map (λ v. v.items) a.texts.items;
@@ -12,5 +13,6 @@ store_of a = record {
   frame = a.frame;
 }
 
+-- what holds of the fields between calls
 abbrev pub IsConsistent : Inside → Type 0
 IsConsistent a = IsStore (store_of a)

@@ -300,8 +300,8 @@ impl Buffer {
         }
     }
 
-    /// The same shape with these bytes of its text as its last own name. The answer is as old as
-    /// the piece.
+    /// The same shape, which isn't a function's, with these bytes of its text as its last own name.
+    /// The answer is as old as the piece.
     pub fn own_at(&self, piece: Piece, from: usize, to: usize) -> Piece
         requires living { IsLiving self.now piece }
         requires ordered { from ≤ to }

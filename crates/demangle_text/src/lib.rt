@@ -1,8 +1,9 @@
 //! Pieces of demangled text, each with the shape of a C++ declarator.
 //!
-//! A shape is plain, that is a text, or declared: an array or a function with a text `before` the
-//! name that it declares, a parenthesized `group` round that name, if there is one, and a text
-//! `after` it. A shape also has the last own name as a range of its text, and two flags.
+//! A shape is plain, that is a text, or declared: the type of an array or a function, with a text
+//! `before` the pointers and references to it, a parenthesized `group` of these, if there is one,
+//! and a text `after` them. A shape also has the last own name as a range of its text, and two
+//! flags.
 //!
 //! A `Buffer` answers pieces, which stand for shapes and live from the call that answers them.
 //! `open` hands out a mark, and `close` takes it back; the pieces that were made since the

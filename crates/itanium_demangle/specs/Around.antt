@@ -6,5 +6,6 @@ use Rattle.itanium_demangle.specs.declared.context.Context.{Context}
 abbrev pub opens_scope : Bool → Context → Bool
 opens_scope of_name x = of_name && not x.in_type
 
+-- the same, inside a type
 abbrev pub inside_type : Context → Context
 inside_type x = record x { in_type = true }

@@ -132,9 +132,11 @@ cv_quals bytes =
       reference = None;
     }
 
+-- what is behind <CV-qualifiers>
 abbrev pub past_cv : List ℕ → List ℕ
 past_cv bytes = past_letter 75 (past_letter 86 (past_letter 114 bytes))
 
+-- <ref-qualifier> ::= R | O, where one stands in front
 abbrev pub reference_of : List ℕ → Option Reference
 reference_of bytes =
     if begins (codes "R") bytes then Some Left else
@@ -144,6 +146,7 @@ reference_of bytes =
 abbrev pub past_reference : List ℕ → List ℕ
 past_reference bytes = if begins (codes "R") bytes || begins (codes "O") bytes then drop 1 bytes else bytes
 
+-- no qualifiers
 abbrev pub no_quals : Quals
 no_quals = record { constant = false; volatile = false; restrict = false; reference = None }
 
@@ -153,6 +156,7 @@ name_quals bytes =
     let words = cv_quals bytes in
     if begins (codes "H") bytes then no_quals else record words { reference = reference_of (past_cv bytes) }
 
+-- what is behind the qualifiers of a <nested-name>
 abbrev pub past_name_quals : List ℕ → List ℕ
 past_name_quals bytes = if begins (codes "H") bytes then drop 1 bytes else past_reference (past_cv bytes)
 
@@ -276,7 +280,7 @@ elaborated_text bytes =
     if begins (codes "Ts") bytes then codes "struct " else
     if begins (codes "Tu") bytes then codes "union " else codes "enum "
 
--- whether the first component of a <nested-name> is saved: all but a substitution is
+-- whether the first component of a <nested-name> is saved: all but `St` and a substitution are
 abbrev pub saves_first : FirstForm → Bool
 saves_first ParameterFirst = true
 saves_first StdFirst = false

@@ -58,12 +58,15 @@ pub record Cost : Type 0 where
   pub depth : ℕ
   pub peak : ℕ
 
+-- the same place, before these bytes
 abbrev pub at : List ℕ → Place → Place
 at bytes p = record p { rest = bytes }
 
+-- the place behind n bytes
 abbrev pub skip : ℕ → Place → Place
 skip n p = at (drop n p.rest) p
 
+-- the same place, with the tree saved last
 abbrev pub save : Tree → Place → Place
 save t p = record p { saved = p.saved ++ t ∷ [] }
 
@@ -75,6 +78,7 @@ taken_back takes p = record p { saved = if takes then take (length p.saved - 1) 
 abbrev pub past_initializer : Place → Place
 past_initializer p = at (past_member p.rest) p
 
+-- no production is entered
 abbrev pub nothing : Cost
 nothing = record { count = 0; depth = 0; peak = 0 }
 
@@ -160,6 +164,7 @@ mutual
   pub data Name : Context → Place → Tree → Place → Cost → Type 0 where
     name : {x : Context} {p q : Place} {t : Tree} {c : Cost} {form : NameForm} → name_form p.rest ≡ form → NameAs form x p t q c → Name x p t q (counted c)
 
+  -- <name>, by what it begins with
   pub data NameAs : NameForm → Context → Place → Tree → Place → Cost → Type 0 where
     nested_name : {x : Context} {p q : Place} {t : Tree} {c : Cost} → Nested x (skip 1 p) t q c → NameAs NestedName x p t q c
     unscoped_name : {x : Context} {p q : Place} {t : Tree} {c : Cost} {form : UnscopedForm} → unscoped_form p.rest ≡ form
@@ -180,7 +185,7 @@ mutual
     argument_list : {x : Context} {t : Tree} {p q : Place} {list : List Tree} {c : Cost} → Args x true (save t p) list q c
         → ListedAs ArgumentList x t p (with_args t (trees list)) q (both (saving p) c)
 
-  -- <nested-name> ::= N [<CV-qualifiers>] [<ref-qualifier>] <prefix> <unqualified-name> E, behind its N
+  -- <nested-name> ::= N [<CV-qualifiers>] [<ref-qualifier>] <prefix> E | N H <prefix> E, behind its N: one component or more
   pub data Nested : Context → Place → Tree → Place → Cost → Type 0 where
     nested : {x : Context} {p q r : Place} {t u : Tree} {c d : Cost} {form : FirstForm} → first_form (past_name_quals p.rest) ≡ form
         → FirstAs form x (at (past_name_quals p.rest) p) t q c → Components x (saves_first form) t (past_initializer q) u r d
@@ -191,6 +196,7 @@ mutual
     components : {x : Context} {takes : Bool} {p q : Place} {t u : Tree} {c : Cost} {form : ComponentForm} → component_form p.rest ≡ form
         → ComponentsAs form x takes t p u q c → Components x takes t p u q c
 
+  -- one more component of a <prefix>, or the E behind it
   pub data ComponentsAs : ComponentForm → Context → Bool → Tree → Place → Tree → Place → Cost → Type 0 where
     last_component : {x : Context} {takes : Bool} {p : Place} {t : Tree} → ComponentsAs LastComponent x takes t p t (taken_back takes (skip 1 p)) nothing
     list_component : {x : Context} {takes : Bool} {p q r : Place} {t v : Tree} {list : List Tree} {c d : Cost} → Args x true p list q c
@@ -210,6 +216,7 @@ mutual
     args_up_to : {x : Context} {o : Bool} {k : ℕ} {p q : Place} {list : List Tree} {c : Cost} {form : ArgsForm} → args_form p.rest ≡ form
         → ArgsAs form x o k p list q c → ArgsUpTo x o k p list q c
 
+  -- one more <template-arg>, or the E behind them
   pub data ArgsAs : ArgsForm → Context → Bool → ℕ → Place → List Tree → Place → Cost → Type 0 where
     no_more_args : {x : Context} {o : Bool} {k : ℕ} {p : Place} → ArgsAs LastArgument x o k p [] (skip 1 p) nothing
     one_more_arg : {x : Context} {o : Bool} {k : ℕ} {p q r : Place} {t : Tree} {ts : List Tree} {c d : Cost} {form : ArgumentForm} → argument_form p.rest ≡ form
@@ -223,6 +230,7 @@ mutual
   pub data TypeOf : Context → Place → Tree → Place → Cost → Type 0 where
     type : {x : Context} {p q : Place} {t : Tree} {c : Cost} {form : TypeForm} → type_form p.rest ≡ form → TypeAs form (inside_type x) p t q c → TypeOf x p t q (counted c)
 
+  -- <type>, by what it begins with
   pub data TypeAs : TypeForm → Context → Place → Tree → Place → Cost → Type 0 where
     -- <builtin-type>
     builtin_type : {x : Context} {p : Place} → TypeAs BuiltinType x p (plain_name (builtin_text p.rest)) (at (past_builtin p.rest) p) nothing
@@ -275,6 +283,7 @@ mutual
   pub data Types : Context → Place → List Tree → Place → Cost → Type 0 where
     types : {x : Context} {p q : Place} {ts : List Tree} {c : Cost} {form : TypesForm} → types_form p.rest ≡ form → TypesAs form x p ts q c → Types x p ts q c
 
+  -- one more type of a <bare-function-type>, or its end
   pub data TypesAs : TypesForm → Context → Place → List Tree → Place → Cost → Type 0 where
     no_more_types : {x : Context} {p : Place} → TypesAs LastType x p [] p nothing
     one_more_type : {x : Context} {p q r : Place} {t : Tree} {ts : List Tree} {c d : Cost} → TypeOf x p t q c → Types x q ts r d
@@ -290,5 +299,6 @@ mutual
 pub data SymbolAs : SymbolForm → Context → Place → Tree → Place → Cost → Type 0 where
   name_symbol : {x : Context} {p q : Place} {t : Tree} {c : Cost} → Name x p t q c → SymbolAs NameSymbol x p t q c
 
+-- what follows the prefix of a symbol
 pub data Symbol : Context → Place → Tree → Place → Cost → Type 0 where
   symbol : {x : Context} {p q : Place} {t : Tree} {c : Cost} {form : SymbolForm} → symbol_form p.rest ≡ form → SymbolAs form x p t q c → Symbol x p t q c

@@ -14,6 +14,7 @@ known_letter letter =
     if letter == 111 then Some Ostream else
     if letter == 100 then Some Iostream else None
 
+-- the abbreviation that stands in front
 abbrev pub known_of : List ℕ → Option Known
 known_of [] = None
 known_of (letter ∷ bytes) = known_letter letter
@@ -36,5 +37,6 @@ known_own Istream = codes "basic_istream"
 known_own Ostream = codes "ostream"
 known_own Iostream = codes "basic_iostream"
 
+-- an abbreviation as it is printed
 abbrev pub known_shape : Known → Shape
 known_shape known = with_own 5 (5 + length (known_own known)) (plain_shape (known_text known))

@@ -10,6 +10,7 @@ use Rattle.itanium_demangle.specs.declared.known.Known.{Known}
 use Rattle.itanium_demangle.specs.Known.{known_shape}
 
 mutual
+  -- what a symbol, or a part of it, says
   pub data Tree : Type 0 where
     plain_name : List ℕ → Tree
     known_name : Known → Tree
@@ -24,10 +25,12 @@ mutual
     function_to : Tree → Trees → Quals → Tree
     elaborated : List ℕ → Tree → Tree
 
+  -- a list of trees
   pub data Trees : Type 0 where
     no_trees : Trees
     more_trees : Tree → Trees → Trees
 
+-- a list of trees, of std's lists
 abbrev pub trees : List Tree → Trees
 trees [] = no_trees
 trees (t ∷ ts) = more_trees t (trees ts)
@@ -45,6 +48,7 @@ list_from first list (arg ∷ args) = list_from false (joined list (between firs
 abbrev pub closed : Shape → Shape
 closed list = appended (if ends_with nat_eq (text list) (codes ">") then codes " >" else codes ">") list
 
+-- the arguments between angle brackets, with a comma and a space between two
 abbrev pub list_shape : List Shape → Shape
 list_shape args = closed (list_from true (plain_shape (codes "<")) args)
 
@@ -68,6 +72,7 @@ unfoldable mutual
   shape_of (function_to ret params quals) = function_shape (shape_of ret) (shape_each params) quals
   shape_of (elaborated word name) = worded word (shape_of name)
 
+  -- the shapes of the trees, in order
   pub shape_each : Trees → List Shape
   shape_each no_trees = []
   shape_each (more_trees t ts) = shape_of t ∷ shape_each ts

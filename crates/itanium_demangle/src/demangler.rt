@@ -1,5 +1,6 @@
 //! One value that answers symbol after symbol.
-ghost use Rattle.std.specs.Prelude.{◌≡◌, IfOk, OnErr, option_map, is_some, false, None};
+ghost use Rattle.std.specs.Prelude.{◌≡◌, IfOk, OnErr, MatchResult, ⊤, option_map, is_some, false, None};
+ghost use Rattle.std.specs.Borrow.{sem};
 ghost use Rattle.std.specs.String.{string_bytes};
 ghost use Rattle.std.specs.Str.{IsUtf8};
 ghost use Rattle.demangle_text.specs.State.{IsLiving, shape};
@@ -74,6 +75,10 @@ fn answer(alloc: Global, reader: &Reader) -> Result<Option<String>, AllocError>
 }
 
 impl Demangler {
+    ghost use mathlib.Core.Option.{none};
+    ghost use denote.Follow.{follows_so};
+    ghost use Rattle.itanium_demangle.specs.contracts.demangler.Demangler.{the_row};
+
     /// An empty value. It takes no memory.
     pub fn new() -> Self
         ensures text { result.text ≡ None }
@@ -128,7 +133,8 @@ impl Demangler {
         }
     }
 
-    /// The answer of a symbol, as `prepare` says, lent until the next call.
+    /// The answer of a symbol, as `prepare` says, lent until the next call. It is kept for `text`; after an error nothing
+    /// is.
     pub fn demangle<'a>(
         &'a mut self,
         alloc: Global,
@@ -136,6 +142,9 @@ impl Demangler {
     ) -> Result<Option<&'a str>, AllocError>
         ensures answer { IfOk result (λ found. IsAnswer symbol.now (option_map (λ text. text.now) found)) }
         ensures no_prefix { spec.after_prefix symbol.now ≡ None → result ≡ Ok None }
+        ensures* kept { sem 𝓛 (follows_so the_row the_row self.entry.ghost_name none (λ _ _. ⊤)
+            (λ last. MatchResult result (λ found. last.text ≡ option_map (λ text. text.now) found)
+            (λ _. last.text ≡ None))) }
     {
         self.prepare(alloc, symbol)?;
         Ok(self.text())

@@ -77,6 +77,7 @@ pub fn number(input: &[u8], pos: usize) -> Option<(u64, usize)>
 
 /// `<seq-id>`: as many digits in base 36, `0` to `9` and `A` to `Z`, as stand at `pos`, at least one. The value, and
 /// the place after the digits, in bytes; `None` where no digit stands there or the value is past 2^64 - 1.
+/// (Itanium C++ ABI 5.1.10, "Compression")
 #[tactic(auto, using(crate::proofs::Numerals::dropped), unfolding(crate::specs::Scalars::sequence_id))]
 pub fn sequence_id(input: &[u8], pos: usize) -> Option<(u64, usize)>
     requires place { pos ≤ length input.now }
@@ -113,7 +114,7 @@ pub(crate) fn index_of(radix: Radix, bytes: &[u8]) -> Option<(usize, &[u8])>
 }
 
 /// `<source-name> ::= <positive length number> <identifier>`: the place of the identifier's first byte, and the place
-/// after it. `None` where no number stands at `pos`, it is 0, or fewer bytes follow it.
+/// after it. `None` where no number stands at `pos`, it is 0 or past 2^64 - 1, or fewer bytes follow it.
 #[tactic(auto, using(crate::proofs::Numerals::dropped), unfolding(crate::specs::Scalars::source_name))]
 pub fn source_name(input: &[u8], pos: usize) -> Option<(usize, usize)>
     requires place { pos ≤ length input.now }

@@ -11,6 +11,7 @@ pub trait Source {
     // The bytes still to come, where they are known.
     ghost remaining: { Self → Option (List ℕ) } = { λ _. None };
 
+    // Whether a read has failed; then for good.
     ghost failed: { Self → Bool };
     // At most so many calls give a byte from here on.
     ghost calls_left: { Self → ℕ };
@@ -39,6 +40,7 @@ pub trait Sink {
     // The bytes taken so far, where they are known.
     ghost taken: { Self → Option (List ℕ) } = { λ _. None };
 
+    // Whether a write has failed; then for good.
     ghost failed: { Self → Bool };
 
     /// Whether a call has failed. A failed call sets this for good.

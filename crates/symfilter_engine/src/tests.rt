@@ -4,13 +4,15 @@ use super::{Failed, FilterFault, Sink, Source, Tally, filter};
 use std::alloc::Global;
 use std::test::Fail;
 
-/// Bytes in memory, of which each call gives at most `most`. It fails once `calls_left` calls were made.
+/// Bytes in memory, of which each call gives at most `most`. It fails once `calls_left` calls were made, and tells
+/// whether it was called after that.
 #[derive(Drop)]
 struct MemorySource<'a> {
     rest: &'a [u8],
     most: usize,
     calls_left: usize,
     failed: bool,
+    called_after: bool,
     ghost gives_some: { 0 < most },
 }
 
@@ -24,6 +26,7 @@ impl<'a> MemorySource<'a> {
             most,
             calls_left,
             failed: false,
+            called_after: false,
         }
     }
 }
@@ -40,6 +43,9 @@ impl Source for MemorySource<'_> {
     }
 
     fn take(&mut self, into: &mut [u8]) -> Result<usize, Failed> {
+        if self.failed {
+            self.called_after = true;
+        }
         if self.calls_left == 0 {
             self.failed = true;
             return Err(Failed);
@@ -53,13 +59,15 @@ impl Source for MemorySource<'_> {
     }
 }
 
-/// Memory that takes at most `most` bytes a call. It fails once `calls_left` calls were made.
+/// Memory that takes at most `most` bytes a call. It fails once `calls_left` calls were made, and tells whether it was
+/// called after that.
 #[derive(Drop)]
 struct MemorySink {
     bytes: Vec<u8>,
     most: usize,
     calls_left: usize,
     failed: bool,
+    called_after: bool,
     ghost takes_some: { 0 < most },
 }
 
@@ -73,6 +81,7 @@ impl MemorySink {
             most,
             calls_left,
             failed: false,
+            called_after: false,
         }
     }
 }
@@ -87,6 +96,9 @@ impl Sink for MemorySink {
     }
 
     fn put(&mut self, bytes: &[u8]) -> Result<usize, Failed> {
+        if self.failed {
+            self.called_after = true;
+        }
         let count = bytes.len().min(self.most);
         if self.calls_left > 0 && self.bytes.extend_from_slice(&bytes[..count]).is_ok() {
             self.calls_left -= 1;
@@ -138,6 +150,9 @@ fn a_failed_read_ends_it(rt: HostRuntime) {
     assert_eq!(rt; writer.bytes.as_slice(), b"x\n".as_slice());
     assert!(rt; reader.failed());
     assert!(rt; !writer.failed());
+    // The first read failed, after one write; neither end was called again.
+    assert!(rt; !reader.called_after);
+    assert_eq!(rt; writer.calls_left, 99);
 }
 
 #[test]
@@ -149,7 +164,8 @@ fn a_failed_write_ends_it(rt: HostRuntime) {
     assert_eq!(rt; writer.bytes.as_slice(), b"fo".as_slice());
     assert!(rt; writer.failed());
     assert!(rt; !reader.failed());
-    // The reader wasn't called again.
+    // Neither end was called again.
+    assert!(rt; !writer.called_after);
     assert_eq!(rt; reader.calls_left, 99);
 }
 
