@@ -150,9 +150,8 @@ fn a_failed_read_ends_it(rt: HostRuntime) {
     assert_eq!(rt; writer.bytes.as_slice(), b"x\n".as_slice());
     assert!(rt; reader.failed());
     assert!(rt; !writer.failed());
-    // The first read failed, after one write; neither end was called again.
+    // The reader wasn't called again.
     assert!(rt; !reader.called_after);
-    assert_eq!(rt; writer.calls_left, 99);
 }
 
 #[test]
