@@ -4,7 +4,12 @@ use Rattle.demangle_text.specs.declared.shape.Piece.{Piece}
 use Rattle.demangle_text.specs.declared.shape.Mark.{Mark}
 use Rattle.demangle_text.specs.Shape.{Shape}
 use Rattle.demangle_text.specs.Pieces.{Store}
-use Rattle.demangle_text.specs.State.{IsLiving, IsOlder, shape, Lives, SameLists, SameFrame, KeepsAll, IsEdit, Opens, Closes, IsRun, IsSince}
+use Rattle.demangle_text.specs.State.{Frame, IsLiving, IsOlder, IsAsOld, shape, Lives, SameLists, SameFrame, KeepsAll, IsEdit, Opens, Closes, IsRun, IsSince}
+
+-- a piece as old as one that is older than a frame is older than the frame too
+pub IsAsOld-older : (p q : Piece) (f : Frame) → IsAsOld p q → IsOlder p f → IsOlder q f
+unfolding IsAsOld
+IsAsOld-older p q f as_old older = as_old f older
 
 -- a piece that keeps its shape twice
 pub Lives-trans : (mid new : Store) (p : Piece) (s : Shape) → Lives mid p s → (IsLiving mid p → Lives new p (shape mid p)) → Lives new p s

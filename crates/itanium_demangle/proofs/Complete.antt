@@ -1,9 +1,9 @@
 -- What the grammar reads, the functions read.
-use Rattle.std.proofs.Common.{◌≡◌, ◌≤◌, ℕ, zero, suc, ◌+◌, max, Bool, true, false, List, map, length, refl, ◌∙◌, sym, arith, Option, Some, ap}
+use Rattle.std.proofs.Common.{◌≡◌, ◌≤◌, ℕ, zero, suc, ◌+◌, max, Bool, true, false, List, [], ◌∷◌, ◌++◌, map, length, refl, ◌∙◌, sym, arith, Option, Some, ap, append_assoc}
 use Rattle.std.proofs.lemmas.List.{length-map}
 use Rattle.std.specs.Prelude.{codes, option_map}
 use Rattle.std.proofs.lemmas.Option.{slice_get-map}
-use Rattle.demangle_text.specs.Shape.{Shape, plain_shape}
+use Rattle.demangle_text.specs.Shape.{Shape, plain_shape, joined, text}
 use Rattle.itanium_demangle.specs.declared.context.Context.{Context}
 use Rattle.itanium_demangle.specs.declared.forms.NameForm.{NameForm}
 use Rattle.itanium_demangle.specs.declared.forms.UnscopedForm.{UnscopedForm}
@@ -21,13 +21,30 @@ use Rattle.itanium_demangle.specs.declared.forms.ParamsForm.{ParamsForm}
 use Rattle.itanium_demangle.specs.declared.forms.TypesForm.{TypesForm}
 use Rattle.itanium_demangle.specs.declared.forms.TypeForm.{TypeForm}
 use Rattle.demangle_edit.specs.declared.quals.Quals.{Quals}
+use Rattle.demangle_edit.specs.Lists.{listed}
 use Rattle.itanium_demangle.specs.Around.{opens_scope}
 use Rattle.itanium_demangle.specs.Forms.{source_text, builtin_text, reference_of, elaborated_text, name_quals}
-use Rattle.itanium_demangle.specs.Tree.{Tree, plain_name, with_args, pointer_to, array_of, member_of, elaborated, trees, shape_of, list_from, closed, list_shape}
+use Rattle.itanium_demangle.specs.Tree.{Tree, plain_name, with_args, pointer_to, array_of, member_of, elaborated, trees, shape_of, closed, list_shape}
 use Rattle.itanium_demangle.specs.Grammar.{Place, Cost, begin, past_initializer, SubstitutionAs, Substitution, ParameterAs, Parameter, TaggedAs, UnqualifiedAs, Unqualified, FirstAs, Name, NameAs, UnscopedAs, ListedAs, Nested, Components, ComponentsAs, Args, ArgsUpTo, ArgsAs, ArgumentAs, TypeOf, TypeAs, QualifiedAs, Function, ParamsAs, Types, TypesAs, TypeListedAs, SymbolAs, Symbol, known_substitution, saved_substitution, substitution, auto_parameter, scope_parameter, parameter, no_tag, source_component, constructor_component, destructor_component, unqualified, parameter_first, std_first, substitution_first, name_first, name, nested_name, unscoped_name, std_name, substitution_name, global_name, no_list, argument_list, nested, components, last_component, list_component, name_component, args, args_up_to, no_more_args, one_more_arg, type_argument, type, builtin_type, vendor_type, array_type, function_type, member_type, pointer_type, qualified_type, elaborated_type, parameter_type, substitution_type, name_type, qualified_function, qualified_other, function, no_params, some_params, types, no_more_types, one_more_type, no_type_list, type_list, name_symbol, symbol, last_of}
-use Rattle.itanium_demangle.specs.Reading.{substitution_as, read_substitution, parameter_as, read_parameter, tagged_as, unqualified_as, read_unqualified, first_as, component_as, read_components, read_nested, listed_as, unscoped_as, name_as, argument_as, argument_by, args_as, read_list, types_as, read_types, params_as, read_function, qualified_as, type_listed_as, type_as, read_name, read_args, read_type, symbol_as, read_symbol}
+use Rattle.itanium_demangle.specs.Reading.{between, substitution_as, read_substitution, parameter_as, read_parameter, tagged_as, unqualified_as, read_unqualified, first_as, component_as, read_components, read_nested, listed_as, unscoped_as, name_as, argument_as, argument_by, args_as, read_list, types_as, read_types, params_as, read_function, qualified_as, type_listed_as, type_as, read_name, read_args, read_type, symbol_as, read_symbol}
 use Rattle.itanium_demangle.proofs.See.{state_at, same_read, one_more, taken-map, some-map, last-map, put-scopes, begin-scopes, shape-plain_name, shape-known_name, shape-structor_of, shape-with_args, shape-in_scope, shape-nested_of, shape-pointer_to, shape-cv_of, shape-array_of, shape-member_of, shape-function_to, shape-elaborated}
 use Rattle.itanium_demangle.proofs.Shorter.{components_takes, unqualified_takes, args_takes, up_to_takes, argument_takes, type_takes, types_some, member_behind, behind_drop, behind-le}
+
+-- the arguments behind what stands of a list
+abbrev list_from : Bool → Shape → List Shape → Shape
+list_from first front [] = front
+list_from first front (a ∷ rest) = list_from false (joined front (between first) a) rest
+
+list_later : (front : List ℕ) (a : Shape) (rest : List Shape) → list_from false (plain_shape (front ++ text a)) rest ≡ plain_shape (front ++ listed (map text (a ∷ rest)))
+list_later front a [] = refl
+list_later front a (b ∷ rest) =
+    let others = listed (map text (b ∷ rest)) in
+    list_later (front ++ text a ++ codes ", ") b rest
+    ∙ ap plain_shape (append_assoc (front ++ text a) (codes ", ") others ∙ append_assoc front (text a) (codes ", " ++ others))
+
+list_whole : (all : List Shape) → list_from true (plain_shape (codes "<")) all ≡ plain_shape (codes "<" ++ listed (map text all))
+list_whole [] = refl
+list_whole (a ∷ rest) = list_later (codes "<") a rest
 
 -- without a counted production the depth is no matter
 substitution_as_complete : {form : SubstitutionForm} {p q : Place} {t : Tree} → SubstitutionAs form p t q → (e m : ℕ)
@@ -51,7 +68,7 @@ tagged_complete : {form : TagForm} {t u : Tree} {p q : Place} → TaggedAs form 
     → tagged_as form (shape_of t) (state_at p e m) ≡ Some (shape_of u, state_at q e m)
 tagged_complete no_tag e m = refl
 
-unqualified_as_complete : {form : UnqualifiedForm} {scope : Option Tree} {p q : Place} {t : Tree} {c : Cost} → UnqualifiedAs form scope p t q c → (e m : ℕ)
+unqualified_as_complete : {form : UnqualifiedForm} {x : Context} {scope : Option Tree} {p q : Place} {t : Tree} {c : Cost} → UnqualifiedAs form x scope p t q c → (e m : ℕ)
     → unqualified_as form (option_map shape_of scope) (state_at p e m) ≡ Some (shape_of t, state_at q (e + c.count) (max m c.peak))
 unqualified_as_complete (source_component {scope = scope} {t = t} {bytes = b} found form tags) e m =
     rw (found, form, ← shape-plain_name (source_text b), tagged_complete tags e m, ← shape-in_scope scope t)
@@ -61,7 +78,7 @@ unqualified_as_complete (constructor_component {scope = scope} form tags) e m =
 unqualified_as_complete (destructor_component {scope = scope} form tags) e m =
     rw (form, ← shape-structor_of scope true, tagged_complete tags e m) (same_read refl refl refl (omega arith) (omega arith))
 
-pub unqualified_complete : {scope : Option Tree} {p q : Place} {t : Tree} {c : Cost} → Unqualified scope p t q c → (e m : ℕ)
+pub unqualified_complete : {x : Context} {scope : Option Tree} {p q : Place} {t : Tree} {c : Cost} → Unqualified x scope p t q c → (e m : ℕ)
     → read_unqualified (option_map shape_of scope) (state_at p e m) ≡ Some (shape_of t, state_at q (e + c.count) (max m c.peak))
 unfolding read_unqualified
 unqualified_complete (unqualified {scope = scope} form a) e m = rw (some-map scope, form) (unqualified_as_complete a e m)
@@ -138,9 +155,9 @@ mutual
   pub args_complete : {x : Context} {of_name : Bool} {p q : Place} {list : List Tree} {c : Cost} → Args x of_name p list q c → (d e m : ℕ) → c.depth ≤ d
       → read_args d x of_name (state_at p e m) ≡ Some (list_shape (map shape_of list), state_at q (e + c.count) (max m c.peak))
   args_complete (args a) zero e m deep = absurd (omega arith)
-  args_complete (args {x = x} {of_name = of_name} {p = p} a) (suc d) e m deep =
+  args_complete (args {x = x} {of_name = of_name} {p = p} {list = list} a) (suc d) e m deep =
       rw (begin-scopes (opens_scope of_name x) p.scopes, length-map (begin (opens_scope of_name x) p).scopes (map shape_of))
-      (up_to_complete a d (e + 1) m (length p.rest) true (plain_shape (codes "<")) (omega arith) (behind-le (behind_drop 1 p.rest)) ∙ same_read refl refl refl (omega arith) refl)
+      (up_to_complete a d (e + 1) m (length p.rest) true (plain_shape (codes "<")) (omega arith) (behind-le (behind_drop 1 p.rest)) ∙ same_read (ap closed (list_whole (map shape_of list))) refl refl (omega arith) refl)
 
   pub up_to_complete : {x : Context} {o : Bool} {k : ℕ} {p q : Place} {list : List Tree} {c : Cost} → ArgsUpTo x o k p list q c
       → (d e m n : ℕ) (first : Bool) (front : Shape) → c.depth ≤ d → length p.rest ≤ n

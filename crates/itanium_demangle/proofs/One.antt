@@ -56,7 +56,7 @@ one_parameter (parameter {x = x} {p = p} e a) (parameter {t = u} g b) =
 one_tagged : {form : TagForm} {t u v : Tree} {p q r : Place} → TaggedAs form t p u q → TaggedAs form t p v r → (u ≡ v) × (q ≡ r)
 one_tagged no_tag no_tag = (refl, refl)
 
-one_unqualified_as : {form : UnqualifiedForm} {scope : Option Tree} {p q r : Place} {t u : Tree} {c d : Cost} → UnqualifiedAs form scope p t q c → UnqualifiedAs form scope p u r d → Same t u q r c d
+one_unqualified_as : {form : UnqualifiedForm} {x : Context} {scope : Option Tree} {p q r : Place} {t u : Tree} {c d : Cost} → UnqualifiedAs form x scope p t q c → UnqualifiedAs form x scope p u r d → Same t u q r c d
 one_unqualified_as (source_component {scope = scope} {p = p} e f a) (source_component {q = r} {t = u} g h b) =
     let found = some_pair_parts _ _ _ _ (sym g ∙ e) in
     let same = one_tagged a (along3 (λ k s o. TaggedAs k s o u r) (sym h ∙ ap tag_form found.1 ∙ f) (ap (λ v. plain_name (source_text v)) found.0) (ap (λ v. at v p) found.1) b) in
@@ -66,9 +66,9 @@ one_unqualified_as (constructor_component {scope = scope} {p = p} e a) (construc
 one_unqualified_as (destructor_component {scope = scope} {p = p} e a) (destructor_component {q = r} {t = u} g b) =
     let same = one_tagged a (subst (λ k. TaggedAs k (structor_of scope true) (skip 2 p) u r) (sym g ∙ e) b) in record { tree = same.0; next = same.1; cost = refl }
 
-pub one_unqualified : {scope : Option Tree} {p q r : Place} {t u : Tree} {c d : Cost} → Unqualified scope p t q c → Unqualified scope p u r d → Same t u q r c d
-one_unqualified (unqualified {scope = scope} {p = p} e a) (unqualified {q = r} {t = u} {c = d} g b) =
-    one_unqualified_as a (subst (λ k. UnqualifiedAs k scope (at (past_internal p.rest) p) u r d) (sym g ∙ e) b)
+pub one_unqualified : {x : Context} {scope : Option Tree} {p q r : Place} {t u : Tree} {c d : Cost} → Unqualified x scope p t q c → Unqualified x scope p u r d → Same t u q r c d
+one_unqualified (unqualified {x = x} {scope = scope} {p = p} e a) (unqualified {q = r} {t = u} {c = d} g b) =
+    one_unqualified_as a (subst (λ k. UnqualifiedAs k x scope (at (past_internal p.rest) p) u r d) (sym g ∙ e) b)
 
 one_first : {form : FirstForm} {x : Context} {p q r : Place} {t u : Tree} {c d : Cost} → FirstAs form x p t q c → FirstAs form x p u r d → Same t u q r c d
 one_first (parameter_first a) (parameter_first b) =

@@ -16,9 +16,9 @@ use Rattle.itanium_demangle.specs.declared.forms.ArgsForm.TheVariants.{LastArgum
 use Rattle.itanium_demangle.specs.declared.forms.TypesForm.TheVariants.{LastType, NextType}
 use Rattle.itanium_demangle.specs.Scalars.{index_of}
 use Rattle.itanium_demangle.specs.Around.{opens_scope, inside_type}
-use Rattle.itanium_demangle.specs.Tree.{between, closed}
+use Rattle.itanium_demangle.specs.Tree.{closed}
 use Rattle.itanium_demangle.specs.Forms.{symbol_form, name_form, component_form, unqualified_form, first_form, args_form, types_form, type_form, substitution_form, past_internal, past_name_quals, name_quals, saves_first}
-use Rattle.itanium_demangle.specs.Reading.{State, Reads, ◌>>=◌, enter, at, save, skip, begin, put, taken_back, past_initializer, substitution_as, read_substitution, parameter_as, read_parameter, unqualified_as, read_unqualified, first_as, attached_by, component_as, read_components, read_prefix, read_nested, name_as, read_name, argument_by, args_as, read_list, list_at, read_args, types_as, read_types, types_by, type_as, read_type, symbol_as, read_symbol}
+use Rattle.itanium_demangle.specs.Reading.{State, Reads, between, ◌>>=◌, enter, at, save, skip, begin, put, taken_back, past_initializer, substitution_as, read_substitution, parameter_as, read_parameter, unqualified_as, read_unqualified, first_as, attached_by, component_as, read_components, read_prefix, read_nested, name_as, read_name, argument_by, args_as, read_list, list_at, read_args, types_as, read_types, types_by, type_as, read_type, symbol_as, read_symbol}
 
 pub name_opens : (d : ℕ) (x : Context) (s : State) → 0 < d → read_name d x s ≡ name_as (name_form s.rest) (read_args (d - 1) x true) x (enter s)
 unfolding read_name

@@ -1,7 +1,8 @@
--- What the check may use for the readers: the laws of the buffer, and what opens each reader.
+-- What the check may use: for the readers the laws of the buffer and what opens each, for an answer the theorems over the grammar.
 use Rattle.demangle_text.proofs.Laws.{laws, runs}
 use Rattle.itanium_demangle.proofs.Shorter.{forms}
 use Rattle.itanium_demangle.proofs.Opens.{name_opens, no_name, args_opens, no_args, type_opens, no_type, substitution_opens, parameter_opens, unqualified_opens, symbol_opens, nested_opens, kept_scope, some_scope}
+use Rattle.itanium_demangle.proofs.Whole.{one_reading, no_prefix, not_read}
 
 pub ruleset buffers = (laws, runs)
 
@@ -24,3 +25,5 @@ pub ruleset symbols = (buffers, symbol_opens)
 pub ruleset argument_lists = (buffers, args_opens, no_args)
 
 pub ruleset kinds = (fronts, type_opens, no_type)
+
+pub ruleset answers = (one_reading, no_prefix, not_read)

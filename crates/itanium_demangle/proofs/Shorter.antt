@@ -317,12 +317,12 @@ parameter_takes (parameter {p = p} {i = i} {rest = r} found there) = behind_take
 pub tagged_behind : {form : TagForm} {t u : Tree} {p q : Place} → TaggedAs form t p u q → IsBehind q.rest p.rest
 tagged_behind (no_tag {p = p}) = behind_none p.rest
 
-pub unqualified_as_takes : {form : UnqualifiedForm} {scope : Option Tree} {p q : Place} {t : Tree} {c : Cost} → unqualified_form (is_some scope) p.rest ≡ form → UnqualifiedAs form scope p t q c → Takes q.rest p.rest
+pub unqualified_as_takes : {form : UnqualifiedForm} {x : Context} {scope : Option Tree} {p q : Place} {t : Tree} {c : Cost} → unqualified_form (is_some scope) p.rest ≡ form → UnqualifiedAs form x scope p t q c → Takes q.rest p.rest
 unqualified_as_takes form (source_component {p = p} {bytes = b} {rest = r} found tag tags) = takes_then (source_takes p.rest (b, r) found) (tagged_behind tags)
 unqualified_as_takes form (constructor_component {p = p} tag tags) = takes_then (takes_drop 2 p.rest (omega arith) (constructor_some p.rest form)) (tagged_behind tags)
 unqualified_as_takes form (destructor_component {p = p} tag tags) = takes_then (takes_drop 2 p.rest (omega arith) (destructor_some p.rest form)) (tagged_behind tags)
 
-pub unqualified_takes : {scope : Option Tree} {p q : Place} {t : Tree} {c : Cost} → Unqualified scope p t q c → Takes q.rest p.rest
+pub unqualified_takes : {x : Context} {scope : Option Tree} {p q : Place} {t : Tree} {c : Cost} → Unqualified x scope p t q c → Takes q.rest p.rest
 unqualified_takes (unqualified {p = p} form a) = behind_takes (internal_behind p.rest) (unqualified_as_takes form a)
 
 pub first_takes : {form : FirstForm} {x : Context} {p q : Place} {t : Tree} {c : Cost} → first_form p.rest ≡ form → FirstAs form x p t q c → Takes q.rest p.rest

@@ -135,29 +135,29 @@ pub data TaggedAs : TagForm → Tree → Place → Tree → Place → Type 0 whe
   no_tag : {t : Tree} {p : Place} → TaggedAs NoTag t p t p
 
 -- <unqualified-name>, in the scope that stands in front of it, if one does
-pub data UnqualifiedAs : UnqualifiedForm → Option Tree → Place → Tree → Place → Cost → Type 0 where
+pub data UnqualifiedAs : UnqualifiedForm → Context → Option Tree → Place → Tree → Place → Cost → Type 0 where
   -- <source-name> [<abi-tags>]
-  source_component : {scope : Option Tree} {p q : Place} {t : Tree} {bytes rest : List ℕ} {form : TagForm} → source_name p.rest ≡ Some (bytes, rest)
+  source_component : {x : Context} {scope : Option Tree} {p q : Place} {t : Tree} {bytes rest : List ℕ} {form : TagForm} → source_name p.rest ≡ Some (bytes, rest)
       → tag_form rest ≡ form → TaggedAs form (plain_name (source_text bytes)) (at rest p) t q
-      → UnqualifiedAs SourceName scope p (in_scope scope t) q nothing
+      → UnqualifiedAs SourceName x scope p (in_scope scope t) q nothing
   -- <ctor-dtor-name> ::= C1 | .. | C5
-  constructor_component : {scope : Tree} {p q : Place} {t : Tree} {form : TagForm} → tag_form (drop 2 p.rest) ≡ form
-      → TaggedAs form (structor_of scope false) (skip 2 p) t q → UnqualifiedAs ConstructorName (Some scope) p t q nothing
+  constructor_component : {x : Context} {scope : Tree} {p q : Place} {t : Tree} {form : TagForm} → tag_form (drop 2 p.rest) ≡ form
+      → TaggedAs form (structor_of scope false) (skip 2 p) t q → UnqualifiedAs ConstructorName x (Some scope) p t q nothing
   -- <ctor-dtor-name> ::= D0 | D1 | D2 | D4 | D5
-  destructor_component : {scope : Tree} {p q : Place} {t : Tree} {form : TagForm} → tag_form (drop 2 p.rest) ≡ form
-      → TaggedAs form (structor_of scope true) (skip 2 p) t q → UnqualifiedAs DestructorName (Some scope) p t q nothing
+  destructor_component : {x : Context} {scope : Tree} {p q : Place} {t : Tree} {form : TagForm} → tag_form (drop 2 p.rest) ≡ form
+      → TaggedAs form (structor_of scope true) (skip 2 p) t q → UnqualifiedAs DestructorName x (Some scope) p t q nothing
 
 -- [L] and an <unqualified-name>
-pub data Unqualified : Option Tree → Place → Tree → Place → Cost → Type 0 where
-  unqualified : {scope : Option Tree} {p q : Place} {t : Tree} {c : Cost} {form : UnqualifiedForm} → unqualified_form (is_some scope) (past_internal p.rest) ≡ form
-      → UnqualifiedAs form scope (at (past_internal p.rest) p) t q c → Unqualified scope p t q c
+pub data Unqualified : Context → Option Tree → Place → Tree → Place → Cost → Type 0 where
+  unqualified : {x : Context} {scope : Option Tree} {p q : Place} {t : Tree} {c : Cost} {form : UnqualifiedForm} → unqualified_form (is_some scope) (past_internal p.rest) ≡ form
+      → UnqualifiedAs form x scope (at (past_internal p.rest) p) t q c → Unqualified x scope p t q c
 
 -- the first component of a <nested-name>
 pub data FirstAs : FirstForm → Context → Place → Tree → Place → Cost → Type 0 where
   parameter_first : {x : Context} {p q : Place} {t : Tree} → Parameter x p t q → FirstAs ParameterFirst x p t (save t q) (saving q)
   std_first : {x : Context} {p : Place} → FirstAs StdFirst x p (plain_name (codes "std")) (skip 2 p) nothing
   substitution_first : {x : Context} {p q : Place} {t : Tree} → Substitution p t q → FirstAs SubstitutionFirst x p t q nothing
-  name_first : {x : Context} {p q : Place} {t : Tree} {c : Cost} → Unqualified None p t q c → FirstAs NameFirst x p t (save t q) (both c (saving q))
+  name_first : {x : Context} {p q : Place} {t : Tree} {c : Cost} → Unqualified x None p t q c → FirstAs NameFirst x p t (save t q) (both c (saving q))
 
 mutual
   -- <name> ::= <nested-name> | <unscoped-name> | <unscoped-template-name> <template-args>: counted
@@ -172,11 +172,11 @@ mutual
 
   -- <unscoped-name> [<template-args>], or a <substitution> with <template-args>
   pub data UnscopedAs : UnscopedForm → Context → Place → Tree → Place → Cost → Type 0 where
-    std_name : {x : Context} {p q r : Place} {t u : Tree} {c d : Cost} {form : ListForm} → Unqualified (Some (plain_name (codes "std"))) (skip 2 p) t q c
+    std_name : {x : Context} {p q r : Place} {t u : Tree} {c d : Cost} {form : ListForm} → Unqualified x (Some (plain_name (codes "std"))) (skip 2 p) t q c
         → list_form q.rest ≡ form → ListedAs form x t q u r d → UnscopedAs StdName x p u r (both c d)
     substitution_name : {x : Context} {p q r : Place} {t : Tree} {list : List Tree} {c : Cost} → Substitution p t q
         → list_form q.rest ≡ ArgumentList → Args x true q list r c → UnscopedAs SubstitutionName x p (with_args t (trees list)) r c
-    global_name : {x : Context} {p q r : Place} {t u : Tree} {c d : Cost} {form : ListForm} → Unqualified None p t q c
+    global_name : {x : Context} {p q r : Place} {t u : Tree} {c d : Cost} {form : ListForm} → Unqualified x None p t q c
         → list_form q.rest ≡ form → ListedAs form x t q u r d → UnscopedAs PlainName x p u r (both c d)
 
   -- <template-args> behind a name, which is saved in front of them, or none
@@ -202,7 +202,7 @@ mutual
     list_component : {x : Context} {takes : Bool} {p q r : Place} {t v : Tree} {list : List Tree} {c d : Cost} → Args x true p list q c
         → Components x true (with_args t (trees list)) (past_initializer (save (with_args t (trees list)) q)) v r d
         → ComponentsAs ListComponent x takes t p v r (both c (both (saving q) d))
-    name_component : {x : Context} {takes : Bool} {p q r : Place} {t u v : Tree} {c d : Cost} → Unqualified (Some t) p u q c
+    name_component : {x : Context} {takes : Bool} {p q r : Place} {t u v : Tree} {c d : Cost} → Unqualified x (Some t) p u q c
         → Components x true u (past_initializer (save u q)) v r d → ComponentsAs NameComponent x takes t p v r (both c (both (saving q) d))
 
   -- <template-args> ::= I <template-arg>* E, of a name or of a type: counted

@@ -7,7 +7,7 @@ use Rattle.demangle_edit.specs.Names.{qualified, qualified_ctor, attached, name_
 use Rattle.itanium_demangle.specs.Scalars.{source_name, index_of, bound_of}
 use Rattle.itanium_demangle.specs.declared.scalar.Radix.TheVariants.{Decimal, Base36}
 use Rattle.itanium_demangle.specs.Known.{known_of, known_shape}
-use Rattle.itanium_demangle.specs.Tree.{between, closed, worded}
+use Rattle.itanium_demangle.specs.Tree.{closed, worded}
 use Rattle.demangle_edit.specs.declared.quals.Quals.{Quals}
 use Rattle.demangle_edit.specs.declared.quals.Pointer.{Pointer}
 use Rattle.demangle_edit.specs.Types.{wrapped, cv_wrapped, arrayed, membered, function_of}
@@ -93,6 +93,10 @@ in_scope (Some scope) leaf = qualified scope leaf
 -- a source name
 abbrev pub read_source : Reads Shape
 read_source s = source_name s.rest >>= λ found. Some (plain_shape (source_text found.0), at found.1 s)
+
+-- what stands in front of an argument
+abbrev pub between : Bool → List ℕ
+between first = if first then [] else codes ", "
 
 abbrev pub begin : Bool → State → State
 begin opens s = record s { scopes = if opens then s.scopes ++ [] ∷ [] else s.scopes }

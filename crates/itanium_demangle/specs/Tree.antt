@@ -1,10 +1,11 @@
 -- What a symbol says, as a tree, and the shape of its printing. The shape is total: whether a step exists is a test beside it.
-use Rattle.std.specs.Prelude.{ℕ, Bool, true, false, List, [], ◌∷◌, ◌++◌, codes, Option, Some, None, if◌then◌else◌, nat_eq}
+use Rattle.std.specs.Prelude.{ℕ, Bool, List, [], ◌∷◌, ◌++◌, map, codes, Option, Some, None, if◌then◌else◌, nat_eq}
 use Rattle.std.specs.List.{ends_with}
-use Rattle.demangle_text.specs.Shape.{Shape, plain_shape, appended, joined, text}
+use Rattle.demangle_text.specs.Shape.{Shape, plain_shape, appended, text}
 use Rattle.demangle_edit.specs.declared.quals.Quals.{Quals}
 use Rattle.demangle_edit.specs.declared.quals.Pointer.{Pointer}
 use Rattle.demangle_edit.specs.Types.{wrapped, cv_wrapped, array_shape, member_shape, function_shape}
+use Rattle.demangle_edit.specs.Lists.{listed}
 use Rattle.demangle_edit.specs.Names.{qualified, qualified_ctor, attached, name_qualified}
 use Rattle.itanium_demangle.specs.declared.known.Known.{Known}
 use Rattle.itanium_demangle.specs.Known.{known_shape}
@@ -35,22 +36,13 @@ abbrev pub trees : List Tree → Trees
 trees [] = no_trees
 trees (t ∷ ts) = more_trees t (trees ts)
 
--- what stands between two arguments
-abbrev pub between : Bool → List ℕ
-between first = if first then [] else codes ", "
-
--- the arguments behind what stands of a list
-abbrev pub list_from : Bool → Shape → List Shape → Shape
-list_from first list [] = list
-list_from first list (arg ∷ args) = list_from false (joined list (between first) arg) args
-
 -- a list's end, with a space behind `>`
 abbrev pub closed : Shape → Shape
 closed list = appended (if ends_with nat_eq (text list) (codes ">") then codes " >" else codes ">") list
 
 -- the arguments between angle brackets, with a comma and a space between two
 abbrev pub list_shape : List Shape → Shape
-list_shape args = closed (list_from true (plain_shape (codes "<")) args)
+list_shape args = closed (plain_shape (codes "<" ++ listed (map text args)))
 
 -- a word in front of a name, as a plain text
 abbrev pub worded : List ℕ → Shape → Shape

@@ -95,7 +95,7 @@ impl Demangler {
     /// printing, and behind it all that follows from a dot. There is none where the grammar doesn't read the symbol
     /// with at most `MAX_DEPTH` nested productions, or where the printing isn't UTF-8. An error comes only where memory
     /// is refused; then nothing is kept, and the value serves on.
-    #[tactic(auto, using(crate::proofs::Whole::one_reading, crate::proofs::Whole::no_prefix, crate::proofs::Whole::not_read))]
+    #[tactic(auto, using(crate::proofs::Rules::answers))]
     pub fn prepare(&mut self, alloc: Global, symbol: &str) -> Result<bool, AllocError>
         ensures answer { IfOk result (λ _. IsAnswer symbol.now self.new.text) }
         ensures found { IfOk result (λ found. found ≡ is_some self.new.text) }
@@ -133,8 +133,8 @@ impl Demangler {
         }
     }
 
-    /// The answer of a symbol, as `prepare` says, lent until the next call. It is kept for `text`; after an error nothing
-    /// is.
+    /// The answer of a symbol, as `prepare` says, lent until the next call. It is kept for `text`; after an error
+    /// nothing is.
     pub fn demangle<'a>(
         &'a mut self,
         alloc: Global,

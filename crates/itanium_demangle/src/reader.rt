@@ -4,8 +4,9 @@ ghost use Rattle.demangle_text.specs.Shape.{joined, plain_shape};
 ghost use Rattle.itanium_demangle.specs.Forms.{builtin_text, past_builtin};
 ghost use Rattle.demangle_text.specs.State.{IsLiving, Lives, shape, SameFrame, IsEdit, saved, scopes};
 ghost use Rattle.itanium_demangle.specs.Known.{known_shape};
-ghost use Rattle.itanium_demangle.specs.Tree.{between, closed};
+ghost use Rattle.itanium_demangle.specs.Tree.{closed};
 ghost use Rattle.itanium_demangle.specs.Reading as spec;
+ghost use Rattle.itanium_demangle.specs.Reading.{between};
 ghost use Rattle.itanium_demangle.specs.Outcome.{state, Gives, OnRead, Bounds};
 
 use crate::context::Context;
