@@ -44,6 +44,13 @@ fn lines_that_are_not_utf8(rt: HostRuntime) {
 }
 
 #[test]
+fn lines_that_are_no_symbols(rt: HostRuntime) {
+    for text in [b"".as_slice(), b"\n", b"x\n", b"x\n\ny"] {
+        assert_filtered(&rt, rt.alloc(), text, text);
+    }
+}
+
+#[test]
 fn a_reader_that_fails(rt: HostRuntime) -> Result<(), Fail> {
     let mut reader = MemorySource::new(b"_Z3foov\n_Z3barv\n", 8, 1);
     let mut writer = MemorySink::new(rt.alloc(), 100, 100);
@@ -52,6 +59,8 @@ fn a_reader_that_fails(rt: HostRuntime) -> Result<(), Fail> {
     assert!(rt; b"foo\n".starts_with(writer.bytes.as_slice()));
     assert!(rt; reader.failed());
     assert!(rt; !writer.failed());
+    // The reader wasn't called again.
+    assert!(rt; !reader.called_after);
     Ok(())
 }
 
@@ -64,11 +73,7 @@ fn a_writer_that_fails(rt: HostRuntime) {
     assert_eq!(rt; writer.bytes.as_slice(), b"fo".as_slice());
     assert!(rt; writer.failed());
     assert!(rt; !reader.failed());
-}
-
-#[test]
-fn the_words_of_the_faults(rt: HostRuntime) {
-    assert_eq!(rt; FilterFault::Read.line(), "symfilter: read failed");
-    assert_eq!(rt; FilterFault::Write.line(), "symfilter: write failed");
-    assert_eq!(rt; FilterFault::Memory.line(), "symfilter: out of memory");
+    // Neither end was called again.
+    assert!(rt; !writer.called_after);
+    assert_eq!(rt; reader.calls_left, 99);
 }

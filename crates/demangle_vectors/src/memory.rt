@@ -4,14 +4,15 @@ ghost use Rattle.std.specs.Prelude.{◌≡◌, ◌<◌, false, length, Some};
 use std::alloc::Global;
 use symfilter_engine::{Failed, Sink, Source};
 
-/// Bytes in memory, of which each call gives at most `most`. It fails once `calls_left` calls were
-/// made.
+/// Bytes in memory, of which each call gives at most `most`. It fails once `calls_left` calls were made, and tells
+/// whether it was called after that.
 #[derive(Drop)]
 pub(crate) struct MemorySource<'a> {
     pub(crate) rest: &'a [u8],
     most: usize,
-    calls_left: usize,
+    pub(crate) calls_left: usize,
     failed: bool,
+    pub(crate) called_after: bool,
     ghost gives_some: { 0 < most },
 }
 
@@ -26,6 +27,7 @@ impl<'a> MemorySource<'a> {
             most,
             calls_left,
             failed: false,
+            called_after: false,
         }
     }
 }
@@ -42,6 +44,9 @@ impl Source for MemorySource<'_> {
     }
 
     fn take(&mut self, into: &mut [u8]) -> Result<usize, Failed> {
+        if self.failed {
+            self.called_after = true;
+        }
         if self.calls_left == 0 {
             self.failed = true;
             return Err(Failed);
@@ -55,13 +60,15 @@ impl Source for MemorySource<'_> {
     }
 }
 
-/// Memory that takes at most `most` bytes a call. It fails once `calls_left` calls were made.
+/// Memory that takes at most `most` bytes a call. It fails once `calls_left` calls were made, and tells whether it was
+/// called after that.
 #[derive(Drop)]
 pub(crate) struct MemorySink {
     pub(crate) bytes: Vec<u8>,
     most: usize,
-    calls_left: usize,
+    pub(crate) calls_left: usize,
     failed: bool,
+    pub(crate) called_after: bool,
     ghost takes_some: { 0 < most },
 }
 
@@ -76,6 +83,7 @@ impl MemorySink {
             most,
             calls_left,
             failed: false,
+            called_after: false,
         }
     }
 }
@@ -90,6 +98,9 @@ impl Sink for MemorySink {
     }
 
     fn put(&mut self, bytes: &[u8]) -> Result<usize, Failed> {
+        if self.failed {
+            self.called_after = true;
+        }
         let count = bytes.len().min(self.most);
         if self.calls_left > 0 && self.bytes.extend_from_slice(&bytes[..count]).is_ok() {
             self.calls_left -= 1;

@@ -24,10 +24,10 @@ use Rattle.demangle_edit.specs.declared.quals.Quals.{Quals}
 use Rattle.demangle_edit.specs.Lists.{listed}
 use Rattle.itanium_demangle.specs.Around.{opens_scope}
 use Rattle.itanium_demangle.specs.Forms.{source_text, builtin_text, reference_of, elaborated_text, name_quals}
-use Rattle.itanium_demangle.specs.Tree.{Tree, plain_name, with_args, pointer_to, array_of, member_of, elaborated, trees, shape_of, closed, list_shape}
+use Rattle.itanium_demangle.specs.Tree.{Tree, plain_text, with_args, pointer_to, array_of, member_of, elaborated, trees, shape_of, closed, list_shape}
 use Rattle.itanium_demangle.specs.Grammar.{Place, Cost, begin, past_initializer, SubstitutionAs, Substitution, ParameterAs, Parameter, TaggedAs, UnqualifiedAs, Unqualified, FirstAs, Name, NameAs, UnscopedAs, ListedAs, Nested, Components, ComponentsAs, Args, ArgsUpTo, ArgsAs, ArgumentAs, TypeOf, TypeAs, QualifiedAs, Function, ParamsAs, Types, TypesAs, TypeListedAs, SymbolAs, Symbol, known_substitution, saved_substitution, substitution, auto_parameter, scope_parameter, parameter, no_tag, source_component, constructor_component, destructor_component, unqualified, parameter_first, std_first, substitution_first, name_first, name, nested_name, unscoped_name, std_name, substitution_name, global_name, no_list, argument_list, nested, components, last_component, list_component, name_component, args, args_up_to, no_more_args, one_more_arg, type_argument, type, builtin_type, vendor_type, array_type, function_type, member_type, pointer_type, qualified_type, elaborated_type, parameter_type, substitution_type, name_type, qualified_function, qualified_other, function, no_params, some_params, types, no_more_types, one_more_type, no_type_list, type_list, name_symbol, symbol, last_of}
 use Rattle.itanium_demangle.specs.Reading.{between, substitution_as, read_substitution, parameter_as, read_parameter, tagged_as, unqualified_as, read_unqualified, first_as, component_as, read_components, read_nested, listed_as, unscoped_as, name_as, argument_as, argument_by, args_as, read_list, types_as, read_types, params_as, read_function, qualified_as, type_listed_as, type_as, read_name, read_args, read_type, symbol_as, read_symbol}
-use Rattle.itanium_demangle.proofs.See.{state_at, same_read, one_more, taken-map, some-map, last-map, put-scopes, begin-scopes, shape-plain_name, shape-known_name, shape-structor_of, shape-with_args, shape-in_scope, shape-nested_of, shape-pointer_to, shape-cv_of, shape-array_of, shape-member_of, shape-function_to, shape-elaborated}
+use Rattle.itanium_demangle.proofs.See.{state_at, same_read, one_more, taken-map, some-map, last-map, put-scopes, begin-scopes, shape-plain_text, shape-known_name, shape-ctor_dtor_of, shape-with_args, shape-in_scope, shape-nested_of, shape-pointer_to, shape-cv_of, shape-array_of, shape-member_of, shape-function_to, shape-elaborated}
 use Rattle.itanium_demangle.proofs.Shorter.{components_takes, unqualified_takes, args_takes, up_to_takes, argument_takes, type_takes, types_some, member_behind, behind_drop, behind-le}
 
 -- the arguments behind what stands of a list
@@ -57,7 +57,7 @@ unfolding read_substitution
 substitution_complete (substitution form a) e m = rw form (substitution_as_complete a e m)
 
 parameter_as_complete : {lambda : Bool} {i : ℕ} {p : Place} {t : Tree} → ParameterAs lambda i p t → (e m : ℕ) → parameter_as lambda i (state_at p e m) ≡ Some (shape_of t)
-parameter_as_complete auto_parameter e m = ap Some (sym (shape-plain_name (codes "auto")))
+parameter_as_complete auto_parameter e m = ap Some (sym (shape-plain_text (codes "auto")))
 parameter_as_complete (scope_parameter {i = i} {p = p} there) e m = rw (last-map p.scopes, slice_get-map shape_of (last_of p.scopes) i, there) refl
 
 pub parameter_complete : {x : Context} {p q : Place} {t : Tree} → Parameter x p t q → (e m : ℕ) → read_parameter x (state_at p e m) ≡ Some (shape_of t, state_at q e m)
@@ -71,12 +71,12 @@ tagged_complete no_tag e m = refl
 unqualified_as_complete : {form : UnqualifiedForm} {x : Context} {scope : Option Tree} {p q : Place} {t : Tree} {c : Cost} → UnqualifiedAs form x scope p t q c → (e m : ℕ)
     → unqualified_as form (option_map shape_of scope) (state_at p e m) ≡ Some (shape_of t, state_at q (e + c.count) (max m c.peak))
 unqualified_as_complete (source_component {scope = scope} {t = t} {bytes = b} found form tags) e m =
-    rw (found, form, ← shape-plain_name (source_text b), tagged_complete tags e m, ← shape-in_scope scope t)
+    rw (found, form, ← shape-plain_text (source_text b), tagged_complete tags e m, ← shape-in_scope scope t)
     (same_read refl refl refl (omega arith) (omega arith))
 unqualified_as_complete (constructor_component {scope = scope} form tags) e m =
-    rw (form, ← shape-structor_of scope false, tagged_complete tags e m) (same_read refl refl refl (omega arith) (omega arith))
+    rw (form, ← shape-ctor_dtor_of scope false, tagged_complete tags e m) (same_read refl refl refl (omega arith) (omega arith))
 unqualified_as_complete (destructor_component {scope = scope} form tags) e m =
-    rw (form, ← shape-structor_of scope true, tagged_complete tags e m) (same_read refl refl refl (omega arith) (omega arith))
+    rw (form, ← shape-ctor_dtor_of scope true, tagged_complete tags e m) (same_read refl refl refl (omega arith) (omega arith))
 
 pub unqualified_complete : {x : Context} {scope : Option Tree} {p q : Place} {t : Tree} {c : Cost} → Unqualified x scope p t q c → (e m : ℕ)
     → read_unqualified (option_map shape_of scope) (state_at p e m) ≡ Some (shape_of t, state_at q (e + c.count) (max m c.peak))
@@ -87,7 +87,7 @@ pub first_complete : {form : FirstForm} {x : Context} {p q : Place} {t : Tree} {
     → first_as form x (state_at p e m) ≡ Some (shape_of t, state_at q (e + c.count) (max m c.peak))
 first_complete (parameter_first {q = q} {t = t} a) e m =
     rw (parameter_complete a e m) (same_read refl (one_more q.saved t) refl (omega arith) (omega (arith, length-map q.saved shape_of)))
-first_complete std_first e m = same_read (sym (shape-plain_name (codes "std"))) refl refl (omega arith) (omega arith)
+first_complete std_first e m = same_read (sym (shape-plain_text (codes "std"))) refl refl (omega arith) (omega arith)
 first_complete (substitution_first a) e m = substitution_complete a e m ∙ same_read refl refl refl (omega arith) (omega arith)
 first_complete (name_first {q = q} {t = t} a) e m =
     rw (unqualified_complete a e m) (same_read refl (one_more q.saved t) refl (omega arith) (omega (arith, length-map q.saved shape_of)))
@@ -108,7 +108,7 @@ mutual
   pub unscoped_complete : {form : UnscopedForm} {x : Context} {p q : Place} {t : Tree} {c : Cost} → UnscopedAs form x p t q c → (d e m : ℕ) → c.depth ≤ d
       → unscoped_as form (read_args d x true) (state_at p e m) ≡ Some (shape_of t, state_at q (e + c.count) (max m c.peak))
   unscoped_complete (std_name {c = c} a form b) d e m deep =
-      rw (← shape-plain_name (codes "std"), unqualified_complete a e m, form, listed_complete b d (e + c.count) (max m c.peak) (omega arith))
+      rw (← shape-plain_text (codes "std"), unqualified_complete a e m, form, listed_complete b d (e + c.count) (max m c.peak) (omega arith))
       (same_read refl refl refl (omega arith) (omega arith))
   unscoped_complete (substitution_name {t = t} {list = list} a form b) d e m deep =
       rw (substitution_complete a e m, form, args_complete b d e m deep, ← shape-with_args t list) refl
@@ -187,9 +187,9 @@ mutual
 
   type_as_complete : {form : TypeForm} {x : Context} {p q : Place} {t : Tree} {c : Cost} → TypeAs form x p t q c → (d e m : ℕ) → c.depth ≤ d
       → type_as form (read_type d x) (read_name d x) (read_args d x false) x (state_at p e m) ≡ Some (shape_of t, state_at q (e + c.count) (max m c.peak))
-  type_as_complete (builtin_type {p = p}) d e m deep = same_read (sym (shape-plain_name (builtin_text p.rest))) refl refl (omega arith) (omega arith)
+  type_as_complete (builtin_type {p = p}) d e m deep = same_read (sym (shape-plain_text (builtin_text p.rest))) refl refl (omega arith) (omega arith)
   type_as_complete (vendor_type {p = p} {bytes = b} found list) d e m deep =
-      rw (found, list, ← shape-plain_name (source_text b)) (same_read refl (one_more p.saved (plain_name (source_text b))) refl (omega arith) (omega (arith, length-map p.saved shape_of)))
+      rw (found, list, ← shape-plain_text (source_text b)) (same_read refl (one_more p.saved (plain_text (source_text b))) refl (omega arith) (omega (arith, length-map p.saved shape_of)))
   type_as_complete (array_type {q = q} {t = t} {dim = dim} found a there) d e m deep =
       rw (found, type_complete a d e m (omega arith), there, ← shape-array_of dim t)
       (same_read refl (one_more q.saved (array_of dim t)) refl (omega arith) (omega (arith, length-map q.saved shape_of)))

@@ -19,7 +19,7 @@ use Rattle.itanium_demangle.specs.declared.forms.TypesForm.{TypesForm}
 use Rattle.itanium_demangle.specs.declared.forms.TypeForm.{TypeForm}
 use Rattle.demangle_edit.specs.declared.quals.Quals.{Quals}
 use Rattle.itanium_demangle.specs.Forms.{source_text, tag_form, list_form, params_form, elaborated_text, cv_quals, past_cv, reference_of, past_reference, past_internal, past_name_quals, name_quals, saves_first}
-use Rattle.itanium_demangle.specs.Tree.{Tree, plain_name, known_name, structor_of, with_args, pointer_to, cv_of, array_of, member_of, function_to, elaborated, trees, in_scope, nested_of}
+use Rattle.itanium_demangle.specs.Tree.{Tree, plain_text, known_name, ctor_dtor_of, with_args, pointer_to, cv_of, array_of, member_of, function_to, elaborated, trees, in_scope, nested_of}
 use Rattle.itanium_demangle.specs.Around.{inside_type}
 use Rattle.itanium_demangle.specs.Grammar.{Place, Cost, at, skip, counted, saving, save, put, past_initializer, both, SubstitutionAs, Substitution, ParameterAs, Parameter, TaggedAs, UnqualifiedAs, Unqualified, FirstAs, Name, NameAs, UnscopedAs, ListedAs, Nested, Components, ComponentsAs, Args, ArgsUpTo, ArgsAs, ArgumentAs, TypeOf, TypeAs, QualifiedAs, Function, ParamsAs, Types, TypesAs, TypeListedAs, SymbolAs, Symbol, known_substitution, saved_substitution, substitution, auto_parameter, scope_parameter, parameter, no_tag, source_component, constructor_component, destructor_component, unqualified, parameter_first, std_first, substitution_first, name_first, name, nested_name, unscoped_name, std_name, substitution_name, global_name, no_list, argument_list, nested, components, last_component, list_component, name_component, args, args_up_to, no_more_args, one_more_arg, type_argument, type, builtin_type, vendor_type, array_type, function_type, member_type, pointer_type, qualified_type, elaborated_type, parameter_type, substitution_type, name_type, qualified_function, qualified_other, function, no_params, some_params, types, no_more_types, one_more_type, no_type_list, type_list, name_symbol, symbol}
 
@@ -59,12 +59,12 @@ one_tagged no_tag no_tag = (refl, refl)
 one_unqualified_as : {form : UnqualifiedForm} {x : Context} {scope : Option Tree} {p q r : Place} {t u : Tree} {c d : Cost} → UnqualifiedAs form x scope p t q c → UnqualifiedAs form x scope p u r d → Same t u q r c d
 one_unqualified_as (source_component {scope = scope} {p = p} e f a) (source_component {q = r} {t = u} g h b) =
     let found = some_pair_parts _ _ _ _ (sym g ∙ e) in
-    let same = one_tagged a (along3 (λ k s o. TaggedAs k s o u r) (sym h ∙ ap tag_form found.1 ∙ f) (ap (λ v. plain_name (source_text v)) found.0) (ap (λ v. at v p) found.1) b) in
+    let same = one_tagged a (along3 (λ k s o. TaggedAs k s o u r) (sym h ∙ ap tag_form found.1 ∙ f) (ap (λ v. plain_text (source_text v)) found.0) (ap (λ v. at v p) found.1) b) in
     record { tree = ap (in_scope scope) same.0; next = same.1; cost = refl }
 one_unqualified_as (constructor_component {scope = scope} {p = p} e a) (constructor_component {q = r} {t = u} g b) =
-    let same = one_tagged a (subst (λ k. TaggedAs k (structor_of scope false) (skip 2 p) u r) (sym g ∙ e) b) in record { tree = same.0; next = same.1; cost = refl }
+    let same = one_tagged a (subst (λ k. TaggedAs k (ctor_dtor_of scope false) (skip 2 p) u r) (sym g ∙ e) b) in record { tree = same.0; next = same.1; cost = refl }
 one_unqualified_as (destructor_component {scope = scope} {p = p} e a) (destructor_component {q = r} {t = u} g b) =
-    let same = one_tagged a (subst (λ k. TaggedAs k (structor_of scope true) (skip 2 p) u r) (sym g ∙ e) b) in record { tree = same.0; next = same.1; cost = refl }
+    let same = one_tagged a (subst (λ k. TaggedAs k (ctor_dtor_of scope true) (skip 2 p) u r) (sym g ∙ e) b) in record { tree = same.0; next = same.1; cost = refl }
 
 pub one_unqualified : {x : Context} {scope : Option Tree} {p q r : Place} {t u : Tree} {c d : Cost} → Unqualified x scope p t q c → Unqualified x scope p u r d → Same t u q r c d
 one_unqualified (unqualified {x = x} {scope = scope} {p = p} e a) (unqualified {q = r} {t = u} {c = d} g b) =
@@ -154,7 +154,7 @@ mutual
   one_type_as builtin_type builtin_type = record { tree = refl; next = refl; cost = refl }
   one_type_as (vendor_type {p = p} e f) (vendor_type g h) =
       let found = some_pair_parts _ _ _ _ (sym e ∙ g) in
-      let name = ap (λ v. plain_name (source_text v)) found.0 in
+      let name = ap (λ v. plain_text (source_text v)) found.0 in
       record { tree = name; next = ap₂ save name (ap (λ v. at v p) found.1); cost = refl }
   one_type_as (array_type {x = x} {p = p} e a there) (array_type {q = r} {t = u} {c = d} g b here) =
       let found = some_pair_parts _ _ _ _ (sym g ∙ e) in

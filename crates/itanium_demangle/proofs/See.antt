@@ -11,14 +11,14 @@ use Rattle.demangle_edit.specs.declared.quals.Quals.{Quals}
 use Rattle.demangle_edit.specs.declared.quals.Pointer.{Pointer}
 use Rattle.demangle_edit.specs.Types.{wrapped, cv_wrapped, array_shape, member_shape, function_shape}
 use Rattle.demangle_edit.specs.Names.{qualified, qualified_ctor, attached, name_qualified}
-use Rattle.itanium_demangle.specs.Tree.{Tree, plain_name, known_name, name_in, structor_of, with_args, nested_of, pointer_to, cv_of, array_of, member_of, function_to, elaborated, worded, trees, shape_of, shape_each, list_shape, in_scope}
+use Rattle.itanium_demangle.specs.Tree.{Tree, plain_text, known_name, name_in, ctor_dtor_of, with_args, nested_of, pointer_to, cv_of, array_of, member_of, function_to, elaborated, elaborated_shape, trees, shape_of, shape_each, list_shape, in_scope}
 use Rattle.itanium_demangle.specs.Reading as reading
 use Rattle.itanium_demangle.specs.Reading.{State}
 use Rattle.itanium_demangle.specs.Grammar.{Place, last_of, with_last}
 
-pub shape-plain_name : (bytes : List ℕ) → shape_of (plain_name bytes) ≡ plain_shape bytes
+pub shape-plain_text : (bytes : List ℕ) → shape_of (plain_text bytes) ≡ plain_shape bytes
 unfolding shape_of
-shape-plain_name bytes = refl
+shape-plain_text bytes = refl
 
 pub shape-name_in : (scope leaf : Tree) → shape_of (name_in scope leaf) ≡ qualified (shape_of scope) (shape_of leaf)
 unfolding shape_of
@@ -28,9 +28,9 @@ pub shape-known_name : (known : Known) → shape_of (known_name known) ≡ known
 unfolding shape_of
 shape-known_name known = refl
 
-pub shape-structor_of : (scope : Tree) (destructor : Bool) → shape_of (structor_of scope destructor) ≡ qualified_ctor (shape_of scope) destructor
+pub shape-ctor_dtor_of : (scope : Tree) (destructor : Bool) → shape_of (ctor_dtor_of scope destructor) ≡ qualified_ctor (shape_of scope) destructor
 unfolding shape_of
-shape-structor_of scope destructor = refl
+shape-ctor_dtor_of scope destructor = refl
 
 shape_each-trees : (ts : List Tree) → shape_each (trees ts) ≡ map shape_of ts
 unfolding shape_of
@@ -61,7 +61,7 @@ pub shape-function_to : (ret : Tree) (params : List Tree) (quals : Quals) → sh
 unfolding shape_of
 shape-function_to ret params quals = ap (λ us. function_shape (shape_of ret) us quals) (shape_each-trees params)
 
-pub shape-elaborated : (word : List ℕ) (t : Tree) → shape_of (elaborated word t) ≡ worded word (shape_of t)
+pub shape-elaborated : (word : List ℕ) (t : Tree) → shape_of (elaborated word t) ≡ elaborated_shape word (shape_of t)
 unfolding shape_of
 shape-elaborated word t = refl
 

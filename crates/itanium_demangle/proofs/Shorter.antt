@@ -35,7 +35,7 @@ use Rattle.itanium_demangle.specs.declared.forms.UnqualifiedForm.{UnqualifiedFor
 use Rattle.itanium_demangle.specs.declared.forms.UnqualifiedForm.TheVariants.{ConstructorName, DestructorName}
 use Rattle.itanium_demangle.specs.declared.forms.TagForm.{TagForm}
 use Rattle.itanium_demangle.specs.declared.forms.SymbolForm.{SymbolForm}
-use Rattle.itanium_demangle.specs.Scalars.{front_digits, with_digit, digit_of, weighted, base, numeral, number, source_name, past_underscore, next_number, index_by, index_of, bound_by, bound_of}
+use Rattle.itanium_demangle.specs.Scalars.{front_digits, digit_then, digit_of, weighted, base, numeral, number, source_name, past_underscore, next_number, index_by, index_of, bound_by, bound_of}
 use Rattle.itanium_demangle.specs.Forms.{begins, first_form, component_form, unqualified_form, args_form, list_form, type_form, types_form, qualified_form, params_form, begins_one_of, is_builtin, past_builtin, past_internal, past_letter, past_member, past_cv, past_reference, past_name_quals}
 use Rattle.itanium_demangle.specs.Tree.{Tree}
 use Rattle.itanium_demangle.specs.Grammar.{Place, Cost, SubstitutionAs, Substitution, Parameter, TaggedAs, UnqualifiedAs, Unqualified, FirstAs, Name, NameAs, UnscopedAs, ListedAs, Nested, Components, ComponentsAs, Args, ArgsUpTo, ArgsAs, ArgumentAs, TypeOf, TypeAs, QualifiedAs, Function, ParamsAs, Types, TypesAs, TypeListedAs, SymbolAs, Symbol, known_substitution, saved_substitution, substitution, parameter, no_tag, source_component, constructor_component, destructor_component, unqualified, parameter_first, std_first, substitution_first, name_first, name, nested_name, unscoped_name, std_name, substitution_name, global_name, no_list, argument_list, nested, components, last_component, list_component, name_component, args, args_up_to, no_more_args, one_more_arg, type_argument, type, builtin_type, vendor_type, array_type, function_type, member_type, pointer_type, qualified_type, elaborated_type, parameter_type, substitution_type, name_type, qualified_function, qualified_other, function, no_params, some_params, types, no_more_types, one_more_type, no_type_list, type_list, name_symbol, symbol}
@@ -99,7 +99,7 @@ quals_behind bytes = go (begins (72 ∷ []) bytes)
     go true = behind_drop 1 bytes
     go false = behind_then (cv_behind bytes) (if_behind _ 1 _)
 
-digit_within : (o : Option ℕ) (ds bytes : List ℕ) → length ds ≤ length bytes → length (with_digit o ds) ≤ suc (length bytes)
+digit_within : (o : Option ℕ) (ds bytes : List ℕ) → length ds ≤ length bytes → length (digit_then o ds) ≤ suc (length bytes)
 digit_within None ds bytes h = omega arith
 digit_within (Some d) ds bytes h = omega arith
 

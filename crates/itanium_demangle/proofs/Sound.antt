@@ -46,10 +46,10 @@ use Rattle.itanium_demangle.specs.Known.{known_of}
 use Rattle.itanium_demangle.specs.Around.{opens_scope, inside_type}
 use Rattle.itanium_demangle.specs.Scalars.{source_name, index_of, bound_of}
 use Rattle.itanium_demangle.specs.Forms.{symbol_form, name_form, unscoped_form, list_form, first_form, component_form, unqualified_form, tag_form, substitution_form, args_form, argument_form, type_form, qualified_form, function_form, params_form, types_form, cv_quals, past_cv, reference_of, no_quals, past_internal, source_text, past_name_quals, saves_first}
-use Rattle.itanium_demangle.specs.Tree.{Tree, plain_name, known_name, structor_of, with_args, trees, shape_of, list_shape}
+use Rattle.itanium_demangle.specs.Tree.{Tree, plain_text, known_name, ctor_dtor_of, with_args, trees, shape_of, list_shape}
 use Rattle.itanium_demangle.specs.Grammar.{Place, Cost, at, save, put, begin, past_initializer, SubstitutionAs, Substitution, ParameterAs, Parameter, TaggedAs, UnqualifiedAs, Unqualified, FirstAs, Name, NameAs, UnscopedAs, ListedAs, Nested, Components, ComponentsAs, Args, ArgsUpTo, ArgsAs, ArgumentAs, TypeOf, TypeAs, QualifiedAs, Function, ParamsAs, Types, TypesAs, TypeListedAs, SymbolAs, Symbol, known_substitution, saved_substitution, substitution, auto_parameter, scope_parameter, parameter, no_tag, source_component, constructor_component, destructor_component, unqualified, parameter_first, std_first, substitution_first, name_first, name, nested_name, unscoped_name, std_name, substitution_name, global_name, no_list, argument_list, nested, components, last_component, list_component, name_component, args, args_up_to, no_more_args, one_more_arg, type_argument, type, builtin_type, vendor_type, array_type, function_type, member_type, pointer_type, qualified_type, elaborated_type, parameter_type, substitution_type, name_type, qualified_function, qualified_other, function, no_params, some_params, types, no_more_types, one_more_type, no_type_list, type_list, name_symbol, symbol, skip, last_of}
-use Rattle.itanium_demangle.specs.Reading.{State, between, read_source, substitution_as, read_substitution, parameter_as, read_parameter, saved_parameter, tagged_as, structor_as, unqualified_as, read_unqualified, first_as, attached_by, template_as, component_as, read_components, read_prefix, read_nested, listed_as, unscoped_as, name_as, argument_as, argument_by, args_as, read_list, types_as, read_types, params_as, function_as, read_function, qualified_as, vendor_as, type_listed_as, type_as, read_name, read_args, read_type, symbol_as, read_symbol}
-use Rattle.itanium_demangle.proofs.See.{state_at, one_more, some-map, last-map, put-scopes, begin-scopes, shape-plain_name, shape-structor_of, shape-with_args}
+use Rattle.itanium_demangle.specs.Reading.{State, between, read_source, substitution_as, read_substitution, parameter_as, read_parameter, saved_parameter, tagged_as, ctor_dtor_as, unqualified_as, read_unqualified, first_as, attached_by, template_as, component_as, read_components, read_prefix, read_nested, listed_as, unscoped_as, name_as, argument_as, argument_by, args_as, read_list, types_as, read_types, params_as, function_as, read_function, qualified_as, vendor_as, type_listed_as, type_as, read_name, read_args, read_type, symbol_as, read_symbol}
+use Rattle.itanium_demangle.proofs.See.{state_at, one_more, some-map, last-map, put-scopes, begin-scopes, shape-plain_text, shape-ctor_dtor_of, shape-with_args}
 use Rattle.itanium_demangle.proofs.Shorter.{unqualified_takes, args_takes, argument_takes, type_takes, member_behind, behind_drop, behind-le}
 use Rattle.itanium_demangle.proofs.Complete.{substitution_complete, parameter_complete, unqualified_complete, first_complete, components_complete, name_complete, args_complete, argument_complete, params_complete, types_complete, type_complete, symbol_complete}
 
@@ -110,7 +110,7 @@ record Named (lambda : Bool) (i : ℕ) (p : Place) : Type 0 where
   reading : ParameterAs lambda i p tree
 
 parameter_as_sound : (lambda : Bool) (i : ℕ) (p : Place) (e m : ℕ) (v : Shape) → parameter_as lambda i (state_at p e m) ≡ Some v → Named lambda i p
-parameter_as_sound true i p e m v is = record { tree = plain_name (codes "auto"); reading = auto_parameter }
+parameter_as_sound true i p e m v is = record { tree = plain_text (codes "auto"); reading = auto_parameter }
 parameter_as_sound false i p e m v is =
     let t = stored_tree (last_of p.scopes) i v (ap (λ (ts : List Shape). slice_get ts i) (sym (last-map p.scopes)) ∙ is) in record { tree = t.tree; reading = scope_parameter t.there }
 
@@ -137,29 +137,29 @@ tagged_sound NextTag t p e m y is = cc
 
 -- the source name that a reading begins with
 source_is : (p : Place) (e m : ℕ) (x : Shape × State) (b : List ℕ × List ℕ) → ◌≡◌ {A = Option (Shape × State)} (Some (plain_shape (source_text b.0), state_at (at b.1 p) e m)) (Some x)
-    → x ≡ (shape_of (plain_name (source_text b.0)), state_at (at b.1 p) e m)
-source_is p e m x b made = sym (same_Some _ _ made) ∙ ap (λ v. (v, state_at (at b.1 p) e m)) (sym (shape-plain_name (source_text b.0)))
+    → x ≡ (shape_of (plain_text (source_text b.0)), state_at (at b.1 p) e m)
+source_is p e m x b made = sym (same_Some _ _ made) ∙ ap (λ v. (v, state_at (at b.1 p) e m)) (sym (shape-plain_text (source_text b.0)))
 
-structor_sound : (destructor : Bool) (scope : Tree) (p : Place) (e m : ℕ) (y : Shape × State) → structor_as destructor (Some (shape_of scope)) (state_at p e m) ≡ Some y
-    → Tagged (tag_form (drop 2 p.rest)) (structor_of scope destructor) (skip 2 p)
-structor_sound destructor scope p e m y is =
-    tagged_sound (tag_form (drop 2 p.rest)) (structor_of scope destructor) (skip 2 p) e m y (rw (shape-structor_of scope destructor) is)
+ctor_dtor_sound : (destructor : Bool) (scope : Tree) (p : Place) (e m : ℕ) (y : Shape × State) → ctor_dtor_as destructor (Some (shape_of scope)) (state_at p e m) ≡ Some y
+    → Tagged (tag_form (drop 2 p.rest)) (ctor_dtor_of scope destructor) (skip 2 p)
+ctor_dtor_sound destructor scope p e m y is =
+    tagged_sound (tag_form (drop 2 p.rest)) (ctor_dtor_of scope destructor) (skip 2 p) e m y (rw (shape-ctor_dtor_of scope destructor) is)
 
 unqualified_as_sound : (d : ℕ) (form : UnqualifiedForm) (x : Context) (scope : Option Tree) (p : Place) (e m : ℕ) (y : Shape × State)
     → unqualified_as form (option_map shape_of scope) (state_at p e m) ≡ Some y → Within (UnqualifiedAs form x scope p) d
 unqualified_as_sound d OtherName x scope p e m y is = cc
 unqualified_as_sound d ConstructorName x None p e m y is = cc
 unqualified_as_sound d ConstructorName x (Some scope) p e m y is =
-    let t = structor_sound false scope p e m y is in record { tree = _; next = _; cost = _; reading = constructor_component refl t.reading; deep = omega arith }
+    let t = ctor_dtor_sound false scope p e m y is in record { tree = _; next = _; cost = _; reading = constructor_component refl t.reading; deep = omega arith }
 unqualified_as_sound d DestructorName x None p e m y is = cc
 unqualified_as_sound d DestructorName x (Some scope) p e m y is =
-    let t = structor_sound true scope p e m y is in record { tree = _; next = _; cost = _; reading = destructor_component refl t.reading; deep = omega arith }
+    let t = ctor_dtor_sound true scope p e m y is in record { tree = _; next = _; cost = _; reading = destructor_component refl t.reading; deep = omega arith }
 unqualified_as_sound d SourceName x scope p e m y is =
     option_and_then_some _ (read_source (state_at p e m)) y is (λ source first more.
     option_and_then_some _ (source_name p.rest) source first (λ b found made.
     let there = rw (source_is p e m source b made) at more in
-    option_and_then_some _ (tagged_as (tag_form b.1) (shape_of (plain_name (source_text b.0))) (state_at (at b.1 p) e m)) y there (λ z tags _.
-    let t = tagged_sound (tag_form b.1) (plain_name (source_text b.0)) (at b.1 p) e m z tags in
+    option_and_then_some _ (tagged_as (tag_form b.1) (shape_of (plain_text (source_text b.0))) (state_at (at b.1 p) e m)) y there (λ z tags _.
+    let t = tagged_sound (tag_form b.1) (plain_text (source_text b.0)) (at b.1 p) e m z tags in
     record { tree = _; next = _; cost = _; reading = source_component found refl t.reading; deep = omega arith })))
 
 pub unqualified_sound : (d : ℕ) (x : Context) (scope : Option Tree) (p : Place) (e m : ℕ) (y : Shape × State)
@@ -233,7 +233,7 @@ unscoped_sound d lists SubstitutionName x p e m y is =
     record { tree = _; next = _; cost = _; reading = substitution_name i.reading l.form_is l.within.reading; deep = l.within.deep })
 unscoped_sound d lists StdName x p e m y is =
     option_and_then_some _ (read_unqualified (Some (plain_shape (codes "std"))) (state_at (skip 2 p) e m)) y is (λ z first more.
-    let found = unqualified_sound d x (Some (plain_name (codes "std"))) (skip 2 p) e m z (rw (shape-plain_name (codes "std")) first) in
+    let found = unqualified_sound d x (Some (plain_text (codes "std"))) (skip 2 p) e m z (rw (shape-plain_text (codes "std")) first) in
     let i = found.within in
     let l = listed_sound d lists (list_form i.next.rest) x i.tree i.next (e + i.cost.count) (max m i.cost.peak) y (rw found.is at more) in
     record { tree = _; next = _; cost = _; reading = std_name i.reading refl l.reading; deep = omega (arith, i.deep, l.deep) })
@@ -449,7 +449,7 @@ type_as_sound d kinds names lists VendorType x p e m y is =
     option_and_then_some _ (read_source (state_at (skip 1 p) e m)) y is (λ z first more.
     option_and_then_some _ (source_name (drop 1 p.rest)) z first (λ b found made.
     let there = rw (source_is (skip 1 p) e m z b made) at more in
-    let form = vendor_sound (list_form b.1) (shape_of (plain_name (source_text b.0))) (state_at (at b.1 p) e m) y there in
+    let form = vendor_sound (list_form b.1) (shape_of (plain_text (source_text b.0))) (state_at (at b.1 p) e m) y there in
     record { tree = _; next = _; cost = _; reading = vendor_type found form; deep = omega arith }))
 type_as_sound d kinds names lists ArrayType x p e m y is =
     option_and_then_some _ (bound_of (drop 1 p.rest)) y is (λ dim found more.

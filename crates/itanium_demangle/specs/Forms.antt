@@ -123,11 +123,11 @@ source_text name = if begins (codes "_GLOBAL__N") name then codes "(anonymous na
 -- <CV-qualifiers> ::= [r] [V] [K], and <ref-qualifier> ::= R | O behind them
 abbrev pub cv_quals : List ℕ → Quals
 cv_quals bytes =
-    let volatile = past_letter 114 bytes in
-    let constant = past_letter 86 volatile in
+    let behind_restrict = past_letter 114 bytes in
+    let behind_volatile = past_letter 86 behind_restrict in
     record {
-      constant = begins (codes "K") constant;
-      volatile = begins (codes "V") volatile;
+      constant = begins (codes "K") behind_volatile;
+      volatile = begins (codes "V") behind_restrict;
       restrict = begins (codes "r") bytes;
       reference = None;
     }
@@ -212,8 +212,8 @@ letter_text letter =
     if letter == 122 then codes "..." else []
 
 -- <builtin-type> of D and a letter
-abbrev pub wide_text : ℕ → List ℕ
-wide_text letter =
+abbrev pub two_letter_text : ℕ → List ℕ
+two_letter_text letter =
     if letter == 115 then codes "char16_t" else
     if letter == 105 then codes "char32_t" else
     if letter == 117 then codes "char8_t" else
@@ -229,7 +229,7 @@ wide_text letter =
 abbrev pub builtin_text : List ℕ → List ℕ
 builtin_text [] = []
 builtin_text (first ∷ []) = letter_text first
-builtin_text (first ∷ second ∷ bytes) = if first == 68 then wide_text second else letter_text first
+builtin_text (first ∷ second ∷ bytes) = if first == 68 then two_letter_text second else letter_text first
 
 -- a <builtin-type> is next: a letter, or D and a letter, with a text
 abbrev pub is_builtin : List ℕ → Bool

@@ -1,7 +1,7 @@
 -- The grammar: which front of the bytes is which tree (Itanium C++ ABI 5.1). Each relation is indexed by the context, the place
 -- where a reading begins, the tree, the place behind it, and the cost. A form with no case isn't read.
 use Rattle.std.specs.Prelude.{◌≡◌, ℕ, ◌+◌, ◌-◌, max, Bool, true, false, if◌then◌else◌, slice_get, slice_set, slice_index_or, List, [], ◌∷◌, ◌++◌, Option, Some, None, is_some, take, drop, length, codes}
-use Rattle.itanium_demangle.specs.Tree.{Tree, plain_name, known_name, structor_of, with_args, nested_of, pointer_to, cv_of, array_of, member_of, function_to, elaborated, trees, in_scope, shape_of}
+use Rattle.itanium_demangle.specs.Tree.{Tree, plain_text, known_name, ctor_dtor_of, with_args, nested_of, pointer_to, cv_of, array_of, member_of, function_to, elaborated, trees, in_scope, shape_of}
 use Rattle.demangle_text.specs.Shape.{is_plain}
 use Rattle.demangle_edit.specs.declared.quals.Pointer.{Pointer}
 use Rattle.demangle_edit.specs.declared.quals.Quals.{Quals}
@@ -122,7 +122,7 @@ pub data Substitution : Place → Tree → Place → Type 0 where
 
 -- the argument that a <template-param> names: `auto` in a lambda's signature
 pub data ParameterAs : Bool → ℕ → Place → Tree → Type 0 where
-  auto_parameter : {i : ℕ} {p : Place} → ParameterAs true i p (plain_name (codes "auto"))
+  auto_parameter : {i : ℕ} {p : Place} → ParameterAs true i p (plain_text (codes "auto"))
   scope_parameter : {i : ℕ} {p : Place} {t : Tree} → slice_get (last_of p.scopes) i ≡ Some t → ParameterAs false i p t
 
 -- <template-param> ::= T [<number>] _
@@ -138,14 +138,14 @@ pub data TaggedAs : TagForm → Tree → Place → Tree → Place → Type 0 whe
 pub data UnqualifiedAs : UnqualifiedForm → Context → Option Tree → Place → Tree → Place → Cost → Type 0 where
   -- <source-name> [<abi-tags>]
   source_component : {x : Context} {scope : Option Tree} {p q : Place} {t : Tree} {bytes rest : List ℕ} {form : TagForm} → source_name p.rest ≡ Some (bytes, rest)
-      → tag_form rest ≡ form → TaggedAs form (plain_name (source_text bytes)) (at rest p) t q
+      → tag_form rest ≡ form → TaggedAs form (plain_text (source_text bytes)) (at rest p) t q
       → UnqualifiedAs SourceName x scope p (in_scope scope t) q nothing
   -- <ctor-dtor-name> ::= C1 | .. | C5
   constructor_component : {x : Context} {scope : Tree} {p q : Place} {t : Tree} {form : TagForm} → tag_form (drop 2 p.rest) ≡ form
-      → TaggedAs form (structor_of scope false) (skip 2 p) t q → UnqualifiedAs ConstructorName x (Some scope) p t q nothing
+      → TaggedAs form (ctor_dtor_of scope false) (skip 2 p) t q → UnqualifiedAs ConstructorName x (Some scope) p t q nothing
   -- <ctor-dtor-name> ::= D0 | D1 | D2 | D4 | D5
   destructor_component : {x : Context} {scope : Tree} {p q : Place} {t : Tree} {form : TagForm} → tag_form (drop 2 p.rest) ≡ form
-      → TaggedAs form (structor_of scope true) (skip 2 p) t q → UnqualifiedAs DestructorName x (Some scope) p t q nothing
+      → TaggedAs form (ctor_dtor_of scope true) (skip 2 p) t q → UnqualifiedAs DestructorName x (Some scope) p t q nothing
 
 -- [L] and an <unqualified-name>
 pub data Unqualified : Context → Option Tree → Place → Tree → Place → Cost → Type 0 where
@@ -155,7 +155,7 @@ pub data Unqualified : Context → Option Tree → Place → Tree → Place → 
 -- the first component of a <nested-name>
 pub data FirstAs : FirstForm → Context → Place → Tree → Place → Cost → Type 0 where
   parameter_first : {x : Context} {p q : Place} {t : Tree} → Parameter x p t q → FirstAs ParameterFirst x p t (save t q) (saving q)
-  std_first : {x : Context} {p : Place} → FirstAs StdFirst x p (plain_name (codes "std")) (skip 2 p) nothing
+  std_first : {x : Context} {p : Place} → FirstAs StdFirst x p (plain_text (codes "std")) (skip 2 p) nothing
   substitution_first : {x : Context} {p q : Place} {t : Tree} → Substitution p t q → FirstAs SubstitutionFirst x p t q nothing
   name_first : {x : Context} {p q : Place} {t : Tree} {c : Cost} → Unqualified x None p t q c → FirstAs NameFirst x p t (save t q) (both c (saving q))
 
@@ -172,7 +172,7 @@ mutual
 
   -- <unscoped-name> [<template-args>], or a <substitution> with <template-args>
   pub data UnscopedAs : UnscopedForm → Context → Place → Tree → Place → Cost → Type 0 where
-    std_name : {x : Context} {p q r : Place} {t u : Tree} {c d : Cost} {form : ListForm} → Unqualified x (Some (plain_name (codes "std"))) (skip 2 p) t q c
+    std_name : {x : Context} {p q r : Place} {t u : Tree} {c d : Cost} {form : ListForm} → Unqualified x (Some (plain_text (codes "std"))) (skip 2 p) t q c
         → list_form q.rest ≡ form → ListedAs form x t q u r d → UnscopedAs StdName x p u r (both c d)
     substitution_name : {x : Context} {p q r : Place} {t : Tree} {list : List Tree} {c : Cost} → Substitution p t q
         → list_form q.rest ≡ ArgumentList → Args x true q list r c → UnscopedAs SubstitutionName x p (with_args t (trees list)) r c
@@ -233,10 +233,10 @@ mutual
   -- <type>, by what it begins with
   pub data TypeAs : TypeForm → Context → Place → Tree → Place → Cost → Type 0 where
     -- <builtin-type>
-    builtin_type : {x : Context} {p : Place} → TypeAs BuiltinType x p (plain_name (builtin_text p.rest)) (at (past_builtin p.rest) p) nothing
+    builtin_type : {x : Context} {p : Place} → TypeAs BuiltinType x p (plain_text (builtin_text p.rest)) (at (past_builtin p.rest) p) nothing
     -- u <source-name>, without <template-args>
     vendor_type : {x : Context} {p : Place} {bytes rest : List ℕ} → source_name (drop 1 p.rest) ≡ Some (bytes, rest) → list_form rest ≡ NoList
-        → TypeAs VendorType x p (plain_name (source_text bytes)) (save (plain_name (source_text bytes)) (at rest p)) (saving p)
+        → TypeAs VendorType x p (plain_text (source_text bytes)) (save (plain_text (source_text bytes)) (at rest p)) (saving p)
     -- <array-type> ::= A [<number>] _ <type>
     array_type : {x : Context} {p q : Place} {t : Tree} {c : Cost} {dim : Option ℕ} {rest : List ℕ} → bound_of (drop 1 p.rest) ≡ Some (dim, rest)
         → TypeOf x (at rest p) t q c → has_array (shape_of t).form ≡ true → TypeAs ArrayType x p (array_of dim t) (save (array_of dim t) q) (both c (saving q))

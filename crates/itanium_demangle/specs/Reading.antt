@@ -7,7 +7,7 @@ use Rattle.demangle_edit.specs.Names.{qualified, qualified_ctor, attached, name_
 use Rattle.itanium_demangle.specs.Scalars.{source_name, index_of, bound_of}
 use Rattle.itanium_demangle.specs.declared.scalar.Radix.TheVariants.{Decimal, Base36}
 use Rattle.itanium_demangle.specs.Known.{known_of, known_shape}
-use Rattle.itanium_demangle.specs.Tree.{closed, worded}
+use Rattle.itanium_demangle.specs.Tree.{closed, elaborated_shape}
 use Rattle.demangle_edit.specs.declared.quals.Quals.{Quals}
 use Rattle.demangle_edit.specs.declared.quals.Pointer.{Pointer}
 use Rattle.demangle_edit.specs.Types.{wrapped, cv_wrapped, arrayed, membered, function_of}
@@ -126,9 +126,9 @@ abbrev pub tagged_as : TagForm → Shape → Reads Shape
 tagged_as NoTag name s = Some (name, s)
 tagged_as NextTag name s = None
 
-abbrev pub structor_as : Bool → Option Shape → Reads Shape
-structor_as destructor None s = None
-structor_as destructor (Some scope) s = tagged_as (tag_form (drop 2 s.rest)) (qualified_ctor scope destructor) (skip 2 s)
+abbrev pub ctor_dtor_as : Bool → Option Shape → Reads Shape
+ctor_dtor_as destructor None s = None
+ctor_dtor_as destructor (Some scope) s = tagged_as (tag_form (drop 2 s.rest)) (qualified_ctor scope destructor) (skip 2 s)
 
 abbrev pub source_as : Option Shape → Reads Shape
 source_as scope s =
@@ -136,8 +136,8 @@ source_as scope s =
 
 abbrev pub unqualified_as : UnqualifiedForm → Option Shape → Reads Shape
 unqualified_as SourceName scope s = source_as scope s
-unqualified_as ConstructorName scope s = structor_as false scope s
-unqualified_as DestructorName scope s = structor_as true scope s
+unqualified_as ConstructorName scope s = ctor_dtor_as false scope s
+unqualified_as DestructorName scope s = ctor_dtor_as true scope s
 unqualified_as OtherName scope s = None
 
 unfoldable pub read_unqualified : Option Shape → Reads Shape
@@ -296,7 +296,7 @@ abbrev pub read_pointer : Reads Shape → Pointer → Reads Shape
 read_pointer type kind s = type (skip 1 s) >>= λ inner. saved_as (wrapped kind inner.0) inner.1
 
 abbrev pub read_elaborated : Reads Shape → Reads Shape
-read_elaborated name s = name (skip 2 s) >>= λ found. saved_as (worded (elaborated_text s.rest) found.0) found.1
+read_elaborated name s = name (skip 2 s) >>= λ found. saved_as (elaborated_shape (elaborated_text s.rest) found.0) found.1
 
 abbrev pub parameter_type : Reads Shape → Context → Reads Shape
 parameter_type args x s = saved_parameter x s >>= λ found. type_listed_as (list_form found.1.rest) args found.0 found.1

@@ -14,14 +14,14 @@ digit_of Decimal b = if nat_le 48 b && nat_le b 57 then Some (b - 48) else None
 digit_of Base36 b = if nat_le 48 b && nat_le b 57 then Some (b - 48) else (if nat_le 65 b && nat_le b 90 then Some (b - 55) else None)
 
 -- a digit and those behind it, where it is one
-abbrev pub with_digit : Option ℕ → List ℕ → List ℕ
-with_digit None ds = []
-with_digit (Some d) ds = d ∷ ds
+abbrev pub digit_then : Option ℕ → List ℕ → List ℕ
+digit_then None ds = []
+digit_then (Some d) ds = d ∷ ds
 
 -- all digits that stand in front
 unfoldable pub front_digits : Radix → List ℕ → List ℕ
 front_digits r [] = []
-front_digits r (b ∷ bytes) = with_digit (digit_of r b) (front_digits r bytes)
+front_digits r (b ∷ bytes) = digit_then (digit_of r b) (front_digits r bytes)
 
 -- the number that digits write: each digit times the power of its place
 unfoldable pub weighted : ℕ → List ℕ → ℕ

@@ -13,10 +13,10 @@ use Rattle.itanium_demangle.specs.Known.{known_shape}
 mutual
   -- what a symbol, or a part of it, says
   pub data Tree : Type 0 where
-    plain_name : List ℕ → Tree
+    plain_text : List ℕ → Tree
     known_name : Known → Tree
     name_in : Tree → Tree → Tree
-    structor_of : Tree → Bool → Tree
+    ctor_dtor_of : Tree → Bool → Tree
     with_args : Tree → Trees → Tree
     nested_of : Tree → Quals → Bool → Tree
     pointer_to : Pointer → Tree → Tree
@@ -45,16 +45,16 @@ abbrev pub list_shape : List Shape → Shape
 list_shape args = closed (plain_shape (codes "<" ++ listed (map text args)))
 
 -- a word in front of a name, as a plain text
-abbrev pub worded : List ℕ → Shape → Shape
-worded word name = plain_shape (word ++ text name)
+abbrev pub elaborated_shape : List ℕ → Shape → Shape
+elaborated_shape word name = plain_shape (word ++ text name)
 
 -- the shape that the tree prints
 unfoldable mutual
   pub shape_of : Tree → Shape
-  shape_of (plain_name bytes) = plain_shape bytes
+  shape_of (plain_text bytes) = plain_shape bytes
   shape_of (known_name known) = known_shape known
   shape_of (name_in scope leaf) = qualified (shape_of scope) (shape_of leaf)
-  shape_of (structor_of scope destructor) = qualified_ctor (shape_of scope) destructor
+  shape_of (ctor_dtor_of scope destructor) = qualified_ctor (shape_of scope) destructor
   shape_of (with_args name list) = attached (shape_of name) (list_shape (shape_each list))
   shape_of (nested_of name quals shown) = name_qualified (shape_of name) quals shown
   shape_of (pointer_to kind t) = wrapped kind (shape_of t)
@@ -62,7 +62,7 @@ unfoldable mutual
   shape_of (array_of dim t) = array_shape dim (shape_of t)
   shape_of (member_of class t) = member_shape (shape_of class) (shape_of t)
   shape_of (function_to ret params quals) = function_shape (shape_of ret) (shape_each params) quals
-  shape_of (elaborated word name) = worded word (shape_of name)
+  shape_of (elaborated word name) = elaborated_shape word (shape_of name)
 
   -- the shapes of the trees, in order
   pub shape_each : Trees → List Shape

@@ -3,7 +3,7 @@ ghost use Rattle.std.specs.Prelude.{◌≡◌, ◌≤◌, OnOk, All, map, length
 ghost use Rattle.demangle_text.specs.State.{IsLiving, shape, Lives, IsRun, SameFrame, scopes};
 ghost use Rattle.demangle_edit.specs.Types.{wrapped, cv_wrapped};
 ghost use Rattle.itanium_demangle.specs.Forms.{list_form};
-ghost use Rattle.itanium_demangle.specs.Tree.{worded};
+ghost use Rattle.itanium_demangle.specs.Tree.{elaborated_shape};
 ghost use Rattle.itanium_demangle.specs.Reading as spec;
 ghost use Rattle.itanium_demangle.specs.Outcome.{state, Gives, OnRead, Bounds, OptionalBounds};
 
@@ -107,9 +107,9 @@ impl<'a> Reader<'a> {
     /// The word of an elaborated type in front of the name that was found.
     pub fn save_elaborated(&mut self, word: &[u8]) -> Result<(), AllocError>
         requires living { IsLiving self.old.buffer self.old.found }
-        ensures shape { OnOk result (Lives self.new.buffer self.new.found (worded word.now
+        ensures shape { OnOk result (Lives self.new.buffer self.new.found (elaborated_shape word.now
             (shape self.old.buffer self.old.found))) }
-        ensures state { OnOk result (state self.new ≡ spec.save (worded word.now
+        ensures state { OnOk result (state self.new ≡ spec.save (elaborated_shape word.now
             (shape self.old.buffer self.old.found)) (state self.old)) }
         ensures run { OnOk result (IsRun self.old.buffer self.new.buffer) }
     {

@@ -244,7 +244,7 @@ pub fn builtin_text(bytes: &[u8]) -> &'static [u8]
     ensures text { result.now ≡ spec.builtin_text bytes.now }
 {
     match bytes {
-        [b'D', letter, ..] => wide_text(*letter),
+        [b'D', letter, ..] => two_letter_text(*letter),
         [letter, ..] => letter_text(*letter),
         [] => b"",
     }
@@ -291,8 +291,8 @@ fn letter_text(letter: u8) -> &'static [u8]
     }
 }
 
-fn wide_text(letter: u8) -> &'static [u8]
-    ensures text { result.now ≡ spec.wide_text letter }
+fn two_letter_text(letter: u8) -> &'static [u8]
+    ensures text { result.now ≡ spec.two_letter_text letter }
 {
     match letter {
         b's' => b"char16_t",
@@ -452,15 +452,15 @@ pub fn cv_quals(bytes: &[u8]) -> (Quals, &[u8])
     ensures rest { result.1.now ≡ spec.past_cv bytes.now }
     ensures within { length result.1.now ≤ length bytes.now }
 {
-    let volatile = past_letter(b'r', bytes);
-    let constant = past_letter(b'V', volatile);
+    let behind_restrict = past_letter(b'r', bytes);
+    let behind_volatile = past_letter(b'V', behind_restrict);
     let quals = Quals {
-        constant: matches!(constant, [b'K', ..]),
-        volatile: matches!(volatile, [b'V', ..]),
+        constant: matches!(behind_volatile, [b'K', ..]),
+        volatile: matches!(behind_restrict, [b'V', ..]),
         restrict: matches!(bytes, [b'r', ..]),
         reference: None,
     };
-    (quals, past_letter(b'K', constant))
+    (quals, past_letter(b'K', behind_volatile))
 }
 
 /// `<ref-qualifier> ::= R | O`, where one stands, and what follows it.

@@ -52,10 +52,10 @@ impl<'a> Reader<'a> {
     }
 
     /// A constructor or a destructor of the scope, and `<abi-tags>` behind it.
-    fn read_structor(&mut self, destructor: bool, scope: Option<Piece>) -> Result<bool, AllocError>
+    fn read_ctor_dtor(&mut self, destructor: bool, scope: Option<Piece>) -> Result<bool, AllocError>
         requires scope { IfSome scope (IsLiving self.old.buffer) }
         ensures reads { Gives result self.new
-            (spec.structor_as destructor (option_map (shape self.old.buffer) scope) (state self.old)) }
+            (spec.ctor_dtor_as destructor (option_map (shape self.old.buffer) scope) (state self.old)) }
         ensures run { OnRead result (IsRun self.old.buffer self.new.buffer) }
         ensures bounds { OptionalBounds result (spec.skip 2 (state self.old)) (state self.new) }
     {
@@ -105,13 +105,13 @@ impl<'a> Reader<'a> {
                 Ok(true)
             }
             UnqualifiedForm::ConstructorName => {
-                if !self.read_structor(false, scope)? {
+                if !self.read_ctor_dtor(false, scope)? {
                     return Ok(false);
                 }
                 Ok(true)
             }
             UnqualifiedForm::DestructorName => {
-                if !self.read_structor(true, scope)? {
+                if !self.read_ctor_dtor(true, scope)? {
                     return Ok(false);
                 }
                 Ok(true)
