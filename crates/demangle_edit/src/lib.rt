@@ -11,8 +11,6 @@ mod lists;
 mod names;
 mod parts;
 mod quals;
-#[cfg(test)]
-mod tests;
 mod types;
 
 pub use crate::lists::glue;

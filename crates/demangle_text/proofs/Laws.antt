@@ -112,3 +112,6 @@ pub ruleset runs = (IsRun-edit, IsRun-same, SameFrame-keeps, SameFrame-trans, Is
 
 -- the laws for the callers of a buffer
 pub ruleset laws = (Lives-keeps, IsEdit-keeps, KeepsAll-trans, IsEdit-trans, Opens-edit, Opens-keeps, KeepsAll-closed)
+
+-- the law for callers that hold a piece made of an older one
+pub ruleset ages = (IsAsOld-older)

@@ -13,8 +13,6 @@
 
 mod buffer;
 mod shape;
-#[cfg(test)]
-mod tests;
 
 pub use crate::buffer::Buffer;
 pub use crate::shape::{Kind, Mark, Piece, Place};

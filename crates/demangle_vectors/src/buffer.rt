@@ -81,10 +81,23 @@ fn copy_of_a_saved_name(rt: HostRuntime) -> Result<(), Fail> {
     let copy = buf.copy(saved)?;
     let shorter = buf.cut(copy, 1)?;
     assert_eq!(rt; buf.bytes(shorter), b"A&".as_slice());
+    assert_eq!(rt; buf.own_range(shorter), (0, 2));
     let kept = buf.saved(0).ok_or("nothing is saved")?;
     assert_eq!(rt; buf.bytes(kept), b"A&&".as_slice());
     buf.unsave();
     assert!(rt; buf.saved(0).is_none());
+    Ok(())
+}
+
+#[test]
+#[tactic(auto, using(demangle_text::proofs::Laws::laws, demangle_text::proofs::Laws::runs))]
+fn bytes_in_a_group(rt: HostRuntime) -> Result<(), Fail> {
+    let mut buf = Buffer::new(rt.alloc());
+    let text = buf.push(b"int (*) [3]")?;
+    let array = buf.declare_group(text, Kind::Array, 4, 7);
+    assert_eq!(rt; buf.after_at(array), Some(7));
+    let pointer = buf.insert(array, Place::Close, b"*")?;
+    assert_eq!(rt; buf.bytes(pointer), b"int (**) [3]".as_slice());
     Ok(())
 }
 

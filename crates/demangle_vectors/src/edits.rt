@@ -183,6 +183,18 @@ fn pointers_to_a_declarator(rt: HostRuntime) -> Result<(), Fail> {
 
 #[test]
 #[tactic(auto, using(demangle_text::proofs::Laws::laws))]
+fn left_reference_to_a_right_one(rt: HostRuntime) -> Result<(), Fail> {
+    let mut buf = Buffer::new(rt.alloc());
+    let right = buf.push(b"A&&")?;
+    let Some(left) = collapse_ref(&mut buf, right, false)? else {
+        return Err("no reference".into());
+    };
+    assert_eq!(rt; buf.bytes(left), b"A&".as_slice());
+    Ok(())
+}
+
+#[test]
+#[tactic(auto, using(demangle_text::proofs::Laws::laws))]
 fn collapsed_references(rt: HostRuntime) -> Result<(), Fail> {
     let mut buf = Buffer::new(rt.alloc());
     let right = buf.push(b"A&&")?;

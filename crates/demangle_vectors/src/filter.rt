@@ -3,7 +3,6 @@
 use crate::memory::{MemorySink, MemorySource};
 use std::alloc::Global;
 use std::process::Abort;
-use std::test::Fail;
 use symfilter_engine::{FilterFault, Sink, Source, filter};
 
 /// The filtered text of some bytes is as expected, whether the ends give and take one byte a call,
@@ -51,17 +50,16 @@ fn lines_that_are_no_symbols(rt: HostRuntime) {
 }
 
 #[test]
-fn a_reader_that_fails(rt: HostRuntime) -> Result<(), Fail> {
+fn a_reader_that_fails(rt: HostRuntime) {
     let mut reader = MemorySource::new(b"_Z3foov\n_Z3barv\n", 8, 1);
     let mut writer = MemorySink::new(rt.alloc(), 100, 100);
     let outcome = filter(rt.alloc(), &mut reader, &mut writer);
     assert_eq!(rt; outcome, Err(FilterFault::Read));
-    assert!(rt; b"foo\n".starts_with(writer.bytes.as_slice()));
+    assert_eq!(rt; writer.bytes.as_slice(), b"foo\n".as_slice());
     assert!(rt; reader.failed());
     assert!(rt; !writer.failed());
     // The reader wasn't called again.
     assert!(rt; !reader.called_after);
-    Ok(())
 }
 
 #[test]

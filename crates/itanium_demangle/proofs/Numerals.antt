@@ -47,9 +47,6 @@ base_positive : (r : Radix) → 0 < base r
 base_positive Decimal = omega arith
 base_positive Base36 = omega arith
 
-pub numeral_start : (r : Radix) (bytes : List ℕ) → NumeralSoFar r bytes 0 0 0
-numeral_start r bytes = record { fits = omega arith; counted = refl; digits = omega arith; whole = omega arith }
-
 pub numeral_more : {r : Radix} {bytes : List ℕ} {i count value next d : ℕ} → NumeralSoFar r bytes i count value → i < length bytes → digit_of r (get_or bytes i 0) ≡ Some d
     → next ≡ value * base r + d → next < 2 ^ 64 → NumeralSoFar r bytes (i + 1) (count + 1) next
 numeral_more {r} {bytes} {i} {count} {value} {next} {d} sofar h some is fits =

@@ -10,7 +10,6 @@ use Rattle.demangle_edit.specs.Names.{name_qualified}
 use Rattle.itanium_demangle.proofs.Shorter.{end_shorter, args_end_shorter, types_end_some}
 use Rattle.itanium_demangle.specs.declared.context.Context.{Context}
 use Rattle.itanium_demangle.specs.declared.scalar.Radix.TheVariants.{Decimal}
-use Rattle.itanium_demangle.specs.declared.forms.ComponentForm.{ComponentForm}
 use Rattle.itanium_demangle.specs.declared.forms.ComponentForm.TheVariants.{LastComponent, ListComponent, NameComponent}
 use Rattle.itanium_demangle.specs.declared.forms.ArgsForm.TheVariants.{LastArgument, NextArgument}
 use Rattle.itanium_demangle.specs.declared.forms.TypesForm.TheVariants.{LastType, NextType}
@@ -91,12 +90,6 @@ pub record ComponentsSoFar (whole : Option (Shape × State)) (args : Reads Shape
   pub room : length s.rest ≤ turns
   pub is : whole ≡ read_components args turns takes name s
 
--- what a component is read by
-abbrev pub component_by : ComponentForm → Reads Shape → Shape → Reads Shape
-component_by LastComponent args name s = None
-component_by ListComponent args name s = attached_by args name s
-component_by NameComponent args name s = read_unqualified (Some name) s
-
 pub components_end : {whole : Option (Shape × State)} {args : Reads Shape} {takes : Bool} {name kept : Shape} {s after : State} → ComponentsSoFar whole args takes name s
     → component_form s.rest ≡ LastComponent → kept ≡ name → after ≡ taken_back takes (skip 1 s) → whole ≡ Some (kept, after)
 components_end {args = args} {takes = takes} {name = name} {s = s} sofar form same left =
@@ -136,9 +129,6 @@ components_more_name {args = args} {takes = takes} {name = name} {s = s} sofar f
   room = omega (arith, sofar.room);
   is = sofar.is ∙ turn args sofar.turns takes name s (omega (arith, sofar.room)) ∙ rw (form, found, left) refl;
 }
-
-pub components_start : (args : Reads Shape) (takes : Bool) (name : Shape) (s : State) → ComponentsSoFar (read_prefix args takes name s) args takes name s
-components_start args takes name s = record { turns = length s.rest; room = omega arith; is = refl }
 
 -- a scope that may be there keeps its shape
 pub kept_scope : (old new : Buffer) (scope : Option Piece) → SameFrame old new → IfSome scope (IsLiving old) → option_map (shape new) scope ≡ option_map (shape old) scope

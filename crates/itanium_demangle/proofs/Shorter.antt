@@ -300,10 +300,6 @@ bound_takes bytes found e = go (past_underscore bytes) refl e
 reference_behind : (bytes : List ℕ) → IsBehind (past_reference bytes) bytes
 reference_behind bytes = if_behind _ 1 bytes
 
-pub substitution_behind : {form : SubstitutionForm} {p q : Place} {t : Tree} → SubstitutionAs form p t q → IsBehind q.rest p.rest
-substitution_behind (known_substitution {p = p} known) = behind_drop 1 p.rest
-substitution_behind (saved_substitution {p = p} {i = i} {rest = r} found there) = (index_takes Base36 p.rest (i, r) found).behind
-
 substitution_as_takes : {form : SubstitutionForm} {p q : Place} {t : Tree} → SubstitutionAs form p t q → Takes q.rest p.rest
 substitution_as_takes (known_substitution {p = p} known) = known_takes p.rest _ known
 substitution_as_takes (saved_substitution {p = p} {i = i} {rest = r} found there) = index_takes Base36 p.rest (i, r) found

@@ -28,8 +28,7 @@ impl<'a> Reader<'a> {
         ensures run { OnOk result (IsRun self.old.buffer self.new.buffer) }
     {
         self.found = wrap_pointer(&mut self.buffer, self.found, kind)?;
-        self.save_found()?;
-        Ok(())
+        self.save_found()
     }
 
     /// What was found with the words of its qualifiers.
@@ -100,7 +99,6 @@ impl<'a> Reader<'a> {
         self.found = whole;
         self.rest = rest;
         self.skip(1);
-        self.found = whole;
         Ok(true)
     }
 
@@ -115,8 +113,7 @@ impl<'a> Reader<'a> {
     {
         let parts = [Glue::Text(word), Glue::Piece(self.found)];
         self.found = glue(&mut self.buffer, &parts)?;
-        self.save_found()?;
-        Ok(())
+        self.save_found()
     }
 
     /// `u <source-name>`, which no `<template-args>` follow.

@@ -137,6 +137,7 @@ pub enum TypesForm {
     NextType,
 }
 
+/// What stands behind `<CV-qualifiers>`.
 pub fn qualified_form(bytes: &[u8]) -> QualifiedForm
     ensures form { result ≡ spec.qualified_form bytes.now }
 {
@@ -146,6 +147,7 @@ pub fn qualified_form(bytes: &[u8]) -> QualifiedForm
     }
 }
 
+/// Which `<function-type>` stands there.
 pub fn function_form(bytes: &[u8]) -> FunctionForm
     ensures form { result ≡ spec.function_form bytes.now }
 {
@@ -155,6 +157,7 @@ pub fn function_form(bytes: &[u8]) -> FunctionForm
     }
 }
 
+/// Whether a `<function-type>` has parameters: `v` right in front of its end stands for none.
 pub fn params_form(bytes: &[u8]) -> ParamsForm
     ensures form { result ≡ spec.params_form bytes.now }
 {
@@ -164,6 +167,7 @@ pub fn params_form(bytes: &[u8]) -> ParamsForm
     }
 }
 
+/// Whether one more type of a `<bare-function-type>` stands there, or its end.
 pub fn types_form(bytes: &[u8]) -> TypesForm
     ensures form { result ≡ spec.types_form bytes.now }
 {
@@ -184,6 +188,7 @@ pub fn elaborated_text(bytes: &[u8]) -> &'static [u8]
     }
 }
 
+/// Which `<substitution>` stands there, behind its `S`.
 pub fn substitution_form(bytes: &[u8]) -> SubstitutionForm
     ensures form { result ≡ spec.substitution_form bytes.now }
 {
@@ -193,6 +198,7 @@ pub fn substitution_form(bytes: &[u8]) -> SubstitutionForm
     }
 }
 
+/// Whether one more `<template-arg>` stands there, or the `E` behind them.
 pub fn args_form(bytes: &[u8]) -> ArgsForm
     ensures form { result ≡ spec.args_form bytes.now }
 {
@@ -202,6 +208,7 @@ pub fn args_form(bytes: &[u8]) -> ArgsForm
     }
 }
 
+/// Which `<template-arg>` stands there.
 pub fn argument_form(bytes: &[u8]) -> ArgumentForm
     ensures form { result ≡ spec.argument_form bytes.now }
 {
@@ -214,6 +221,7 @@ pub fn argument_form(bytes: &[u8]) -> ArgumentForm
     }
 }
 
+/// Which `<type>` stands there.
 pub fn type_form(bytes: &[u8]) -> TypeForm
     ensures form { result ≡ spec.type_form bytes.now }
 {
@@ -309,6 +317,7 @@ fn two_letter_text(letter: u8) -> &'static [u8]
     }
 }
 
+/// Which `<encoding>` stands there: a special name, or a name.
 pub fn symbol_form(bytes: &[u8]) -> SymbolForm
     ensures form { result ≡ spec.symbol_form bytes.now }
 {
@@ -318,6 +327,7 @@ pub fn symbol_form(bytes: &[u8]) -> SymbolForm
     }
 }
 
+/// Which `<name>` stands there.
 pub fn name_form(bytes: &[u8]) -> NameForm
     ensures form { result ≡ spec.name_form bytes.now }
 {
@@ -328,6 +338,7 @@ pub fn name_form(bytes: &[u8]) -> NameForm
     }
 }
 
+/// Which `<unscoped-name>` stands there.
 pub fn unscoped_form(bytes: &[u8]) -> UnscopedForm
     ensures form { result ≡ spec.unscoped_form bytes.now }
 {
@@ -338,6 +349,7 @@ pub fn unscoped_form(bytes: &[u8]) -> UnscopedForm
     }
 }
 
+/// Whether `<template-args>` stand there.
 pub fn list_form(bytes: &[u8]) -> ListForm
     ensures form { result ≡ spec.list_form bytes.now }
 {
@@ -347,6 +359,7 @@ pub fn list_form(bytes: &[u8]) -> ListForm
     }
 }
 
+/// Which first component of a `<nested-name>` stands there.
 pub fn first_form(bytes: &[u8]) -> FirstForm
     ensures form { result ≡ spec.first_form bytes.now }
 {
@@ -358,6 +371,7 @@ pub fn first_form(bytes: &[u8]) -> FirstForm
     }
 }
 
+/// Which later component of a `<nested-name>` stands there, or its `E`.
 pub fn component_form(bytes: &[u8]) -> ComponentForm
     ensures form { result ≡ spec.component_form bytes.now }
 {
@@ -368,6 +382,7 @@ pub fn component_form(bytes: &[u8]) -> ComponentForm
     }
 }
 
+/// Which `<unqualified-name>` stands there: one of a constructor or destructor only in a scope.
 pub fn unqualified_form(in_scope: bool, bytes: &[u8]) -> UnqualifiedForm
     ensures form { result ≡ spec.unqualified_form in_scope bytes.now }
 {
@@ -379,6 +394,7 @@ pub fn unqualified_form(in_scope: bool, bytes: &[u8]) -> UnqualifiedForm
     }
 }
 
+/// Whether an `<abi-tag>` stands there: `B`, which a digit follows.
 pub fn tag_form(bytes: &[u8]) -> TagForm
     ensures form { result ≡ spec.tag_form bytes.now }
 {

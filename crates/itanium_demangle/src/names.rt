@@ -98,24 +98,9 @@ impl<'a> Reader<'a> {
     {
         self.rest = past_internal(self.rest);
         match unqualified_form(scope.is_some(), self.rest) {
-            UnqualifiedForm::SourceName => {
-                if !self.read_source_component(scope)? {
-                    return Ok(false);
-                }
-                Ok(true)
-            }
-            UnqualifiedForm::ConstructorName => {
-                if !self.read_ctor_dtor(false, scope)? {
-                    return Ok(false);
-                }
-                Ok(true)
-            }
-            UnqualifiedForm::DestructorName => {
-                if !self.read_ctor_dtor(true, scope)? {
-                    return Ok(false);
-                }
-                Ok(true)
-            }
+            UnqualifiedForm::SourceName => self.read_source_component(scope),
+            UnqualifiedForm::ConstructorName => self.read_ctor_dtor(false, scope),
+            UnqualifiedForm::DestructorName => self.read_ctor_dtor(true, scope),
             UnqualifiedForm::OtherName => Ok(false),
         }
     }
@@ -131,23 +116,13 @@ impl<'a> Reader<'a> {
         ensures bounds { Bounds 2 result (state self.old) (state self.new) }
     {
         match first_form(self.rest) {
-            FirstForm::ParameterFirst => {
-                if !self.read_saved_parameter(context)? {
-                    return Ok(false);
-                }
-                Ok(true)
-            }
+            FirstForm::ParameterFirst => self.read_saved_parameter(context),
             FirstForm::StdFirst => {
                 self.skip(2);
                 self.found = self.buffer.push(b"std")?;
                 Ok(true)
             }
-            FirstForm::SubstitutionFirst => {
-                if !self.read_substitution()? {
-                    return Ok(false);
-                }
-                Ok(true)
-            }
+            FirstForm::SubstitutionFirst => self.read_substitution(),
             FirstForm::NameFirst => {
                 if !self.read_unqualified(None)? {
                     return Ok(false);
@@ -257,10 +232,7 @@ impl<'a> Reader<'a> {
             }
             ListForm::ArgumentList => {
                 self.save(name)?;
-                if !self.read_attached(depth, context, true, name)? {
-                    return Ok(false);
-                }
-                Ok(true)
+                self.read_attached(depth, context, true, name)
             }
         }
     }
@@ -283,10 +255,7 @@ impl<'a> Reader<'a> {
                 if !self.read_unqualified(Some(scope))? {
                     return Ok(false);
                 }
-                if !self.read_listed(depth, context, self.found)? {
-                    return Ok(false);
-                }
-                Ok(true)
+                self.read_listed(depth, context, self.found)
             }
             UnscopedForm::SubstitutionName => {
                 if !self.read_substitution()? {
@@ -294,22 +263,14 @@ impl<'a> Reader<'a> {
                 }
                 match list_form(self.rest) {
                     ListForm::NoList => Ok(false),
-                    ListForm::ArgumentList => {
-                        if !self.read_attached(depth, context, true, self.found)? {
-                            return Ok(false);
-                        }
-                        Ok(true)
-                    }
+                    ListForm::ArgumentList => self.read_attached(depth, context, true, self.found),
                 }
             }
             UnscopedForm::PlainName => {
                 if !self.read_unqualified(None)? {
                     return Ok(false);
                 }
-                if !self.read_listed(depth, context, self.found)? {
-                    return Ok(false);
-                }
-                Ok(true)
+                self.read_listed(depth, context, self.found)
             }
         }
     }
@@ -331,18 +292,10 @@ impl<'a> Reader<'a> {
         match name_form(self.rest) {
             NameForm::NestedName => {
                 self.skip(1);
-                if !self.read_nested(depth - 1, context)? {
-                    return Ok(false);
-                }
-                Ok(true)
+                self.read_nested(depth - 1, context)
             }
             NameForm::LocalName => Ok(false),
-            NameForm::UnscopedName => {
-                if !self.read_unscoped(depth - 1, context)? {
-                    return Ok(false);
-                }
-                Ok(true)
-            }
+            NameForm::UnscopedName => self.read_unscoped(depth - 1, context),
         }
     }
 

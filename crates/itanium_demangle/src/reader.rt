@@ -52,6 +52,7 @@ impl<'a> Reader<'a> {
     /// Goes past n bytes, or to the end.
     pub fn skip(&mut self, n: usize)
         ensures state { state self.new ≡ spec.skip n (state self.old) }
+        ensures found { self.new.found ≡ self.old.found }
         ensures buffer { self.new.buffer ≡ self.old.buffer }
     {
         self.rest = if n <= self.rest.len() {
@@ -74,6 +75,7 @@ impl<'a> Reader<'a> {
     pub fn save(&mut self, piece: Piece) -> Result<(), AllocError>
         requires living { IsLiving self.old.buffer piece }
         ensures state { OnOk result (state self.new ≡ spec.save (shape self.old.buffer piece) (state self.old)) }
+        ensures found { OnOk result (self.new.found ≡ self.old.found) }
         ensures some { OnOk result (0 < length (saved self.new.buffer)) }
         ensures kept { OnOk result (SameFrame self.old.buffer self.new.buffer) }
     {
@@ -91,10 +93,7 @@ impl<'a> Reader<'a> {
         ensures some { OnOk result (0 < length (saved self.new.buffer)) }
         ensures kept { OnOk result (SameFrame self.old.buffer self.new.buffer) }
     {
-        let found = self.found;
-        self.save(found)?;
-        self.found = found;
-        Ok(())
+        self.save(self.found)
     }
 
     /// Takes the last saved component back, where it is to be.

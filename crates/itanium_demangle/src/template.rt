@@ -117,12 +117,7 @@ impl<'a> Reader<'a> {
             | ArgumentForm::PackArgument
             | ArgumentForm::LiteralArgument
             | ArgumentForm::ConstraintArgument => Ok(false),
-            ArgumentForm::TypeArgument => {
-                if !self.read_type(depth, context)? {
-                    return Ok(false);
-                }
-                Ok(true)
-            }
+            ArgumentForm::TypeArgument => self.read_type(depth, context),
         }
     }
 

@@ -100,10 +100,7 @@ impl<'a> Reader<'a> {
         if !self.read_type(depth, context)? {
             return Ok(false);
         }
-        if !self.save_array(dim)? {
-            return Ok(false);
-        }
-        Ok(true)
+        self.save_array(dim)
     }
 
     /// `P <type>`, `R <type>` and `O <type>`
@@ -192,10 +189,7 @@ impl<'a> Reader<'a> {
         if !self.read_saved_parameter(context)? {
             return Ok(false);
         }
-        if !self.read_type_listed(depth, context, self.found)? {
-            return Ok(false);
-        }
-        Ok(true)
+        self.read_type_listed(depth, context, self.found)
     }
 
     /// `<substitution> [<template-args>]`: saved with its arguments alone.
@@ -210,10 +204,7 @@ impl<'a> Reader<'a> {
         if !self.read_substitution()? {
             return Ok(false);
         }
-        if !self.read_type_listed(depth, context, self.found)? {
-            return Ok(false);
-        }
-        Ok(true)
+        self.read_type_listed(depth, context, self.found)
     }
 
     /// `<class-enum-type> ::= <name>`, which is saved.
@@ -264,10 +255,7 @@ impl<'a> Reader<'a> {
         if !self.framed_type(depth, context)? {
             return Ok(false);
         }
-        if !self.save_member(class)? {
-            return Ok(false);
-        }
-        Ok(true)
+        self.save_member(class)
     }
 
     /// `<qualified-type> ::= <CV-qualifiers> <type>`: a function type takes the qualifiers in.
@@ -282,12 +270,7 @@ impl<'a> Reader<'a> {
         let (quals, rest) = cv_quals(self.rest);
         self.rest = rest;
         match qualified_form(self.rest) {
-            QualifiedForm::FunctionQualified => {
-                if !self.read_function(depth, context, quals)? {
-                    return Ok(false);
-                }
-                Ok(true)
-            }
+            QualifiedForm::FunctionQualified => self.read_function(depth, context, quals),
             QualifiedForm::TypeQualified => {
                 if !self.read_type(depth, context)? {
                     return Ok(false);
@@ -324,10 +307,7 @@ impl<'a> Reader<'a> {
                 let Some(params) = self.read_params(depth, context)? else {
                     return Ok(false);
                 };
-                if !self.end_function(quals, ret, &params)? {
-                    return Ok(false);
-                }
-                Ok(true)
+                self.end_function(quals, ret, &params)
             }
         }
     }
@@ -351,12 +331,7 @@ impl<'a> Reader<'a> {
                 let none = Vec::new(self.alloc);
                 Ok(Some(none))
             }
-            ParamsForm::SomeParams => {
-                let Some(types) = self.read_types(depth, context)? else {
-                    return Ok(None);
-                };
-                Ok(Some(types))
-            }
+            ParamsForm::SomeParams => self.read_types(depth, context),
         }
     }
 
