@@ -142,7 +142,8 @@ impl Demangler {
     ) -> Result<Option<&'a str>, AllocError>
         ensures answer { IfOk result (λ found. IsAnswer symbol.now (option_map (λ text. text.now) found)) }
         ensures no_prefix { spec.after_prefix symbol.now ≡ None → result ≡ Ok None }
-        // `last` is the value when the answer is no longer lent: it keeps the text that was answered, after an error none.
+        // `last` is the value once the answer is no longer lent: it keeps the text that was answered, and after an
+        // error none.
         ensures* kept { sem 𝓛 (follows_so the_row the_row self.entry.ghost_name none (λ _ _. ⊤)
             (λ last. MatchResult result (λ found. last.text ≡ option_map (λ text. text.now) found)
             (λ _. last.text ≡ None))) }
