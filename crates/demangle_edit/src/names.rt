@@ -24,7 +24,7 @@ pub fn qualify(buf: &mut Buffer, scope: Piece, leaf: Piece) -> Result<Piece, All
     let (from, to) = buf.own_range(leaf);
     let (templ, ctor) = (buf.templ(leaf), buf.ctor(leaf));
     let whole = buf.join(scope, b"::", leaf)?;
-    // What has a length has one below 2^64, and so has each place in it.
+    // The check learns here that the length fits 64 bits, and so does each place in the text.
     let _len = buf.len(whole);
     let named = buf.own_at(whole, before + 2 + from, before + 2 + to);
     Ok(buf.with_flags(named, templ, ctor))

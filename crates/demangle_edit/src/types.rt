@@ -148,7 +148,7 @@ fn first_dimension(buf: &mut Buffer, elem: Piece, dim: Option<u64>) -> Result<Pi
 {
     let at = buf.len(elem);
     let longer = insert_dimension(buf, elem, Place::End, b" [", dim)?;
-    // What has a length has one below 2^64, and so has each place in it.
+    // The check learns here that the length fits 64 bits, and so does each place in the text.
     let _len = buf.len(longer);
     Ok(buf.declare(longer, Kind::Array, at))
 }
@@ -376,7 +376,7 @@ pub fn function_type(
     let closed = buf.append(begun, b")")?;
     let worded = buf.append(closed, quals.words())?;
     let whole = buf.append(worded, reference_bytes(quals.reference))?;
-    // What has a length has one below 2^64, and so has each place in it.
+    // The check learns here that the length fits 64 bits, and so does each place in the text.
     let _len = buf.len(whole);
     Ok(Some(buf.declare(whole, Kind::Function, before + 1)))
 }
