@@ -1,4 +1,4 @@
--- One insertion behind another.
+-- One insertion after another.
 use Rattle.std.proofs.Common.{◌≡◌, ℕ, ◌+◌, ◌-◌, List, [], ◌++◌, length, ap, ◌∙◌, refl, arith, append_assoc, Bool, true, None, Some}
 use Rattle.std.proofs.lemmas.Bool.Decides.{nat_tests}
 use Rattle.std.proofs.lemmas.List.{length-append}
@@ -8,45 +8,45 @@ use Rattle.demangle_text.specs.declared.shape.Place.TheVariants.{Start, Close, S
 use Rattle.demangle_text.specs.Shape.{Shape, Form, Plain, Declared, form_text, form_with, moved, grouped, appended, inserted, flattened, flagged, joined, with_own, text, text_len, CanInsert}
 use Rattle.demangle_edit.specs.Names.{angle_gap, attached}
 
--- the last own name, when bytes are inserted at a place and then more of them behind these
+-- the last own name, when bytes are inserted at a place and then more of them after these
 moved_twice : (at next n m all : ℕ) (own : ℕ × ℕ) → next ≡ at + n → all ≡ n + m → moved next m (moved at n own) ≡ moved at all own
-moved_twice at next n m all (from, to) behind both = grind (arith, nat_tests)
+moved_twice at next n m all (from, to) follows both = grind (arith, nat_tests)
 
 module _ (a b : List ℕ) (own : ℕ × ℕ) (templ ctor : Bool) where
   abbrev of : Form → Shape
   of f = record { form = f; own = own; templ = templ; ctor = ctor }
 
   twice : (place : Place) (f : Form) → (place ≡ Start → ⊥) → CanInsert place f → inserted place b (inserted place a (of f)) ≡ inserted place (a ++ b) (of f)
-  twice Start f behind fits = absurd (behind refl)
-  twice End (Plain t) behind fits =
+  twice Start f follows fits = absurd (follows refl)
+  twice End (Plain t) follows fits =
       λ j. record { form = Plain (append_assoc t a b j); own = moved_twice _ _ _ _ _ own (length-append t a) (length-append a b) j; templ = templ; ctor = ctor }
-  twice End (Declared Array before group after) behind fits =
+  twice End (Declared Array before group after) follows fits =
       let next : length (before ++ (grouped group ++ (after ++ a))) ≡ length (before ++ (grouped group ++ after)) + length a = omega (arith, length-append {A = ℕ}) in
       λ j. record { form = Declared Array before group (append_assoc after a b j); own = moved_twice _ _ _ _ _ own next (length-append a b) j; templ = templ; ctor = ctor }
-  twice End (Declared Function before group after) behind fits =
+  twice End (Declared Function before group after) follows fits =
       λ j. record { form = Declared Function before group (append_assoc after a b j); own = (0, length (before ++ (grouped group ++ append_assoc after a b j))); templ = templ; ctor = ctor }
-  twice Close (Plain t) behind fits = absurd fits
-  twice Close (Declared k before None after) behind fits = absurd fits
-  twice Close (Declared Array before (Some group) after) behind fits =
+  twice Close (Plain t) follows fits = absurd fits
+  twice Close (Declared k before None after) follows fits = absurd fits
+  twice Close (Declared Array before (Some group) after) follows fits =
       let next : length before + 1 + length (group ++ a) ≡ length before + 1 + length group + length a = omega (arith, length-append {A = ℕ}) in
       λ j. record { form = Declared Array before (Some (append_assoc group a b j)) after; own = moved_twice _ _ _ _ _ own next (length-append a b) j; templ = templ; ctor = ctor }
-  twice Close (Declared Function before (Some group) after) behind fits =
+  twice Close (Declared Function before (Some group) after) follows fits =
       λ j. record {
         form = Declared Function before (Some (append_assoc group a b j)) after;
         own = (0, length (before ++ (grouped (Some (append_assoc group a b j)) ++ after)));
         templ = templ;
         ctor = ctor;
       }
-  twice Suffix (Plain t) behind fits = absurd fits
-  twice Suffix (Declared k before (Some group) after) behind fits = absurd fits
-  twice Suffix (Declared Array before None after) behind fits =
+  twice Suffix (Plain t) follows fits = absurd fits
+  twice Suffix (Declared k before (Some group) after) follows fits = absurd fits
+  twice Suffix (Declared Array before None after) follows fits =
       λ j. record { form = Declared Array (append_assoc before a b j) None after; own = moved_twice _ _ _ _ _ own (length-append before a) (length-append a b) j; templ = templ; ctor = ctor }
-  twice Suffix (Declared Function before None after) behind fits =
+  twice Suffix (Declared Function before None after) follows fits =
       λ j. record { form = Declared Function (append_assoc before a b j) None after; own = (0, length (append_assoc before a b j ++ ([] ++ after))); templ = templ; ctor = ctor }
 
 -- bytes and then more bytes at a place are both of them there
 pub inserted_twice : (place : Place) (a b : List ℕ) (s : Shape) → (place ≡ Start → ⊥) → CanInsert place s.form → inserted place b (inserted place a s) ≡ inserted place (a ++ b) s
-inserted_twice place a b s behind fits = twice a b s.own s.templ s.ctor place s.form behind fits
+inserted_twice place a b s follows fits = twice a b s.own s.templ s.ctor place s.form follows fits
 
 -- where bytes were inserted, more can be
 pub can_again : (place : Place) (bytes : List ℕ) (f : Form) → CanInsert place f → CanInsert place (form_with place bytes f)
@@ -61,17 +61,17 @@ can_again Suffix bytes (Declared k before (Some group) after) fits = fits
 
 pub inserted_thrice : (place : Place) (a b c : List ℕ) (s : Shape) → (place ≡ Start → ⊥) → CanInsert place s.form
     → inserted place c (inserted place b (inserted place a s)) ≡ inserted place (a ++ (b ++ c)) s
-inserted_thrice place a b c s behind fits =
-    inserted_twice place b c (inserted place a s) behind (can_again place a s.form fits) ∙ inserted_twice place a (b ++ c) s behind fits
+inserted_thrice place a b c s follows fits =
+    inserted_twice place b c (inserted place a s) follows (can_again place a s.form fits) ∙ inserted_twice place a (b ++ c) s follows fits
 
 pub ruleset appends = (inserted_thrice, can_again)
 
 -- a plain text that begins with that of a name, and has the name's last own name
-behind_shape : (name whole named : Shape) (added : List ℕ) (before len : ℕ) (old own : ℕ × ℕ) (templ ctor : Bool)
+after_shape : (name whole named : Shape) (added : List ℕ) (before len : ℕ) (old own : ℕ × ℕ) (templ ctor : Bool)
     → whole.form ≡ Plain (text name ++ added) → before ≡ text_len name → len ≡ text_len whole → old ≡ name.own
     → own ≡ moved before (len - before) old → named ≡ with_own own.0 own.1 whole
     → flagged templ ctor named ≡ flagged templ ctor (appended added (flattened name))
-behind_shape name whole named added before len old own templ ctor form_is by_before by_len by_old by_own by_named =
+after_shape name whole named added before len old own templ ctor form_is by_before by_len by_old by_own by_named =
     let whole_len : text_len whole ≡ text_len name + length added =
     ap (λ (f : Form). length (form_text f)) form_is ∙ length-append (text name) added in
     let added_is : len - before ≡ length added = omega arith in
@@ -80,7 +80,7 @@ behind_shape name whole named added before len old own templ ctor form_is by_bef
     ∙ ap (moved (text_len name) (length added)) by_old in
     ap (flagged templ ctor) by_named ∙ (λ j. record { form = form_is j; own = own_is j; templ = templ; ctor = ctor })
 
--- a name with a list behind it
+-- a name with a list after it
 pub attached_shape : (name list whole named : Shape) (gap : List ℕ) (before len : ℕ) (old own : ℕ × ℕ) (ctor : Bool)
     → whole ≡ joined name gap list → gap ≡ angle_gap (text name) → before ≡ text_len name → len ≡ text_len whole → old ≡ name.own
     → own ≡ moved before (len - before) old → ctor ≡ name.ctor → named ≡ with_own own.0 own.1 whole
@@ -90,5 +90,5 @@ attached_shape name list whole named gap before len old own ctor by_whole by_gap
     let u = text list in
     let form_is : whole.form ≡ Plain (t ++ (angle_gap t ++ u)) =
     ap (λ (s : Shape). s.form) by_whole ∙ ap Plain (append_assoc t gap u) ∙ ap (λ (g : List ℕ). Plain (t ++ (g ++ u))) by_gap in
-    behind_shape name whole named (angle_gap t ++ u) before len old own true ctor form_is by_before by_len by_old by_own by_named
+    after_shape name whole named (angle_gap t ++ u) before len old own true ctor form_is by_before by_len by_old by_own by_named
     ∙ ap (λ (b : Bool). flagged true b (appended (angle_gap t ++ u) (flattened name))) by_ctor

@@ -4,31 +4,31 @@ use Rattle.std.proofs.lemmas.List.{length-append, length-take, take-append-drop,
 use Rattle.demangle_text.specs.declared.shape.Kind.TheVariants.{Array, Function}
 use Rattle.demangle_text.specs.declared.shape.Place.TheVariants.{Suffix, End}
 use Rattle.demangle_text.specs.Shape.{Form, Plain, Declared, Shape, form_text, inserted, declared_at, flattened, text_len, IsPlain, moved, kind_of, group_of, after_of}
-use Rattle.demangle_edit.specs.Types.{dimension, array_shape}
+use Rattle.demangle_edit.specs.Types.{dimension_text, array_shape}
 use Rattle.demangle_edit.proofs.Cuts.{take_front, drop_front}
 
 -- an array of a plain type
-pub first_shape : (elem longer array : Shape) (dim : Option ℕ) (at : ℕ) → IsPlain elem.form → at ≡ text_len elem
-    → longer ≡ inserted End (codes " " ++ dimension dim) elem → array ≡ declared_at Array at longer → array ≡ array_shape dim elem
-first_shape elem longer array dim at flat by_at by_longer by_array =
+pub first_shape : (elem longer array : Shape) (dimension : Option ℕ) (at : ℕ) → IsPlain elem.form → at ≡ text_len elem
+    → longer ≡ inserted End (codes " " ++ dimension_text dimension) elem → array ≡ declared_at Array at longer → array ≡ array_shape dimension elem
+first_shape elem longer array dimension at flat by_at by_longer by_array =
     by_array ∙ ap (λ (n : ℕ). declared_at Array n longer) by_at ∙ ap (declared_at Array (text_len elem)) by_longer ∙ plain_array elem.form flat
   where
-    plain_array : (f : Form) → IsPlain f → declared_at Array (length (form_text f)) (inserted End (codes " " ++ dimension dim) (record elem { form = f })) ≡ array_shape dim (record elem { form = f })
+    plain_array : (f : Form) → IsPlain f → declared_at Array (length (form_text f)) (inserted End (codes " " ++ dimension_text dimension) (record elem { form = f })) ≡ array_shape dimension (record elem { form = f })
     plain_array (Plain t) h = refl
     plain_array (Declared k before group after) h = absurd h
 
 -- an array without group that gets an outer dimension
-module _ (elem flat cut longer whole : Shape) (dim : Option ℕ) (at len behind : ℕ) where
+module _ (elem flat cut longer whole : Shape) (dimension : Option ℕ) (at len past : ℕ) where
   abbrev outer : Form → Shape
-  outer f = flattened (inserted Suffix (dimension dim) (declared_at Array behind (flattened (record elem { form = f }))))
+  outer f = flattened (inserted Suffix (dimension_text dimension) (declared_at Array past (flattened (record elem { form = f }))))
 
-  outer_is : flat ≡ flattened elem → cut ≡ declared_at Array behind flat → longer ≡ inserted Suffix (dimension dim) cut
+  outer_is : flat ≡ flattened elem → cut ≡ declared_at Array past flat → longer ≡ inserted Suffix (dimension_text dimension) cut
       → whole ≡ flattened longer → whole ≡ outer elem.form
   outer_is by_flat by_cut by_longer by_whole =
-      by_whole ∙ ap flattened (by_longer ∙ ap (inserted Suffix (dimension dim)) (by_cut ∙ ap (declared_at Array behind) by_flat))
+      by_whole ∙ ap flattened (by_longer ∙ ap (inserted Suffix (dimension_text dimension)) (by_cut ∙ ap (declared_at Array past) by_flat))
 
-  -- the text before the new dimension, and the text behind it
-  module _ (before after : List ℕ) (by_at : Some at ≡ Some (length (before ++ []))) (by_len : len ≡ length (before ++ after)) (by_behind : behind ≡ at + min (len - at) 1) where
+  -- the text before the new dimension, and the text after it
+  module _ (before after : List ℕ) (by_at : Some at ≡ Some (length (before ++ []))) (by_len : len ≡ length (before ++ after)) (by_past : past ≡ at + min (len - at) 1) where
     at_is : at ≡ length before
     at_is =
         let all : at ≡ length (before ++ []) = cc in
@@ -38,53 +38,53 @@ module _ (elem flat cut longer whole : Shape) (dim : Option ℕ) (at len behind 
     parts =
         ap (λ (v : List ℕ). before ++ v) (sym (take-append-drop 1 after)) ∙ sym (append_assoc before (take 1 after) (drop 1 after))
 
-    behind_is : behind ≡ length (before ++ take 1 after)
-    behind_is =
+    past_is : past ≡ length (before ++ take 1 after)
+    past_is =
         omega (arith, at_is, length-append before after, length-append before (take 1 after), length-take 1 after)
 
-    first : take behind (before ++ after) ≡ before ++ take 1 after
-    first = take_front _ _ _ behind parts behind_is
+    first : take past (before ++ after) ≡ before ++ take 1 after
+    first = take_front _ _ _ past parts past_is
 
-    text_is : (take behind (before ++ after) ++ dimension dim) ++ ([] ++ drop behind (before ++ after)) ≡ before ++ (take 1 after ++ (dimension dim ++ drop 1 after))
+    text_is : (take past (before ++ after) ++ dimension_text dimension) ++ ([] ++ drop past (before ++ after)) ≡ before ++ (take 1 after ++ (dimension_text dimension ++ drop 1 after))
     text_is =
-        ap (λ (v : List ℕ). v ++ dimension dim ++ drop behind (before ++ after)) first
-        ∙ ap (λ (v : List ℕ). before ++ take 1 after ++ dimension dim ++ v) (drop_front _ _ _ behind parts behind_is) ∙ simp append_assoc
+        ap (λ (v : List ℕ). v ++ dimension_text dimension ++ drop past (before ++ after)) first
+        ∙ ap (λ (v : List ℕ). before ++ take 1 after ++ dimension_text dimension ++ v) (drop_front _ _ _ past parts past_is) ∙ simp append_assoc
 
-    fits : at ≤ length ((take behind (before ++ after) ++ dimension dim) ++ ([] ++ drop behind (before ++ after)))
+    fits : at ≤ length ((take past (before ++ after) ++ dimension_text dimension) ++ ([] ++ drop past (before ++ after)))
     fits =
-        omega (arith, at_is, ap length text_is, length-append before (take 1 after ++ (dimension dim ++ drop 1 after)))
+        omega (arith, at_is, ap length text_is, length-append before (take 1 after ++ (dimension_text dimension ++ drop 1 after)))
 
-    array_is : declared_at Array at (outer (Declared Array before None after)) ≡ array_shape dim (record elem { form = Declared Array before None after })
+    array_is : declared_at Array at (outer (Declared Array before None after)) ≡ array_shape dimension (record elem { form = Declared Array before None after })
     array_is =
         λ j. record {
           form = Declared Array (take_front _ before _ at text_is at_is j) None (drop_front _ before _ at text_is at_is j);
-          own = moved (length (first j)) (length (dimension dim)) elem.own;
+          own = moved (length (first j)) (length (dimension_text dimension)) elem.own;
           templ = elem.templ;
           ctor = elem.ctor;
         }
 
   fits_in : (f : Form) → kind_of f ≡ Some Array → is_some (group_of f) ≡ false → Some at ≡ after_of f → len ≡ length (form_text f)
-      → behind ≡ at + min (len - at) 1 → at ≤ text_len (outer f)
+      → past ≡ at + min (len - at) 1 → at ≤ text_len (outer f)
   fits_in (Plain t) k g e l b = cc
   fits_in (Declared Function before None after) k g e l b = cc
   fits_in (Declared kind before (Some group) after) k g e l b = cc
   fits_in (Declared Array before None after) k g e l b = fits before after e l b
 
   array_in : (f : Form) → kind_of f ≡ Some Array → is_some (group_of f) ≡ false → Some at ≡ after_of f → len ≡ length (form_text f)
-      → behind ≡ at + min (len - at) 1 → declared_at Array at (outer f) ≡ array_shape dim (record elem { form = f })
+      → past ≡ at + min (len - at) 1 → declared_at Array at (outer f) ≡ array_shape dimension (record elem { form = f })
   array_in (Plain t) k g e l b = cc
   array_in (Declared Function before None after) k g e l b = cc
   array_in (Declared kind before (Some group) after) k g e l b = cc
   array_in (Declared Array before None after) k g e l b = array_is before after e l b
 
   pub outer_fits : kind_of elem.form ≡ Some Array → is_some (group_of elem.form) ≡ false → Some at ≡ after_of elem.form → len ≡ text_len elem
-      → behind ≡ at + min (len - at) 1 → flat ≡ flattened elem → cut ≡ declared_at Array behind flat
-      → longer ≡ inserted Suffix (dimension dim) cut → whole ≡ flattened longer → at ≤ text_len whole
+      → past ≡ at + min (len - at) 1 → flat ≡ flattened elem → cut ≡ declared_at Array past flat
+      → longer ≡ inserted Suffix (dimension_text dimension) cut → whole ≡ flattened longer → at ≤ text_len whole
   outer_fits k g e l b by_flat by_cut by_longer by_whole =
       subst (λ (s : Shape). at ≤ text_len s) (sym (outer_is by_flat by_cut by_longer by_whole)) (fits_in elem.form k g e l b)
 
   pub outer_shape : (array : Shape) → kind_of elem.form ≡ Some Array → is_some (group_of elem.form) ≡ false → Some at ≡ after_of elem.form → len ≡ text_len elem
-      → behind ≡ at + min (len - at) 1 → flat ≡ flattened elem → cut ≡ declared_at Array behind flat
-      → longer ≡ inserted Suffix (dimension dim) cut → whole ≡ flattened longer → array ≡ declared_at Array at whole → array ≡ array_shape dim elem
+      → past ≡ at + min (len - at) 1 → flat ≡ flattened elem → cut ≡ declared_at Array past flat
+      → longer ≡ inserted Suffix (dimension_text dimension) cut → whole ≡ flattened longer → array ≡ declared_at Array at whole → array ≡ array_shape dimension elem
   outer_shape array k g e l b by_flat by_cut by_longer by_whole by_array =
       by_array ∙ ap (declared_at Array at) (outer_is by_flat by_cut by_longer by_whole) ∙ array_in elem.form k g e l b

@@ -5,10 +5,10 @@ use Rattle.std.proofs.lemmas.List.{length-append}
 use Rattle.demangle_text.specs.declared.shape.Kind.TheVariants.{Function}
 use Rattle.demangle_text.specs.declared.shape.Place.TheVariants.{End}
 use Rattle.demangle_text.specs.Shape.{Form, Plain, Declared, Shape, form_text, form_with, text, text_len, plain_shape, appended, joined, declared_at, kind_of, is_plain}
-use Rattle.demangle_edit.specs.declared.quals.Quals.{Quals}
+use Rattle.demangle_quals.specs.declared.quals.Quals.{Quals}
 use Rattle.demangle_edit.specs.Lists.{listed}
-use Rattle.demangle_edit.specs.Names.{words_text, reference_text}
-use Rattle.demangle_edit.specs.Types.{function_shape, params_text, function_of}
+use Rattle.demangle_quals.specs.Quals.{words_text, reference_text}
+use Rattle.demangle_edit.specs.Types.{function_shape, params_text, function_step}
 
 pub take_front : (t front back : List ℕ) (n : ℕ) → t ≡ front ++ back → n ≡ length front → take n t ≡ front
 take_front t front back n e h = rw (e, h) (take-append_seam front back)
@@ -16,7 +16,7 @@ take_front t front back n e h = rw (e, h) (take-append_seam front back)
 pub drop_front : (t front back : List ℕ) (n : ℕ) → t ≡ front ++ back → n ≡ length front → drop n t ≡ back
 drop_front t front back n e h = rw (e, h) (drop-append_seam front back)
 
--- a plain text with bytes behind it
+-- a plain text with bytes after it
 pub plain_appended : (s t : Shape) (v bytes : List ℕ) → s.form ≡ Plain v → t ≡ appended bytes s → t.form ≡ Plain (v ++ bytes)
 plain_appended s t v bytes e by = ap (λ (x : Shape). x.form) by ∙ ap (form_with End bytes) e
 
@@ -57,7 +57,7 @@ function_shape_is ret list begun closed worded whole declared params quals words
     })
 
 -- what is no declarator may be returned by a function
-pub function_found : (ret found : Shape) (params : List Shape) (quals : Quals) → is_some (kind_of ret.form) ≡ false → found ≡ function_shape ret params quals → function_of ret params quals ≡ Some found
+pub function_found : (ret found : Shape) (params : List Shape) (quals : Quals) → is_some (kind_of ret.form) ≡ false → found ≡ function_shape ret params quals → function_step ret params quals ≡ Some found
 function_found ret found params quals flat e =
     ap (λ (b : Bool). if b then Some (function_shape ret params quals) else None) (plain_form ret.form flat) ∙ ap Some (sym e)
   where

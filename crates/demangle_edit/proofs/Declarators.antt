@@ -62,10 +62,10 @@ words_suffix (Declared Array before None after) e g = refl
 words_suffix (Declared Function before None after) e g = cc
 words_suffix (Declared k before (Some group) after) e g = cc
 
-pub words_behind : (f : Form) → kind_of f ≡ Some Function → is_some (group_of f) ≡ false → cv_place f ≡ End
-words_behind (Plain t) e g = cc
-words_behind (Declared Array before None after) e g = cc
-words_behind (Declared Function before None after) e g = refl
-words_behind (Declared k before (Some group) after) e g = cc
+pub words_after : (f : Form) → kind_of f ≡ Some Function → is_some (group_of f) ≡ false → cv_place f ≡ End
+words_after (Plain t) e g = cc
+words_after (Declared Array before None after) e g = cc
+words_after (Declared Function before None after) e g = refl
+words_after (Declared k before (Some group) after) e g = cc
 
-pub ruleset declarators = (plain_kind, plain_form, declared_kind, declared_form, pointed_end, pointed_close, pointed_open, can_close, can_word, words_end, words_close, words_suffix, words_behind)
+pub ruleset declarators = (plain_kind, plain_form, declared_kind, declared_form, pointed_end, pointed_close, pointed_open, can_close, can_word, words_end, words_close, words_suffix, words_after)

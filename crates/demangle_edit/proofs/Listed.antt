@@ -61,7 +61,7 @@ part_same : (old mid : Buffer) (m : Mark) → Opens old mid m → (part : Glue) 
 part_same old mid m run (Text bytes) living = refl
 part_same old mid m run (Part piece) living = ap text (run.pieces piece living).shape_is
 
--- one more part is put behind the text
+-- one more part is put after the text
 pub part_more : (old mid new : Buffer) (m : Mark) (parts : List Glue) (i : ℕ) (d : Glue) (all next : Piece)
     → Opens old mid m → All (IsLivingPart old) parts → i < length parts
     → Lives mid all (glued (map (part_text (shape old)) (take i parts)))

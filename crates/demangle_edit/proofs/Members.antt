@@ -4,7 +4,7 @@ use Rattle.std.specs.Prelude.{slice_range}
 use Rattle.std.proofs.lemmas.List.{length-append, append-nil}
 use Rattle.demangle_text.specs.declared.shape.Kind.TheVariants.{Array, Function}
 use Rattle.demangle_text.specs.Shape.{Form, Plain, Declared, Shape, form_text, text, text_len, IsDeclared, plain_shape, front_text, grouped, gap_after, flagged, kind_of, after_of, declared_group}
-use Rattle.demangle_edit.specs.Types.{after_text, member_shape}
+use Rattle.demangle_edit.specs.Types.{after_text, member_pointer_shape}
 use Rattle.demangle_edit.proofs.Cuts.{take_front, drop_front}
 
 after_at : (at : ℕ) (before : List ℕ) (group : Option (List ℕ)) → Some at ≡ Some (length (before ++ grouped group)) → at ≡ length (before ++ grouped group)
@@ -57,16 +57,16 @@ module _ (front inner after : List ℕ) (from at : ℕ) where
       drop_front _ (front ++ (40 ∷ (inner ++ (41 ∷ [])))) after at text_is at_is
 
 -- a pointer to a member function, put together step by step
-pub member_shape_is : (class member whole declared : Shape) (templ ctor : Bool) (class_len after_len from at : ℕ) → kind_of member.form ≡ Some Function
+pub member_pointer_shape_is : (class member whole declared : Shape) (templ ctor : Bool) (class_len after_len from at : ℕ) → kind_of member.form ≡ Some Function
     → whole ≡ plain_shape (front_text member.form ++ (gap_after (front_text member.form) ++ codes "(") ++ text class ++ codes "::*)" ++ after_text member.form)
     → class_len ≡ text_len class → after_len ≡ length (after_text member.form) → at ≡ text_len whole - after_len → from ≡ at - 5 - class_len
-    → declared ≡ declared_group Function from at whole → templ ≡ member.templ → ctor ≡ member.ctor → flagged templ ctor declared ≡ member_shape class member
-member_shape_is class member whole declared templ ctor class_len after_len from at function by_whole by_class by_after by_at by_from by_declared by_templ by_ctor =
+    → declared ≡ declared_group Function from at whole → templ ≡ member.templ → ctor ≡ member.ctor → flagged templ ctor declared ≡ member_pointer_shape class member
+member_pointer_shape_is class member whole declared templ ctor class_len after_len from at function by_whole by_class by_after by_at by_from by_declared by_templ by_ctor =
     ap (flagged templ ctor) by_declared ∙ opened member.form function (ap text by_whole) by_after
   where
     opened : (f : Form) → kind_of f ≡ Some Function
         → text whole ≡ front_text f ++ (gap_after (front_text f) ++ codes "(") ++ text class ++ codes "::*)" ++ after_text f → after_len ≡ length (after_text f)
-        → flagged templ ctor (declared_group Function from at whole) ≡ member_shape class (record member { form = f })
+        → flagged templ ctor (declared_group Function from at whole) ≡ member_pointer_shape class (record member { form = f })
     opened (Plain t) k e n = cc
     opened (Declared Array before group after) k e n = cc
     opened (Declared Function before group after) k e n =

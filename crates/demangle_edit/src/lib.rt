@@ -6,17 +6,16 @@
 //! scopes. After an `AllocError` `clear` of the buffer is the only call that is promised.
 #![tactic(auto)]
 
-mod extents;
+mod dimensions;
 mod lists;
 mod names;
 mod parts;
-mod quals;
 mod types;
 
 pub use crate::lists::glue;
 pub use crate::names::{apply_name_qualifiers, attach_template_args, qualify, qualify_ctor};
 pub use crate::parts::Glue;
-pub use crate::quals::{Pointer, Quals, Reference};
 pub use crate::types::{
     collapse_ref, function_type, wrap_array, wrap_cv, wrap_member_pointer, wrap_pointer,
 };
+pub use demangle_quals::{Pointer, Quals, Reference};

@@ -8,7 +8,7 @@ use crate::parts::Glue;
 use demangle_text::{Buffer, Piece};
 use std::alloc::AllocError;
 
-// A plain text with a part behind it.
+// A plain text with a part after it.
 #[tactic(auto, using(demangle_text::proofs::Laws::laws))]
 fn with_part(buf: &mut Buffer, all: Piece, part: &Glue) -> Result<Piece, AllocError>
     requires all { IsLiving buf.old all }
@@ -27,7 +27,7 @@ fn with_part(buf: &mut Buffer, all: Piece, part: &Glue) -> Result<Piece, AllocEr
     }
 }
 
-/// The parts, one behind the other, as a plain piece whose last own name is the whole, with no flag
+/// The parts, one after the other, as a plain piece whose last own name is the whole, with no flag
 /// set. Of no parts it is empty.
 ///
 /// An error comes where memory is refused, and then only `clear` of the buffer is promised.

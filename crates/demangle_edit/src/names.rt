@@ -2,9 +2,9 @@
 ghost use Rattle.std.specs.Prelude.{◌≡◌, ◌+◌, ◌^◌, ◌<◌, ◌≤◌, ◌++◌, IfOk, OnOk};
 ghost use Rattle.demangle_text.specs.Shape.{moved};
 ghost use Rattle.demangle_text.specs.State.{IsLiving, shape, Lives, IsEdit};
-ghost use Rattle.demangle_edit.specs.Names.{qualified, qualified_ctor, angle_gap, attached, name_qualified};
+ghost use Rattle.demangle_edit.specs.Names.{qualified, qualified_ctor, angle_gap, attached, with_name_qualifiers};
 
-use crate::quals::{Quals, reference_bytes};
+use demangle_quals::{Quals, reference_bytes};
 use demangle_text::{Buffer, Piece};
 use std::alloc::AllocError;
 
@@ -51,7 +51,7 @@ pub fn qualify_ctor(buf: &mut Buffer, scope: Piece, destructor: bool) -> Result<
     Ok(buf.with_flags(named, false, true))
 }
 
-// A range of a text of this length, when n bytes are put behind the text.
+// A range of a text of this length, when n bytes are put after the text.
 pub(crate) fn range_before(own: (usize, usize), len: usize, n: usize) -> (usize, usize)
     requires ordered { own.0 ≤ own.1 }
     requires within { own.1 ≤ len }
@@ -72,7 +72,7 @@ fn gap_before_args(name: &[u8]) -> &'static [u8]
     if name.ends_with(b"<") { b" " } else { b"" }
 }
 
-/// The name with the list of its template arguments behind it, and a space between them where the
+/// The name with the list of its template arguments after it, and a space between them where the
 /// name ends in `<`. A plain piece with the last own name and the flag `ctor` of the name; `templ`
 /// holds.
 ///
@@ -96,7 +96,7 @@ pub fn attach_template_args(buf: &mut Buffer, name: Piece, args: Piece) -> Resul
     Ok(buf.with_flags(named, true, ctor))
 }
 
-/// The name with its qualifiers behind it: the words ` const`, ` volatile` and ` restrict` only
+/// The name with its qualifiers after it: the words ` const`, ` volatile` and ` restrict` only
 /// where they are shown, and then the reference. A plain piece with the last own name and the flags
 /// of the name, also where nothing is printed. Without qualifiers the answer is the name itself.
 ///
@@ -110,7 +110,7 @@ pub fn apply_name_qualifiers(
 ) -> Result<Piece, AllocError>
     requires name { IsLiving buf.old name }
     ensures shape { IfOk result (λ p. Lives buf.new p
-        (name_qualified (shape buf.old name) quals shown)) }
+        (with_name_qualifiers (shape buf.old name) quals shown)) }
     ensures edit { OnOk result (IsEdit buf.old buf.new) }
 {
     if !quals.is_set() {

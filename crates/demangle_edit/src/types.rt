@@ -1,15 +1,18 @@
 //! Edits that make a type out of types: pointers, references, qualifiers, arrays and functions
 //! (Itanium C++ ABI 5.1.5).
 ghost use Rattle.std.specs.Prelude.{◌≡◌, ◌≢◌, ◌++◌, All, map, codes, is_some, false, IfOk, OnOk};
-ghost use Rattle.demangle_text.specs.Shape.{CanInsert, IsPlain, IsDeclared, text, plain_shape, inserted, kind_of, group_of, gap_after, front_text};
+ghost use Rattle.demangle_text.specs.Shape.{CanInsert, IsPlain, IsDeclared, text, plain_shape, inserted};
+ghost use Rattle.demangle_text.specs.Shape.{kind_of, group_of, gap_after, front_text};
 ghost use Rattle.demangle_text.specs.State.{IsLiving, shape, Lives, IsEdit, KeepsAll};
 ghost use Rattle.demangle_edit.specs.Answers.{Answers, OnNone};
-ghost use Rattle.demangle_edit.specs.Types.{pointed, collapsed, wrapped, cv_place, cv_wrapped, extent_text, array_shape, arrayed, member_gap, after_text, member_shape, membered, function_of};
+ghost use Rattle.demangle_edit.specs.Types.{pointed, collapse_step, pointer_shape, cv_place, cv_shape, function_step};
+ghost use Rattle.demangle_edit.specs.Types.{dimension_digits, array_shape, array_step};
+ghost use Rattle.demangle_edit.specs.Types.{member_gap, after_text, member_pointer_shape, member_pointer_step};
 
-use crate::extents::{MOST_DIGITS, extent_bytes};
+use crate::dimensions::{MOST_DIGITS, dimension_bytes};
 use crate::lists::list_pieces;
 use crate::names::range_before;
-use crate::quals::{Pointer, Quals, reference_bytes};
+use demangle_quals::{Pointer, Quals, reference_bytes};
 use demangle_text::{Buffer, Kind, Piece, Place};
 use std::alloc::AllocError;
 
@@ -37,7 +40,7 @@ fn wrap_token(buf: &mut Buffer, inner: Piece, token: &[u8]) -> Result<Piece, All
 #[tactic(auto, using(demangle_text::proofs::Laws::laws, crate::proofs::Declarators::declarators))]
 pub fn wrap_pointer(buf: &mut Buffer, inner: Piece, kind: Pointer) -> Result<Piece, AllocError>
     requires inner { IsLiving buf.old inner }
-    ensures shape { IfOk result (λ p. Lives buf.new p (wrapped kind (shape buf.old inner))) }
+    ensures shape { IfOk result (λ p. Lives buf.new p (pointer_shape kind (shape buf.old inner))) }
     ensures edit { OnOk result (IsEdit buf.old buf.new) }
 {
     match kind {
@@ -66,7 +69,7 @@ pub fn collapse_ref(
     rvalue: bool,
 ) -> Result<Option<Piece>, AllocError>
     requires inner { IsLiving buf.old inner }
-    ensures shape { Answers result buf.new (collapsed rvalue (shape buf.old inner)) }
+    ensures shape { Answers result buf.new (collapse_step rvalue (shape buf.old inner)) }
     ensures edit { OnOk result (IsEdit buf.old buf.new) }
     ensures none { OnNone result (KeepsAll buf.old buf.new) }
 {
@@ -108,7 +111,7 @@ fn words_place(buf: &Buffer, inner: Piece) -> Place
 #[tactic(auto, using(demangle_text::proofs::Laws::laws, crate::proofs::Declarators::declarators))]
 pub fn wrap_cv(buf: &mut Buffer, inner: Piece, quals: Quals) -> Result<Piece, AllocError>
     requires inner { IsLiving buf.old inner }
-    ensures shape { IfOk result (λ p. Lives buf.new p (cv_wrapped quals (shape buf.old inner))) }
+    ensures shape { IfOk result (λ p. Lives buf.new p (cv_shape quals (shape buf.old inner))) }
     ensures edit { OnOk result (IsEdit buf.old buf.new) }
 {
     let place = words_place(buf, inner);
@@ -122,59 +125,67 @@ fn insert_dimension(
     piece: Piece,
     place: Place,
     opening: &[u8],
-    dim: Option<u64>,
+    dimension: Option<u64>,
 ) -> Result<Piece, AllocError>
     requires living { IsLiving buf.old piece }
     requires fits { CanInsert place (shape buf.old piece).form }
-    requires behind { place ≢ Place.Start }
+    requires not_first { place ≢ Place.Start }
     ensures shape { IfOk result (λ p. Lives buf.new p
-        (inserted place (opening.now ++ (extent_text dim ++ codes "]")) (shape buf.old piece))) }
+        (inserted place (opening.now ++ (dimension_digits dimension ++ codes "]")) (shape buf.old piece))) }
     ensures edit { OnOk result (IsEdit buf.old buf.new) }
 {
     let mut room = [0; MOST_DIGITS];
-    let extent = extent_bytes(&mut room, dim);
+    let digits = dimension_bytes(&mut room, dimension);
     let opened = buf.insert(piece, place, opening)?;
-    let filled = buf.insert(opened, place, extent)?;
+    let filled = buf.insert(opened, place, digits)?;
     buf.insert(filled, place, b"]")
 }
 
 // An array of a plain type.
 #[tactic(auto, using(demangle_text::proofs::Laws::laws, crate::proofs::Arrays::first_shape))]
-fn first_dimension(buf: &mut Buffer, elem: Piece, dim: Option<u64>) -> Result<Piece, AllocError>
+fn first_dimension(
+    buf: &mut Buffer,
+    elem: Piece,
+    dimension: Option<u64>,
+) -> Result<Piece, AllocError>
     requires living { IsLiving buf.old elem }
     requires plain { IsPlain (shape buf.old elem).form }
-    ensures shape { IfOk result (λ p. Lives buf.new p (array_shape dim (shape buf.old elem))) }
+    ensures shape { IfOk result (λ p. Lives buf.new p (array_shape dimension (shape buf.old elem))) }
     ensures edit { OnOk result (IsEdit buf.old buf.new) }
 {
     let at = buf.len(elem);
-    let longer = insert_dimension(buf, elem, Place::End, b" [", dim)?;
+    let longer = insert_dimension(buf, elem, Place::End, b" [", dimension)?;
     // The check learns here that the length fits 64 bits, and so does each place in the text.
     let _len = buf.len(longer);
     Ok(buf.declare(longer, Kind::Array, at))
 }
 
-// A dimension in front of those that an array without group has: behind the first byte of `after`.
+// A dimension in front of those that an array without group has: after the first byte of `after`.
 #[tactic(auto, using(demangle_text::proofs::Laws::laws))]
-fn outer_dimension(buf: &mut Buffer, elem: Piece, dim: Option<u64>) -> Result<Piece, AllocError>
+fn outer_dimension(
+    buf: &mut Buffer,
+    elem: Piece,
+    dimension: Option<u64>,
+) -> Result<Piece, AllocError>
     requires living { IsLiving buf.old elem }
     requires kind { kind_of (shape buf.old elem).form ≡ Some Kind.Array }
     requires group { is_some (group_of (shape buf.old elem).form) ≡ false }
-    ensures shape { IfOk result (λ p. Lives buf.new p (array_shape dim (shape buf.old elem))) }
+    ensures shape { IfOk result (λ p. Lives buf.new p (array_shape dimension (shape buf.old elem))) }
     ensures edit { OnOk result (IsEdit buf.old buf.new) }
 {
     let at = buf.after_at(elem).unwrap();
     let len = buf.len(elem);
-    let behind = at + (len - at).min(1);
+    let past = at + (len - at).min(1);
     let flat = buf.plain(elem);
-    let cut = buf.declare(flat, Kind::Array, behind);
-    let longer = insert_dimension(buf, cut, Place::Suffix, b"[", dim)?;
+    let cut = buf.declare(flat, Kind::Array, past);
+    let longer = insert_dimension(buf, cut, Place::Suffix, b"[", dimension)?;
     let whole = buf.plain(longer);
     Ok(buf.declare(whole, Kind::Array, at))
 }
 
 /// The array of the type with this dimension, `[]` where there is none: ` [n]` at the end of a
-/// group or behind a plain text; for an array without group `[n]` behind the first byte of what is
-/// after it, so that the outer dimension stands first. The flags stay.
+/// group or after a plain text; for an array without group `[n]` after the first byte of what
+/// follows its name, so that the outer dimension stands first. The flags stay.
 ///
 /// `None`, and all stays, for a function without group. An error comes where memory is refused, and
 /// then only `clear` of the buffer is promised.
@@ -182,24 +193,24 @@ fn outer_dimension(buf: &mut Buffer, elem: Piece, dim: Option<u64>) -> Result<Pi
 pub fn wrap_array(
     buf: &mut Buffer,
     elem: Piece,
-    dim: Option<u64>,
+    dimension: Option<u64>,
 ) -> Result<Option<Piece>, AllocError>
     requires elem { IsLiving buf.old elem }
-    ensures shape { Answers result buf.new (arrayed dim (shape buf.old elem)) }
+    ensures shape { Answers result buf.new (array_step dimension (shape buf.old elem)) }
     ensures edit { OnOk result (IsEdit buf.old buf.new) }
     ensures none { OnNone result (KeepsAll buf.old buf.new) }
 {
     let Some(kind) = buf.kind(elem) else {
-        let array = first_dimension(buf, elem, dim)?;
+        let array = first_dimension(buf, elem, dimension)?;
         return Ok(Some(array));
     };
     if buf.has_group(elem) {
-        let array = insert_dimension(buf, elem, Place::Close, b" [", dim)?;
+        let array = insert_dimension(buf, elem, Place::Close, b" [", dimension)?;
         return Ok(Some(array));
     }
     match kind {
         Kind::Array => {
-            let array = outer_dimension(buf, elem, dim)?;
+            let array = outer_dimension(buf, elem, dimension)?;
             Ok(Some(array))
         }
         Kind::Function => Ok(None),
@@ -224,7 +235,7 @@ fn append_member(buf: &mut Buffer, class: Piece, member: Piece) -> Result<Piece,
     requires member { IsLiving buf.old member }
     requires plain { IsPlain (shape buf.old member).form }
     ensures shape { IfOk result (λ p. Lives buf.new p
-        (member_shape (shape buf.old class) (shape buf.old member))) }
+        (member_pointer_shape (shape buf.old class) (shape buf.old member))) }
     ensures edit { OnOk result (IsEdit buf.old buf.new) }
 {
     let before = buf.len(member);
@@ -239,7 +250,7 @@ fn append_member(buf: &mut Buffer, class: Piece, member: Piece) -> Result<Piece,
     Ok(buf.with_flags(named, flags.0, flags.1))
 }
 
-// What opens a group behind a text: a space unless the text is empty or ends in a space, `(` or
+// What opens a group after a text: a space unless the text is empty or ends in a space, `(` or
 // `*`, and `(`.
 fn group_opening(text: &[u8]) -> &'static [u8]
     ensures value { result.now ≡ gap_after text.now ++ codes "(" }
@@ -302,7 +313,7 @@ fn open_member(buf: &mut Buffer, class: Piece, member: Piece) -> Result<Piece, A
     requires member { IsLiving buf.old member }
     requires function { kind_of (shape buf.old member).form ≡ Some Kind.Function }
     ensures shape { IfOk result (λ p. Lives buf.new p
-        (member_shape (shape buf.old class) (shape buf.old member))) }
+        (member_pointer_shape (shape buf.old class) (shape buf.old member))) }
     ensures edit { OnOk result (IsEdit buf.old buf.new) }
 {
     let (templ, ctor) = (buf.templ(member), buf.ctor(member));
@@ -316,7 +327,7 @@ fn open_member(buf: &mut Buffer, class: Piece, member: Piece) -> Result<Piece, A
     Ok(buf.with_flags(declared, templ, ctor))
 }
 
-/// The pointer to a member of the class: the class and `::*`, at the end of a plain text (behind a
+/// The pointer to a member of the class: the class and `::*`, at the end of a plain text (after a
 /// space, unless the text ends in a space or `(`), or in a new group of a function. The flags are
 /// those of the member.
 ///
@@ -330,7 +341,8 @@ pub fn wrap_member_pointer(
 ) -> Result<Option<Piece>, AllocError>
     requires class { IsLiving buf.old class }
     requires member { IsLiving buf.old member }
-    ensures shape { Answers result buf.new (membered (shape buf.old class) (shape buf.old member)) }
+    ensures shape { Answers result buf.new
+        (member_pointer_step (shape buf.old class) (shape buf.old member)) }
     ensures edit { OnOk result (IsEdit buf.old buf.new) }
     ensures none { OnNone result (KeepsAll buf.old buf.new) }
 {
@@ -363,7 +375,7 @@ pub fn function_type(
     requires ret { IsLiving buf.old ret }
     requires params { All (IsLiving buf.old) params.now }
     ensures shape { Answers result buf.new
-        (function_of (shape buf.old ret) (map (shape buf.old) params.now) quals) }
+        (function_step (shape buf.old ret) (map (shape buf.old) params.now) quals) }
     ensures edit { OnOk result (IsEdit buf.old buf.new) }
     ensures none { OnNone result (KeepsAll buf.old buf.new) }
 {

@@ -9,7 +9,7 @@ returns-clause-shape c =
     let s = shape c.args.buf.now c.args.piece in
     let place = c.args.place in
     let opening = c.args.opening.now in
-    let is = ap (inserted place (codes "]")) (c.in_ok-filled.ensures.shape.shape_is ∙ ap (inserted place c.extent_bytes-extent.result.now) c.in_ok-opened.ensures.shape.shape_is)
-    ∙ inserted_thrice place opening c.extent_bytes-extent.result.now (codes "]") s c.requires.behind c.requires.fits
-    ∙ ap (λ (e : List ℕ). inserted place (opening ++ (e ++ codes "]")) s) c.extent_bytes-extent.ensures.value in
+    let is = ap (inserted place (codes "]")) (c.in_ok-filled.ensures.shape.shape_is ∙ ap (inserted place c.dimension_bytes-digits.result.now) c.in_ok-opened.ensures.shape.shape_is)
+    ∙ inserted_thrice place opening c.dimension_bytes-digits.result.now (codes "]") s c.requires.not_first c.requires.fits
+    ∙ ap (λ (e : List ℕ). inserted place (opening ++ (e ++ codes "]")) s) c.dimension_bytes-digits.ensures.value in
     subst (λ (t : Shape). IfOk c.insert-3.result (λ p. Lives c.insert-3.new.self p t)) is c.insert-3.ensures.shape

@@ -1,7 +1,7 @@
 use Rattle.std.proofs.Common.{◌++◌, ◌-◌, ℕ, List, codes, ap, ◌∙◌, refl}
 use Rattle.demangle_text.specs.Shape.{text, text_len, plain_shape, front_text, gap_after}
 use Rattle.demangle_text.specs.State.{shape}
-use Rattle.demangle_edit.proofs.Members.{member_shape_is}
+use Rattle.demangle_edit.proofs.Members.{member_pointer_shape_is}
 use Rattle.demangle_edit.proofs.types.open_member.Goals as goal
 
 pub returns-clause-shape : goal.returns-clause-shape
@@ -15,7 +15,7 @@ returns-clause-shape c =
     let whole_is = c.in_ok-whole.ensures.shape.shape_is
     ∙ ap (λ (f : List ℕ). plain_shape (f ++ (gap_after f ++ codes "(") ++ text class ++ codes "::*)" ++ last)) front_is
     ∙ ap (λ (a : List ℕ). plain_shape (first ++ (gap_after first ++ codes "(") ++ text class ++ codes "::*)" ++ a)) after_is in
-    let is = member_shape_is class (shape old c.args.member) _ _ _ _ _ _ _ _ c.requires.function whole_is c.len-class_len.ensures.value
+    let is = member_pointer_shape_is class (shape old c.args.member) _ _ _ _ _ _ _ _ c.requires.function whole_is c.len-class_len.ensures.value
     (c.len-after_len.ensures.value ∙ ap text_len c.cut_declarator.ensures.after.shape_is) (ap (λ (n : ℕ). n - c.len-after_len.result) c.len.ensures.value) refl
     c.declare_group-declared.ensures.shape.shape_is c.templ-templ.ensures.value c.ctor-ctor.ensures.value in
     record { living = c.with_flags.ensures.shape.living; shape_is = c.with_flags.ensures.shape.shape_is ∙ is }

@@ -8,16 +8,16 @@ pub declare-requires-clause-within : goal.declare-requires-clause-within
 declare-requires-clause-within c =
     let at = c.unwrap-at.result in
     let at_is : Some at ≡ after_of (shape c.args.buf.now c.args.elem).form = sym c.unwrap-at.ensures ∙ c.after_at.ensures.value in
-    let behind_is : at + c.min.result ≡ at + min (c.len-len.result - at) 1 = omega (arith, c.min.ensures) in
-    outer_fits _ _ _ _ _ c.args.dim _ _ _ c.requires.kind c.requires.group at_is c.len-len.ensures.value behind_is
+    let past_is : at + c.min.result ≡ at + min (c.len-len.result - at) 1 = omega (arith, c.min.ensures) in
+    outer_fits _ _ _ _ _ c.args.dimension _ _ _ c.requires.kind c.requires.group at_is c.len-len.ensures.value past_is
     c.plain-flat.ensures.shape.shape_is c.declare-cut.ensures.shape.shape_is c.in_ok-longer.ensures.shape.shape_is c.plain-whole.ensures.shape.shape_is
 
 pub returns-clause-shape : goal.returns-clause-shape
 returns-clause-shape c =
     let at = c.unwrap-at.result in
     let at_is : Some at ≡ after_of (shape c.args.buf.now c.args.elem).form = sym c.unwrap-at.ensures ∙ c.after_at.ensures.value in
-    let behind_is : at + c.min.result ≡ at + min (c.len-len.result - at) 1 = omega (arith, c.min.ensures) in
-    let is = outer_shape _ _ _ _ _ c.args.dim _ _ _ _ c.requires.kind c.requires.group at_is c.len-len.ensures.value behind_is
+    let past_is : at + c.min.result ≡ at + min (c.len-len.result - at) 1 = omega (arith, c.min.ensures) in
+    let is = outer_shape _ _ _ _ _ c.args.dimension _ _ _ _ c.requires.kind c.requires.group at_is c.len-len.ensures.value past_is
     c.plain-flat.ensures.shape.shape_is c.declare-cut.ensures.shape.shape_is c.in_ok-longer.ensures.shape.shape_is c.plain-whole.ensures.shape.shape_is
     c.declare.ensures.shape.shape_is in
     record { living = c.declare.ensures.shape.living; shape_is = is }

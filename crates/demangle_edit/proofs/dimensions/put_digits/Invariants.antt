@@ -1,7 +1,7 @@
 -- the digits that are left and those that are written are the number's
 use Rattle.std.proofs.Common.{◌≡◌, ◌≤◌, ◌++◌, length, drop}
 use Rattle.std.specs.Fmt.{decimal}
-use Rattle.demangle_edit.proofs.extents.put_digits.Given as goal
+use Rattle.demangle_edit.proofs.dimensions.put_digits.Given as goal
 
 abbrev pub invariant-loop-left : goal.invariant-loop-left
 invariant-loop-left l = record {

@@ -1,7 +1,7 @@
 use Rattle.std.proofs.Common.{ℕ, arith}
 use Rattle.std.proofs.lemmas.List.{length-set}
 use Rattle.demangle_edit.proofs.Digits.{twenty_digits, none_written, some_digit, one_written, one_fewer, all_written}
-use Rattle.demangle_edit.proofs.extents.put_digits.Goals as goal
+use Rattle.demangle_edit.proofs.dimensions.put_digits.Goals as goal
 
 pub loop-left-init : goal.loop-left-init
 loop-left-init c = record {

@@ -1,6 +1,6 @@
 //! The digits of an array's dimension.
 ghost use Rattle.std.specs.Prelude.{◌≡◌, ◌≤◌, drop, length, decimal};
-ghost use Rattle.demangle_edit.specs.Types.{extent_text};
+ghost use Rattle.demangle_edit.specs.Types.{dimension_digits};
 
 /// The most digits that a dimension has.
 pub const MOST_DIGITS: usize = 20;
@@ -24,14 +24,14 @@ fn put_digits(room: &mut [u8], number: u64) -> usize
 }
 
 /// The digits of a dimension, written into the room, and none where it isn't known.
-pub fn extent_bytes(room: &mut [u8], dim: Option<u64>) -> &[u8]
+pub fn dimension_bytes(room: &mut [u8], dimension: Option<u64>) -> &[u8]
     requires room { MOST_DIGITS ≤ length room.old }
-    ensures value { result.now ≡ extent_text dim }
+    ensures value { result.now ≡ dimension_digits dimension }
 {
-    match dim {
+    match dimension {
         None => b"",
-        Some(extent) => {
-            let at = put_digits(room, extent);
+        Some(number) => {
+            let at = put_digits(room, number);
             &room[at..]
         }
     }

@@ -1,6 +1,6 @@
 //! Qualifiers of types and functions, and the tokens of pointers.
 ghost use Rattle.std.specs.Prelude.{◌≡◌};
-ghost use Rattle.demangle_edit.specs.Names.{words_text, reference_text, has_quals};
+ghost use Rattle.demangle_quals.specs.Quals.{words_text, reference_text, has_quals, no_quals};
 
 /// The reference qualifier of a member function, the ABI's `<ref-qualifier>`.
 #[derive(Clone, Copy, Debug, PartialEq, Eq)]
@@ -37,15 +37,28 @@ pub enum Pointer {
 }
 
 impl Quals {
-    // Whether any qualifier is set.
-    pub(crate) fn is_set(self) -> bool
+    /// No qualifier at all.
+    pub fn none() -> Self
+        ensures value { result ≡ no_quals }
+    {
+        Quals {
+            constant: false,
+            volatile: false,
+            restrict: false,
+            reference: None,
+        }
+    }
+
+    /// Whether any qualifier is set, the reference among them.
+    pub fn is_set(self) -> bool
         ensures value { result ≡ has_quals self }
     {
         self.constant || self.volatile || self.restrict || self.reference.is_some()
     }
 
-    // The words of the qualifiers that are set, a space in front of each.
-    pub(crate) fn words(self) -> &'static [u8]
+    /// The words of the qualifiers that are set, ` const`, ` volatile` and ` restrict` in this
+    /// order, each with its space in front. The reference isn't among them.
+    pub fn words(self) -> &'static [u8]
         ensures value { result.now ≡ words_text self }
     {
         match (self.constant, self.volatile, self.restrict) {
@@ -61,8 +74,9 @@ impl Quals {
     }
 }
 
-// The reference of a function or of a name, a space in front of it.
-pub(crate) fn reference_bytes(reference: Option<Reference>) -> &'static [u8]
+/// The reference qualifier of a function or of a name, ` &` or ` &&` with its space in front, or
+/// nothing where there is none.
+pub fn reference_bytes(reference: Option<Reference>) -> &'static [u8]
     ensures value { result.now ≡ reference_text reference }
 {
     match reference {

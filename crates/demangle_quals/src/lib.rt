@@ -1,0 +1,6 @@
+//! Qualifiers, references and pointers, as a symbol has them (Itanium C++ ABI 5.1.5.3).
+#![tactic(auto)]
+
+mod quals;
+
+pub use crate::quals::{Pointer, Quals, Reference, reference_bytes};
