@@ -1,8 +1,10 @@
--- What the check may use: for the readers the laws of the buffer and what opens each, for an answer the theorems over the grammar.
+-- What the check may use: for the readers the laws of the buffer and what unfolds each, for an answer the theorems over
+-- the grammar.
 use Rattle.demangle_text.proofs.Laws.{laws, runs}
-use Rattle.itanium_demangle.proofs.Shorter.{forms}
-use Rattle.itanium_demangle.proofs.Opens.{name_opens, no_name, args_opens, no_args, type_opens, no_type, substitution_opens, parameter_opens, unqualified_opens, symbol_opens, nested_opens, kept_scope, some_scope}
-use Rattle.itanium_demangle.proofs.Whole.{one_reading, no_prefix, not_read}
+use Rattle.itanium_syntax.proofs.Fronts.{forms}
+use Rattle.itanium_grammar.proofs.Agreement.{one_reading}
+use Rattle.itanium_demangle.proofs.Unfold.{name_opens, no_name, args_opens, no_args, type_opens, no_type, substitution_opens, parameter_opens, unqualified_opens, symbol_opens, nested_opens, kept_scope, some_scope}
+use Rattle.itanium_demangle.proofs.Symbols.{reads_as, stands_at_start, no_prefix, not_read}
 
 pub ruleset buffers = (laws, runs)
 
@@ -20,10 +22,10 @@ pub ruleset nested_names = (buffers, nested_opens)
 
 pub ruleset names = (fronts, name_opens, no_name)
 
-pub ruleset symbols = (buffers, symbol_opens)
+pub ruleset symbols = (buffers, symbol_opens, reads_as)
 
 pub ruleset argument_lists = (buffers, args_opens, no_args)
 
-pub ruleset kinds = (fronts, type_opens, no_type)
+pub ruleset types = (fronts, type_opens, no_type)
 
-pub ruleset answers = (one_reading, no_prefix, not_read)
+pub ruleset answers = (one_reading, no_prefix, not_read, stands_at_start)

@@ -1,11 +1,5 @@
-pub mod Scalars
-pub mod Forms
-pub mod Known
-pub mod Around
-pub mod Tree
-pub mod Grammar
-pub mod Reading
+pub mod Cases
+pub mod Parser
 pub mod Outcome
-pub mod Answer
-pub mod Kept
-pub mod Rows
+pub mod Demangler
+pub mod Examples

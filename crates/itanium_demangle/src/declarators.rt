@@ -1,19 +1,21 @@
 //! The steps of types that read no type: each makes a type of those that were found, and saves it.
 ghost use Rattle.std.specs.Prelude.{◌≡◌, ◌≤◌, OnOk, All, map, length};
 ghost use Rattle.demangle_text.specs.State.{IsLiving, shape, Lives, IsRun, SameFrame, scopes};
-ghost use Rattle.demangle_edit.specs.Types.{wrapped, cv_wrapped};
-ghost use Rattle.itanium_demangle.specs.Forms.{list_form};
-ghost use Rattle.itanium_demangle.specs.Tree.{elaborated_shape};
-ghost use Rattle.itanium_demangle.specs.Reading as spec;
-ghost use Rattle.itanium_demangle.specs.Outcome.{state, Gives, OnRead, Bounds, OptionalBounds};
+ghost use Rattle.demangle_edit.specs.Types.{pointer_shape, cv_shape};
+ghost use Rattle.itanium_syntax.specs.Args.{attached_case};
+ghost use Rattle.itanium_grammar.specs.Tree.{elaborated_shape};
+ghost use Rattle.itanium_demangle.specs.Parser as spec;
+ghost use Rattle.itanium_demangle.specs.Outcome.{state, Gives, Bounds, OptionalBounds};
 
-use crate::forms::{ListForm, list_form, ref_qualifier};
 use crate::reader::Reader;
+use crate::stop::Stop;
 use demangle_edit::{
     Glue, Pointer, Quals, function_type, glue, wrap_array, wrap_cv, wrap_member_pointer,
     wrap_pointer,
 };
 use demangle_text::Piece;
+use itanium_syntax::args::{AttachedCase, attached_case};
+use itanium_syntax::types::ref_qualifier;
 use std::alloc::AllocError;
 
 #[tactic(auto, using(crate::proofs::Rules::buffers))]
@@ -21,9 +23,9 @@ impl<'a> Reader<'a> {
     /// A pointer or a reference to what was found.
     pub fn save_pointer(&mut self, kind: Pointer) -> Result<(), AllocError>
         requires living { IsLiving self.old.buffer self.old.found }
-        ensures shape { OnOk result (Lives self.new.buffer self.new.found (wrapped kind
+        ensures shape { OnOk result (Lives self.new.buffer self.new.found (pointer_shape kind
             (shape self.old.buffer self.old.found))) }
-        ensures state { OnOk result (state self.new ≡ spec.save (wrapped kind
+        ensures state { OnOk result (state self.new ≡ spec.save (pointer_shape kind
             (shape self.old.buffer self.old.found)) (state self.old)) }
         ensures run { OnOk result (IsRun self.old.buffer self.new.buffer) }
     {
@@ -32,9 +34,9 @@ impl<'a> Reader<'a> {
     }
 
     /// What was found with the words of its qualifiers.
-    pub fn qualify_found(&mut self, quals: Quals) -> Result<(), AllocError>
+    pub fn wrap_found(&mut self, quals: Quals) -> Result<(), AllocError>
         requires living { IsLiving self.old.buffer self.old.found }
-        ensures shape { OnOk result (Lives self.new.buffer self.new.found (cv_wrapped quals
+        ensures shape { OnOk result (Lives self.new.buffer self.new.found (cv_shape quals
             (shape self.old.buffer self.old.found))) }
         ensures state { OnOk result (state self.new ≡ state self.old) }
         ensures run { OnOk result (IsRun self.old.buffer self.new.buffer) }
@@ -44,62 +46,62 @@ impl<'a> Reader<'a> {
     }
 
     /// The array of what was found, where there is one.
-    pub fn save_array(&mut self, dim: Option<u64>) -> Result<bool, AllocError>
+    pub fn save_array(&mut self, dimension: Option<u64>) -> Result<(), Stop>
         requires living { IsLiving self.old.buffer self.old.found }
-        ensures reads { Gives result self.new (spec.saved_array dim
+        ensures reads { Gives result self.new (spec.saved_array dimension
             (shape self.old.buffer self.old.found) (state self.old)) }
-        ensures run { OnRead result (IsRun self.old.buffer self.new.buffer) }
+        ensures run { OnOk result (IsRun self.old.buffer self.new.buffer) }
         ensures bounds { OptionalBounds result (state self.old) (state self.new) }
     {
-        let Some(whole) = wrap_array(&mut self.buffer, self.found, dim)? else {
-            return Ok(false);
+        let Some(whole) = wrap_array(&mut self.buffer, self.found, dimension)? else {
+            return Err(Stop::Unread);
         };
         self.found = whole;
         self.save_found()?;
-        Ok(true)
+        Ok(())
     }
 
     /// The pointer to what was found as a member of the class, where there is one.
-    pub fn save_member(&mut self, class: Piece) -> Result<bool, AllocError>
+    pub fn save_member(&mut self, class: Piece) -> Result<(), Stop>
         requires class { IsLiving self.old.buffer class }
         requires living { IsLiving self.old.buffer self.old.found }
         ensures reads { Gives result self.new
             (spec.saved_member (shape self.old.buffer class) (shape self.old.buffer self.old.found) (state self.old)) }
-        ensures run { OnRead result (IsRun self.old.buffer self.new.buffer) }
+        ensures run { OnOk result (IsRun self.old.buffer self.new.buffer) }
         ensures bounds { OptionalBounds result (state self.old) (state self.new) }
     {
         let Some(whole) = wrap_member_pointer(&mut self.buffer, class, self.found)? else {
-            return Ok(false);
+            return Err(Stop::Unread);
         };
         self.found = whole;
         self.save_found()?;
-        Ok(true)
+        Ok(())
     }
 
-    /// The function type, where there is one, and what is behind its parameters: `[<ref-qualifier>] E`.
+    /// The function type, where there is one, and what is after its parameters: `[<ref-qualifier>] E`.
     pub fn end_function(
         &mut self,
         quals: Quals,
         ret: Piece,
         params: &[Piece],
-    ) -> Result<bool, AllocError>
+    ) -> Result<(), Stop>
         requires ret { IsLiving self.old.buffer ret }
         requires params { All (IsLiving self.old.buffer) params.now }
         ensures reads { Gives result self.new
             (spec.function_end quals (shape self.old.buffer ret) (map (shape self.old.buffer) params.now)
             (state self.old)) }
-        ensures run { OnRead result (IsRun self.old.buffer self.new.buffer) }
+        ensures run { OnOk result (IsRun self.old.buffer self.new.buffer) }
         ensures bounds { OptionalBounds result (state self.old) (state self.new) }
     {
         let (reference, rest) = ref_qualifier(self.rest);
         let all = Quals { reference, ..quals };
         let Some(whole) = function_type(&mut self.buffer, ret, params, all)? else {
-            return Ok(false);
+            return Err(Stop::Unread);
         };
         self.found = whole;
         self.rest = rest;
         self.skip(1);
-        Ok(true)
+        Ok(())
     }
 
     /// The word of an elaborated type in front of the name that was found.
@@ -117,21 +119,19 @@ impl<'a> Reader<'a> {
     }
 
     /// `u <source-name>`, which no `<template-args>` follow.
-    pub fn read_vendor(&mut self) -> Result<bool, AllocError>
-        ensures reads { Gives result self.new (spec.read_vendor (state self.old)) }
-        ensures run { OnRead result (IsRun self.old.buffer self.new.buffer) }
+    pub fn read_vendor(&mut self) -> Result<(), Stop>
+        ensures reads { Gives result self.new (spec.parse_vendor (state self.old)) }
+        ensures run { OnOk result (IsRun self.old.buffer self.new.buffer) }
         ensures bounds { Bounds 2 result (state self.old) (state self.new) }
     {
         self.skip(1);
-        if !self.read_source()? {
-            return Ok(false);
-        }
-        match list_form(self.rest) {
-            ListForm::NoList => {
+        self.read_source()?;
+        match attached_case(self.rest) {
+            AttachedCase::NoneAttached => {
                 self.save_found()?;
-                Ok(true)
+                Ok(())
             }
-            ListForm::ArgumentList => Ok(false),
+            AttachedCase::ArgsAttached => Err(Stop::Unread),
         }
     }
 }

@@ -5,20 +5,19 @@ ghost use Rattle.std.specs.String.{string_bytes};
 ghost use Rattle.std.specs.Str.{IsUtf8};
 ghost use Rattle.demangle_text.specs.State.{IsLiving, shape};
 ghost use Rattle.demangle_text.specs.Shape.{text};
-ghost use Rattle.itanium_demangle.specs.Answer.{IsAnswer, HasOneReading};
-ghost use Rattle.itanium_demangle.specs.Kept.{IsPrinted};
-ghost use Rattle.itanium_demangle.specs.Answer as spec;
+ghost use Rattle.itanium_grammar.specs.Answer.{IsAnswer, HasOneReading};
+ghost use Rattle.itanium_grammar.specs.Answer as spec;
+ghost use Rattle.itanium_demangle.specs.Demangler.{IsPrinted};
 
-use crate::context::OUTSIDE;
 use crate::reader::Reader;
+use crate::stop::Stop;
 use demangle_text::Buffer;
+use itanium_grammar::symbol::{MAX_DEPTH, after_prefix, suffix};
+use itanium_syntax::context::OUTSIDE;
 use std::alloc::{AllocError, Global};
 use std::fmt::{self, Debug, Formatter, Write};
 use std::marker::Model;
 use std::str::from_utf8;
-
-/// Most counted productions that may nest in a symbol: names, types, argument lists, packs, thunks and expressions.
-pub const MAX_DEPTH: usize = 128;
 
 /// Answers symbol after symbol from the same buffers, and keeps the last answer.
 #[derive(Drop)]
@@ -28,35 +27,14 @@ pub struct Demangler {
 }
 
 impl Model for Demangler {
-    ghost use Rattle.itanium_demangle.specs.Kept.{Kept, kept_of};
+    ghost use Rattle.itanium_demangle.specs.Demangler.{LastRun, last_run};
 
-    ghost Value = { Kept };
+    ghost Value = { LastRun };
 
-    ghost view = { kept_of };
+    ghost view = { last_run };
 }
 
-/// What follows the prefix `_Z` or `__Z` of a symbol.
-fn after_prefix(symbol: &[u8]) -> Option<&[u8]>
-    ensures value { option_map (λ rest. rest.now) result ≡ spec.after_prefix symbol.now }
-{
-    match symbol {
-        [b'_', b'Z', inside @ ..] => Some(inside),
-        [b'_', b'_', b'Z', inside @ ..] => Some(inside),
-        _ => None,
-    }
-}
-
-/// All that follows from a dot.
-fn suffix(rest: &[u8]) -> &[u8]
-    ensures value { result.now ≡ spec.suffix rest.now }
-{
-    match rest {
-        [b'.', ..] => rest,
-        _ => &[],
-    }
-}
-
-/// The printing that was found, and the rest from a dot behind it, where the printing is UTF-8.
+/// The printing that was found, and the rest from a dot after it, where the printing is UTF-8.
 fn answer(alloc: Global, reader: &Reader) -> Result<Option<String>, AllocError>
     requires living { IsLiving reader.now.buffer reader.now.found }
     requires utf8 { IsUtf8 (spec.suffix reader.now.rest.now) }
@@ -66,11 +44,11 @@ fn answer(alloc: Global, reader: &Reader) -> Result<Option<String>, AllocError>
     let Ok(printed) = from_utf8(reader.buffer.bytes(reader.found)) else {
         return Ok(None);
     };
-    let Ok(behind) = from_utf8(suffix(reader.rest)) else {
+    let Ok(rest) = from_utf8(suffix(reader.rest)) else {
         return Ok(None);
     };
     let mut answer = String::from_str(alloc, printed)?;
-    answer.push_str(behind)?;
+    answer.push_str(rest)?;
     Ok(Some(answer))
 }
 
@@ -92,7 +70,7 @@ impl Demangler {
     /// Reads a symbol and keeps its answer for `text`: true where there is one.
     ///
     /// A symbol is `_Z` or `__Z` and an encoding, of which the name is read (Itanium C++ ABI 5.1.2). The answer is its
-    /// printing, and behind it all that follows from a dot. There is none where the grammar doesn't read the symbol
+    /// printing, and after it all that follows from a dot. There is none where the grammar doesn't read the symbol
     /// with at most `MAX_DEPTH` nested productions, or where the printing isn't UTF-8. An error comes only where memory
     /// is refused; then nothing is kept, and the value serves on.
     #[tactic(auto, using(crate::proofs::Rules::answers))]
@@ -112,9 +90,13 @@ impl Demangler {
             None => Buffer::new(alloc),
         };
         let mut reader = Reader::new(alloc, buffer, inside)?;
-        if !reader.read_symbol(MAX_DEPTH, OUTSIDE)? {
-            self.buffer = Some(reader.buffer);
-            return Ok(false);
+        match reader.read_symbol(MAX_DEPTH, OUTSIDE) {
+            Ok(()) => {}
+            Err(Stop::Unread) => {
+                self.buffer = Some(reader.buffer);
+                return Ok(false);
+            }
+            Err(Stop::Memory) => return Err(AllocError),
         }
         let text = answer(alloc, &reader)?;
         let found = text.is_some();

@@ -1,16 +1,15 @@
 //! Demangles C++ symbols of the Itanium C++ ABI.
 #![tactic(auto)]
 
-mod context;
+mod args;
 mod declarators;
 mod demangler;
-mod forms;
-mod known;
 pub mod laws;
 mod names;
 mod reader;
-pub mod scalar;
-mod template;
+mod stop;
 mod types;
 
-pub use crate::demangler::{Demangler, MAX_DEPTH};
+pub use crate::demangler::Demangler;
+pub use itanium_grammar::symbol::MAX_DEPTH;
+pub use itanium_syntax::scalar;

@@ -1,21 +1,24 @@
 //! What the readers share: the bytes that are left, the buffer with what was saved, and the piece that was found.
 ghost use Rattle.std.specs.Prelude.{◌≡◌, ◌<◌, ◌≤◌, IfOk, OnOk, length, true};
 ghost use Rattle.demangle_text.specs.Shape.{joined, plain_shape};
-ghost use Rattle.itanium_demangle.specs.Forms.{builtin_text, past_builtin};
 ghost use Rattle.demangle_text.specs.State.{IsLiving, Lives, shape, SameFrame, IsEdit, saved, scopes};
-ghost use Rattle.itanium_demangle.specs.Known.{known_shape};
-ghost use Rattle.itanium_demangle.specs.Tree.{closed};
-ghost use Rattle.itanium_demangle.specs.Reading as spec;
-ghost use Rattle.itanium_demangle.specs.Reading.{between};
-ghost use Rattle.itanium_demangle.specs.Outcome.{state, Gives, OnRead, Bounds};
+ghost use Rattle.itanium_syntax.specs.Types.{builtin_text, past_builtin};
+ghost use Rattle.itanium_grammar.specs.Tree.{abbreviation_shape, closed};
+ghost use Rattle.itanium_demangle.specs.Parser as spec;
+ghost use Rattle.itanium_demangle.specs.Outcome.{state, Gives, Bounds};
 
-use crate::context::Context;
-use crate::forms::{
-    SubstitutionForm, builtin_text, past_builtin, past_member, source_text, substitution_form,
-};
-use crate::known::{Known, known_of, known_own_len, known_text};
-use crate::scalar::{Radix, index_of, source_name};
+use crate::stop::Stop;
 use demangle_text::{Buffer, Piece};
+use itanium_syntax::abbreviations::{
+    Abbreviation, abbreviation_of, abbreviation_own_len, abbreviation_text,
+};
+use itanium_syntax::context::Context;
+use itanium_syntax::names::{
+    SubstitutionCase, past_initializer_letter, source_text, substitution_case,
+};
+use itanium_syntax::numerals::{Radix, index_of};
+use itanium_syntax::scalar::source_name;
+use itanium_syntax::types::{builtin_text, past_builtin};
 use std::alloc::{AllocError, Global};
 
 /// A reader of mangled bytes. Each production has a method that answers true where it was read: then `found` is the
@@ -68,7 +71,7 @@ impl<'a> Reader<'a> {
         ensures within { length self.new.rest.now ≤ length self.old.rest.now }
         ensures buffer { self.new.buffer ≡ self.old.buffer }
     {
-        self.rest = past_member(self.rest);
+        self.rest = past_initializer_letter(self.rest);
     }
 
     /// Saves a component for substitutions.
@@ -108,98 +111,96 @@ impl<'a> Reader<'a> {
     }
 
     /// `<source-name> ::= <positive length number> <identifier>`
-    pub fn read_source(&mut self) -> Result<bool, AllocError>
-        ensures reads { Gives result self.new (spec.read_source (state self.old)) }
-        ensures kept { OnRead result (SameFrame self.old.buffer self.new.buffer) }
+    pub fn read_source(&mut self) -> Result<(), Stop>
+        ensures reads { Gives result self.new (spec.parse_source (state self.old)) }
+        ensures kept { OnOk result (SameFrame self.old.buffer self.new.buffer) }
         ensures bounds { Bounds 2 result (state self.old) (state self.new) }
     {
         let Some((from, to)) = source_name(self.rest, 0) else {
-            return Ok(false);
+            return Err(Stop::Unread);
         };
         let text = source_text(&self.rest[from..to]);
         self.found = self.buffer.push(text)?;
         self.rest = &self.rest[to..];
-        Ok(true)
+        Ok(())
     }
 
     /// The name of std that a `<substitution>` stands for.
-    fn push_known(&mut self, known: Known) -> Result<(), AllocError>
-        ensures shape { OnOk result (Lives self.new.buffer self.new.found (known_shape known)) }
+    fn push_abbreviation(&mut self, known: Abbreviation) -> Result<(), AllocError>
+        ensures shape { OnOk result (Lives self.new.buffer self.new.found (abbreviation_shape known)) }
         ensures state { OnOk result (state self.new ≡ state self.old) }
         ensures kept { OnOk result (SameFrame self.old.buffer self.new.buffer) }
     {
-        let piece = self.buffer.push(known_text(known))?;
-        let end = 5 + known_own_len(known);
+        let piece = self.buffer.push(abbreviation_text(known))?;
+        let end = 5 + abbreviation_own_len(known);
         self.found = self.buffer.own_at(piece, 5, end);
         Ok(())
     }
 
     /// `<substitution> ::= S [<seq-id>] _ | Sa | Sb | Ss | Si | So | Sd`
     #[tactic(auto, using(crate::proofs::Rules::substitutions))]
-    pub fn read_substitution(&mut self) -> Result<bool, AllocError>
-        ensures reads { Gives result self.new (spec.read_substitution (state self.old)) }
-        ensures kept { OnRead result (SameFrame self.old.buffer self.new.buffer) }
+    pub fn read_substitution(&mut self) -> Result<(), Stop>
+        ensures reads { Gives result self.new (spec.parse_substitution (state self.old)) }
+        ensures kept { OnOk result (SameFrame self.old.buffer self.new.buffer) }
         ensures bounds { Bounds 2 result (state self.old) (state self.new) }
     {
         self.skip(1);
-        match substitution_form(self.rest) {
-            SubstitutionForm::KnownSubstitution => {
-                let Some(known) = known_of(self.rest) else {
-                    return Ok(false);
+        match substitution_case(self.rest) {
+            SubstitutionCase::AbbreviationSubstitution => {
+                let Some(known) = abbreviation_of(self.rest) else {
+                    return Err(Stop::Unread);
                 };
                 self.skip(1);
-                self.push_known(known)?;
-                Ok(true)
+                self.push_abbreviation(known)?;
+                Ok(())
             }
-            SubstitutionForm::SavedSubstitution => {
+            SubstitutionCase::ComponentSubstitution => {
                 let Some((index, rest)) = index_of(Radix::Base36, self.rest) else {
-                    return Ok(false);
+                    return Err(Stop::Unread);
                 };
                 let Some(component) = self.buffer.saved(index) else {
-                    return Ok(false);
+                    return Err(Stop::Unread);
                 };
                 self.rest = rest;
                 self.found = component;
-                Ok(true)
+                Ok(())
             }
         }
     }
 
     /// `<template-param> ::= T [<number>] _`: an argument of the last scope, or `auto` in a lambda's signature.
     #[tactic(auto, using(crate::proofs::Rules::parameters))]
-    pub fn read_parameter(&mut self, context: Context) -> Result<bool, AllocError>
-        ensures reads { Gives result self.new (spec.read_parameter context (state self.old)) }
-        ensures kept { OnRead result (SameFrame self.old.buffer self.new.buffer) }
+    pub fn read_parameter(&mut self, context: Context) -> Result<(), Stop>
+        ensures reads { Gives result self.new (spec.parse_parameter context (state self.old)) }
+        ensures kept { OnOk result (SameFrame self.old.buffer self.new.buffer) }
         ensures bounds { Bounds 2 result (state self.old) (state self.new) }
     {
         self.skip(1);
         let Some((index, rest)) = index_of(Radix::Decimal, self.rest) else {
-            return Ok(false);
+            return Err(Stop::Unread);
         };
         self.rest = rest;
         if context.lambda {
             self.found = self.buffer.push(b"auto")?;
-            return Ok(true);
+            return Ok(());
         }
         let Some(argument) = self.buffer.arg(index) else {
-            return Ok(false);
+            return Err(Stop::Unread);
         };
         self.found = argument;
-        Ok(true)
+        Ok(())
     }
 
     /// A `<template-param>` that is saved.
-    pub fn read_saved_parameter(&mut self, context: Context) -> Result<bool, AllocError>
+    pub fn read_saved_parameter(&mut self, context: Context) -> Result<(), Stop>
         ensures reads { Gives result self.new (spec.saved_parameter context (state self.old)) }
-        ensures some { OnRead result (0 < length (saved self.new.buffer)) }
-        ensures kept { OnRead result (SameFrame self.old.buffer self.new.buffer) }
+        ensures some { OnOk result (0 < length (saved self.new.buffer)) }
+        ensures kept { OnOk result (SameFrame self.old.buffer self.new.buffer) }
         ensures bounds { Bounds 2 result (state self.old) (state self.new) }
     {
-        if !self.read_parameter(context)? {
-            return Ok(false);
-        }
+        self.read_parameter(context)?;
         self.save_found()?;
-        Ok(true)
+        Ok(())
     }
 
     /// `<builtin-type>`, which stands there.
@@ -227,17 +228,17 @@ impl<'a> Reader<'a> {
         Ok(())
     }
 
-    /// Drops the scopes that an argument opened, and puts it into the scope that its list opened.
-    pub fn put(&mut self, opens: bool, kept: usize, piece: Piece) -> Result<(), AllocError>
+    /// Drops the scopes past the first n, which an argument opened, and puts it into the scope that its list opened.
+    pub fn put(&mut self, opens: bool, n: usize, piece: Piece) -> Result<(), AllocError>
         requires living { IsLiving self.old.buffer piece }
-        requires scopes { kept ≤ length (scopes self.old.buffer) }
-        requires opened { opens ≡ true → 0 < kept }
-        ensures state { OnOk result (state self.new ≡ spec.put opens kept
+        requires scopes { n ≤ length (scopes self.old.buffer) }
+        requires opened { opens ≡ true → 0 < n }
+        ensures state { OnOk result (state self.new ≡ spec.put opens n
             (shape self.old.buffer piece) (state self.old)) }
-        ensures stand { OnOk result (length (scopes self.new.buffer) ≡ kept) }
+        ensures stand { OnOk result (length (scopes self.new.buffer) ≡ n) }
         ensures kept { OnOk result (SameFrame self.old.buffer self.new.buffer) }
     {
-        self.buffer.keep_scopes(kept);
+        self.buffer.keep_scopes(n);
         if opens {
             self.buffer.push_arg(piece)?;
         }
@@ -245,28 +246,21 @@ impl<'a> Reader<'a> {
     }
 }
 
-/// The list with one more argument.
+/// The list with what stands in front of its next argument: a comma and a space, or nothing in front of the first.
 #[tactic(auto, using(demangle_text::proofs::Laws::laws))]
-pub fn list_more(
-    buf: &mut Buffer,
-    first: bool,
-    list: Piece,
-    argument: Piece,
-) -> Result<Piece, AllocError>
+pub fn separate(buf: &mut Buffer, first: bool, list: Piece) -> Result<Piece, AllocError>
     requires list { IsLiving buf.old list }
-    requires argument { IsLiving buf.old argument }
-    ensures shape { IfOk result (λ p. Lives buf.new p (joined (shape buf.old list) (between first)
-        (shape buf.old argument))) }
+    ensures shape { IfOk result (λ p. Lives buf.new p (spec.separated first (shape buf.old list))) }
     ensures edit { OnOk result (IsEdit buf.old buf.new) }
 {
     if first {
-        buf.join(list, b"", argument)
+        Ok(list)
     } else {
-        buf.join(list, b", ", argument)
+        buf.append(list, b", ")
     }
 }
 
-/// The list with its end, and a space behind `>`.
+/// The list with its end, and a space after `>`.
 #[tactic(auto, using(demangle_text::proofs::Laws::laws))]
 pub fn close_list(buf: &mut Buffer, list: Piece) -> Result<Piece, AllocError>
     requires list { IsLiving buf.old list }

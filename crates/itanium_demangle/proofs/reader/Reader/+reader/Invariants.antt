@@ -1,8 +1,8 @@
 use Rattle.std.proofs.Common.{◌≡◌, ◌+◌, ◌-◌, ◌*◌, ◌<◌, ◌≤◌, length, true, map, All}
 use Rattle.demangle_text.specs.State.{IsLiving, IsRun, SameFrame, shape, saved, scopes}
-use Rattle.itanium_demangle.specs.Reading as spec
+use Rattle.itanium_demangle.specs.Parser as spec
 use Rattle.itanium_demangle.specs.Outcome.{state}
-use Rattle.itanium_demangle.proofs.Opens.{ComponentsSoFar, ListSoFar, TypesSoFar}
+use Rattle.itanium_demangle.proofs.Loops.{LoopSoFar}
 use Rattle.itanium_demangle.proofs.reader.Reader.+reader.Given as goal
 
 abbrev pub decreases-read_name : goal.decreases-read_name
@@ -26,11 +26,11 @@ decreases-framed_argument l = 8 * l.depth + 2
 abbrev pub decreases-read_attached : goal.decreases-read_attached
 decreases-read_attached l = 8 * l.depth + 2
 
-abbrev pub decreases-read_listed : goal.decreases-read_listed
-decreases-read_listed l = 8 * l.depth + 3
+abbrev pub decreases-read_attached_args : goal.decreases-read_attached_args
+decreases-read_attached_args l = 8 * l.depth + 3
 
-abbrev pub decreases-read_type_listed : goal.decreases-read_type_listed
-decreases-read_type_listed l = 8 * l.depth + 3
+abbrev pub decreases-read_type_attached : goal.decreases-read_type_attached
+decreases-read_type_attached l = 8 * l.depth + 3
 
 abbrev pub decreases-read_components : goal.decreases-read_components
 decreases-read_components l = 8 * l.depth + 3
@@ -43,8 +43,8 @@ decreases-read_nested l = 8 * l.depth + 4
 
 abbrev pub invariant-read_components-loop-self : goal.invariant-read_components-loop-self
 invariant-read_components-loop-self l = record {
-  reads : ComponentsSoFar (spec.read_prefix (spec.read_args l.depth l.context true) l.fn.takes (shape l.fn.self.buffer l.fn.first) (state l.fn.self))
-      (spec.read_args l.depth l.context true) l.takes (shape l.self.buffer l.name) (state l.self);
+  reads : LoopSoFar (spec.parse_components (spec.parse_args l.depth l.context true) l.fn.takes (shape l.fn.self.buffer l.fn.first) (state l.fn.self))
+      (spec.component_turn (spec.parse_args l.depth l.context true)) (l.takes, shape l.self.buffer l.name) (state l.self);
   living : IsLiving l.self.buffer l.name;
   run : IsRun l.fn.self.buffer l.self.buffer;
   saved : l.takes ≡ true → 0 < length (saved l.self.buffer);
@@ -59,13 +59,13 @@ decreases-read_components-loop-self l = length l.self.rest.now
 abbrev pub invariant-read_args-loop-self : goal.invariant-read_args-loop-self
 invariant-read_args-loop-self l = record {
   positive : 0 < l.depth;
-  reads : ListSoFar (spec.read_args l.depth l.context l.of_name (state l.fn.self)) l.opens l.kept (spec.argument_by (spec.read_type (l.depth - 1) l.context))
-      l.first (shape l.self.buffer l.list) (state l.self);
+  reads : LoopSoFar (spec.parse_args l.depth l.context l.of_name (state l.fn.self))
+      (spec.arguments_turn l.opens l.scopes (spec.argument_by (spec.parse_type (l.depth - 1) l.context))) (l.first, shape l.self.buffer l.list) (state l.self);
   living : IsLiving l.self.buffer l.list;
   run : IsRun l.fn.self.buffer l.self.buffer;
-  scopes_stand : length (scopes l.fn.self.buffer) ≤ l.kept;
-  scopes_kept : l.kept ≤ length (scopes l.self.buffer);
-  opened : l.opens ≡ true → 0 < l.kept;
+  scopes_stand : length (scopes l.fn.self.buffer) ≤ l.scopes;
+  scopes_kept : l.scopes ≤ length (scopes l.self.buffer);
+  opened : l.opens ≡ true → 0 < l.scopes;
   taken : length l.self.rest.now < length l.fn.self.rest.now;
   counted : l.self.entered + 2 * length l.self.rest.now + 1 ≤ l.fn.self.entered + 2 * length l.fn.self.rest.now;
 }
@@ -85,12 +85,12 @@ decreases-read_params l = 8 * l.depth + 3
 abbrev pub decreases-read_function : goal.decreases-read_function
 decreases-read_function l = 8 * l.depth + 4
 
-abbrev pub decreases-read_qualified : goal.decreases-read_qualified
-decreases-read_qualified l = 8 * l.depth + 5
+abbrev pub decreases-read_cv : goal.decreases-read_cv
+decreases-read_cv l = 8 * l.depth + 5
 
 abbrev pub invariant-read_types-loop-list : goal.invariant-read_types-loop-list
 invariant-read_types-loop-list l = record {
-  reads : TypesSoFar (spec.types_by (spec.read_type l.depth l.context) (state l.fn.self)) (spec.read_type l.depth l.context) (map (shape l.self.buffer) l.list.items) (state l.self);
+  reads : LoopSoFar (spec.parse_types (spec.parse_type l.depth l.context) (state l.fn.self)) (spec.types_turn (spec.parse_type l.depth l.context)) (map (shape l.self.buffer) l.list.items) (state l.self);
   living : All (IsLiving l.self.buffer) l.list.items;
   kept : SameFrame l.fn.self.buffer l.self.buffer;
   scopes_stand : length (scopes l.fn.self.buffer) ≤ length (scopes l.self.buffer);
@@ -113,8 +113,8 @@ decreases-read_pointer l = 8 * l.depth + 1
 abbrev pub decreases-read_function_type : goal.decreases-read_function_type
 decreases-read_function_type l = 8 * l.depth + 5
 
-abbrev pub decreases-read_qualified_type : goal.decreases-read_qualified_type
-decreases-read_qualified_type l = 8 * l.depth + 6
+abbrev pub decreases-read_cv_type : goal.decreases-read_cv_type
+decreases-read_cv_type l = 8 * l.depth + 6
 
 abbrev pub decreases-read_elaborated : goal.decreases-read_elaborated
 decreases-read_elaborated l = 8 * l.depth + 1

@@ -1,0 +1,127 @@
+-- Of names: what the grammar reads, the parser reads.
+use Rattle.std.proofs.Common.{◌≡◌, ◌<◌, ◌≤◌, ℕ, zero, suc, ◌+◌, max, Bool, true, false, List, map, length, refl, ◌∙◌, sym, arith, Option, Some, ap}
+use Rattle.std.proofs.lemmas.List.{length-map}
+use Rattle.std.specs.Prelude.{codes, option_map}
+use Rattle.std.proofs.lemmas.Option.{slice_get-map}
+use Rattle.itanium_syntax.specs.declared.context.Context.{Context}
+use Rattle.itanium_syntax.specs.Names.{source_text, name_quals}
+use Rattle.itanium_syntax.proofs.Fronts.{initializer_after, after-le}
+use Rattle.itanium_grammar.specs.Tree.{Tree, plain_text, with_args, trees, shape_of}
+use Rattle.itanium_grammar.specs.Grammar.{Position, Cost, past_initializer, last_of, SubstitutionAs, Substitution, ParameterAs, Parameter, TaggedAs, UnqualifiedAs, Unqualified, FirstAs, NameAs, Name, UnscopedAs, AttachedAs, Nested, Components, ComponentsAs, abbreviation_substitution, component_substitution, substitution, auto_parameter, scope_parameter, parameter, no_tag, source_component, constructor_component, destructor_component, unqualified, parameter_first, std_first, substitution_first, name_first, name, nested_name, unscoped_name, std_name, substitution_name, global_name, none_attached, args_attached, nested, components, end_of_components, args_component, name_component}
+use Rattle.itanium_grammar.proofs.Progress.{unqualified_takes, args_takes}
+use Rattle.itanium_demangle.specs.Cases.{SubstitutionCase, TagCase, UnqualifiedCase, FirstCase, NameCase, UnscopedCase, AttachedCase, ComponentCase}
+use Rattle.itanium_demangle.specs.Parser.{ParserState, Turn, after_turn, loop, ◌>>=◌, substitution_as, parse_substitution, parameter_as, parse_parameter, tagged_as, unqualified_as, parse_unqualified, first_as, attached_as, unscoped_as, component_as, component_turn, parse_nested, name_as, parse_name, parse_args}
+use Rattle.itanium_demangle.specs.Outcome.{state_at}
+use Rattle.itanium_demangle.proofs.Shapes.{same_read, one_more, taken-map, some-map, last-map, shape-plain_text, shape-abbreviation, shape-ctor_dtor_of, shape-with_args, shape-in_scope, shape-nested_of}
+use Rattle.itanium_demangle.proofs.Readings.{given, ArgsComplete, NamesComplete}
+
+-- without a counted production the depth is no matter
+substitution_as_complete : {case : SubstitutionCase} {p q : Position} {t : Tree} → SubstitutionAs case p t q → (e m : ℕ)
+    → substitution_as case (state_at p e m) ≡ Some (shape_of t, state_at q e m)
+substitution_as_complete (abbreviation_substitution {abbreviated = a} found) e m = rw (found, ← shape-abbreviation a) refl
+substitution_as_complete (component_substitution {p = p} {i = i} found there) e m = rw (found, slice_get-map shape_of p.saved i, there) refl
+
+pub substitution_complete : {p q : Position} {t : Tree} → Substitution p t q → (e m : ℕ) → parse_substitution (state_at p e m) ≡ Some (shape_of t, state_at q e m)
+unfolding parse_substitution
+substitution_complete (substitution a) e m = substitution_as_complete a e m
+
+parameter_as_complete : {lambda : Bool} {i : ℕ} {p : Position} {t : Tree} → ParameterAs lambda i p t → (e m : ℕ) → parameter_as lambda i (state_at p e m) ≡ Some (shape_of t)
+parameter_as_complete auto_parameter e m = ap Some (sym (shape-plain_text (codes "auto")))
+parameter_as_complete (scope_parameter {i = i} {p = p} there) e m = rw (last-map p.scopes, slice_get-map shape_of (last_of p.scopes) i, there) refl
+
+pub parameter_complete : {x : Context} {p q : Position} {t : Tree} → Parameter x p t q → (e m : ℕ) → parse_parameter x (state_at p e m) ≡ Some (shape_of t, state_at q e m)
+unfolding parse_parameter
+parameter_complete (parameter found a) e m = rw (found, parameter_as_complete a e m) refl
+
+tagged_complete : {case : TagCase} {t u : Tree} {p q : Position} → TaggedAs case t p u q → (e m : ℕ)
+    → tagged_as case (shape_of t) (state_at p e m) ≡ Some (shape_of u, state_at q e m)
+tagged_complete no_tag e m = refl
+
+unqualified_as_complete : {case : UnqualifiedCase} {x : Context} {scope : Option Tree} {p q : Position} {t : Tree} {c : Cost} → UnqualifiedAs case x scope p t q c → (e m : ℕ)
+    → unqualified_as case (option_map shape_of scope) (state_at p e m) ≡ given shape_of t q c e m
+unqualified_as_complete (source_component {scope = scope} {t = t} {bytes = b} found tags) e m =
+    rw (found, ← shape-plain_text (source_text b), tagged_complete tags e m, ← shape-in_scope scope t)
+    (same_read refl refl refl (omega arith) (omega arith))
+unqualified_as_complete (constructor_component {scope = scope} tags) e m =
+    rw (← shape-ctor_dtor_of scope false, tagged_complete tags e m) (same_read refl refl refl (omega arith) (omega arith))
+unqualified_as_complete (destructor_component {scope = scope} tags) e m =
+    rw (← shape-ctor_dtor_of scope true, tagged_complete tags e m) (same_read refl refl refl (omega arith) (omega arith))
+
+pub unqualified_complete : {x : Context} {scope : Option Tree} {p q : Position} {t : Tree} {c : Cost} → Unqualified x scope p t q c → (e m : ℕ)
+    → parse_unqualified (option_map shape_of scope) (state_at p e m) ≡ given shape_of t q c e m
+unfolding parse_unqualified
+unqualified_complete (unqualified {scope = scope} a) e m = rw (some-map scope) (unqualified_as_complete a e m)
+
+pub first_complete : {case : FirstCase} {x : Context} {p q : Position} {t : Tree} {c : Cost} → FirstAs case x p t q c → (e m : ℕ)
+    → first_as case x (state_at p e m) ≡ given shape_of t q c e m
+first_complete (parameter_first {q = q} {t = t} a) e m =
+    rw (parameter_complete a e m) (same_read refl (one_more q.saved t) refl (omega arith) (omega (arith, length-map q.saved shape_of)))
+first_complete std_first e m = same_read (sym (shape-plain_text (codes "std"))) refl refl (omega arith) (omega arith)
+first_complete (substitution_first a) e m = substitution_complete a e m ∙ same_read refl refl refl (omega arith) (omega arith)
+first_complete (name_first {q = q} {t = t} a) e m =
+    rw (unqualified_complete a e m) (same_read refl (one_more q.saved t) refl (omega arith) (omega (arith, length-map q.saved shape_of)))
+
+module _ (d : ℕ) (lists : ArgsComplete d) where
+  attached_complete : {case : AttachedCase} {x : Context} {t u : Tree} {p q : Position} {c : Cost} → AttachedAs case x t p u q c → c.depth ≤ d → (e m : ℕ)
+      → attached_as case (parse_args d x true) (shape_of t) (state_at p e m) ≡ given shape_of u q c e m
+  attached_complete none_attached deep e m = same_read refl refl refl (omega arith) (omega arith)
+  attached_complete (args_attached {t = t} {p = p} {list = ts} a) deep e m =
+      rw (one_more p.saved t, lists _ _ _ _ _ _ a (omega arith) e (max m (length (map shape_of p.saved) + 1)), ← shape-with_args t ts)
+      (same_read refl refl refl (omega arith) (omega (arith, length-map p.saved shape_of)))
+
+  unscoped_complete : {case : UnscopedCase} {x : Context} {p q : Position} {t : Tree} {c : Cost} → UnscopedAs case x p t q c → c.depth ≤ d → (e m : ℕ)
+      → unscoped_as case (parse_args d x true) (state_at p e m) ≡ given shape_of t q c e m
+  unscoped_complete (std_name {c = c} a b) deep e m =
+      rw (← shape-plain_text (codes "std"), unqualified_complete a e m, attached_complete b (omega arith) (e + c.count) (max m c.peak))
+      (same_read refl refl refl (omega arith) (omega arith))
+  unscoped_complete (substitution_name {t = t} {list = ts} a case b) deep e m =
+      rw (substitution_complete a e m, case, lists _ _ _ _ _ _ b deep e m, ← shape-with_args t ts) refl
+  unscoped_complete (global_name {c = c} a b) deep e m =
+      rw (unqualified_complete a e m, attached_complete b (omega arith) (e + c.count) (max m c.peak)) (same_read refl refl refl (omega arith) (omega arith))
+
+  mutual
+    unfolding loop component_turn
+
+    pub components_complete : {x : Context} {takes : Bool} {t u : Tree} {p q : Position} {c : Cost} → Components x takes t p u q c → c.depth ≤ d → (e m n : ℕ) → length p.rest < n
+        → loop (component_turn (parse_args d x true)) n (takes, shape_of t) (state_at p e m) ≡ given shape_of u q c e m
+    components_complete (components a) deep e m zero room = absurd (omega arith)
+    components_complete (components a) deep e m (suc n) room = component_complete a deep e m n room
+
+    component_complete : {case : ComponentCase} {x : Context} {takes : Bool} {t u : Tree} {p q : Position} {c : Cost} → ComponentsAs case x takes t p u q c → c.depth ≤ d → (e m n : ℕ) → length p.rest < suc n
+        → (component_as case (parse_args d x true) (takes, shape_of t) (state_at p e m) >>= λ r. after_turn r.0 (loop (component_turn (parse_args d x true)) n) r.1) ≡ given shape_of u q c e m
+    component_complete (end_of_components {takes = takes} {p = p}) deep e m n room = same_read refl (taken-map takes p.saved) refl (omega arith) (omega arith)
+    component_complete (args_component {q = q} {t = t} {list = ts} {c = c} a b) deep e m n room =
+        let shorter = (args_takes a).shorter in
+        let within = after-le (initializer_after q.rest) in
+        rw (
+          lists _ _ _ _ _ _ a (omega arith) e m,
+          ← shape-with_args t ts,
+          one_more q.saved (with_args t (trees ts)),
+          components_complete b (omega arith) (e + c.count) (max (max m c.peak) (length (map shape_of q.saved) + 1)) n (omega arith),
+        )
+        (same_read refl refl refl (omega arith) (omega (arith, length-map q.saved shape_of)))
+    component_complete (name_component {q = q} {u = u} {c = c} a b) deep e m n room =
+        let shorter = (unqualified_takes a).shorter in
+        let within = after-le (initializer_after q.rest) in
+        rw (
+          unqualified_complete a e m,
+          one_more q.saved u,
+          components_complete b (omega arith) (e + c.count) (max (max m c.peak) (length (map shape_of q.saved) + 1)) n (omega arith),
+        )
+        (same_read refl refl refl (omega arith) (omega (arith, length-map q.saved shape_of)))
+
+  nested_complete : {x : Context} {p q : Position} {t : Tree} {c : Cost} → Nested x p t q c → c.depth ≤ d → (e m : ℕ)
+      → parse_nested (parse_args d x true) x (state_at p e m) ≡ given shape_of t q c e m
+  unfolding parse_nested
+  nested_complete (nested {x = x} {p = p} {q = q} {u = u} {c = c} a b) deep e m =
+      rw (first_complete a e m, components_complete b (omega arith) (e + c.count) (max m c.peak) (length (past_initializer q).rest + 1) (omega arith), ← shape-nested_of u (name_quals p.rest) x.shown)
+      (same_read refl refl refl (omega arith) (omega arith))
+
+  name_as_complete : {case : NameCase} {x : Context} {p q : Position} {t : Tree} {c : Cost} → NameAs case x p t q c → c.depth ≤ d → (e m : ℕ)
+      → name_as case (parse_args d x true) x (state_at p e m) ≡ given shape_of t q c e m
+  name_as_complete (nested_name a) deep e m = nested_complete a deep e m
+  name_as_complete (unscoped_name a) deep e m = unscoped_complete a deep e m
+
+pub names_complete : (d : ℕ) → ArgsComplete d → NamesComplete (suc d)
+unfolding parse_name
+names_complete d lists x p q t c (name a) deep e m = name_as_complete d lists a (omega arith) (e + 1) m ∙ same_read refl refl refl (omega arith) refl

@@ -1,0 +1,72 @@
+-- Answers by computation.
+use Rattle.std.proofs.Common.{◌≡◌, ℕ, List, [], ◌∷◌, ◌++◌, Bool, true, false, Option, Some, None, refl, sym, codes}
+use Rattle.std.specs.Str.{is_utf8, chars}
+use Rattle.std.specs.Fmt.{digits}
+use Rattle.std.proofs.lemmas.Str.{IsUtf8-from_is_utf8, is_utf8-from_IsUtf8}
+use Rattle.std.specs.Prelude.{option_map}
+use Rattle.std.proofs.lemmas.Option.{some_pair_parts}
+use Rattle.demangle_text.specs.Shape.{Shape, text}
+use Rattle.itanium_syntax.specs.Scalars.{front_digits, weighted, number, index_of, dimension_of, source_name}
+use Rattle.itanium_grammar.specs.Answer.{after_prefix, start, outside, suffix, max_depth, IsAnswer}
+use Rattle.itanium_demangle.specs.Parser.{ParserState, begun, loop, component_turn, arguments_turn, types_turn, parse_unqualified, parse_substitution, parse_parameter, parse_nested, parse_name, parse_symbol}
+use Rattle.itanium_demangle.specs.Examples.{WorkedSymbols, e_acute}
+use Rattle.itanium_demangle.proofs.Symbols.{found_reading, found_none, no_prefix, not_read, printed}
+
+-- what the parser answers for a symbol, and whether it is UTF-8
+abbrev answered : Option (Shape × ParserState) → Option (List ℕ × Bool)
+answered parsed = option_map (λ r. (text r.0 ++ suffix r.1.rest, is_utf8 (text r.0))) parsed
+
+some_answer : (symbol inside answer : List ℕ) → after_prefix symbol ≡ Some inside → answered (parse_symbol max_depth outside (begun inside)) ≡ Some (answer, true) → IsAnswer symbol (Some answer)
+some_answer symbol inside answer prefix is = go (parse_symbol max_depth outside (begun inside)) refl is
+  where
+    go : (o : Option (Shape × ParserState)) → parse_symbol max_depth outside (begun inside) ≡ o → answered o ≡ Some (answer, true) → IsAnswer symbol (Some answer)
+    go None e f = cc
+    go (Some (s, after)) e f =
+        let parts = some_pair_parts _ _ _ _ f in
+        printed symbol inside 0 0 s after (Some answer) prefix (found_reading max_depth outside (start inside) 0 0 s after e) (IsUtf8-from_is_utf8 (text s) parts.1, sym parts.0)
+
+no_reading : (symbol inside : List ℕ) → after_prefix symbol ≡ Some inside → answered (parse_symbol max_depth outside (begun inside)) ≡ None → IsAnswer symbol None
+no_reading symbol inside prefix is = go (parse_symbol max_depth outside (begun inside)) refl is
+  where
+    go : (o : Option (Shape × ParserState)) → parse_symbol max_depth outside (begun inside) ≡ o → answered o ≡ None → IsAnswer symbol None
+    go None e f = not_read symbol inside prefix (found_none max_depth outside (start inside) 0 0 e)
+    go (Some (s, after)) e f = cc
+
+not_text : (symbol inside answer : List ℕ) → after_prefix symbol ≡ Some inside → answered (parse_symbol max_depth outside (begun inside)) ≡ Some (answer, false) → IsAnswer symbol None
+not_text symbol inside answer prefix is = go (parse_symbol max_depth outside (begun inside)) refl is
+  where
+    go : (o : Option (Shape × ParserState)) → parse_symbol max_depth outside (begun inside) ≡ o → answered o ≡ Some (answer, false) → IsAnswer symbol None
+    go None e f = cc
+    go (Some (s, after)) e f =
+        let parts = some_pair_parts _ _ _ _ f in
+        printed symbol inside 0 0 s after None prefix (found_reading max_depth outside (start inside) 0 0 s after e) (λ u. let yes = is_utf8-from_IsUtf8 (text s) u in cc)
+
+pub worked_symbols : WorkedSymbols
+unfolding parse_symbol parse_name parse_nested loop component_turn arguments_turn types_turn parse_unqualified parse_substitution parse_parameter source_name number index_of dimension_of front_digits weighted digits is_utf8 chars lib.Utf8.encode
+worked_symbols = record {
+  nested = some_answer (codes "_ZN3Foo3barEv") (codes "N3Foo3barEv") (codes "Foo::bar") refl refl;
+  reference_qualified = some_answer (codes "_ZNO3Foo3barEv") (codes "NO3Foo3barEv") (codes "Foo::bar &&") refl refl;
+  unnamed_namespace = some_answer (codes "_Z12_GLOBAL__N_1") (codes "12_GLOBAL__N_1") (codes "(anonymous namespace)") refl refl;
+  cut_and_not_printed = some_answer (codes "_Z11_GLOBAL__N" ++ e_acute) (codes "11_GLOBAL__N" ++ e_acute) (codes "(anonymous namespace)") refl refl;
+  two_underscores = some_answer (codes "__Z3foo.cold") (codes "3foo.cold") (codes "foo.cold") refl refl;
+  ignored_rest = some_answer (codes "_Z3foo@plt") (codes "3foo@plt") (codes "foo") refl refl;
+  two_bytes = some_answer (codes "_Z2" ++ e_acute) (codes "2" ++ e_acute) e_acute refl refl;
+  half_a_letter = not_text (codes "_Z1" ++ e_acute) (codes "1" ++ e_acute) (195 ∷ []) refl refl;
+  no_prefix = no_prefix (codes "malloc") refl;
+  nothing_after = no_reading (codes "_Z") [] refl refl;
+  number_past_the_end = no_reading (codes "_Z18446744073709551615") (codes "18446744073709551615") refl refl;
+  number_past_64_bits = no_reading (codes "_Z18446744073709551617a") (codes "18446744073709551617a") refl refl;
+  too_short = no_reading (codes "_Z4foo") (codes "4foo") refl refl;
+  length_zero = no_reading (codes "_Z0") (codes "0") refl refl;
+  leading_zero = no_reading (codes "_Z03foo") (codes "03foo") refl refl;
+  arguments = some_answer (codes "_ZNSt6vectorIS_IiEE4sizeEv") (codes "NSt6vectorIS_IiEE4sizeEv") (codes "std::vector<std::vector<int> >::size") refl refl;
+  last_own_name = some_answer (codes "_ZNSaIcED2Ev") (codes "NSaIcED2Ev") (codes "std::allocator<char>::~allocator") refl refl;
+  parameter = some_answer (codes "_Z1fIiT_Evv") (codes "1fIiT_Evv") (codes "f<int, int>") refl refl;
+  no_parameter_yet = no_reading (codes "_Z1fIT_iEvv") (codes "1fIT_iEvv") refl refl;
+  pointer_to_function = some_answer (codes "_Z1fIPFvvES1_Evv") (codes "1fIPFvvES1_Evv") (codes "f<void (*)(), void (*)()>") refl refl;
+  arrays = some_answer (codes "_Z1fIA2_A3_iS0_Evv") (codes "1fIA2_A3_iS0_Evv") (codes "f<int [2][3], int [3]>") refl refl;
+  reference_to_array = some_answer (codes "_Z1fIRKA3_iEvv") (codes "1fIRKA3_iEvv") (codes "f<int const (&) [3]>") refl refl;
+  no_array_of_functions = no_reading (codes "_Z1fIA3_FvvEEvv") (codes "1fIA3_FvvEEvv") refl refl;
+  member_function = some_answer (codes "_Z1fIM1AFvvREEvv") (codes "1fIM1AFvvREEvv") (codes "f<void (A::*)(void) &>") refl refl;
+  no_scope_of_a_type = some_answer (codes "_Z1fI1AIiET_Evv") (codes "1fI1AIiET_Evv") (codes "f<A<int>, A<int> >") refl refl;
+}

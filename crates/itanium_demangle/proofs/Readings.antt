@@ -1,0 +1,55 @@
+-- How the parser and the grammar are compared: what is read within a depth.
+use Rattle.std.proofs.Common.{◌≡◌, ◌≤◌, ℕ, ◌+◌, max, Bool, List, map, Option, Some}
+use Rattle.demangle_text.specs.Shape.{Shape}
+use Rattle.itanium_syntax.specs.declared.context.Context.{Context}
+use Rattle.itanium_grammar.specs.Tree.{Tree, shape_of, list_shape}
+use Rattle.itanium_grammar.specs.Grammar.{Position, Cost, Name, Args, TypeOf}
+use Rattle.itanium_demangle.specs.Parser.{ParserState, Parses, parse_name, parse_args, parse_type}
+use Rattle.itanium_demangle.specs.Outcome.{state_at}
+
+-- what a reading of cost c gives, from so many entered and saved
+abbrev pub given : {T A : Type 0} → (T → A) → T → Position → Cost → ℕ → ℕ → Option (A × ParserState)
+given show t q c e m = Some (show t, state_at q (e + c.count) (max m c.peak))
+
+-- what the grammar reads within the depth, the parser reads
+abbrev pub IsComplete : {T A : Type 0} → (Position → T → Position → Cost → Type 0) → (T → A) → ℕ → Parses A → Type 0
+IsComplete {T} R show d parse = (p q : Position) (t : T) (c : Cost) → R p t q c → c.depth ≤ d → (e m : ℕ) → parse (state_at p e m) ≡ given show t q c e m
+
+-- a reading within the depth
+pub record Within {T : Type 0} (R : T → Position → Cost → Type 0) (d : ℕ) : Type 0 where
+  pub tree : T
+  pub next : Position
+  pub cost : Cost
+  pub reading : R tree next cost
+  pub deep : cost.depth ≤ d
+
+-- a reading within the depth, and the answer y is what it gives
+pub record Found {T A : Type 0} (R : T → Position → Cost → Type 0) (show : T → A) (d e m : ℕ) (y : A × ParserState) : Type 0 where
+  pub within : Within R d
+  pub is : y ≡ (show within.tree, state_at within.next (e + within.cost.count) (max m within.cost.peak))
+
+-- what the parser reads, the grammar reads within the depth
+abbrev pub IsSound : {T A : Type 0} → (Position → T → Position → Cost → Type 0) → (T → A) → ℕ → Parses A → Type 0
+IsSound {T} {A} R show d parse = (p : Position) (e m : ℕ) (y : A × ParserState) → parse (state_at p e m) ≡ Some y → Found (R p) show d e m y
+
+-- the shape that a list of arguments prints
+abbrev pub shape_of_args : List Tree → Shape
+shape_of_args ts = list_shape (map shape_of ts)
+
+abbrev pub NamesComplete : ℕ → Type 0
+NamesComplete d = (x : Context) → IsComplete (Name x) shape_of d (parse_name d x)
+
+abbrev pub ArgsComplete : ℕ → Type 0
+ArgsComplete d = (x : Context) (of_name : Bool) → IsComplete (Args x of_name) shape_of_args d (parse_args d x of_name)
+
+abbrev pub TypesComplete : ℕ → Type 0
+TypesComplete d = (x : Context) → IsComplete (TypeOf x) shape_of d (parse_type d x)
+
+abbrev pub NamesSound : ℕ → Type 0
+NamesSound d = (x : Context) → IsSound (Name x) shape_of d (parse_name d x)
+
+abbrev pub ArgsSound : ℕ → Type 0
+ArgsSound d = (x : Context) (of_name : Bool) → IsSound (Args x of_name) shape_of_args d (parse_args d x of_name)
+
+abbrev pub TypesSound : ℕ → Type 0
+TypesSound d = (x : Context) → IsSound (TypeOf x) shape_of d (parse_type d x)

@@ -1,0 +1,110 @@
+-- The shapes of trees, and the states at positions.
+use Rattle.std.proofs.Common.{◌≡◌, ℕ, suc, ◌-◌, get_or, arith, Bool, true, false, List, [], ◌∷◌, ◌++◌, map, length, take, refl, sym, ap, Option, Some, None, ◌∙◌, if◌then◌else◌}
+use Rattle.std.proofs.lemmas.List.{map-append, length-map, map-set, get_or-map}
+use Rattle.std.specs.Prelude.{option_map, is_some}
+use Rattle.std.specs.List.{take-map}
+use Rattle.demangle_text.specs.Shape.{Shape, plain_shape}
+use Rattle.demangle_text.specs.State.{with_arg, last_args}
+use Rattle.demangle_quals.specs.declared.quals.Quals.{Quals}
+use Rattle.demangle_quals.specs.declared.quals.Pointer.{Pointer}
+use Rattle.demangle_edit.specs.Types.{pointer_shape, cv_shape, array_shape, member_pointer_shape, function_shape}
+use Rattle.demangle_edit.specs.Names.{qualified, qualified_ctor, attached, with_name_qualifiers}
+use Rattle.itanium_syntax.specs.declared.abbreviations.Abbreviation.{Abbreviation}
+use Rattle.itanium_grammar.specs.Tree.{Tree, plain_text, abbreviation, name_in, ctor_dtor_of, with_args, nested_of, pointer_to, cv_of, array_of, member_of, function_to, elaborated, elaborated_shape, abbreviation_shape, trees, shape_of, shape_each, list_shape, in_scope}
+use Rattle.itanium_grammar.specs.Grammar.{last_of, with_last}
+use Rattle.itanium_demangle.specs.Parser as parser
+use Rattle.itanium_demangle.specs.Parser.{ParserState}
+
+pub shape-plain_text : (bytes : List ℕ) → shape_of (plain_text bytes) ≡ plain_shape bytes
+unfolding shape_of
+shape-plain_text bytes = refl
+
+pub shape-name_in : (scope leaf : Tree) → shape_of (name_in scope leaf) ≡ qualified (shape_of scope) (shape_of leaf)
+unfolding shape_of
+shape-name_in scope leaf = refl
+
+pub shape-abbreviation : (abbreviated : Abbreviation) → shape_of (abbreviation abbreviated) ≡ abbreviation_shape abbreviated
+unfolding shape_of
+shape-abbreviation abbreviated = refl
+
+pub shape-ctor_dtor_of : (scope : Tree) (destructor : Bool) → shape_of (ctor_dtor_of scope destructor) ≡ qualified_ctor (shape_of scope) destructor
+unfolding shape_of
+shape-ctor_dtor_of scope destructor = refl
+
+shape_each-trees : (ts : List Tree) → shape_each (trees ts) ≡ map shape_of ts
+unfolding shape_of
+shape_each-trees [] = refl
+shape_each-trees (t ∷ ts) = ap (λ us. shape_of t ∷ us) (shape_each-trees ts)
+
+pub shape-with_args : (name : Tree) (list : List Tree) → shape_of (with_args name (trees list)) ≡ attached (shape_of name) (list_shape (map shape_of list))
+unfolding shape_of
+shape-with_args name list = ap (λ us. attached (shape_of name) (list_shape us)) (shape_each-trees list)
+
+pub shape-pointer_to : (kind : Pointer) (t : Tree) → shape_of (pointer_to kind t) ≡ pointer_shape kind (shape_of t)
+unfolding shape_of
+shape-pointer_to kind t = refl
+
+pub shape-cv_of : (quals : Quals) (t : Tree) → shape_of (cv_of quals t) ≡ cv_shape quals (shape_of t)
+unfolding shape_of
+shape-cv_of quals t = refl
+
+pub shape-array_of : (dimension : Option ℕ) (t : Tree) → shape_of (array_of dimension t) ≡ array_shape dimension (shape_of t)
+unfolding shape_of
+shape-array_of dimension t = refl
+
+pub shape-member_of : (class t : Tree) → shape_of (member_of class t) ≡ member_pointer_shape (shape_of class) (shape_of t)
+unfolding shape_of
+shape-member_of class t = refl
+
+pub shape-function_to : (ret : Tree) (params : List Tree) (quals : Quals) → shape_of (function_to ret (trees params) quals) ≡ function_shape (shape_of ret) (map shape_of params) quals
+unfolding shape_of
+shape-function_to ret params quals = ap (λ us. function_shape (shape_of ret) us quals) (shape_each-trees params)
+
+pub shape-elaborated : (word : List ℕ) (t : Tree) → shape_of (elaborated word t) ≡ elaborated_shape word (shape_of t)
+unfolding shape_of
+shape-elaborated word t = refl
+
+pub shape-nested_of : (name : Tree) (quals : Quals) (shown : Bool) → shape_of (nested_of name quals shown) ≡ with_name_qualifiers (shape_of name) quals shown
+unfolding shape_of
+shape-nested_of name quals shown = refl
+
+pub shape-in_scope : (scope : Option Tree) (leaf : Tree) → shape_of (in_scope scope leaf) ≡ parser.in_scope (option_map shape_of scope) (shape_of leaf)
+shape-in_scope None leaf = refl
+shape-in_scope (Some scope) leaf = shape-name_in scope leaf
+
+-- two answers that are the same, part by part
+pub same_read : {A : Type 0} {a b : A} {r : List ℕ} {xs ys : List Shape} {vs ws : List (List Shape)} {e f m n : ℕ} → a ≡ b → xs ≡ ys → vs ≡ ws → e ≡ f → m ≡ n
+    → ◌≡◌ {A = Option (A × ParserState)} (Some (a, record { rest = r; saved = xs; scopes = vs; entered = e; most_saved = m })) (Some (b, record { rest = r; saved = ys; scopes = ws; entered = f; most_saved = n }))
+same_read p q w r s = cc
+
+pub one_more : (ts : List Tree) (t : Tree) → map shape_of ts ++ shape_of t ∷ [] ≡ map shape_of (ts ++ t ∷ [])
+one_more ts t = sym (map-append shape_of ts (t ∷ []))
+
+pub taken-map : (takes : Bool) (ts : List Tree)
+    → (if takes then take (length (map shape_of ts) - 1) (map shape_of ts) else map shape_of ts) ≡ map shape_of (if takes then take (length ts - 1) ts else ts)
+taken-map true ts = rw (length-map ts shape_of) (take-map shape_of (length ts - 1) ts)
+taken-map false ts = refl
+
+pub some-map : (scope : Option Tree) → is_some (option_map shape_of scope) ≡ is_some scope
+some-map None = refl
+some-map (Some t) = refl
+
+pub last-map : (ss : List (List Tree)) → last_args (map (map shape_of) ss) ≡ map shape_of (last_of ss)
+last-map [] = refl
+last-map (s ∷ ss) =
+    ap (λ (n : ℕ). get_or (map (map shape_of) (s ∷ ss)) (n - 1) []) (length-map (s ∷ ss) (map shape_of))
+    ∙ get_or-map (map shape_of) (s ∷ ss) (suc (length ss) - 1) [] [] (omega arith)
+
+with_last-map : (t : Tree) (ss : List (List Tree)) → with_arg (shape_of t) (map (map shape_of) ss) ≡ map (map shape_of) (with_last t ss)
+with_last-map t ss =
+    rw (last-map ss, one_more (last_of ss) t, length-map ss (map shape_of)) (sym (map-set (map shape_of) ss (length ss - 1) (last_of ss ++ t ∷ [])))
+
+pub put-scopes : (o : Bool) (k : ℕ) (t : Tree) (ss : List (List Tree))
+    → (if o then with_arg (shape_of t) (take k (map (map shape_of) ss)) else take k (map (map shape_of) ss)) ≡ map (map shape_of) (if o then with_last t (take k ss) else take k ss)
+put-scopes true k t ss = rw (take-map (map shape_of) k ss) (with_last-map t (take k ss))
+put-scopes false k t ss = take-map (map shape_of) k ss
+
+pub begin-scopes : (o : Bool) (ss : List (List Tree))
+    → (if o then map (map shape_of) ss ++ [] ∷ [] else map (map shape_of) ss) ≡ map (map shape_of) (if o then ss ++ [] ∷ [] else ss)
+begin-scopes true ss = sym (map-append (map shape_of) ss ([] ∷ []))
+begin-scopes false ss = refl

@@ -1,0 +1,259 @@
+-- Of names: what the parser reads, the grammar reads.
+use Rattle.std.proofs.Common.{◌≡◌, ◌<◌, ◌≤◌, ℕ, zero, suc, ◌+◌, max, Bool, true, false, List, map, length, drop, refl, ap, ◌∙◌, sym, arith, Option, Some, None, codes}
+use Rattle.std.proofs.lemmas.Option.{same_Some, option_and_then_some, slice_get-map}
+use Rattle.std.proofs.lemmas.List.{length-map}
+use Rattle.std.specs.Prelude.{option_map, slice_get, is_some}
+use Rattle.demangle_text.specs.Shape.{Shape, plain_shape}
+use Rattle.itanium_syntax.specs.declared.context.Context.{Context}
+use Rattle.itanium_syntax.specs.declared.numerals.Radix.TheVariants.{Decimal, Base36}
+use Rattle.itanium_syntax.specs.Scalars.{source_name, index_of}
+use Rattle.itanium_syntax.specs.Abbreviations.{abbreviation_of}
+use Rattle.itanium_syntax.specs.Names.{source_text, name_case, unscoped_case, first_case, component_case, unqualified_case, tag_case, substitution_case, past_internal, past_name_quals, saves_first}
+use Rattle.itanium_syntax.specs.Args.{attached_case}
+use Rattle.itanium_syntax.proofs.Fronts.{initializer_after, after-le}
+use Rattle.itanium_grammar.specs.Tree.{Tree, plain_text, abbreviation, ctor_dtor_of, with_args, trees, shape_of}
+use Rattle.itanium_grammar.specs.Grammar.{Position, Cost, at, skip, save, last_of, past_initializer, both, saving, SubstitutionAs, Substitution, ParameterAs, Parameter, TaggedAs, UnqualifiedAs, Unqualified, FirstAs, NameAs, Name, UnscopedAs, AttachedAs, Nested, Components, ComponentsAs, Args, abbreviation_substitution, component_substitution, substitution, auto_parameter, scope_parameter, parameter, no_tag, source_component, constructor_component, destructor_component, unqualified, parameter_first, std_first, substitution_first, name_first, name, nested_name, unscoped_name, std_name, substitution_name, global_name, none_attached, args_attached, nested, components, end_of_components, args_component, name_component}
+use Rattle.itanium_grammar.proofs.Progress.{unqualified_takes, args_takes}
+use Rattle.itanium_demangle.specs.Cases.{SubstitutionCase, AbbreviationSubstitution, ComponentSubstitution, TagCase, NoTag, NextTag, UnqualifiedCase, SourceName, ConstructorName, DestructorName, OtherName, FirstCase, ParameterFirst, StdFirst, SubstitutionFirst, NameFirst, NameCase, NestedName, LocalName, UnscopedName, UnscopedCase, StdName, SubstitutionName, PlainName, AttachedCase, NoneAttached, ArgsAttached, ComponentCase, EndOfComponents, ArgsComponent, NameComponent}
+use Rattle.itanium_demangle.specs.Parser.{ParserState, Turn, after_turn, loop, ◌>>=◌, next_component, parse_source, substitution_as, parse_substitution, parameter_as, parse_parameter, saved_parameter, tagged_as, ctor_dtor_as, unqualified_as, parse_unqualified, first_as, attached_by, attached_as, template_as, unscoped_as, component_as, component_turn, parse_components, parse_nested, name_as, parse_name, parse_args}
+use Rattle.itanium_demangle.specs.Outcome.{state_at}
+use Rattle.itanium_demangle.proofs.Shapes.{one_more, some-map, last-map, shape-plain_text, shape-ctor_dtor_of, shape-with_args}
+use Rattle.itanium_demangle.proofs.Readings.{Within, Found, given, ArgsSound, ArgsComplete, NamesSound}
+use Rattle.itanium_demangle.proofs.CompleteNames.{substitution_complete, parameter_complete, unqualified_complete, first_complete, components_complete, names_complete}
+
+-- a reading that isn't counted, and the answer y is what it gives
+pub record Free (R : Tree → Position → Type 0) (e m : ℕ) (y : Shape × ParserState) : Type 0 where
+  pub tree : Tree
+  pub next : Position
+  pub reading : R tree next
+  pub is : y ≡ (shape_of tree, state_at next e m)
+
+-- the tree of a saved shape
+record Saved (ts : List Tree) (i : ℕ) : Type 0 where
+  tree : Tree
+  there : slice_get ts i ≡ Some tree
+
+saved_tree : (ts : List Tree) (i : ℕ) (v : Shape) → slice_get (map shape_of ts) i ≡ Some v → Saved ts i
+saved_tree ts i v is = go (slice_get ts i) refl (sym (slice_get-map shape_of ts i) ∙ is)
+  where
+    go : (o : Option Tree) → slice_get ts i ≡ o → option_map shape_of o ≡ Some v → Saved ts i
+    go None f e = cc
+    go (Some t) f e = record { tree = t; there = f }
+
+record Substituted (case : SubstitutionCase) (p : Position) : Type 0 where
+  tree : Tree
+  next : Position
+  reading : SubstitutionAs case p tree next
+
+substitution_as_sound : (case : SubstitutionCase) (p : Position) (e m : ℕ) (y : Shape × ParserState) → substitution_as case (state_at p e m) ≡ Some y → Substituted case p
+substitution_as_sound AbbreviationSubstitution p e m y is =
+    option_and_then_some _ (abbreviation_of p.rest) y is (λ a found _. record { tree = abbreviation a; next = skip 1 p; reading = abbreviation_substitution found })
+substitution_as_sound ComponentSubstitution p e m y is =
+    option_and_then_some _ (index_of Base36 p.rest) y is (λ found number stored.
+    option_and_then_some _ (slice_get (map shape_of p.saved) found.0) y stored (λ v got _.
+    let t = saved_tree p.saved found.0 v got in record { tree = t.tree; next = at found.1 p; reading = component_substitution number t.there }))
+
+pub substitution_sound : (p : Position) (e m : ℕ) (y : Shape × ParserState) → parse_substitution (state_at p e m) ≡ Some y → Free (Substitution p) e m y
+unfolding parse_substitution
+substitution_sound p e m y is =
+    let s = substitution_as_sound (substitution_case (drop 1 p.rest)) (skip 1 p) e m y is in
+    let r : Substitution p s.tree s.next = substitution s.reading in
+    record { tree = s.tree; next = s.next; reading = r; is = same_Some _ _ (sym is ∙ substitution_complete r e m) }
+
+record Named (lambda : Bool) (i : ℕ) (p : Position) : Type 0 where
+  tree : Tree
+  reading : ParameterAs lambda i p tree
+
+parameter_as_sound : (lambda : Bool) (i : ℕ) (p : Position) (e m : ℕ) (v : Shape) → parameter_as lambda i (state_at p e m) ≡ Some v → Named lambda i p
+parameter_as_sound true i p e m v is = record { tree = plain_text (codes "auto"); reading = auto_parameter }
+parameter_as_sound false i p e m v is =
+    let t = saved_tree (last_of p.scopes) i v (ap (λ (ts : List Shape). slice_get ts i) (sym (last-map p.scopes)) ∙ is) in record { tree = t.tree; reading = scope_parameter t.there }
+
+pub parameter_sound : (x : Context) (p : Position) (e m : ℕ) (y : Shape × ParserState) → parse_parameter x (state_at p e m) ≡ Some y → Free (Parameter x p) e m y
+unfolding parse_parameter
+parameter_sound x p e m y is =
+    option_and_then_some _ (index_of Decimal (drop 1 p.rest)) y is (λ found number named.
+    option_and_then_some _ (parameter_as x.lambda found.0 (state_at p e m)) y named (λ v got _.
+    let t = parameter_as_sound x.lambda found.0 p e m v got in
+    let r : Parameter x p t.tree (at found.1 p) = parameter number t.reading in
+    record { tree = t.tree; next = at found.1 p; reading = r; is = same_Some _ _ (sym is ∙ whole r) }))
+  where
+    whole : {t : Tree} {q : Position} → Parameter x p t q → parse_parameter x (state_at p e m) ≡ Some (shape_of t, state_at q e m)
+    whole r = parameter_complete r e m
+
+record Tagged (case : TagCase) (t : Tree) (p : Position) : Type 0 where
+  tree : Tree
+  next : Position
+  reading : TaggedAs case t p tree next
+
+tagged_sound : (case : TagCase) (t : Tree) (p : Position) (e m : ℕ) (y : Shape × ParserState) → tagged_as case (shape_of t) (state_at p e m) ≡ Some y → Tagged case t p
+tagged_sound NoTag t p e m y is = record { tree = t; next = p; reading = no_tag }
+tagged_sound NextTag t p e m y is = cc
+
+-- the source name that a reading begins with
+pub source_is : (p : Position) (e m : ℕ) (x : Shape × ParserState) (b : List ℕ × List ℕ) → ◌≡◌ {A = Option (Shape × ParserState)} (Some (plain_shape (source_text b.0), state_at (at b.1 p) e m)) (Some x)
+    → x ≡ (shape_of (plain_text (source_text b.0)), state_at (at b.1 p) e m)
+source_is p e m x b made = sym (same_Some _ _ made) ∙ ap (λ v. (v, state_at (at b.1 p) e m)) (sym (shape-plain_text (source_text b.0)))
+
+ctor_dtor_sound : (destructor : Bool) (scope : Tree) (p : Position) (e m : ℕ) (y : Shape × ParserState) → ctor_dtor_as destructor (Some (shape_of scope)) (state_at p e m) ≡ Some y
+    → Tagged (tag_case (drop 2 p.rest)) (ctor_dtor_of scope destructor) (skip 2 p)
+ctor_dtor_sound destructor scope p e m y is =
+    tagged_sound (tag_case (drop 2 p.rest)) (ctor_dtor_of scope destructor) (skip 2 p) e m y (rw (shape-ctor_dtor_of scope destructor) is)
+
+unqualified_as_sound : (d : ℕ) (case : UnqualifiedCase) (x : Context) (scope : Option Tree) (p : Position) (e m : ℕ) (y : Shape × ParserState)
+    → unqualified_as case (option_map shape_of scope) (state_at p e m) ≡ Some y → Within (UnqualifiedAs case x scope p) d
+unqualified_as_sound d OtherName x scope p e m y is = cc
+unqualified_as_sound d ConstructorName x None p e m y is = cc
+unqualified_as_sound d ConstructorName x (Some scope) p e m y is =
+    let t = ctor_dtor_sound false scope p e m y is in record { tree = _; next = _; cost = _; reading = constructor_component t.reading; deep = omega arith }
+unqualified_as_sound d DestructorName x None p e m y is = cc
+unqualified_as_sound d DestructorName x (Some scope) p e m y is =
+    let t = ctor_dtor_sound true scope p e m y is in record { tree = _; next = _; cost = _; reading = destructor_component t.reading; deep = omega arith }
+unqualified_as_sound d SourceName x scope p e m y is =
+    option_and_then_some _ (parse_source (state_at p e m)) y is (λ source first more.
+    option_and_then_some _ (source_name p.rest) source first (λ b found made.
+    let there = rw (source_is p e m source b made) at more in
+    option_and_then_some _ (tagged_as (tag_case b.1) (shape_of (plain_text (source_text b.0))) (state_at (at b.1 p) e m)) y there (λ z tags _.
+    let t = tagged_sound (tag_case b.1) (plain_text (source_text b.0)) (at b.1 p) e m z tags in
+    record { tree = _; next = _; cost = _; reading = source_component found t.reading; deep = omega arith })))
+
+pub unqualified_sound : (d : ℕ) (x : Context) (scope : Option Tree) (p : Position) (e m : ℕ) (y : Shape × ParserState)
+    → parse_unqualified (option_map shape_of scope) (state_at p e m) ≡ Some y → Found (Unqualified x scope p) shape_of d e m y
+unfolding parse_unqualified
+unqualified_sound d x scope p e m y is =
+    let r = unqualified_as_sound d (unqualified_case (is_some scope) (past_internal p.rest)) x scope (at (past_internal p.rest) p) e m y (rw (some-map scope) at is) in
+    let w : Within (Unqualified x scope p) d = record { tree = _; next = _; cost = _; reading = unqualified r.reading; deep = r.deep } in
+    record { within = w; is = same_Some _ _ (sym is ∙ whole w.reading) }
+  where
+    whole : {t : Tree} {q : Position} {c : Cost} → Unqualified x scope p t q c → parse_unqualified (option_map shape_of scope) (state_at p e m) ≡ given shape_of t q c e m
+    whole a = unqualified_complete a e m
+
+first_sound : (d : ℕ) (case : FirstCase) (x : Context) (p : Position) (e m : ℕ) (y : Shape × ParserState) → first_as case x (state_at p e m) ≡ Some y → Within (FirstAs case x p) d
+first_sound d ParameterFirst x p e m y is =
+    option_and_then_some _ (parse_parameter x (state_at p e m)) y is (λ z found _.
+    let i = parameter_sound x p e m z found in record { tree = _; next = _; cost = _; reading = parameter_first i.reading; deep = omega arith })
+first_sound d SubstitutionFirst x p e m y is =
+    let i = substitution_sound p e m y is in record { tree = _; next = _; cost = _; reading = substitution_first i.reading; deep = omega arith }
+first_sound d StdFirst x p e m y is = record { tree = _; next = _; cost = _; reading = std_first; deep = omega arith }
+first_sound d NameFirst x p e m y is =
+    option_and_then_some _ (parse_unqualified None (state_at p e m)) y is (λ z named _.
+    let i = (unqualified_sound d x None p e m z named).within in record { tree = _; next = _; cost = _; reading = name_first i.reading; deep = omega (arith, i.deep) })
+
+-- a list of arguments after a tree, and the answer y is what the tree with them gives
+pub record Attached (x : Context) (of_name : Bool) (name : Tree) (p : Position) (d e m : ℕ) (y : Shape × ParserState) : Type 0 where
+  pub within : Within (Args x of_name p) d
+  pub is : y ≡ (shape_of (with_args name (trees within.tree)), state_at within.next (e + within.cost.count) (max m within.cost.peak))
+
+pub attached_sound : (d : ℕ) → ArgsSound d → (x : Context) (of_name : Bool) (name : Tree) (p : Position) (e m : ℕ) (y : Shape × ParserState)
+    → attached_by (parse_args d x of_name) (shape_of name) (state_at p e m) ≡ Some y → Attached x of_name name p d e m y
+attached_sound d lists x of_name t p e m y is =
+    option_and_then_some _ (parse_args d x of_name (state_at p e m)) y is (λ z list made.
+    let found = lists x of_name p e m z list in
+    let w = found.within in
+    let there = rw (found.is, ← shape-with_args t w.tree) at made in
+    record { within = w; is = sym (same_Some _ _ there) })
+
+record Templated (case : AttachedCase) (x : Context) (t : Tree) (p : Position) (d : ℕ) : Type 0 where
+  case_is : case ≡ ArgsAttached
+  within : Within (Args x true p) d
+
+module _ (d : ℕ) (lists : ArgsSound d) where
+  attached_as_sound : (case : AttachedCase) (x : Context) (t : Tree) (p : Position) (e m : ℕ) (y : Shape × ParserState)
+      → attached_as case (parse_args d x true) (shape_of t) (state_at p e m) ≡ Some y → Within (AttachedAs case x t p) d
+  attached_as_sound NoneAttached x t p e m y is = record { tree = _; next = _; cost = _; reading = none_attached; deep = omega arith }
+  attached_as_sound ArgsAttached x t p e m y is =
+      let a = (attached_sound d lists x true t (save t p) e (max m (length (map shape_of p.saved) + 1)) y (rw (one_more p.saved t) at is)).within in
+      record { tree = _; next = _; cost = _; reading = args_attached a.reading; deep = omega (arith, a.deep) }
+
+  template_sound : (case : AttachedCase) (x : Context) (t : Tree) (p : Position) (e m : ℕ) (y : Shape × ParserState)
+      → template_as case (parse_args d x true) (shape_of t) (state_at p e m) ≡ Some y → Templated case x t p d
+  template_sound NoneAttached x t p e m y is = cc
+  template_sound ArgsAttached x t p e m y is = record { case_is = refl; within = (attached_sound d lists x true t p e m y is).within }
+
+  unscoped_sound : (case : UnscopedCase) (x : Context) (p : Position) (e m : ℕ) (y : Shape × ParserState)
+      → unscoped_as case (parse_args d x true) (state_at p e m) ≡ Some y → Within (UnscopedAs case x p) d
+  unscoped_sound SubstitutionName x p e m y is =
+      option_and_then_some _ (parse_substitution (state_at p e m)) y is (λ z first more.
+      let i = substitution_sound p e m z first in
+      let l = template_sound (attached_case i.next.rest) x i.tree i.next e m y (rw i.is at more) in
+      record { tree = _; next = _; cost = _; reading = substitution_name i.reading l.case_is l.within.reading; deep = l.within.deep })
+  unscoped_sound StdName x p e m y is =
+      option_and_then_some _ (parse_unqualified (Some (plain_shape (codes "std"))) (state_at (skip 2 p) e m)) y is (λ z first more.
+      let found = unqualified_sound d x (Some (plain_text (codes "std"))) (skip 2 p) e m z (rw (shape-plain_text (codes "std")) first) in
+      let i = found.within in
+      let l = attached_as_sound (attached_case i.next.rest) x i.tree i.next (e + i.cost.count) (max m i.cost.peak) y (rw found.is at more) in
+      record { tree = _; next = _; cost = _; reading = std_name i.reading l.reading; deep = omega (arith, i.deep, l.deep) })
+  unscoped_sound PlainName x p e m y is =
+      option_and_then_some _ (parse_unqualified None (state_at p e m)) y is (λ z first more.
+      let found = unqualified_sound d x None p e m z first in
+      let i = found.within in
+      let l = attached_as_sound (attached_case i.next.rest) x i.tree i.next (e + i.cost.count) (max m i.cost.peak) y (rw found.is at more) in
+      record { tree = _; next = _; cost = _; reading = global_name i.reading l.reading; deep = omega (arith, i.deep, l.deep) })
+
+-- the components after what stands, in n turns
+abbrev ComponentsSound : ℕ → ℕ → Type 0
+ComponentsSound d n = (x : Context) (takes : Bool) (t : Tree) (p : Position) (e m : ℕ) (y : Shape × ParserState) → length p.rest < n
+    → loop (component_turn (parse_args d x true)) n (takes, shape_of t) (state_at p e m) ≡ Some y → Found (Components x takes t p) shape_of d e m y
+
+module _ (d : ℕ) (complete : ArgsComplete d) (lists : ArgsSound d) where
+  component_sound : (n : ℕ) → ComponentsSound d n → (case : ComponentCase) (x : Context) (takes : Bool) (t : Tree) (p : Position) (e m : ℕ) (y : Shape × ParserState) → length p.rest < suc n
+      → (component_as case (parse_args d x true) (takes, shape_of t) (state_at p e m) >>= λ r. after_turn r.0 (loop (component_turn (parse_args d x true)) n) r.1) ≡ Some y
+      → Within (ComponentsAs case x takes t p) d
+  component_sound n again EndOfComponents x takes t p e m y room is = record { tree = _; next = _; cost = _; reading = end_of_components; deep = omega arith }
+  component_sound n again ArgsComponent x takes t p e m y room is =
+      option_and_then_some _ (attached_by (parse_args d x true) (shape_of t) (state_at p e m) >>= next_component) y is (λ v turned rest.
+      option_and_then_some _ (attached_by (parse_args d x true) (shape_of t) (state_at p e m)) v turned (λ z list made.
+      let found = attached_sound d lists x true t p e m z list in
+      let i = found.within in
+      let shorter = (args_takes i.reading).shorter in
+      let within = after-le (initializer_after i.next.rest) in
+      let whole = with_args t (trees i.tree) in
+      let there = rw (← same_Some _ _ made, found.is, one_more i.next.saved whole) at rest in
+      let o = (again x true whole (past_initializer (save whole i.next)) (e + i.cost.count) (max (max m i.cost.peak) (length (map shape_of i.next.saved) + 1)) y (omega arith) there).within in
+      record { tree = o.tree; next = o.next; cost = both i.cost (both (saving i.next) o.cost); reading = args_component {r = o.next} {v = o.tree} {d = o.cost} i.reading o.reading; deep = omega (arith, i.deep, o.deep) }))
+  component_sound n again NameComponent x takes t p e m y room is =
+      option_and_then_some _ (parse_unqualified (Some (shape_of t)) (state_at p e m) >>= next_component) y is (λ v turned rest.
+      option_and_then_some _ (parse_unqualified (Some (shape_of t)) (state_at p e m)) v turned (λ z named made.
+      let found = unqualified_sound d x (Some t) p e m z named in
+      let i = found.within in
+      let shorter = (unqualified_takes i.reading).shorter in
+      let within = after-le (initializer_after i.next.rest) in
+      let there = rw (← same_Some _ _ made, found.is, one_more i.next.saved i.tree) at rest in
+      let o = (again x true i.tree (past_initializer (save i.tree i.next)) (e + i.cost.count) (max (max m i.cost.peak) (length (map shape_of i.next.saved) + 1)) y (omega arith) there).within in
+      record { tree = o.tree; next = o.next; cost = both i.cost (both (saving i.next) o.cost); reading = name_component {r = o.next} {v = o.tree} {d = o.cost} i.reading o.reading; deep = omega (arith, i.deep, o.deep) }))
+
+  components_sound : (n : ℕ) → ComponentsSound d n
+  unfolding loop component_turn
+  components_sound zero x takes t p e m y room is = cc
+  components_sound (suc n) x takes t p e m y room is =
+      let r = component_sound n (components_sound n) (component_case p.rest) x takes t p e m y room is in
+      let w : Within (Components x takes t p) d = record { tree = _; next = _; cost = _; reading = components r.reading; deep = r.deep } in
+      record { within = w; is = same_Some _ _ (sym is ∙ components_complete d complete w.reading w.deep e m (suc n) room) }
+
+  nested_sound : (x : Context) (p : Position) (e m : ℕ) (y : Shape × ParserState) → parse_nested (parse_args d x true) x (state_at p e m) ≡ Some y → Within (Nested x p) d
+  unfolding parse_nested
+  nested_sound x p e m y is =
+      let begun = at (past_name_quals p.rest) p in
+      let case = first_case (past_name_quals p.rest) in
+      option_and_then_some _ (first_as case x (state_at begun e m)) y is (λ z first more.
+      let i = first_sound d case x begun e m z first in
+      let is_z : z ≡ (shape_of i.tree, state_at i.next (e + i.cost.count) (max m i.cost.peak)) = same_Some _ _ (sym first ∙ first_complete i.reading e m) in
+      let there = rw is_z at more in
+      option_and_then_some _ (parse_components (parse_args d x true) (saves_first case) (shape_of i.tree) (state_at (past_initializer i.next) (e + i.cost.count) (max m i.cost.peak))) y there (λ v rest _.
+      let o = (components_sound (length (past_initializer i.next).rest + 1) x (saves_first case) i.tree (past_initializer i.next) (e + i.cost.count) (max m i.cost.peak) v (omega arith) rest).within in
+      record { tree = _; next = o.next; cost = _; reading = nested i.reading o.reading; deep = omega (arith, i.deep, o.deep) }))
+
+  name_as_sound : (case : NameCase) (x : Context) (p : Position) (e m : ℕ) (y : Shape × ParserState)
+      → name_as case (parse_args d x true) x (state_at p e m) ≡ Some y → Within (NameAs case x p) d
+  name_as_sound NestedName x p e m y is =
+      let i = nested_sound x (skip 1 p) e m y is in record { tree = _; next = _; cost = _; reading = nested_name i.reading; deep = i.deep }
+  name_as_sound LocalName x p e m y is = cc
+  name_as_sound UnscopedName x p e m y is =
+      let i = unscoped_sound d lists (unscoped_case p.rest) x p e m y is in record { tree = _; next = _; cost = _; reading = unscoped_name i.reading; deep = i.deep }
+
+pub names_sound : (d : ℕ) → ArgsComplete d → ArgsSound d → NamesSound (suc d)
+unfolding parse_name
+names_sound d complete lists x p e m y is =
+    let r = name_as_sound d complete lists (name_case p.rest) x p (e + 1) m y is in
+    let w : Within (Name x p) (suc d) = record { tree = _; next = _; cost = _; reading = name r.reading; deep = omega (arith, r.deep) } in
+    record { within = w; is = same_Some _ _ (sym is ∙ names_complete d complete x _ _ _ _ w.reading w.deep e m) }

@@ -1,0 +1,36 @@
+-- Of symbols: what the parser reads, the grammar reads.
+use Rattle.std.proofs.Common.{◌≡◌, ℕ, zero, suc, Option, Some, None, ◌∙◌, sym}
+use Rattle.std.proofs.lemmas.Option.{same_Some}
+use Rattle.demangle_text.specs.Shape.{Shape}
+use Rattle.itanium_syntax.specs.declared.context.Context.{Context}
+use Rattle.itanium_syntax.specs.Names.{symbol_case}
+use Rattle.itanium_grammar.specs.Tree.{shape_of}
+use Rattle.itanium_grammar.specs.Grammar.{Position, SymbolAs, Symbol, name_symbol, symbol}
+use Rattle.itanium_demangle.specs.Cases.{SymbolCase, SpecialSymbol, NameSymbol}
+use Rattle.itanium_demangle.specs.Parser.{ParserState, parse_name, symbol_as, parse_symbol}
+use Rattle.itanium_demangle.specs.Outcome.{state_at}
+use Rattle.itanium_demangle.proofs.Readings.{Within, Found, NamesSound, ArgsSound, TypesSound}
+use Rattle.itanium_demangle.proofs.CompleteSymbols.{all_complete, symbol_complete}
+use Rattle.itanium_demangle.proofs.SoundNames.{names_sound}
+use Rattle.itanium_demangle.proofs.SoundArgs.{args_sound}
+use Rattle.itanium_demangle.proofs.SoundTypes.{types_sound_at}
+
+all_sound : (d : ℕ) → NamesSound d × ArgsSound d × TypesSound d
+unfolding parse_name
+all_sound zero = (λ x p e m y is. cc, λ x of_name p e m y is. cc, λ x p e m y is. cc)
+all_sound (suc d) =
+    let (names_are, lists_are, kinds_are) = all_complete d in
+    let (names, lists, kinds) = all_sound d in
+    (names_sound d lists_are lists, args_sound d kinds_are kinds, types_sound_at d kinds_are names_are lists_are kinds names lists)
+
+symbol_as_sound : (d : ℕ) (case : SymbolCase) (x : Context) (p : Position) (e m : ℕ) (y : Shape × ParserState) → symbol_as case d x (state_at p e m) ≡ Some y → Within (SymbolAs case x p) d
+symbol_as_sound d SpecialSymbol x p e m y is = cc
+symbol_as_sound d NameSymbol x p e m y is =
+    let i = ((all_sound d).0 x p e m y is).within in record { tree = _; next = _; cost = _; reading = name_symbol i.reading; deep = i.deep }
+
+pub symbol_sound : (d : ℕ) (x : Context) (p : Position) (e m : ℕ) (y : Shape × ParserState) → parse_symbol d x (state_at p e m) ≡ Some y → Found (Symbol x p) shape_of d e m y
+unfolding parse_symbol
+symbol_sound d x p e m y is =
+    let r = symbol_as_sound d (symbol_case p.rest) x p e m y is in
+    let w : Within (Symbol x p) d = record { tree = _; next = _; cost = _; reading = symbol r.reading; deep = r.deep } in
+    record { within = w; is = same_Some _ _ (sym is ∙ symbol_complete w.reading d w.deep e m) }

@@ -1,0 +1,132 @@
+-- What a reader of symbols says, in the grammar's words, and what follows for the answer.
+use Rattle.std.proofs.Common.{◌≡◌, ◌<◌, ◌≤◌, ℕ, ◌+◌, max, ◌++◌, List, [], ◌∷◌, Bool, true, false, Option, Some, None, Result, Ok, Err, ap, if◌then◌else◌, ◌∙◌, sym, refl, subst, arith, length, drop, get_or}
+use Rattle.std.proofs.lemmas.Grind.{common_steps}
+use Rattle.std.proofs.lemmas.List.{length-drop, get_or-drop}
+use Rattle.std.proofs.lemmas.Str.{IsUtf8-nil, IsUtf8-drop, IsCharBoundary-before_ascii}
+use Rattle.std.specs.Str.{IsUtf8}
+use Rattle.demangle_text.specs.Shape.{Shape, text}
+use Rattle.demangle_text.specs.State.{shape}
+use Rattle.itanium_syntax.specs.declared.context.Context.{Context}
+use Rattle.itanium_syntax.specs.Bytes.{begins}
+use Rattle.itanium_syntax.proofs.Fronts.{IsAfter, after_then}
+use Rattle.itanium_grammar.specs.Tree.{shape_of, printing}
+use Rattle.itanium_grammar.specs.Grammar.{Position, Symbol}
+use Rattle.itanium_grammar.specs.Answer.{after_prefix, start, outside, suffix, max_depth, HasAnswer, HasNoAnswer, HasOneReading, IsAnswer}
+use Rattle.itanium_grammar.proofs.Unambiguous.{one_symbol}
+use Rattle.itanium_grammar.proofs.Progress.{symbol_takes}
+use Rattle.itanium_grammar.proofs.Agreement.{one_reading}
+use Rattle.itanium_demangle.specs.declared.reader.Reader.{Reader}
+use Rattle.itanium_demangle.specs.declared.stop.Stop.{Stop}
+use Rattle.itanium_demangle.specs.declared.stop.Stop.TheVariants.{Unread, Memory}
+use Rattle.itanium_demangle.specs.Parser.{ParserState, begun, parse_symbol}
+use Rattle.itanium_demangle.specs.Outcome.{state, state_at, Gives, StandsFor, HasReading, HasNoReading, ReadsAs}
+use Rattle.itanium_demangle.specs.Demangler.{IsPrinted}
+use Rattle.itanium_demangle.proofs.CompleteSymbols.{symbol_complete}
+use Rattle.itanium_demangle.proofs.SoundSymbols.{symbol_sound}
+
+-- what the parser reads is a reading, with which every other agrees
+pub found_reading : (d : ℕ) (x : Context) (p : Position) (e m : ℕ) (found : Shape) (after : ParserState) → parse_symbol d x (state_at p e m) ≡ Some (found, after)
+    → HasReading x p d e m found after
+found_reading d x p e m found after is =
+    let there = symbol_sound d x p e m (found, after) is in
+    let w = there.within in
+    record {
+      tree = w.tree;
+      next = w.next;
+      cost = w.cost;
+      reading = w.reading;
+      deep = w.deep;
+      shape_is = ap (λ (y : Shape × ParserState). y.0) there.is;
+      state_is = ap (λ (y : Shape × ParserState). y.1) there.is;
+      one = λ t q c r deep. let same = one_symbol r w.reading in (same.tree, same.next, same.cost);
+    }
+
+-- what the parser doesn't read has no reading
+pub found_none : (d : ℕ) (x : Context) (p : Position) (e m : ℕ) → parse_symbol d x (state_at p e m) ≡ None → HasNoReading x p d
+found_none d x p e m none tree next cost reading deep = let there = symbol_complete reading d deep e m in cc
+
+-- what a call says of the parser, it says of trees
+pub reads_as : (result : Result (Unit {0}) Stop) (x : Context) (d : ℕ) (before after : Reader) → Gives result after (parse_symbol d x (state before))
+    → ReadsAs result x d before after
+reads_as (Ok u) x d before after gives = (gives.0, λ p stands.
+    found_reading d x p before.entered before.most_saved (shape after.buffer after.found) (state after) (rw stands at gives.1))
+reads_as (Err Unread) x d before after none = λ p stands. found_none d x p before.entered before.most_saved (rw stands at none)
+reads_as (Err Memory) x d before after gives = tt
+
+-- a reader at the front of a symbol
+pub stands_at_start : (r : Reader) (bytes : List ℕ) → state r ≡ begun bytes → StandsFor r (start bytes)
+stands_at_start r bytes is = is ∙ (λ j. record {
+  rest = bytes;
+  saved = [];
+  scopes = [];
+  entered = sym (ap (λ (s : ParserState). s.entered) is) j;
+  most_saved = sym (ap (λ (s : ParserState). s.most_saved) is) j;
+})
+
+pub no_prefix : (symbol : List ℕ) → after_prefix symbol ≡ None → HasNoAnswer symbol
+no_prefix symbol none tree next cost reading deep utf8 = let p = reading.prefix in cc
+
+begins_dot : (bytes : List ℕ) → begins (46 ∷ []) bytes ≡ true → (0 < length bytes) × (get_or bytes 0 0 ≡ 46)
+begins_dot [] e = cc
+begins_dot (b ∷ bytes) e = (omega arith, grind (arith, common_steps))
+
+-- a text may be cut before a dot
+cut_at_dot : (symbol : List ℕ) (n : ℕ) → IsUtf8 symbol → begins (46 ∷ []) (drop n symbol) ≡ true → IsUtf8 (drop n symbol)
+cut_at_dot symbol n utf8 dot =
+    let parts = begins_dot (drop n symbol) dot in
+    let there : n < length symbol = omega (arith, parts.0, length-drop n symbol) in
+    let is : get_or symbol n 0 ≡ 46 = ap (λ k. get_or symbol k 0) (omega arith) ∙ sym (get_or-drop n symbol 0 0) ∙ parts.1 in
+    IsUtf8-drop symbol n utf8 (IsCharBoundary-before_ascii symbol n there (omega (arith, is)))
+
+suffix_from : (symbol rest : List ℕ) → IsUtf8 symbol → IsAfter rest symbol → IsUtf8 (suffix rest)
+suffix_from symbol rest utf8 after = go (begins (46 ∷ []) rest) refl
+  where
+    go : (t : Bool) → begins (46 ∷ []) rest ≡ t → IsUtf8 (if t then rest else [])
+    go true e = rw after.is (cut_at_dot symbol after.count utf8 (ap (begins (46 ∷ [])) (sym after.is) ∙ e))
+    go false e = IsUtf8-nil
+
+prefix_after : (symbol inside : List ℕ) → after_prefix symbol ≡ Some inside → IsAfter inside symbol
+prefix_after symbol inside e = go (begins (95 ∷ 90 ∷ []) symbol) (begins (95 ∷ 95 ∷ 90 ∷ []) symbol) e
+  where
+    go : (s t : Bool) → (if s then Some (drop 2 symbol) else (if t then Some (drop 3 symbol) else None)) ≡ Some inside → IsAfter inside symbol
+    go true t e = record { count = 2; is = cc }
+    go false true e = record { count = 3; is = cc }
+    go false false e = cc
+
+pub not_read : (symbol inside : List ℕ) → after_prefix symbol ≡ Some inside → HasNoReading outside (start inside) max_depth → HasNoAnswer symbol
+not_read symbol inside prefix none tree next cost reading deep utf8 =
+    let here : reading.inside ≡ inside = cc in
+    none tree next cost (subst (λ v. Symbol outside (start v) tree next cost) here reading.reading) deep
+
+read_wrongly : (symbol inside : List ℕ) (e m : ℕ) (found : Shape) (after : ParserState) → after_prefix symbol ≡ Some inside → HasReading outside (start inside) max_depth e m found after
+    → ¬ (IsUtf8 (text found)) → HasNoAnswer symbol
+read_wrongly symbol inside e m found after prefix has bad tree next cost reading deep utf8 =
+    let here : reading.inside ≡ inside = cc in
+    let same = has.one tree next cost (subst (λ v. Symbol outside (start v) tree next cost) here reading.reading) deep in
+    let is : shape_of tree ≡ found = ap shape_of same.0 ∙ sym has.shape_is in
+    bad (subst (λ (v : Shape). IsUtf8 (text v)) is utf8)
+
+read_rightly : (symbol inside answer : List ℕ) (e m : ℕ) (found : Shape) (after : ParserState) → after_prefix symbol ≡ Some inside → HasReading outside (start inside) max_depth e m found after
+    → IsUtf8 (text found) → answer ≡ text found ++ suffix after.rest → HasAnswer symbol answer
+read_rightly symbol inside answer e m found after prefix has utf8 built =
+    let same_rest : after.rest ≡ has.next.rest = ap (λ (s : ParserState). s.rest) has.state_is in
+    record {
+      tree = has.tree;
+      next = has.next;
+      cost = has.cost;
+      reading = record { inside = inside; prefix = prefix; reading = has.reading };
+      depth = has.deep;
+      utf8 = subst (λ (v : Shape). IsUtf8 (text v)) has.shape_is utf8;
+      answer_is = built ∙ ap (λ (v : Shape). text v ++ suffix after.rest) has.shape_is ∙ ap (λ (v : List ℕ). printing has.tree ++ suffix v) same_rest;
+    }
+
+pub printed : (symbol inside : List ℕ) (e m : ℕ) (found : Shape) (after : ParserState) (answer : Option (List ℕ)) → after_prefix symbol ≡ Some inside
+    → HasReading outside (start inside) max_depth e m found after → IsPrinted (text found) (suffix after.rest) answer → IsAnswer symbol answer
+printed symbol inside e m found after None prefix has bad = read_wrongly symbol inside e m found after prefix has bad
+printed symbol inside e m found after (Some answer) prefix has good = read_rightly symbol inside answer e m found after prefix has good.0 good.1
+
+pub suffix_utf8 : (symbol inside : List ℕ) (e m : ℕ) (found : Shape) (after : ParserState) → IsUtf8 symbol → after_prefix symbol ≡ Some inside
+    → HasReading outside (start inside) max_depth e m found after → IsUtf8 (suffix after.rest)
+suffix_utf8 symbol inside e m found after utf8 prefix has =
+    let same_rest : after.rest ≡ has.next.rest = ap (λ (s : ParserState). s.rest) has.state_is in
+    rw same_rest (suffix_from symbol has.next.rest utf8 (after_then (prefix_after symbol inside prefix) (symbol_takes has.reading).after))

@@ -1,0 +1,35 @@
+-- Symbols with their answers.
+use Rattle.std.specs.Prelude.{ℕ, List, [], ◌∷◌, ◌++◌, Some, None, codes}
+use Rattle.itanium_grammar.specs.Answer.{IsAnswer}
+
+-- the letter é in UTF-8
+abbrev pub e_acute : List ℕ
+e_acute = 195 ∷ 169 ∷ []
+
+-- what some symbols answer
+pub record WorkedSymbols : Type 0 where
+  pub nested : IsAnswer (codes "_ZN3Foo3barEv") (Some (codes "Foo::bar"))
+  pub reference_qualified : IsAnswer (codes "_ZNO3Foo3barEv") (Some (codes "Foo::bar &&"))
+  pub unnamed_namespace : IsAnswer (codes "_Z12_GLOBAL__N_1") (Some (codes "(anonymous namespace)"))
+  pub cut_and_not_printed : IsAnswer (codes "_Z11_GLOBAL__N" ++ e_acute) (Some (codes "(anonymous namespace)"))
+  pub two_underscores : IsAnswer (codes "__Z3foo.cold") (Some (codes "foo.cold"))
+  pub ignored_rest : IsAnswer (codes "_Z3foo@plt") (Some (codes "foo"))
+  pub two_bytes : IsAnswer (codes "_Z2" ++ e_acute) (Some e_acute)
+  pub half_a_letter : IsAnswer (codes "_Z1" ++ e_acute) None
+  pub no_prefix : IsAnswer (codes "malloc") None
+  pub nothing_after : IsAnswer (codes "_Z") None
+  pub number_past_the_end : IsAnswer (codes "_Z18446744073709551615") None
+  pub number_past_64_bits : IsAnswer (codes "_Z18446744073709551617a") None
+  pub too_short : IsAnswer (codes "_Z4foo") None
+  pub length_zero : IsAnswer (codes "_Z0") None
+  pub leading_zero : IsAnswer (codes "_Z03foo") None
+  pub arguments : IsAnswer (codes "_ZNSt6vectorIS_IiEE4sizeEv") (Some (codes "std::vector<std::vector<int> >::size"))
+  pub last_own_name : IsAnswer (codes "_ZNSaIcED2Ev") (Some (codes "std::allocator<char>::~allocator"))
+  pub parameter : IsAnswer (codes "_Z1fIiT_Evv") (Some (codes "f<int, int>"))
+  pub no_parameter_yet : IsAnswer (codes "_Z1fIT_iEvv") None
+  pub pointer_to_function : IsAnswer (codes "_Z1fIPFvvES1_Evv") (Some (codes "f<void (*)(), void (*)()>"))
+  pub arrays : IsAnswer (codes "_Z1fIA2_A3_iS0_Evv") (Some (codes "f<int [2][3], int [3]>"))
+  pub reference_to_array : IsAnswer (codes "_Z1fIRKA3_iEvv") (Some (codes "f<int const (&) [3]>"))
+  pub no_array_of_functions : IsAnswer (codes "_Z1fIA3_FvvEEvv") None
+  pub member_function : IsAnswer (codes "_Z1fIM1AFvvREEvv") (Some (codes "f<void (A::*)(void) &>"))
+  pub no_scope_of_a_type : IsAnswer (codes "_Z1fI1AIiET_Evv") (Some (codes "f<A<int>, A<int> >"))

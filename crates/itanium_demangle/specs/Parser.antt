@@ -1,0 +1,403 @@
+-- A bridge between the readers and the grammar, and no definition: what the readers do, as functions over shapes. The
+-- grammar is what is promised; theorems over it say that these functions read what it reads, and nothing else.
+use Rattle.std.specs.Prelude.{ℕ, zero, suc, ◌+◌, ◌-◌, max, Bool, true, false, if◌then◌else◌, is_some, slice_get, List, [], ◌∷◌, ◌++◌, Option, Some, None, option_and_then, take, drop, length, codes}
+use Rattle.demangle_text.specs.Shape.{Shape, plain_shape, appended, joined}
+use Rattle.demangle_text.specs.State.{last_args, with_arg}
+use Rattle.demangle_quals.specs.declared.quals.Quals.{Quals}
+use Rattle.demangle_quals.specs.declared.quals.Pointer.{Pointer}
+use Rattle.demangle_quals.specs.Quals.{no_quals}
+use Rattle.demangle_edit.specs.Names.{qualified, qualified_ctor, attached, with_name_qualifiers}
+use Rattle.demangle_edit.specs.Types.{pointer_shape, cv_shape, array_step, member_pointer_step, function_step}
+use Rattle.itanium_syntax.specs.declared.context.Context.{Context}
+use Rattle.itanium_syntax.specs.declared.numerals.Radix.TheVariants.{Decimal, Base36}
+use Rattle.itanium_syntax.specs.Scalars.{source_name, index_of, dimension_of}
+use Rattle.itanium_syntax.specs.Abbreviations.{abbreviation_of}
+use Rattle.itanium_syntax.specs.Context.{opens_scope, inside_type}
+use Rattle.itanium_syntax.specs.Names.{symbol_case, name_case, unscoped_case, first_case, component_case, unqualified_case, tag_case, past_internal, past_initializer_letter, source_text, name_quals, past_name_quals, saves_first, substitution_case}
+use Rattle.itanium_syntax.specs.Args.{attached_case, args_case, argument_case}
+use Rattle.itanium_syntax.specs.Types.{type_case, builtin_text, past_builtin, cv_quals, past_cv, with_reference, past_reference, cv_case, function_case, params_case, types_case, elaborated_text}
+use Rattle.itanium_grammar.specs.Tree.{abbreviation_shape, closed, elaborated_shape}
+use Rattle.itanium_demangle.specs.Cases.{SymbolCase, SpecialSymbol, NameSymbol, NameCase, NestedName, LocalName, UnscopedName, UnscopedCase, StdName, SubstitutionName, PlainName, AttachedCase, NoneAttached, ArgsAttached, FirstCase, ParameterFirst, StdFirst, SubstitutionFirst, NameFirst, ComponentCase, EndOfComponents, ArgsComponent, NameComponent, UnqualifiedCase, SourceName, ConstructorName, DestructorName, OtherName, TagCase, NoTag, NextTag, SubstitutionCase, AbbreviationSubstitution, ComponentSubstitution, ArgsCase, EndOfArguments, NextArgument, ArgumentCase, ExpressionArgument, PackArgument, LiteralArgument, ConstraintArgument, TypeArgument, TypeCase, BuiltinType, ExpansionType, VendorType, ArrayType, FunctionType, MemberType, PointerType, CvType, ElaboratedType, ParameterType, SubstitutionType, UnreadType, NameType, CvCase, CvFunction, CvOther, FunctionCase, ExternFunction, PlainFunction, ParamsCase, NoParams, SomeParams, TypesCase, EndOfTypes, NextType}
+
+infixl 10 ◌>>=◌
+abbrev pub ◌>>=◌ : {A B : Type 0} → Option A → (A → Option B) → Option B
+o >>= f = option_and_then f o
+
+-- the bytes that are left, the saved shapes, the scopes, how many counted productions were entered, and the greatest
+-- length to which a shape was saved
+pub record ParserState : Type 0 where
+  pub rest : List ℕ
+  pub saved : List Shape
+  pub scopes : List (List Shape)
+  pub entered : ℕ
+  pub most_saved : ℕ
+
+-- a parser answers a value and the state after it, or nothing
+abbrev pub Parses : Type 0 → Type 0
+Parses A = ParserState → Option (A × ParserState)
+
+-- the state at the start of a symbol
+abbrev pub begun : List ℕ → ParserState
+begun bytes = record { rest = bytes; saved = []; scopes = []; entered = 0; most_saved = 0 }
+
+-- the same state, before these bytes
+abbrev pub at : List ℕ → ParserState → ParserState
+at bytes s = record s { rest = bytes }
+
+-- the state after n bytes
+abbrev pub skip : ℕ → ParserState → ParserState
+skip n s = at (drop n s.rest) s
+
+-- the shape is saved last
+abbrev pub save : Shape → ParserState → ParserState
+save t s = record s { saved = s.saved ++ t ∷ []; most_saved = max s.most_saved (length s.saved + 1) }
+
+-- one more counted production is entered
+abbrev pub enter : ParserState → ParserState
+enter s = record s { entered = s.entered + 1 }
+
+-- the last saved shape is taken back, where it is to be
+abbrev pub taken_back : Bool → ParserState → ParserState
+taken_back takes s = record s { saved = if takes then take (length s.saved - 1) s.saved else s.saved }
+
+-- past the M of a data member's initializer
+abbrev pub past_initializer : ParserState → ParserState
+past_initializer s = at (past_initializer_letter s.rest) s
+
+-- what one turn of a loop gives: the answer, or what is there so far
+pub data Turn (L A : Type 0) : Type 0 where
+  -- the loop ends with its answer
+  ends : A → Turn L A
+  -- the loop goes on
+  goes_on : L → Turn L A
+
+-- what follows a turn
+abbrev pub after_turn : {L A : Type 0} → Turn L A → (L → Parses A) → Parses A
+after_turn (ends answer) again s = Some (answer, s)
+after_turn (goes_on so_far) again s = again so_far s
+
+-- a loop of at most so many turns
+unfoldable pub loop : {L A : Type 0} → (L → Parses (Turn L A)) → ℕ → L → Parses A
+loop turn zero so_far s = None
+loop turn (suc n) so_far s = turn so_far s >>= λ t. after_turn t.0 (loop turn n) t.1
+
+-- a loop whose turns take a byte each, but for the last: so one turn more than there are bytes is enough
+abbrev pub parse_loop : {L A : Type 0} → (L → Parses (Turn L A)) → L → Parses A
+parse_loop turn so_far s = loop turn (length s.rest + 1) so_far s
+
+-- the name in its scope, where there is one
+abbrev pub in_scope : Option Shape → Shape → Shape
+in_scope None leaf = leaf
+in_scope (Some scope) leaf = qualified scope leaf
+
+-- a source name
+abbrev pub parse_source : Parses Shape
+parse_source s = source_name s.rest >>= λ found. Some (plain_shape (source_text found.0), at found.1 s)
+
+-- a list with what stands in front of its next argument
+abbrev pub separated : Bool → Shape → Shape
+separated first list = if first then list else appended (codes ", ") list
+
+-- a list begins: it may open a scope
+abbrev pub begin : Bool → ParserState → ParserState
+begin opens s = record s { scopes = if opens then s.scopes ++ [] ∷ [] else s.scopes }
+
+-- the scopes past the first n are dropped, and the argument goes into the scope that its list opened
+abbrev pub put : Bool → ℕ → Shape → ParserState → ParserState
+put opens n t s = record s { scopes = if opens then with_arg t (take n s.scopes) else take n s.scopes }
+
+-- <substitution> after its S
+abbrev pub substitution_as : SubstitutionCase → Parses Shape
+substitution_as AbbreviationSubstitution s =
+    abbreviation_of s.rest >>= λ found. Some (abbreviation_shape found, skip 1 s)
+substitution_as ComponentSubstitution s =
+    index_of Base36 s.rest >>= λ found. slice_get s.saved found.0 >>= λ t. Some (t, at found.1 s)
+
+-- <substitution>
+unfoldable pub parse_substitution : Parses Shape
+parse_substitution s = substitution_as (substitution_case (drop 1 s.rest)) (skip 1 s)
+
+-- the argument that a <template-param> names
+abbrev pub parameter_as : Bool → ℕ → ParserState → Option Shape
+parameter_as true i s = Some (plain_shape (codes "auto"))
+parameter_as false i s = slice_get (last_args s.scopes) i
+
+-- <template-param>
+unfoldable pub parse_parameter : Context → Parses Shape
+parse_parameter x s =
+    index_of Decimal (drop 1 s.rest) >>= λ found. parameter_as x.lambda found.0 s >>= λ t. Some (t, at found.1 s)
+
+-- a template parameter that is saved
+abbrev pub saved_parameter : Context → Parses Shape
+saved_parameter x s = parse_parameter x s >>= λ found. Some (found.0, save found.0 found.1)
+
+-- <abi-tags> after a name
+abbrev pub tagged_as : TagCase → Shape → Parses Shape
+tagged_as NoTag name s = Some (name, s)
+tagged_as NextTag name s = None
+
+-- a constructor or a destructor of the scope
+abbrev pub ctor_dtor_as : Bool → Option Shape → Parses Shape
+ctor_dtor_as destructor None s = None
+ctor_dtor_as destructor (Some scope) s =
+    tagged_as (tag_case (drop 2 s.rest)) (qualified_ctor scope destructor) (skip 2 s)
+
+-- <source-name> [<abi-tags>]
+abbrev pub source_as : Option Shape → Parses Shape
+source_as scope s =
+    parse_source s >>= λ source. tagged_as (tag_case source.1.rest) source.0 source.1 >>= λ name.
+    Some (in_scope scope name.0, name.1)
+
+-- <unqualified-name>
+abbrev pub unqualified_as : UnqualifiedCase → Option Shape → Parses Shape
+unqualified_as SourceName scope s = source_as scope s
+unqualified_as ConstructorName scope s = ctor_dtor_as false scope s
+unqualified_as DestructorName scope s = ctor_dtor_as true scope s
+unqualified_as OtherName scope s = None
+
+-- [L] <unqualified-name>
+unfoldable pub parse_unqualified : Option Shape → Parses Shape
+parse_unqualified scope s =
+    unqualified_as (unqualified_case (is_some scope) (past_internal s.rest)) scope (at (past_internal s.rest) s)
+
+-- a list after what stands
+abbrev pub attached_by : Parses Shape → Shape → Parses Shape
+attached_by args name s = args s >>= λ list. Some (attached name list.0, list.1)
+
+-- <template-args> after a name, or none
+abbrev pub attached_as : AttachedCase → Parses Shape → Shape → Parses Shape
+attached_as NoneAttached args name s = Some (name, s)
+attached_as ArgsAttached args name s = attached_by args name (save name s)
+
+-- the list that a substitution for a template's name has
+abbrev pub template_as : AttachedCase → Parses Shape → Shape → Parses Shape
+template_as NoneAttached args name s = None
+template_as ArgsAttached args name s = attached_by args name s
+
+-- <unscoped-name> [<template-args>]
+abbrev pub unscoped_as : UnscopedCase → Parses Shape → Parses Shape
+unscoped_as StdName args s =
+    parse_unqualified (Some (plain_shape (codes "std"))) (skip 2 s) >>= λ name.
+    attached_as (attached_case name.1.rest) args name.0 name.1
+unscoped_as SubstitutionName args s =
+    parse_substitution s >>= λ name. template_as (attached_case name.1.rest) args name.0 name.1
+unscoped_as PlainName args s =
+    parse_unqualified None s >>= λ name. attached_as (attached_case name.1.rest) args name.0 name.1
+
+-- the first component of a <nested-name>
+abbrev pub first_as : FirstCase → Context → Parses Shape
+first_as ParameterFirst x s = saved_parameter x s
+first_as StdFirst x s = Some (plain_shape (codes "std"), skip 2 s)
+first_as SubstitutionFirst x s = parse_substitution s
+first_as NameFirst x s = parse_unqualified None s >>= λ name. Some (name.0, save name.0 name.1)
+
+-- what stands of a <nested-name> so far is saved, and the last saved shape is to be taken back at its end
+abbrev pub next_component : Shape × ParserState → Option (Turn (Bool × Shape) Shape × ParserState)
+next_component next = Some (goes_on (true, next.0), past_initializer (save next.0 next.1))
+
+-- one more component of a <nested-name>, or its E
+abbrev pub component_as : ComponentCase → Parses Shape → Bool × Shape → Parses (Turn (Bool × Shape) Shape)
+component_as EndOfComponents args so_far s = Some (ends so_far.1, taken_back so_far.0 (skip 1 s))
+component_as ArgsComponent args so_far s = attached_by args so_far.1 s >>= next_component
+component_as NameComponent args so_far s = parse_unqualified (Some so_far.1) s >>= next_component
+
+-- the same, by what comes next
+unfoldable pub component_turn : Parses Shape → Bool × Shape → Parses (Turn (Bool × Shape) Shape)
+component_turn args so_far s = component_as (component_case s.rest) args so_far s
+
+-- the later components of a <nested-name>, up to its E
+abbrev pub parse_components : Parses Shape → Bool → Shape → Parses Shape
+parse_components args takes name s = parse_loop (component_turn args) (takes, name) s
+
+-- what is after the N of a <nested-name>
+unfoldable pub parse_nested : Parses Shape → Context → Parses Shape
+parse_nested args x s =
+    first_as (first_case (past_name_quals s.rest)) x (at (past_name_quals s.rest) s) >>= λ first.
+    parse_components args (saves_first (first_case (past_name_quals s.rest))) first.0
+        (past_initializer first.1) >>= λ name.
+    Some (with_name_qualifiers name.0 (name_quals s.rest) x.shown, name.1)
+
+-- <name>, by what it begins with
+abbrev pub name_as : NameCase → Parses Shape → Context → Parses Shape
+name_as NestedName args x s = parse_nested args x (skip 1 s)
+name_as LocalName args x s = None
+name_as UnscopedName args x s = unscoped_as (unscoped_case s.rest) args s
+
+-- <template-arg>, by what it begins with
+abbrev pub argument_as : ArgumentCase → Parses Shape → Parses Shape
+argument_as ExpressionArgument type s = None
+argument_as PackArgument type s = None
+argument_as LiteralArgument type s = None
+argument_as ConstraintArgument type s = None
+argument_as TypeArgument type s = type s
+
+-- <template-arg>
+abbrev pub argument_by : Parses Shape → Parses Shape
+argument_by type s = argument_as (argument_case s.rest) type s
+
+-- one more argument of a list, with what stands in front of it, or the list's E
+abbrev pub arguments_as : ArgsCase → Bool → ℕ → Parses Shape → Bool × Shape → Parses (Turn (Bool × Shape) Shape)
+arguments_as EndOfArguments opens n argument so_far s = Some (ends (closed so_far.1), skip 1 s)
+arguments_as NextArgument opens n argument so_far s =
+    argument s >>= λ arg.
+    Some (goes_on (false, joined (separated so_far.0 so_far.1) [] arg.0), put opens n arg.0 arg.1)
+
+-- the same, by what comes next
+unfoldable pub arguments_turn : Bool → ℕ → Parses Shape → Bool × Shape → Parses (Turn (Bool × Shape) Shape)
+arguments_turn opens n argument so_far s = arguments_as (args_case s.rest) opens n argument so_far s
+
+-- how many scopes there are once a list has begun
+abbrev pub scopes_in : Bool → ParserState → ℕ
+scopes_in opens s = length (begin opens s).scopes
+
+-- a list from its I to its E
+abbrev pub parse_list : Parses Shape → Bool → Parses Shape
+parse_list argument opens s =
+    parse_loop (arguments_turn opens (scopes_in opens s) argument) (true, plain_shape (codes "<"))
+        (begin opens (skip 1 s))
+
+-- <template-args> after a type, which is saved with them
+abbrev pub type_attached_as : AttachedCase → Parses Shape → Shape → Parses Shape
+type_attached_as NoneAttached args name s = Some (name, s)
+type_attached_as ArgsAttached args name s = attached_by args name s >>= λ whole. Some (whole.0, save whole.0 whole.1)
+
+-- one more type of a list, or its end
+abbrev pub types_as : TypesCase → Parses Shape → List Shape → Parses (Turn (List Shape) (List Shape))
+types_as EndOfTypes type so_far s = Some (ends so_far, s)
+types_as NextType type so_far s = type s >>= λ next. Some (goes_on (so_far ++ next.0 ∷ []), next.1)
+
+-- the same, by what comes next
+unfoldable pub types_turn : Parses Shape → List Shape → Parses (Turn (List Shape) (List Shape))
+types_turn type so_far s = types_as (types_case s.rest) type so_far s
+
+-- types up to their end
+abbrev pub parse_types : Parses Shape → Parses (List Shape)
+parse_types type s = parse_loop (types_turn type) [] s
+
+-- the parameters of a function
+abbrev pub params_as : ParamsCase → Parses Shape → Parses (List Shape)
+params_as NoParams type s = Some ([], skip 1 s)
+params_as SomeParams type s = parse_types type s
+
+-- what is after the parameters of a function
+abbrev pub function_end : Quals → Shape → List Shape → Parses Shape
+function_end quals ret params s =
+    function_step ret params (with_reference quals s.rest) >>= λ whole.
+    Some (whole, skip 1 (at (past_reference s.rest) s))
+
+-- <function-type>, by what it begins with
+abbrev pub function_as : FunctionCase → Parses Shape → Quals → Parses Shape
+function_as ExternFunction type quals s = None
+function_as PlainFunction type quals s =
+    type (skip 1 s) >>= λ ret. params_as (params_case ret.1.rest) type ret.1 >>= λ params.
+    function_end quals ret.0 params.0 params.1
+
+-- <function-type>
+abbrev pub parse_function : Parses Shape → Quals → Parses Shape
+parse_function type quals s = function_as (function_case s.rest) type quals s
+
+-- what <CV-qualifiers> stand in front of
+abbrev pub cv_as : CvCase → Parses Shape → Quals → Parses Shape
+cv_as CvFunction type quals s = parse_function type quals s
+cv_as CvOther type quals s = type s >>= λ inner. Some (cv_shape quals inner.0, inner.1)
+
+-- a type after <CV-qualifiers>
+abbrev pub parse_cv : Parses Shape → Parses Shape
+parse_cv type s = cv_as (cv_case (past_cv s.rest)) type (cv_quals s.rest) (at (past_cv s.rest) s)
+
+-- what was read is saved
+abbrev pub saved_as : Shape → Parses Shape
+saved_as t s = Some (t, save t s)
+
+-- a vendor's type, which no <template-args> follow
+abbrev pub vendor_as : AttachedCase → Shape → Parses Shape
+vendor_as NoneAttached t s = saved_as t s
+vendor_as ArgsAttached t s = None
+
+-- u <source-name>
+abbrev pub parse_vendor : Parses Shape
+parse_vendor s = parse_source (skip 1 s) >>= λ found. vendor_as (attached_case found.1.rest) found.0 found.1
+
+-- the array of what was read, where there is one
+abbrev pub saved_array : Option ℕ → Shape → Parses Shape
+saved_array dimension elem s = array_step dimension elem >>= λ whole. saved_as whole s
+
+-- the pointer to a member that was read, where there is one
+abbrev pub saved_member : Shape → Shape → Parses Shape
+saved_member class member s = member_pointer_step class member >>= λ whole. saved_as whole s
+
+-- <pointer-to-member-type>
+abbrev pub parse_member : Parses Shape → Parses Shape
+parse_member type s = type (skip 1 s) >>= λ class. type class.1 >>= λ member. saved_member class.0 member.0 member.1
+
+-- what a parser gives is saved
+abbrev pub saved_by : Parses Shape → Parses Shape
+saved_by parse s = parse s >>= λ found. saved_as found.0 found.1
+
+-- <array-type>
+abbrev pub parse_array : Parses Shape → Parses Shape
+parse_array type s =
+    dimension_of (drop 1 s.rest) >>= λ found. type (at found.1 s) >>= λ elem. saved_array found.0 elem.0 elem.1
+
+-- P <type>, R <type> and O <type>
+abbrev pub parse_pointer : Parses Shape → Pointer → Parses Shape
+parse_pointer type kind s = type (skip 1 s) >>= λ inner. saved_as (pointer_shape kind inner.0) inner.1
+
+-- Ts <name>, Tu <name> and Te <name>
+abbrev pub parse_elaborated : Parses Shape → Parses Shape
+parse_elaborated name s =
+    name (skip 2 s) >>= λ found. saved_as (elaborated_shape (elaborated_text s.rest) found.0) found.1
+
+-- <template-param> [<template-args>]
+abbrev pub parameter_type : Parses Shape → Context → Parses Shape
+parameter_type args x s =
+    saved_parameter x s >>= λ found. type_attached_as (attached_case found.1.rest) args found.0 found.1
+
+-- <substitution> [<template-args>]
+abbrev pub substitution_type : Parses Shape → Parses Shape
+substitution_type args s =
+    parse_substitution s >>= λ found. type_attached_as (attached_case found.1.rest) args found.0 found.1
+
+-- <type>, by what it begins with
+abbrev pub type_as : TypeCase → Parses Shape → Parses Shape → Parses Shape → Context → Parses Shape
+type_as BuiltinType type name args x s = Some (plain_shape (builtin_text s.rest), at (past_builtin s.rest) s)
+type_as ExpansionType type name args x s = None
+type_as VendorType type name args x s = parse_vendor s
+type_as ArrayType type name args x s = parse_array type s
+type_as FunctionType type name args x s = saved_by (parse_function type no_quals) s
+type_as MemberType type name args x s = parse_member type s
+type_as (PointerType kind) type name args x s = parse_pointer type kind s
+type_as CvType type name args x s = saved_by (parse_cv type) s
+type_as ElaboratedType type name args x s = parse_elaborated name s
+type_as ParameterType type name args x s = parameter_type args x s
+type_as SubstitutionType type name args x s = substitution_type args s
+type_as UnreadType type name args x s = None
+type_as NameType type name args x s = saved_by name s
+
+-- The first number is how many counted productions may still open.
+unfoldable mutual
+  -- <name>
+  pub parse_name : ℕ → Context → Parses Shape
+  parse_name zero x s = None
+  parse_name (suc d) x s = name_as (name_case s.rest) (parse_args d x true) x (enter s)
+
+  -- <template-args>
+  pub parse_args : ℕ → Context → Bool → Parses Shape
+  parse_args zero x of_name s = None
+  parse_args (suc d) x of_name s = parse_list (argument_by (parse_type d x)) (opens_scope of_name x) (enter s)
+
+  -- <type>
+  pub parse_type : ℕ → Context → Parses Shape
+  parse_type zero x s = None
+  parse_type (suc d) x s =
+      type_as (type_case s.rest) (parse_type d (inside_type x)) (parse_name d (inside_type x))
+          (parse_args d (inside_type x) false) (inside_type x) (enter s)
+
+-- what follows the prefix of a symbol, by what it begins with
+abbrev pub symbol_as : SymbolCase → ℕ → Context → Parses Shape
+symbol_as SpecialSymbol d x s = None
+symbol_as NameSymbol d x s = parse_name d x s
+
+-- what follows the prefix of a symbol
+unfoldable pub parse_symbol : ℕ → Context → Parses Shape
+parse_symbol d x s = symbol_as (symbol_case s.rest) d x s

@@ -1,0 +1,132 @@
+//! Template arguments (Itanium C++ ABI 5.1.5).
+ghost use Rattle.std.specs.Prelude.{◌≡◌, ◌<◌, OnOk, length};
+ghost use Rattle.demangle_text.specs.State.{IsLiving, shape, IsRun, SameFrame};
+ghost use Rattle.itanium_demangle.specs.Parser as spec;
+ghost use Rattle.itanium_demangle.specs.Outcome.{state, Gives, HasRoom, Bounds};
+
+use crate::reader::{Reader, close_list, separate};
+use crate::stop::Stop;
+use demangle_edit::attach_template_args;
+use demangle_text::Piece;
+use itanium_syntax::args::{ArgsCase, ArgumentCase, args_case, argument_case};
+use itanium_syntax::context::Context;
+
+#[tactic(auto, using(crate::proofs::Rules::buffers))]
+impl<'a> Reader<'a> {
+    /// `<template-args> ::= I <template-arg>* E`, of a name or of a type, within `depth` open productions.
+    #[tactic(auto, using(crate::proofs::Rules::argument_lists))]
+    #[cycle(reader)]
+    pub fn read_args(
+        &mut self,
+        depth: usize,
+        context: Context,
+        of_name: bool,
+    ) -> Result<(), Stop>
+        requires room { HasRoom 1 (state self.old) }
+        requires some { 0 < length self.old.rest.now }
+        ensures reads { Gives result self.new (spec.parse_args depth context of_name (state self.old)) }
+        ensures run { OnOk result (IsRun self.old.buffer self.new.buffer) }
+        ensures bounds { Bounds 1 result (state self.old) (state self.new) }
+    {
+        if depth == 0 {
+            return Err(Stop::Unread);
+        }
+        self.entered += 1;
+        self.skip(1);
+        let opens = context.opens_scope(of_name);
+        self.begin(opens)?;
+        let scopes = self.buffer.scopes();
+        let mut list = self.buffer.push(b"<")?;
+        let mut first = true;
+        loop {
+            match args_case(self.rest) {
+                ArgsCase::EndOfArguments => {
+                    self.skip(1);
+                    self.found = close_list(&mut self.buffer, list)?;
+                    return Ok(());
+                }
+                ArgsCase::NextArgument => {
+                    list = separate(&mut self.buffer, first, list)?;
+                    self.framed_argument(depth - 1, context)?;
+                    let argument = self.found;
+                    self.put(opens, scopes, argument)?;
+                    list = self.buffer.join(list, b"", argument)?;
+                    first = false;
+                }
+            }
+        }
+    }
+
+    /// `<template-args>` in a frame of their own: what lived keeps its shape.
+    #[cycle(reader)]
+    fn framed_args(
+        &mut self,
+        depth: usize,
+        context: Context,
+        of_name: bool,
+    ) -> Result<(), Stop>
+        requires room { HasRoom 1 (state self.old) }
+        requires some { 0 < length self.old.rest.now }
+        ensures reads { Gives result self.new (spec.parse_args depth context of_name (state self.old)) }
+        ensures kept { OnOk result (SameFrame self.old.buffer self.new.buffer) }
+        ensures bounds { Bounds 1 result (state self.old) (state self.new) }
+    {
+        let mark = self.buffer.open();
+        self.read_args(depth, context, of_name)?;
+        self.found = self.buffer.close(mark, self.found)?;
+        Ok(())
+    }
+
+    /// `<template-args>` after what stands.
+    #[cycle(reader)]
+    pub fn read_attached(
+        &mut self,
+        depth: usize,
+        context: Context,
+        of_name: bool,
+        name: Piece,
+    ) -> Result<(), Stop>
+        requires room { HasRoom 1 (state self.old) }
+        requires some { 0 < length self.old.rest.now }
+        requires living { IsLiving self.old.buffer name }
+        ensures reads { Gives result self.new
+            (spec.attached_by (spec.parse_args depth context of_name) (shape self.old.buffer name) (state self.old)) }
+        ensures run { OnOk result (IsRun self.old.buffer self.new.buffer) }
+        ensures bounds { Bounds 1 result (state self.old) (state self.new) }
+    {
+        self.framed_args(depth, context, of_name)?;
+        self.found = attach_template_args(&mut self.buffer, name, self.found)?;
+        Ok(())
+    }
+
+    /// `<template-arg> ::= <type>`
+    #[cycle(reader)]
+    fn read_argument(&mut self, depth: usize, context: Context) -> Result<(), Stop>
+        requires room { HasRoom 2 (state self.old) }
+        ensures reads { Gives result self.new (spec.argument_by (spec.parse_type depth context) (state self.old)) }
+        ensures run { OnOk result (IsRun self.old.buffer self.new.buffer) }
+        ensures bounds { Bounds 0 result (state self.old) (state self.new) }
+    {
+        match argument_case(self.rest) {
+            ArgumentCase::ExpressionArgument
+            | ArgumentCase::PackArgument
+            | ArgumentCase::LiteralArgument
+            | ArgumentCase::ConstraintArgument => Err(Stop::Unread),
+            ArgumentCase::TypeArgument => self.read_type(depth, context),
+        }
+    }
+
+    /// A `<template-arg>` in a frame of its own: what lived keeps its shape.
+    #[cycle(reader)]
+    fn framed_argument(&mut self, depth: usize, context: Context) -> Result<(), Stop>
+        requires room { HasRoom 2 (state self.old) }
+        ensures reads { Gives result self.new (spec.argument_by (spec.parse_type depth context) (state self.old)) }
+        ensures kept { OnOk result (SameFrame self.old.buffer self.new.buffer) }
+        ensures bounds { Bounds 0 result (state self.old) (state self.new) }
+    {
+        let mark = self.buffer.open();
+        self.read_argument(depth, context)?;
+        self.found = self.buffer.close(mark, self.found)?;
+        Ok(())
+    }
+}

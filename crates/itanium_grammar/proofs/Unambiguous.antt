@@ -1,0 +1,246 @@
+-- Of one position there is at most one reading.
+use Rattle.std.proofs.Common.{◌≡◌, ℕ, Bool, true, ◌∷◌, List, Option, length, refl, sym, subst, ap, ap₂, ◌∙◌}
+use Rattle.std.proofs.lemmas.Option.{some_pair_parts, same_Some}
+use Rattle.demangle_quals.specs.declared.quals.Quals.{Quals}
+use Rattle.itanium_syntax.specs.declared.context.Context.{Context}
+use Rattle.itanium_grammar.specs.Cases.{SymbolCase, NameCase, UnscopedCase, AttachedCase, FirstCase, ComponentCase, UnqualifiedCase, TagCase, SubstitutionCase, ArgsCase, ArgumentCase, TypeCase, CvCase, ParamsCase, TypesCase}
+use Rattle.itanium_syntax.specs.Names.{source_text, tag_case, past_name_quals, name_quals, saves_first, first_case}
+use Rattle.itanium_syntax.specs.Args.{attached_case}
+use Rattle.itanium_syntax.specs.Types.{params_case, elaborated_text, with_reference, past_reference}
+use Rattle.itanium_grammar.specs.Tree.{Tree, plain_text, abbreviation, with_args, nested_of, pointer_to, cv_of, array_of, member_of, function_to, elaborated, trees, in_scope, printing, list_printing}
+use Rattle.itanium_grammar.specs.Grammar.{Position, Cost, at, skip, counted, saving, save, put, past_initializer, both, SubstitutionAs, Substitution, ParameterAs, Parameter, TaggedAs, UnqualifiedAs, Unqualified, FirstAs, Name, NameAs, UnscopedAs, AttachedAs, Nested, Components, ComponentsAs, Args, Arguments, ArgumentsAs, ArgumentAs, TypeOf, TypeAs, CvAs, Function, ParamsAs, Types, TypesAs, TypeAttachedAs, SymbolAs, Symbol, abbreviation_substitution, component_substitution, substitution, auto_parameter, scope_parameter, parameter, no_tag, source_component, constructor_component, destructor_component, unqualified, parameter_first, std_first, substitution_first, name_first, name, nested_name, unscoped_name, std_name, substitution_name, global_name, none_attached, args_attached, nested, components, end_of_components, args_component, name_component, args, arguments, end_of_arguments, one_more_argument, type_argument, type, builtin_type, vendor_type, array_type, function_type, member_type, pointer_type, cv_type, elaborated_type, parameter_type, substitution_type, name_type, cv_function, cv_other, function, no_params, some_params, types, end_of_types, one_more_type, none_attached_to_type, args_attached_to_type, name_symbol, symbol}
+
+-- two readings have the same tree, the same position after them and the same cost
+pub record Same {T : Type 0} (t u : T) (q r : Position) (c d : Cost) : Type 0 where
+  pub tree : t ≡ u
+  pub next : q ≡ r
+  pub cost : c ≡ d
+
+-- the same reading, from equal parts
+along : {A B : Type 0} (P : A → B → Type 0) {a c : A} {b d : B} → a ≡ c → b ≡ d → P a b → P c d
+along P {a} {c} {b} {d} e f h = subst (λ x. P x d) e (subst (P a) f h)
+
+-- a tree that is saved after it was read
+same_saved : {t u : Tree} {q r : Position} {c d : Cost} → Same t u q r c d → Same t u (save t q) (save u r) (both c (saving q)) (both d (saving r))
+same_saved same = record {
+  tree = same.tree;
+  next = ap₂ save same.tree same.next;
+  cost = ap₂ both same.cost (ap saving same.next);
+}
+
+-- a tree that is made of the one that was read
+same_made : {t u : Tree} {q r : Position} {c d : Cost} (f : Tree → Tree) → Same t u q r c d → Same (f t) (f u) q r c d
+same_made f same = record { tree = ap f same.tree; next = same.next; cost = same.cost }
+
+-- a counted production around what was read
+same_counted : {t u : Tree} {q r : Position} {c d : Cost} → Same t u q r c d → Same t u q r (counted (length (printing t)) c) (counted (length (printing u)) d)
+same_counted same = record {
+  tree = same.tree;
+  next = same.next;
+  cost = ap₂ counted (ap (λ t. length (printing t)) same.tree) same.cost;
+}
+
+one_substitution_as : {case : SubstitutionCase} {p q r : Position} {t u : Tree} → SubstitutionAs case p t q → SubstitutionAs case p u r
+    → (t ≡ u) × (q ≡ r)
+one_substitution_as (abbreviation_substitution e) (abbreviation_substitution g) = (ap abbreviation (same_Some _ _ (sym e ∙ g)), refl)
+one_substitution_as (component_substitution e f) (component_substitution g h) = let found = some_pair_parts _ _ _ _ (sym e ∙ g) in (cc, cc)
+
+pub one_substitution : {p q r : Position} {t u : Tree} → Substitution p t q → Substitution p u r → (t ≡ u) × (q ≡ r)
+one_substitution (substitution a) (substitution b) = one_substitution_as a b
+
+one_parameter_as : {lambda : Bool} {i : ℕ} {p : Position} {t u : Tree} → ParameterAs lambda i p t → ParameterAs lambda i p u → t ≡ u
+one_parameter_as auto_parameter auto_parameter = refl
+one_parameter_as (scope_parameter e) (scope_parameter g) = same_Some _ _ (sym e ∙ g)
+
+pub one_parameter : {x : Context} {p q r : Position} {t u : Tree} → Parameter x p t q → Parameter x p u r → (t ≡ u) × (q ≡ r)
+one_parameter (parameter {x = x} {p = p} e a) (parameter {t = u} g b) =
+    let found = some_pair_parts _ _ _ _ (sym g ∙ e) in
+    (one_parameter_as a (subst (λ k. ParameterAs x.lambda k p u) found.0 b), ap (λ v. at v p) (sym found.1))
+
+one_tagged : {case : TagCase} {t u v : Tree} {p q r : Position} → TaggedAs case t p u q → TaggedAs case t p v r → (u ≡ v) × (q ≡ r)
+one_tagged no_tag no_tag = (refl, refl)
+
+one_unqualified_as : {case : UnqualifiedCase} {x : Context} {scope : Option Tree} {p q r : Position} {t u : Tree} {c d : Cost}
+    → UnqualifiedAs case x scope p t q c → UnqualifiedAs case x scope p u r d → Same t u q r c d
+one_unqualified_as (source_component {scope = scope} {p = p} e a) (source_component {q = r} {t = u} g b) =
+    let found = some_pair_parts _ _ _ _ (sym g ∙ e) in
+    let same = one_tagged a (along (λ s v. TaggedAs (tag_case v) (plain_text (source_text s)) (at v p) u r) found.0 found.1 b) in
+    record { tree = ap (in_scope scope) same.0; next = same.1; cost = refl }
+one_unqualified_as (constructor_component a) (constructor_component b) =
+    let same = one_tagged a b in record { tree = same.0; next = same.1; cost = refl }
+one_unqualified_as (destructor_component a) (destructor_component b) =
+    let same = one_tagged a b in record { tree = same.0; next = same.1; cost = refl }
+
+pub one_unqualified : {x : Context} {scope : Option Tree} {p q r : Position} {t u : Tree} {c d : Cost}
+    → Unqualified x scope p t q c → Unqualified x scope p u r d → Same t u q r c d
+one_unqualified (unqualified a) (unqualified b) = one_unqualified_as a b
+
+one_first : {case : FirstCase} {x : Context} {p q r : Position} {t u : Tree} {c d : Cost} → FirstAs case x p t q c → FirstAs case x p u r d
+    → Same t u q r c d
+one_first (parameter_first a) (parameter_first b) =
+    let same = one_parameter a b in record { tree = same.0; next = ap₂ save same.0 same.1; cost = ap saving same.1 }
+one_first std_first std_first = record { tree = refl; next = refl; cost = refl }
+one_first (substitution_first a) (substitution_first b) = let same = one_substitution a b in record { tree = same.0; next = same.1; cost = refl }
+one_first (name_first a) (name_first b) = same_saved (one_unqualified a b)
+
+mutual
+  pub one_name : {x : Context} {p q r : Position} {t u : Tree} {c d : Cost} → Name x p t q c → Name x p u r d → Same t u q r c d
+  one_name (name a) (name b) = same_counted (one_name_as a b)
+
+  one_name_as : {case : NameCase} {x : Context} {p q r : Position} {t u : Tree} {c d : Cost} → NameAs case x p t q c → NameAs case x p u r d
+      → Same t u q r c d
+  one_name_as (nested_name a) (nested_name b) = one_nested a b
+  one_name_as (unscoped_name a) (unscoped_name b) = one_unscoped a b
+
+  one_unscoped : {case : UnscopedCase} {x : Context} {p q r : Position} {t u : Tree} {c d : Cost}
+      → UnscopedAs case x p t q c → UnscopedAs case x p u r d → Same t u q r c d
+  one_unscoped (std_name {x = x} a b) (std_name {r = r} {u = v} {d = d} f h) =
+      let first = one_unqualified a f in
+      let same = one_attached b (along (λ s o. AttachedAs (attached_case o.rest) x s o v r d) (sym first.tree) (sym first.next) h) in
+      record { tree = same.tree; next = same.next; cost = ap₂ both first.cost same.cost }
+  one_unscoped (substitution_name {x = x} a e b) (substitution_name {r = r} {list = us} {c = d} f g h) =
+      let first = one_substitution a f in
+      let same = one_args b (subst (λ o. Args x true o us r d) (sym first.1) h) in
+      record { tree = ap₂ (λ n ts. with_args n (trees ts)) first.0 same.tree; next = same.next; cost = same.cost }
+  one_unscoped (global_name {x = x} a b) (global_name {r = r} {u = v} {d = d} f h) =
+      let first = one_unqualified a f in
+      let same = one_attached b (along (λ s o. AttachedAs (attached_case o.rest) x s o v r d) (sym first.tree) (sym first.next) h) in
+      record { tree = same.tree; next = same.next; cost = ap₂ both first.cost same.cost }
+
+  one_attached : {case : AttachedCase} {x : Context} {t u v : Tree} {p q r : Position} {c d : Cost}
+      → AttachedAs case x t p u q c → AttachedAs case x t p v r d → Same u v q r c d
+  one_attached none_attached none_attached = record { tree = refl; next = refl; cost = refl }
+  one_attached (args_attached {t = t} {p = p} a) (args_attached b) =
+      let same = one_args a b in
+      record { tree = ap (λ ts. with_args t (trees ts)) same.tree; next = same.next; cost = ap (both (saving p)) same.cost }
+
+  one_nested : {x : Context} {p q r : Position} {t u : Tree} {c d : Cost} → Nested x p t q c → Nested x p u r d → Same t u q r c d
+  one_nested (nested {x = x} {p = p} a b) (nested {r = r} {u = v} {d = d} g h) =
+      let first = one_first a g in
+      let takes = saves_first (first_case (past_name_quals p.rest)) in
+      let same = one_components b (along (λ s o. Components x takes s o v r d) (sym first.tree) (ap past_initializer (sym first.next)) h) in
+      record { tree = ap (λ n. nested_of n (name_quals p.rest) x.shown) same.tree; next = same.next; cost = ap₂ both first.cost same.cost }
+
+  one_components : {x : Context} {takes : Bool} {s t u : Tree} {p q r : Position} {c d : Cost}
+      → Components x takes s p t q c → Components x takes s p u r d → Same t u q r c d
+  one_components (components a) (components b) = one_component_as a b
+
+  one_component_as : {case : ComponentCase} {x : Context} {takes : Bool} {s t u : Tree} {p q r : Position} {c d : Cost}
+      → ComponentsAs case x takes s p t q c → ComponentsAs case x takes s p u r d → Same t u q r c d
+  one_component_as end_of_components end_of_components = record { tree = refl; next = refl; cost = refl }
+  one_component_as (args_component {x = x} {t = t} a b) (args_component {r = r} {v = v} {d = d} e f) =
+      let list = one_args a e in
+      let whole = ap (λ ts. with_args t (trees ts)) list.tree in
+      let next = ap past_initializer (ap₂ save (sym whole) (sym list.next)) in
+      let same = one_components b (along (λ s o. Components x true s o v r d) (sym whole) next f) in
+      record { tree = same.tree; next = same.next; cost = ap₂ both list.cost (ap₂ both (ap saving list.next) same.cost) }
+  one_component_as (name_component {x = x} a b) (name_component {r = r} {v = v} {d = d} e f) =
+      let first = one_unqualified a e in
+      let next = ap past_initializer (ap₂ save (sym first.tree) (sym first.next)) in
+      let same = one_components b (along (λ s o. Components x true s o v r d) (sym first.tree) next f) in
+      record { tree = same.tree; next = same.next; cost = ap₂ both first.cost (ap₂ both (ap saving first.next) same.cost) }
+
+  pub one_args : {x : Context} {of_name : Bool} {p q r : Position} {ts us : List Tree} {c d : Cost}
+      → Args x of_name p ts q c → Args x of_name p us r d → Same ts us q r c d
+  one_args (args a) (args b) =
+      let same = one_arguments a b in
+      record { tree = same.tree; next = same.next; cost = ap₂ counted (ap (λ ts. length (list_printing ts)) same.tree) same.cost }
+
+  one_arguments : {x : Context} {o : Bool} {k : ℕ} {p q r : Position} {ts us : List Tree} {c d : Cost}
+      → Arguments x o k p ts q c → Arguments x o k p us r d → Same ts us q r c d
+  one_arguments (arguments a) (arguments b) = one_arguments_as a b
+
+  one_arguments_as : {case : ArgsCase} {x : Context} {o : Bool} {k : ℕ} {p q r : Position} {ts us : List Tree} {c d : Cost}
+      → ArgumentsAs case x o k p ts q c → ArgumentsAs case x o k p us r d → Same ts us q r c d
+  one_arguments_as end_of_arguments end_of_arguments = record { tree = refl; next = refl; cost = refl }
+  one_arguments_as (one_more_argument {x = x} {opens = o} {n = k} a b) (one_more_argument {r = r} {ts = us} {d = d} g h) =
+      let first = one_argument a g in
+      let same = one_arguments b (subst (λ v. Arguments x o k v us r d) (ap₂ (put o k) (sym first.tree) (sym first.next)) h) in
+      record { tree = ap₂ (λ t ts. t ∷ ts) first.tree same.tree; next = same.next; cost = ap₂ both first.cost same.cost }
+
+  one_argument : {case : ArgumentCase} {x : Context} {p q r : Position} {t u : Tree} {c d : Cost}
+      → ArgumentAs case x p t q c → ArgumentAs case x p u r d → Same t u q r c d
+  one_argument (type_argument a) (type_argument b) = one_type a b
+
+  pub one_type : {x : Context} {p q r : Position} {t u : Tree} {c d : Cost} → TypeOf x p t q c → TypeOf x p u r d → Same t u q r c d
+  one_type (type a) (type b) = same_counted (one_type_as a b)
+
+  one_type_as : {case : TypeCase} {x : Context} {p q r : Position} {t u : Tree} {c d : Cost} → TypeAs case x p t q c → TypeAs case x p u r d
+      → Same t u q r c d
+  one_type_as builtin_type builtin_type = record { tree = refl; next = refl; cost = refl }
+  one_type_as (vendor_type {p = p} e f) (vendor_type g h) =
+      let found = some_pair_parts _ _ _ _ (sym e ∙ g) in
+      let source = ap (λ v. plain_text (source_text v)) found.0 in
+      record { tree = source; next = ap₂ save source (ap (λ v. at v p) found.1); cost = refl }
+  one_type_as (array_type {x = x} {p = p} e a there) (array_type {q = r} {t = u} {c = d} g b here) =
+      let found = some_pair_parts _ _ _ _ (sym g ∙ e) in
+      let same = one_type a (subst (λ v. TypeOf x (at v p) u r d) found.1 b) in
+      same_saved (record { tree = ap₂ array_of (sym found.0) same.tree; next = same.next; cost = same.cost })
+  one_type_as (function_type a) (function_type b) = same_saved (one_function a b)
+  one_type_as (member_type {x = x} a b there) (member_type {r = r} {u = v} {d = d} e f here) =
+      let class = one_type a e in
+      let inner = one_type b (subst (λ o. TypeOf x o v r d) (sym class.next) f) in
+      let whole = ap₂ member_of class.tree inner.tree in
+      record {
+        tree = whole;
+        next = ap₂ save whole inner.next;
+        cost = ap₂ both class.cost (ap₂ both inner.cost (ap saving inner.next));
+      }
+  one_type_as (pointer_type {kind = kind} a) (pointer_type b) = same_saved (same_made (pointer_to kind) (one_type a b))
+  one_type_as (cv_type a) (cv_type b) = same_saved (one_cv a b)
+  one_type_as (elaborated_type {p = p} a) (elaborated_type b) = same_saved (same_made (elaborated (elaborated_text p.rest)) (one_name a b))
+  one_type_as (parameter_type {x = x} a b) (parameter_type {r = r} {u = v} {c = d} f h) =
+      let found = one_parameter a f in
+      let same = one_type_attached b (along (λ s o. TypeAttachedAs (attached_case o.rest) x s (save s o) v r d) (sym found.0) (sym found.1) h) in
+      record { tree = same.tree; next = same.next; cost = ap₂ both (ap saving found.1) same.cost }
+  one_type_as (substitution_type {x = x} a b) (substitution_type {r = r} {u = v} {c = d} f h) =
+      let found = one_substitution a f in
+      one_type_attached b (along (λ s o. TypeAttachedAs (attached_case o.rest) x s o v r d) (sym found.0) (sym found.1) h)
+  one_type_as (name_type a) (name_type b) = same_saved (one_name a b)
+
+  one_cv : {case : CvCase} {x : Context} {quals : Quals} {p q r : Position} {t u : Tree} {c d : Cost}
+      → CvAs case x quals p t q c → CvAs case x quals p u r d → Same t u q r c d
+  one_cv (cv_function a) (cv_function b) = one_function a b
+  one_cv (cv_other {quals = quals} a) (cv_other b) = same_made (cv_of quals) (one_type a b)
+
+  one_function : {x : Context} {quals : Quals} {p q r : Position} {t u : Tree} {c d : Cost}
+      → Function x quals p t q c → Function x quals p u r d → Same t u q r c d
+  one_function (function {x = x} {quals = quals} plain a b there) (function {r = r} {ts = us} {d = d} other f h here) =
+      let ret = one_type a f in
+      let params = one_params b (subst (λ o. ParamsAs (params_case o.rest) x o us r d) (sym ret.next) h) in
+      let quals_same = ap (λ o. with_reference quals o.rest) params.next in
+      record {
+        tree = λ j. function_to (ret.tree j) (trees (params.tree j)) (quals_same j);
+        next = ap (λ o. skip 1 (at (past_reference o.rest) o)) params.next;
+        cost = ap₂ both ret.cost params.cost;
+      }
+
+  one_params : {case : ParamsCase} {x : Context} {p q r : Position} {ts us : List Tree} {c d : Cost}
+      → ParamsAs case x p ts q c → ParamsAs case x p us r d → Same ts us q r c d
+  one_params no_params no_params = record { tree = refl; next = refl; cost = refl }
+  one_params (some_params a) (some_params b) = one_types a b
+
+  one_types : {x : Context} {p q r : Position} {ts us : List Tree} {c d : Cost} → Types x p ts q c → Types x p us r d → Same ts us q r c d
+  one_types (types a) (types b) = one_types_as a b
+
+  one_types_as : {case : TypesCase} {x : Context} {p q r : Position} {ts us : List Tree} {c d : Cost}
+      → TypesAs case x p ts q c → TypesAs case x p us r d → Same ts us q r c d
+  one_types_as end_of_types end_of_types = record { tree = refl; next = refl; cost = refl }
+  one_types_as (one_more_type {x = x} a b) (one_more_type {r = r} {ts = us} {d = d} e f) =
+      let first = one_type a e in
+      let others = one_types b (subst (λ o. Types x o us r d) (sym first.next) f) in
+      record { tree = ap₂ (λ t ts. t ∷ ts) first.tree others.tree; next = others.next; cost = ap₂ both first.cost others.cost }
+
+  one_type_attached : {case : AttachedCase} {x : Context} {t u v : Tree} {p q r : Position} {c d : Cost}
+      → TypeAttachedAs case x t p u q c → TypeAttachedAs case x t p v r d → Same u v q r c d
+  one_type_attached none_attached_to_type none_attached_to_type = record { tree = refl; next = refl; cost = refl }
+  one_type_attached (args_attached_to_type {t = t} a) (args_attached_to_type b) =
+      let same = one_args a b in
+      same_saved (record { tree = ap (λ ts. with_args t (trees ts)) same.tree; next = same.next; cost = same.cost })
+
+one_symbol_as : {case : SymbolCase} {x : Context} {p q r : Position} {t u : Tree} {c d : Cost}
+    → SymbolAs case x p t q c → SymbolAs case x p u r d → Same t u q r c d
+one_symbol_as (name_symbol a) (name_symbol b) = one_name a b
+
+pub one_symbol : {x : Context} {p q r : Position} {t u : Tree} {c d : Cost} → Symbol x p t q c → Symbol x p u r d → Same t u q r c d
+one_symbol (symbol a) (symbol b) = one_symbol_as a b

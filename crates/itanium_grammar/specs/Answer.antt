@@ -1,0 +1,70 @@
+-- What a symbol's answer is.
+use Rattle.std.specs.Prelude.{◌≡◌, ◌≤◌, ℕ, ◌++◌, List, [], Option, Some, None, drop, codes, false, if◌then◌else◌}
+use Rattle.std.specs.Str.{IsUtf8}
+use Rattle.itanium_syntax.specs.declared.context.Context.{Context}
+use Rattle.itanium_grammar.specs.Tree.{Tree, printing}
+use Rattle.itanium_syntax.specs.Bytes.{begins}
+use Rattle.itanium_grammar.specs.Grammar.{Position, Cost, Symbol}
+
+-- most counted productions that may nest
+abbrev pub max_depth : ℕ
+max_depth = 128
+
+-- the context of a symbol: nothing is on
+abbrev pub outside : Context
+outside = record { shown = false; pack = false; lambda = false; in_type = false }
+
+-- <mangled-name> ::= _Z <encoding>, and the same after a further underscore: what follows the prefix
+abbrev pub after_prefix : List ℕ → Option (List ℕ)
+after_prefix symbol =
+    if begins (codes "_Z") symbol then Some (drop 2 symbol) else
+    if begins (codes "__Z") symbol then Some (drop 3 symbol) else None
+
+-- all bytes are left, and nothing is saved
+abbrev pub start : List ℕ → Position
+start bytes = record { rest = bytes; saved = []; scopes = [] }
+
+-- what ends the answer: all that follows from a dot right after what was read
+abbrev pub suffix : List ℕ → List ℕ
+suffix rest = if begins (codes ".") rest then rest else []
+
+-- the grammar reads the symbol as the tree, with this position after it and at this cost
+pub record IsReading (symbol : List ℕ) (tree : Tree) (next : Position) (cost : Cost) : Type 0 where
+  pub inside : List ℕ
+  pub prefix : after_prefix symbol ≡ Some inside
+  pub reading : Symbol outside (start inside) tree next cost
+
+-- a reading nests at most 128 counted productions, its printing is UTF-8, and the answer is the printing with the suffix
+pub record HasAnswer (symbol answer : List ℕ) : Type 0 where
+  pub tree : Tree
+  pub next : Position
+  pub cost : Cost
+  pub reading : IsReading symbol tree next cost
+  pub depth : cost.depth ≤ max_depth
+  pub utf8 : IsUtf8 (printing tree)
+  pub answer_is : answer ≡ printing tree ++ suffix next.rest
+
+-- no reading nests at most 128 counted productions and has a printing in UTF-8
+abbrev pub HasNoAnswer : List ℕ → Type 0
+HasNoAnswer symbol =
+    (tree : Tree) (next : Position) (cost : Cost)
+    → IsReading symbol tree next cost
+    → cost.depth ≤ max_depth
+    → IsUtf8 (printing tree)
+    → ⊥
+
+-- the answer of a symbol
+abbrev pub IsAnswer : List ℕ → Option (List ℕ) → Type 0
+IsAnswer symbol (Some answer) = HasAnswer symbol answer
+IsAnswer symbol None = HasNoAnswer symbol
+
+-- any two readings of the symbol within the depth have the same tree, the same rest, saved trees and scopes after it,
+-- and the same count, depth, peak and width
+pub record HasOneReading (symbol : List ℕ) : Type 0 where
+  pub agree :
+      (t u : Tree) (q r : Position) (c d : Cost)
+      → IsReading symbol t q c
+      → IsReading symbol u r d
+      → c.depth ≤ max_depth
+      → d.depth ≤ max_depth
+      → (t ≡ u) × (q ≡ r) × (c ≡ d)

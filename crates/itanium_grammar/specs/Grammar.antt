@@ -1,0 +1,473 @@
+-- The grammar: which front of the bytes is which tree (Itanium C++ ABI 5.1). A reading is indexed by the context, the
+-- position where it begins, the tree, the position after it, and the cost. A case without a constructor isn't read.
+use Rattle.std.specs.Prelude.{◌≡◌, ℕ, ◌+◌, ◌-◌, max, Bool, true, false, if◌then◌else◌, slice_get, slice_set, slice_index_or, List, [], ◌∷◌, ◌++◌, Option, Some, None, is_some, take, drop, length, codes}
+use Rattle.demangle_text.specs.Shape.{is_plain}
+use Rattle.demangle_quals.specs.declared.quals.Pointer.{Pointer}
+use Rattle.demangle_quals.specs.declared.quals.Quals.{Quals}
+use Rattle.demangle_quals.specs.Quals.{no_quals}
+use Rattle.demangle_edit.specs.Types.{has_array, has_member_pointer}
+use Rattle.itanium_syntax.specs.declared.abbreviations.Abbreviation.{Abbreviation}
+use Rattle.itanium_syntax.specs.declared.context.Context.{Context}
+use Rattle.itanium_syntax.specs.declared.numerals.Radix.TheVariants.{Decimal, Base36}
+use Rattle.itanium_grammar.specs.Cases.{SymbolCase, NameSymbol, NameCase, NestedName, UnscopedName, UnscopedCase, StdName, SubstitutionName, PlainName, AttachedCase, NoneAttached, ArgsAttached, FirstCase, ParameterFirst, StdFirst, SubstitutionFirst, NameFirst, ComponentCase, EndOfComponents, ArgsComponent, NameComponent, UnqualifiedCase, SourceName, ConstructorName, DestructorName, TagCase, NoTag, SubstitutionCase, AbbreviationSubstitution, ComponentSubstitution, ArgsCase, EndOfArguments, NextArgument, ArgumentCase, TypeArgument, TypeCase, BuiltinType, VendorType, ArrayType, FunctionType, MemberType, PointerType, CvType, ElaboratedType, ParameterType, SubstitutionType, NameType, CvCase, CvFunction, CvOther, PlainFunction, ParamsCase, NoParams, SomeParams, TypesCase, EndOfTypes, NextType}
+use Rattle.itanium_syntax.specs.Scalars.{source_name, index_of, dimension_of}
+use Rattle.itanium_syntax.specs.Abbreviations.{abbreviation_of}
+use Rattle.itanium_syntax.specs.Context.{opens_scope, inside_type}
+use Rattle.itanium_syntax.specs.Names.{symbol_case, name_case, unscoped_case, first_case, component_case, unqualified_case, tag_case, past_internal, past_initializer_letter, source_text, name_quals, past_name_quals, saves_first, substitution_case}
+use Rattle.itanium_syntax.specs.Args.{attached_case, args_case, argument_case}
+use Rattle.itanium_syntax.specs.Types.{type_case, builtin_text, past_builtin, cv_quals, past_cv, with_reference, past_reference, cv_case, function_case, params_case, types_case, elaborated_text}
+use Rattle.itanium_grammar.specs.Tree.{Tree, plain_text, abbreviation, ctor_dtor_of, with_args, nested_of, pointer_to, cv_of, array_of, member_of, function_to, elaborated, trees, in_scope, shape_of, printing, list_printing}
+
+-- where a reading stands: the bytes that are left, the trees saved so far, and the scopes with their arguments
+pub record Position : Type 0 where
+  pub rest : List ℕ
+  pub saved : List Tree
+  pub scopes : List (List Tree)
+
+-- what a reading costs: how many counted productions it holds, how many of these nest, the greatest length to which a
+-- tree was saved, and the greatest number of bytes that the tree of a counted production prints
+pub record Cost : Type 0 where
+  pub count : ℕ
+  pub depth : ℕ
+  pub peak : ℕ
+  pub width : ℕ
+
+-- the same position, before these bytes
+abbrev pub at : List ℕ → Position → Position
+at bytes p = record p { rest = bytes }
+
+-- the position after n bytes
+abbrev pub skip : ℕ → Position → Position
+skip n p = at (drop n p.rest) p
+
+-- the same position, with the tree saved last
+abbrev pub save : Tree → Position → Position
+save t p = record p { saved = p.saved ++ t ∷ [] }
+
+-- the last saved tree is taken back, where it is to be
+abbrev pub taken_back : Bool → Position → Position
+taken_back takes p = record p { saved = if takes then take (length p.saved - 1) p.saved else p.saved }
+
+-- past the M of a data member's initializer
+abbrev pub past_initializer : Position → Position
+past_initializer p = at (past_initializer_letter p.rest) p
+
+-- no production is entered
+abbrev pub nothing : Cost
+nothing = record { count = 0; depth = 0; peak = 0; width = 0 }
+
+-- a tree is saved after those that the position has
+abbrev pub saving : Position → Cost
+saving p = record { count = 0; depth = 0; peak = length p.saved + 1; width = 0 }
+
+-- one reading after another
+abbrev pub both : Cost → Cost → Cost
+both c d = record {
+  count = c.count + d.count;
+  depth = max c.depth d.depth;
+  peak = max c.peak d.peak;
+  width = max c.width d.width;
+}
+
+-- a counted production that prints so many bytes, around what it holds
+abbrev pub counted : ℕ → Cost → Cost
+counted bytes c = record { count = c.count + 1; depth = c.depth + 1; peak = c.peak; width = max bytes c.width }
+
+-- a list begins: it may open a scope
+abbrev pub begin : Bool → Position → Position
+begin opens p = record p { scopes = if opens then p.scopes ++ [] ∷ [] else p.scopes }
+
+-- how many scopes there are once a list has begun
+abbrev pub scopes_in : Bool → Position → ℕ
+scopes_in opens p = length (begin opens p).scopes
+
+-- the arguments of the last scope
+abbrev pub last_of : List (List Tree) → List Tree
+last_of scopes = slice_index_or scopes (length scopes - 1) []
+
+-- the last scope gains an argument
+abbrev pub with_last : Tree → List (List Tree) → List (List Tree)
+with_last t scopes = slice_set scopes (length scopes - 1) (last_of scopes ++ t ∷ [])
+
+-- the scopes past the first n, which an argument opened, are dropped, and it goes into the scope that its list opened
+abbrev pub put : Bool → ℕ → Tree → Position → Position
+put opens n t p = record p { scopes = if opens then with_last t (take n p.scopes) else take n p.scopes }
+
+-- <substitution> after its S
+pub data SubstitutionAs : SubstitutionCase → Position → Tree → Position → Type 0 where
+  -- Sa | Sb | Ss | Si | So | Sd
+  abbreviation_substitution :
+      {p : Position} {abbreviated : Abbreviation}
+      → abbreviation_of p.rest ≡ Some abbreviated
+      → SubstitutionAs AbbreviationSubstitution p (abbreviation abbreviated) (skip 1 p)
+  -- S_ is the first saved tree, S <seq-id> _ the one after that number
+  component_substitution :
+      {p : Position} {t : Tree} {i : ℕ} {rest : List ℕ}
+      → index_of Base36 p.rest ≡ Some (i, rest)
+      → slice_get p.saved i ≡ Some t
+      → SubstitutionAs ComponentSubstitution p t (at rest p)
+
+-- <substitution> ::= S [<seq-id>] _ | Sa | Sb | Ss | Si | So | Sd
+pub data Substitution : Position → Tree → Position → Type 0 where
+  substitution :
+      {p q : Position} {t : Tree}
+      → SubstitutionAs (substitution_case (drop 1 p.rest)) (skip 1 p) t q
+      → Substitution p t q
+
+-- the argument that a <template-param> names
+pub data ParameterAs : Bool → ℕ → Position → Tree → Type 0 where
+  -- `auto` in a lambda's signature
+  auto_parameter :
+      {i : ℕ} {p : Position}
+      → ParameterAs true i p (plain_text (codes "auto"))
+  -- an argument of the last scope, among those already read
+  scope_parameter :
+      {i : ℕ} {p : Position} {t : Tree}
+      → slice_get (last_of p.scopes) i ≡ Some t
+      → ParameterAs false i p t
+
+-- <template-param> ::= T [<number>] _
+pub data Parameter : Context → Position → Tree → Position → Type 0 where
+  parameter :
+      {x : Context} {p : Position} {t : Tree} {i : ℕ} {rest : List ℕ}
+      → index_of Decimal (drop 1 p.rest) ≡ Some (i, rest)
+      → ParameterAs x.lambda i p t
+      → Parameter x p t (at rest p)
+
+-- <abi-tags> after a name
+pub data TaggedAs : TagCase → Tree → Position → Tree → Position → Type 0 where
+  no_tag :
+      {t : Tree} {p : Position}
+      → TaggedAs NoTag t p t p
+
+-- <unqualified-name>, in the scope that stands in front of it, if one does
+pub data UnqualifiedAs : UnqualifiedCase → Context → Option Tree → Position → Tree → Position → Cost → Type 0 where
+  -- <source-name> [<abi-tags>]
+  source_component :
+      {x : Context} {scope : Option Tree} {p q : Position} {t : Tree} {bytes rest : List ℕ}
+      → source_name p.rest ≡ Some (bytes, rest)
+      → TaggedAs (tag_case rest) (plain_text (source_text bytes)) (at rest p) t q
+      → UnqualifiedAs SourceName x scope p (in_scope scope t) q nothing
+  -- <ctor-dtor-name> ::= C1 | .. | C5
+  constructor_component :
+      {x : Context} {scope : Tree} {p q : Position} {t : Tree}
+      → TaggedAs (tag_case (drop 2 p.rest)) (ctor_dtor_of scope false) (skip 2 p) t q
+      → UnqualifiedAs ConstructorName x (Some scope) p t q nothing
+  -- <ctor-dtor-name> ::= D0 | D1 | D2 | D4 | D5
+  destructor_component :
+      {x : Context} {scope : Tree} {p q : Position} {t : Tree}
+      → TaggedAs (tag_case (drop 2 p.rest)) (ctor_dtor_of scope true) (skip 2 p) t q
+      → UnqualifiedAs DestructorName x (Some scope) p t q nothing
+
+-- [L] and an <unqualified-name>
+pub data Unqualified : Context → Option Tree → Position → Tree → Position → Cost → Type 0 where
+  unqualified :
+      {x : Context} {scope : Option Tree} {p q : Position} {t : Tree} {c : Cost}
+      → UnqualifiedAs (unqualified_case (is_some scope) (past_internal p.rest)) x scope
+      (at (past_internal p.rest) p) t q c
+      → Unqualified x scope p t q c
+
+-- the first component of a <nested-name>
+pub data FirstAs : FirstCase → Context → Position → Tree → Position → Cost → Type 0 where
+  -- <template-param>, which is saved
+  parameter_first :
+      {x : Context} {p q : Position} {t : Tree}
+      → Parameter x p t q
+      → FirstAs ParameterFirst x p t (save t q) (saving q)
+  -- St
+  std_first :
+      {x : Context} {p : Position}
+      → FirstAs StdFirst x p (plain_text (codes "std")) (skip 2 p) nothing
+  -- <substitution>, which isn't saved again
+  substitution_first :
+      {x : Context} {p q : Position} {t : Tree}
+      → Substitution p t q
+      → FirstAs SubstitutionFirst x p t q nothing
+  -- <unqualified-name>, which is saved
+  name_first :
+      {x : Context} {p q : Position} {t : Tree} {c : Cost}
+      → Unqualified x None p t q c
+      → FirstAs NameFirst x p t (save t q) (both c (saving q))
+
+mutual
+  -- <name> ::= <nested-name> | <unscoped-name> | <unscoped-template-name> <template-args>: counted
+  pub data Name : Context → Position → Tree → Position → Cost → Type 0 where
+    name :
+        {x : Context} {p q : Position} {t : Tree} {c : Cost}
+        → NameAs (name_case p.rest) x p t q c
+        → Name x p t q (counted (length (printing t)) c)
+
+  -- <name>, by what it begins with
+  pub data NameAs : NameCase → Context → Position → Tree → Position → Cost → Type 0 where
+    -- <nested-name>
+    nested_name :
+        {x : Context} {p q : Position} {t : Tree} {c : Cost}
+        → Nested x (skip 1 p) t q c
+        → NameAs NestedName x p t q c
+    -- <unscoped-name>, with <template-args> or without
+    unscoped_name :
+        {x : Context} {p q : Position} {t : Tree} {c : Cost}
+        → UnscopedAs (unscoped_case p.rest) x p t q c
+        → NameAs UnscopedName x p t q c
+
+  -- <unscoped-name> [<template-args>], or a <substitution> with <template-args>
+  pub data UnscopedAs : UnscopedCase → Context → Position → Tree → Position → Cost → Type 0 where
+    -- St <unqualified-name> [<template-args>]
+    std_name :
+        {x : Context} {p q r : Position} {t u : Tree} {c d : Cost}
+        → Unqualified x (Some (plain_text (codes "std"))) (skip 2 p) t q c
+        → AttachedAs (attached_case q.rest) x t q u r d
+        → UnscopedAs StdName x p u r (both c d)
+    -- <substitution> <template-args>
+    substitution_name :
+        {x : Context} {p q r : Position} {t : Tree} {list : List Tree} {c : Cost}
+        → Substitution p t q
+        → attached_case q.rest ≡ ArgsAttached
+        → Args x true q list r c
+        → UnscopedAs SubstitutionName x p (with_args t (trees list)) r c
+    -- <unqualified-name> [<template-args>]
+    global_name :
+        {x : Context} {p q r : Position} {t u : Tree} {c d : Cost}
+        → Unqualified x None p t q c
+        → AttachedAs (attached_case q.rest) x t q u r d
+        → UnscopedAs PlainName x p u r (both c d)
+
+  -- <template-args> after a name, or none
+  pub data AttachedAs : AttachedCase → Context → Tree → Position → Tree → Position → Cost → Type 0 where
+    -- no <template-args>
+    none_attached :
+        {x : Context} {t : Tree} {p : Position}
+        → AttachedAs NoneAttached x t p t p nothing
+    -- <template-args>: the name is saved before they are read
+    args_attached :
+        {x : Context} {t : Tree} {p q : Position} {list : List Tree} {c : Cost}
+        → Args x true (save t p) list q c
+        → AttachedAs ArgsAttached x t p (with_args t (trees list)) q (both (saving p) c)
+
+  -- <nested-name> ::= N [<CV-qualifiers>] [<ref-qualifier>] <prefix> E | N H <prefix> E, after its N: one component
+  -- or more
+  pub data Nested : Context → Position → Tree → Position → Cost → Type 0 where
+    nested :
+        {x : Context} {p q r : Position} {t u : Tree} {c d : Cost}
+        → FirstAs (first_case (past_name_quals p.rest)) x (at (past_name_quals p.rest) p) t q c
+        → Components x (saves_first (first_case (past_name_quals p.rest))) t (past_initializer q) u r d
+        → Nested x p (nested_of u (name_quals p.rest) x.shown) r (both c d)
+
+  -- the later components of a <nested-name> after what stands, up to its E; the last tree that it saved is taken back
+  pub data Components : Context → Bool → Tree → Position → Tree → Position → Cost → Type 0 where
+    components :
+        {x : Context} {takes : Bool} {p q : Position} {t u : Tree} {c : Cost}
+        → ComponentsAs (component_case p.rest) x takes t p u q c
+        → Components x takes t p u q c
+
+  -- one more component of a <prefix>, or the E after it
+  pub data ComponentsAs : ComponentCase → Context → Bool → Tree → Position → Tree → Position → Cost → Type 0 where
+    -- E
+    end_of_components :
+        {x : Context} {takes : Bool} {p : Position} {t : Tree}
+        → ComponentsAs EndOfComponents x takes t p t (taken_back takes (skip 1 p)) nothing
+    -- <template-args>: what stands with them is saved
+    args_component :
+        {x : Context} {takes : Bool} {p q r : Position} {t v : Tree} {list : List Tree} {c d : Cost}
+        → Args x true p list q c
+        → Components x true (with_args t (trees list)) (past_initializer (save (with_args t (trees list)) q)) v r d
+        → ComponentsAs ArgsComponent x takes t p v r (both c (both (saving q) d))
+    -- <unqualified-name> in the scope of what stands: both together are saved
+    name_component :
+        {x : Context} {takes : Bool} {p q r : Position} {t u v : Tree} {c d : Cost}
+        → Unqualified x (Some t) p u q c
+        → Components x true u (past_initializer (save u q)) v r d
+        → ComponentsAs NameComponent x takes t p v r (both c (both (saving q) d))
+
+  -- <template-args> ::= I <template-arg>* E, of a name or of a type: counted
+  pub data Args : Context → Bool → Position → List Tree → Position → Cost → Type 0 where
+    args :
+        {x : Context} {of_name : Bool} {p q : Position} {list : List Tree} {c : Cost}
+        → Arguments x (opens_scope of_name x) (scopes_in (opens_scope of_name x) p)
+        (begin (opens_scope of_name x) (skip 1 p)) list q c
+        → Args x of_name p list q (counted (length (list_printing list)) c)
+
+  -- arguments up to the E; the scopes that each opened are dropped, and it goes into the list's own
+  pub data Arguments : Context → Bool → ℕ → Position → List Tree → Position → Cost → Type 0 where
+    arguments :
+        {x : Context} {opens : Bool} {n : ℕ} {p q : Position} {list : List Tree} {c : Cost}
+        → ArgumentsAs (args_case p.rest) x opens n p list q c
+        → Arguments x opens n p list q c
+
+  -- one more <template-arg>, or the E after them
+  pub data ArgumentsAs : ArgsCase → Context → Bool → ℕ → Position → List Tree → Position → Cost → Type 0 where
+    -- E
+    end_of_arguments :
+        {x : Context} {opens : Bool} {n : ℕ} {p : Position}
+        → ArgumentsAs EndOfArguments x opens n p [] (skip 1 p) nothing
+    -- <template-arg>
+    one_more_argument :
+        {x : Context} {opens : Bool} {n : ℕ} {p q r : Position} {t : Tree} {ts : List Tree} {c d : Cost}
+        → ArgumentAs (argument_case p.rest) x p t q c
+        → Arguments x opens n (put opens n t q) ts r d
+        → ArgumentsAs NextArgument x opens n p (t ∷ ts) r (both c d)
+
+  -- <template-arg>
+  pub data ArgumentAs : ArgumentCase → Context → Position → Tree → Position → Cost → Type 0 where
+    -- <type>
+    type_argument :
+        {x : Context} {p q : Position} {t : Tree} {c : Cost}
+        → TypeOf x p t q c
+        → ArgumentAs TypeArgument x p t q c
+
+  -- <type>: counted
+  pub data TypeOf : Context → Position → Tree → Position → Cost → Type 0 where
+    type :
+        {x : Context} {p q : Position} {t : Tree} {c : Cost}
+        → TypeAs (type_case p.rest) (inside_type x) p t q c
+        → TypeOf x p t q (counted (length (printing t)) c)
+
+  -- <type>, by what it begins with
+  pub data TypeAs : TypeCase → Context → Position → Tree → Position → Cost → Type 0 where
+    -- <builtin-type>: not saved
+    builtin_type :
+        {x : Context} {p : Position}
+        → TypeAs BuiltinType x p (plain_text (builtin_text p.rest)) (at (past_builtin p.rest) p) nothing
+    -- u <source-name>, without <template-args>
+    vendor_type :
+        {x : Context} {p : Position} {bytes rest : List ℕ}
+        → source_name (drop 1 p.rest) ≡ Some (bytes, rest)
+        → attached_case rest ≡ NoneAttached
+        → TypeAs VendorType x p (plain_text (source_text bytes))
+        (save (plain_text (source_text bytes)) (at rest p)) (saving p)
+    -- <array-type> ::= A [<number>] _ <type>
+    array_type :
+        {x : Context} {p q : Position} {t : Tree} {c : Cost} {dimension : Option ℕ} {rest : List ℕ}
+        → dimension_of (drop 1 p.rest) ≡ Some (dimension, rest)
+        → TypeOf x (at rest p) t q c
+        → has_array (shape_of t).form ≡ true
+        → TypeAs ArrayType x p (array_of dimension t) (save (array_of dimension t) q) (both c (saving q))
+    -- <function-type>
+    function_type :
+        {x : Context} {p q : Position} {t : Tree} {c : Cost}
+        → Function x no_quals p t q c
+        → TypeAs FunctionType x p t (save t q) (both c (saving q))
+    -- <pointer-to-member-type> ::= M <type> <type>
+    member_type :
+        {x : Context} {p q r : Position} {t u : Tree} {c d : Cost}
+        → TypeOf x (skip 1 p) t q c
+        → TypeOf x q u r d
+        → has_member_pointer (shape_of u).form ≡ true
+        → TypeAs MemberType x p (member_of t u) (save (member_of t u) r) (both c (both d (saving r)))
+    -- P <type>, R <type> and O <type>
+    pointer_type :
+        {kind : Pointer} {x : Context} {p q : Position} {t : Tree} {c : Cost}
+        → TypeOf x (skip 1 p) t q c
+        → TypeAs (PointerType kind) x p (pointer_to kind t) (save (pointer_to kind t) q) (both c (saving q))
+    -- <qualified-type> ::= <CV-qualifiers> <type>: saved once
+    cv_type :
+        {x : Context} {p q : Position} {t : Tree} {c : Cost}
+        → CvAs (cv_case (past_cv p.rest)) x (cv_quals p.rest) (at (past_cv p.rest) p) t q c
+        → TypeAs CvType x p t (save t q) (both c (saving q))
+    -- <class-enum-type> ::= Ts <name> | Tu <name> | Te <name>
+    elaborated_type :
+        {x : Context} {p q : Position} {t : Tree} {c : Cost}
+        → Name x (skip 2 p) t q c
+        → TypeAs ElaboratedType x p (elaborated (elaborated_text p.rest) t)
+        (save (elaborated (elaborated_text p.rest) t) q) (both c (saving q))
+    -- <template-param> [<template-args>]: saved without and with its arguments
+    parameter_type :
+        {x : Context} {p q r : Position} {t u : Tree} {c : Cost}
+        → Parameter x p t q
+        → TypeAttachedAs (attached_case q.rest) x t (save t q) u r c
+        → TypeAs ParameterType x p u r (both (saving q) c)
+    -- <substitution> [<template-args>]: saved with its arguments alone
+    substitution_type :
+        {x : Context} {p q r : Position} {t u : Tree} {c : Cost}
+        → Substitution p t q
+        → TypeAttachedAs (attached_case q.rest) x t q u r c
+        → TypeAs SubstitutionType x p u r c
+    -- <class-enum-type> ::= <name>
+    name_type :
+        {x : Context} {p q : Position} {t : Tree} {c : Cost}
+        → Name x p t q c
+        → TypeAs NameType x p t (save t q) (both c (saving q))
+
+  -- what <CV-qualifiers> stand in front of
+  pub data CvAs : CvCase → Context → Quals → Position → Tree → Position → Cost → Type 0 where
+    -- <function-type>, which takes them in, and whose F is no type of its own
+    cv_function :
+        {x : Context} {quals : Quals} {p q : Position} {t : Tree} {c : Cost}
+        → Function x quals p t q c
+        → CvAs CvFunction x quals p t q c
+    -- <type>
+    cv_other :
+        {x : Context} {quals : Quals} {p q : Position} {t : Tree} {c : Cost}
+        → TypeOf x p t q c
+        → CvAs CvOther x quals p (cv_of quals t) q c
+
+  -- <function-type> ::= F <return type> <parameter types> [<ref-qualifier>] E
+  pub data Function : Context → Quals → Position → Tree → Position → Cost → Type 0 where
+    function :
+        {x : Context} {quals : Quals} {p q r : Position} {t : Tree} {ts : List Tree} {c d : Cost}
+        → function_case p.rest ≡ PlainFunction
+        → TypeOf x (skip 1 p) t q c
+        → ParamsAs (params_case q.rest) x q ts r d
+        → is_plain (shape_of t).form ≡ true
+        → Function x quals p (function_to t (trees ts) (with_reference quals r.rest))
+        (skip 1 (at (past_reference r.rest) r)) (both c d)
+
+  -- the parameters: none, or types
+  pub data ParamsAs : ParamsCase → Context → Position → List Tree → Position → Cost → Type 0 where
+    -- v, right before the E
+    no_params :
+        {x : Context} {p : Position}
+        → ParamsAs NoParams x p [] (skip 1 p) nothing
+    -- <type>+
+    some_params :
+        {x : Context} {p q : Position} {ts : List Tree} {c : Cost}
+        → Types x p ts q c
+        → ParamsAs SomeParams x p ts q c
+
+  -- types up to the E, or to a <ref-qualifier> in front of it
+  pub data Types : Context → Position → List Tree → Position → Cost → Type 0 where
+    types :
+        {x : Context} {p q : Position} {ts : List Tree} {c : Cost}
+        → TypesAs (types_case p.rest) x p ts q c
+        → Types x p ts q c
+
+  -- one more type of a <bare-function-type>, or its end
+  pub data TypesAs : TypesCase → Context → Position → List Tree → Position → Cost → Type 0 where
+    -- the end, which isn't taken
+    end_of_types :
+        {x : Context} {p : Position}
+        → TypesAs EndOfTypes x p [] p nothing
+    -- <type>
+    one_more_type :
+        {x : Context} {p q r : Position} {t : Tree} {ts : List Tree} {c d : Cost}
+        → TypeOf x p t q c
+        → Types x q ts r d
+        → TypesAs NextType x p (t ∷ ts) r (both c d)
+
+  -- <template-args> after a type, or none
+  pub data TypeAttachedAs : AttachedCase → Context → Tree → Position → Tree → Position → Cost → Type 0 where
+    -- no <template-args>
+    none_attached_to_type :
+        {x : Context} {t : Tree} {p : Position}
+        → TypeAttachedAs NoneAttached x t p t p nothing
+    -- <template-args>: the type with them is saved
+    args_attached_to_type :
+        {x : Context} {t : Tree} {p q : Position} {list : List Tree} {c : Cost}
+        → Args x false p list q c
+        → TypeAttachedAs ArgsAttached x t p (with_args t (trees list))
+        (save (with_args t (trees list)) q) (both c (saving q))
+
+-- what follows the prefix of a symbol: a special name, or a name without its parameters
+pub data SymbolAs : SymbolCase → Context → Position → Tree → Position → Cost → Type 0 where
+  -- <name>
+  name_symbol :
+      {x : Context} {p q : Position} {t : Tree} {c : Cost}
+      → Name x p t q c
+      → SymbolAs NameSymbol x p t q c
+
+-- what follows the prefix of a symbol
+pub data Symbol : Context → Position → Tree → Position → Cost → Type 0 where
+  symbol :
+      {x : Context} {p q : Position} {t : Tree} {c : Cost}
+      → SymbolAs (symbol_case p.rest) x p t q c
+      → Symbol x p t q c

@@ -1,0 +1,41 @@
+-- Laws of readings and of answers.
+use Rattle.std.specs.Prelude.{◌≡◌, ◌<◌, ◌≤◌, ℕ, List, ◌++◌, length, Option, Some, codes, true}
+use Rattle.std.specs.Str.{IsUtf8}
+use Rattle.itanium_syntax.specs.Bytes.{begins}
+use Rattle.itanium_grammar.specs.Tree.{Tree, printing}
+use Rattle.itanium_grammar.specs.Grammar.{Position, Cost, Symbol}
+use Rattle.itanium_syntax.specs.declared.context.Context.{Context}
+use Rattle.itanium_grammar.specs.Answer.{max_depth, IsReading, HasOneReading, IsAnswer}
+
+-- what holds of the readings of all bytes
+pub record LawsOfReadings : Type 0 where
+  -- two readings of a symbol agree
+  pub one_reading : (symbol : List ℕ) → HasOneReading symbol
+  -- a reading takes one byte at least
+  pub takes :
+      (x : Context) (p q : Position) (t : Tree) (c : Cost)
+      → Symbol x p t q c
+      → length q.rest < length p.rest
+
+-- what holds of the answers of all symbols
+pub record LawsOfAnswers : Type 0 where
+  -- a symbol has at most one answer
+  pub one_answer :
+      (symbol : List ℕ) (a b : Option (List ℕ))
+      → IsAnswer symbol a
+      → IsAnswer symbol b
+      → a ≡ b
+  -- an underscore in front of the prefix changes nothing
+  pub underscore :
+      (symbol : List ℕ) (a : Option (List ℕ))
+      → begins (codes "_Z") symbol ≡ true
+      → IsAnswer symbol a
+      → IsAnswer (codes "_" ++ symbol) a
+  -- a dot right after what was read keeps itself and all that follows
+  pub dot :
+      (symbol rest : List ℕ) (tree : Tree) (next : Position) (cost : Cost)
+      → IsReading symbol tree next cost
+      → cost.depth ≤ max_depth
+      → IsUtf8 (printing tree)
+      → next.rest ≡ codes "." ++ rest
+      → IsAnswer symbol (Some (printing tree ++ (codes "." ++ rest)))

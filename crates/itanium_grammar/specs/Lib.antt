@@ -1,0 +1,5 @@
+pub mod Tree
+pub mod Cases
+pub mod Grammar
+pub mod Answer
+pub mod Laws

@@ -1,0 +1,277 @@
+-- Fronts of the bytes: what each scalar and each case takes.
+use Rattle.std.proofs.Common.{◌≡◌, ◌<◌, ◌≤◌, ℕ, suc, ◌+◌, ◌^◌, Bool, true, false, List, [], ◌∷◌, length, drop, refl, sym, ap, ◌∙◌, arith, Option, Some, None, length-drop, if◌then◌else◌, nat_lt, nat_le, ◌&&◌, codes}
+use Rattle.std.specs.Prelude.{◌==◌, ◌||◌, option_map}
+use Rattle.std.proofs.lemmas.List.{drop-drop}
+use Rattle.std.proofs.lemmas.Grind.{common_steps}
+use Rattle.std.proofs.lemmas.Option.{cond_some, option_and_then_some, some_pair_parts}
+use Rattle.demangle_quals.specs.declared.quals.Pointer.{Pointer}
+use Rattle.itanium_syntax.specs.declared.abbreviations.Abbreviation.{Abbreviation}
+use Rattle.itanium_syntax.specs.declared.numerals.Radix.{Radix}
+use Rattle.itanium_syntax.specs.declared.numerals.Radix.TheVariants.{Decimal, Base36}
+use Rattle.itanium_syntax.specs.Abbreviations.{abbreviation_of}
+use Rattle.itanium_syntax.specs.Bytes.{begins, begins_one_of, past_letter}
+use Rattle.itanium_syntax.specs.Cases.{StdFirst, EndOfComponents, ArgsComponent, ConstructorName, DestructorName, ArgsAttached, EndOfArguments, TypeCase, BuiltinType, ExpansionType, VendorType, ArrayType, FunctionType, MemberType, PointerType, CvType, ElaboratedType, ParameterType, SubstitutionType, UnreadType, NameType, CvFunction, NoParams, EndOfTypes}
+use Rattle.itanium_syntax.specs.Names.{first_case, component_case, unqualified_case, past_internal, past_initializer_letter, past_name_quals}
+use Rattle.itanium_syntax.specs.Args.{attached_case, args_case}
+use Rattle.itanium_syntax.specs.Types.{type_case, types_case, cv_case, params_case, is_builtin, past_builtin, past_cv, past_reference}
+use Rattle.itanium_syntax.specs.Scalars.{front_digits, digit_then, digit_of, weighted, base, numeral, number, source_name, past_underscore, next_number, index_by, index_of, dimension_by, dimension_of}
+
+-- the rest lies after a front of the bytes
+pub record IsAfter (rest bytes : List ℕ) : Type 0 where
+  pub count : ℕ
+  pub is : rest ≡ drop count bytes
+
+-- the rest lies after a front of one byte at least
+pub record Takes (rest bytes : List ℕ) : Type 0 where
+  pub after : IsAfter rest bytes
+  pub shorter : length rest < length bytes
+
+pub after_none : (bytes : List ℕ) → IsAfter bytes bytes
+after_none bytes = record { count = 0; is = refl }
+
+pub after_drop : (n : ℕ) (bytes : List ℕ) → IsAfter (drop n bytes) bytes
+after_drop n bytes = record { count = n; is = refl }
+
+pub after_then : {rest mid bytes : List ℕ} → IsAfter mid bytes → IsAfter rest mid → IsAfter rest bytes
+after_then {rest} {mid} {bytes} a b = record { count = a.count + b.count; is = b.is ∙ ap (drop b.count) a.is ∙ drop-drop b.count a.count bytes }
+
+pub after-le : {rest bytes : List ℕ} → IsAfter rest bytes → length rest ≤ length bytes
+after-le {rest} {bytes} a = omega (arith, ap length a.is, length-drop a.count bytes)
+
+-- a front, and what may be left out after it
+pub takes_then : {rest mid bytes : List ℕ} → Takes mid bytes → IsAfter rest mid → Takes rest bytes
+takes_then a b = record { after = after_then a.after b; shorter = omega (arith, a.shorter, after-le b) }
+
+-- what may be left out, and a front after it
+pub after_takes : {rest mid bytes : List ℕ} → IsAfter mid bytes → Takes rest mid → Takes rest bytes
+after_takes a b = record { after = after_then a b.after; shorter = omega (arith, b.shorter, after-le a) }
+
+pub takes_takes : {rest mid bytes : List ℕ} → Takes mid bytes → Takes rest mid → Takes rest bytes
+takes_takes a b = takes_then a b.after
+
+pub takes_drop : (n : ℕ) (bytes : List ℕ) → 0 < n → 0 < length bytes → Takes (drop n bytes) bytes
+takes_drop n bytes some any = record { after = after_drop n bytes; shorter = omega (arith, length-drop n bytes) }
+
+pub if_after : (t : Bool) (n : ℕ) (bytes : List ℕ) → IsAfter (if t then drop n bytes else bytes) bytes
+if_after true n bytes = after_drop n bytes
+if_after false n bytes = after_none bytes
+
+pub internal_after : (bytes : List ℕ) → IsAfter (past_internal bytes) bytes
+internal_after bytes = if_after _ 1 bytes
+
+pub letter_after : (letter : ℕ) (bytes : List ℕ) → IsAfter (past_letter letter bytes) bytes
+letter_after letter bytes = if_after _ 1 bytes
+
+pub initializer_after : (bytes : List ℕ) → IsAfter (past_initializer_letter bytes) bytes
+initializer_after bytes = letter_after 77 bytes
+
+pub cv_after : (bytes : List ℕ) → IsAfter (past_cv bytes) bytes
+cv_after bytes = after_then (letter_after 114 bytes) (after_then (letter_after 86 _) (letter_after 75 _))
+
+pub quals_after : (bytes : List ℕ) → IsAfter (past_name_quals bytes) bytes
+quals_after bytes = go (begins (72 ∷ []) bytes)
+  where
+    go : (t : Bool) → IsAfter (if t then drop 1 bytes else past_reference (past_cv bytes)) bytes
+    go true = after_drop 1 bytes
+    go false = after_then (cv_after bytes) (if_after _ 1 _)
+
+digit_within : (o : Option ℕ) (ds bytes : List ℕ) → length ds ≤ length bytes → length (digit_then o ds) ≤ suc (length bytes)
+digit_within None ds bytes h = omega arith
+digit_within (Some d) ds bytes h = omega arith
+
+digits_within : (r : Radix) (bytes : List ℕ) → length (front_digits r bytes) ≤ length bytes
+unfolding front_digits
+digits_within r [] = omega arith
+digits_within r (b ∷ bytes) = digit_within (digit_of r b) (front_digits r bytes) bytes (digits_within r bytes)
+
+pub numeral_takes : (r : Radix) (bytes : List ℕ) (found : ℕ × List ℕ) → numeral r bytes ≡ Some found → Takes found.1 bytes
+numeral_takes r bytes found e =
+    let ds = front_digits r bytes in
+    let parts = cond_some (nat_lt 0 (length ds) && nat_lt (weighted (base r) ds) (2 ^ 64)) _ found e in
+    let some : 0 < length ds = grind (arith, common_steps, parts.0) in
+    let is : drop (length ds) bytes ≡ found.1 = ap (λ (f : ℕ × List ℕ). f.1) parts.1 in
+    record {
+      after = record { count = length ds; is = sym is };
+      shorter = omega (arith, ap length is, length-drop (length ds) bytes, digits_within r bytes);
+    }
+
+pub number_takes : (bytes : List ℕ) (found : ℕ × List ℕ) → number bytes ≡ Some found → Takes found.1 bytes
+unfolding number
+number_takes bytes found e = numeral_takes Decimal bytes found e
+
+pub source_takes : (bytes : List ℕ) (found : List ℕ × List ℕ) → source_name bytes ≡ Some found → Takes found.1 bytes
+unfolding source_name
+source_takes bytes found e = option_and_then_some _ (number bytes) found e (λ n read rest.
+    let parts = cond_some (nat_lt 0 n.0 && nat_le n.0 (length n.1)) _ found rest in
+    let is : drop n.0 n.1 ≡ found.1 = ap (λ (f : List ℕ × List ℕ). f.1) parts.1 in
+    takes_then (number_takes bytes n read) (record { count = n.0; is = sym is }))
+
+pub std_shorter : (bytes : List ℕ) → first_case bytes ≡ StdFirst → length (drop 2 bytes) < length bytes
+std_shorter [] e = cc
+std_shorter (b ∷ bytes) e = (takes_drop 2 (b ∷ bytes) (omega arith) (omega arith)).shorter
+
+pub end_shorter : (bytes : List ℕ) → component_case bytes ≡ EndOfComponents → length (drop 1 bytes) < length bytes
+end_shorter [] e = cc
+end_shorter (b ∷ bytes) e = omega arith
+
+pub args_end_shorter : (bytes : List ℕ) → args_case bytes ≡ EndOfArguments → length (drop 1 bytes) < length bytes
+args_end_shorter [] e = cc
+args_end_shorter (b ∷ bytes) e = omega arith
+
+-- a list has its I
+pub list_some : (bytes : List ℕ) → attached_case bytes ≡ ArgsAttached → 0 < length bytes
+list_some [] e = cc
+list_some (b ∷ bytes) e = omega arith
+
+pub component_list_some : (bytes : List ℕ) → component_case bytes ≡ ArgsComponent → 0 < length bytes
+component_list_some [] e = cc
+component_list_some (b ∷ bytes) e = omega arith
+
+past_builtin_shorter : (bytes : List ℕ) → 0 < length bytes → length (past_builtin bytes) < length bytes
+past_builtin_shorter bytes some = go (begins (codes "D") bytes)
+  where
+    go : (t : Bool) → length (if t then drop 2 bytes else drop 1 bytes) < length bytes
+    go true = (takes_drop 2 bytes (omega arith) some).shorter
+    go false = (takes_drop 1 bytes (omega arith) some).shorter
+
+pub builtin_shorter : (bytes : List ℕ) → type_case bytes ≡ BuiltinType → length (past_builtin bytes) < length bytes
+builtin_shorter [] e = cc
+builtin_shorter (b ∷ bytes) e = past_builtin_shorter (b ∷ bytes) (omega arith)
+
+pub builtin_after : (bytes : List ℕ) → IsAfter (past_builtin bytes) bytes
+builtin_after bytes = go (begins (codes "D") bytes)
+  where
+    go : (t : Bool) → IsAfter (if t then drop 2 bytes else drop 1 bytes) bytes
+    go true = after_drop 2 bytes
+    go false = after_drop 1 bytes
+
+pub abbreviation_takes : (bytes : List ℕ) (known : Abbreviation) → abbreviation_of bytes ≡ Some known → Takes (drop 1 bytes) bytes
+abbreviation_takes [] known e = cc
+abbreviation_takes (b ∷ bytes) known e = takes_drop 1 (b ∷ bytes) (omega arith) (omega arith)
+
+pub constructor_some : (bytes : List ℕ) → unqualified_case true bytes ≡ ConstructorName → 0 < length bytes
+constructor_some [] e = cc
+constructor_some (b ∷ bytes) e = omega arith
+
+pub destructor_some : (bytes : List ℕ) → unqualified_case true bytes ≡ DestructorName → 0 < length bytes
+destructor_some [] e = cc
+destructor_some (b ∷ bytes) e = omega arith
+
+pub types_end_some : (bytes : List ℕ) → types_case bytes ≡ EndOfTypes → 0 < length bytes
+types_end_some [] e = cc
+types_end_some (b ∷ bytes) e = omega arith
+
+-- these types have a letter of their own
+pub array_some : (bytes : List ℕ) → type_case bytes ≡ ArrayType → 0 < length bytes
+array_some [] e = cc
+array_some (b ∷ bytes) e = omega arith
+
+pub member_some : (bytes : List ℕ) → type_case bytes ≡ MemberType → 0 < length bytes
+member_some [] e = cc
+member_some (b ∷ bytes) e = omega arith
+
+pub function_some : (bytes : List ℕ) → type_case bytes ≡ FunctionType → 0 < length bytes
+function_some [] e = cc
+function_some (b ∷ bytes) e = omega arith
+
+pub pointer_some : (bytes : List ℕ) (kind : Pointer) → type_case bytes ≡ PointerType kind → 0 < length bytes
+pointer_some [] kind e = cc
+pointer_some (b ∷ bytes) kind e = omega arith
+
+pub cv_function_some : (bytes : List ℕ) → cv_case bytes ≡ CvFunction → 0 < length bytes
+cv_function_some [] e = cc
+cv_function_some (b ∷ bytes) e = omega arith
+
+pub no_params_some : (bytes : List ℕ) → params_case bytes ≡ NoParams → 0 < length bytes
+no_params_some [] e = cc
+no_params_some (b ∷ bytes) e = omega arith
+
+-- a type of qualifiers begins with one of their letters
+tenth : (a b c d e f g h i j : Bool) (y : TypeCase) → (y ≡ CvType → ⊥)
+    → ◌≡◌ {A = TypeCase} (if a then BuiltinType else (if b then ExpansionType else (if c then VendorType else (if d then ArrayType else (if e then FunctionType else (if f then MemberType else
+    (if g then PointerType Pointer.Star else (if h then PointerType Pointer.Left else (if i then PointerType Pointer.Right else (if j then CvType else y)))))))))) CvType
+    → j ≡ true
+tenth true b c d e f g h i j y n q = cc
+tenth false true c d e f g h i j y n q = cc
+tenth false false true d e f g h i j y n q = cc
+tenth false false false true e f g h i j y n q = cc
+tenth false false false false true f g h i j y n q = cc
+tenth false false false false false true g h i j y n q = cc
+tenth false false false false false false true h i j y n q = cc
+tenth false false false false false false false true i j y n q = cc
+tenth false false false false false false false false true j y n q = cc
+tenth false false false false false false false false false true y n q = refl
+tenth false false false false false false false false false false y n q = absurd (n q)
+
+later : (a b c d e : Bool) → ◌≡◌ {A = TypeCase} (if a then ElaboratedType else (if b then ParameterType else (if c then NameType else (if d then SubstitutionType else (if e then UnreadType else NameType))))) CvType → ⊥
+later true b c d e q = cc
+later false true c d e q = cc
+later false false true d e q = cc
+later false false false true e q = cc
+later false false false false true q = cc
+later false false false false false q = cc
+
+cv_first : (bytes : List ℕ) → type_case bytes ≡ CvType → begins_one_of (codes "rVK") bytes ≡ true
+cv_first bytes e = tenth (is_builtin bytes) (begins (codes "Dp") bytes) (begins (codes "u") bytes) (begins (codes "A") bytes) (begins (codes "F") bytes) (begins (codes "M") bytes)
+    (begins (codes "P") bytes) (begins (codes "R") bytes) (begins (codes "O") bytes) (begins_one_of (codes "rVK") bytes) _
+    (later (begins (codes "T") bytes && begins_one_of (codes "sue") (drop 1 bytes)) (begins (codes "T") bytes) (begins (codes "St") bytes) (begins (codes "S") bytes) (begins (codes "U") bytes)) e
+
+-- a letter that stands there is gone past
+letter_shorter : (letter : ℕ) (bytes : List ℕ) → begins (letter ∷ []) bytes ≡ true → length (past_letter letter bytes) < length bytes
+letter_shorter letter [] e = cc
+letter_shorter letter (b ∷ bytes) e = rw e (omega arith)
+
+cv_shorter : (bytes : List ℕ) → begins_one_of (codes "rVK") bytes ≡ true → length (past_cv bytes) < length bytes
+cv_shorter [] e = cc
+cv_shorter (b ∷ bytes) e = go (b == 114) (b == 86) (b == 75) refl refl refl e
+  where
+    go : (r v k : Bool) → (b == 114) ≡ r → (b == 86) ≡ v → (b == 75) ≡ k → (r || (v || (k || false))) ≡ true → length (past_cv (b ∷ bytes)) < length (b ∷ bytes)
+    go true v k er ev ek h = rw er (omega (arith, after-le (after_then (letter_after 86 bytes) (letter_after 75 (past_letter 86 bytes)))))
+    go false true k er ev ek h = rw (er, ev) (omega (arith, after-le (letter_after 75 bytes)))
+    go false false true er ev ek h = rw (er, ev, ek) (omega arith)
+    go false false false er ev ek h = cc
+
+pub cv_type_shorter : (bytes : List ℕ) → type_case bytes ≡ CvType → length (past_cv bytes) < length bytes
+cv_type_shorter bytes e = cv_shorter bytes (cv_first bytes e)
+
+pub ruleset forms = (types_end_some, array_some, member_some, function_some, pointer_some, cv_function_some, no_params_some, cv_type_shorter, std_shorter, end_shorter, args_end_shorter, list_some, component_list_some, builtin_shorter)
+
+take_none : (b : ℕ) (bytes : List ℕ) (found : List ℕ) → past_underscore (b ∷ bytes) ≡ Some found → found ≡ bytes
+take_none b bytes found e = sym ((cond_some (b == 95) bytes found e).1)
+
+pub underscore_takes : (bytes rest : List ℕ) → past_underscore bytes ≡ Some rest → Takes rest bytes
+underscore_takes [] rest e = cc
+underscore_takes (b ∷ bytes) rest e = let is = take_none b bytes rest e in record { after = record { count = 1; is = is }; shorter = omega (arith, ap length is) }
+
+pub index_takes : (r : Radix) (bytes : List ℕ) (found : ℕ × List ℕ) → index_of r bytes ≡ Some found → Takes found.1 bytes
+unfolding index_of
+index_takes r bytes found e = go (past_underscore bytes) refl e
+  where
+    after_number : (n : ℕ × List ℕ) (i : ℕ) (o : Option (List ℕ)) → past_underscore n.1 ≡ o → option_map (λ rest. (i, rest)) o ≡ Some found → Takes found.1 n.1
+    after_number n i None f g = cc
+    after_number n i (Some rest) f g =
+        let is : rest ≡ found.1 = (some_pair_parts i found.0 rest found.1 g).1 in
+        rw (← is) (underscore_takes n.1 rest f)
+
+    go : (o : Option (List ℕ)) → past_underscore bytes ≡ o → index_by r bytes o ≡ Some found → Takes found.1 bytes
+    go (Some rest) f g = let is : rest ≡ found.1 = (some_pair_parts 0 found.0 rest found.1 g).1 in rw (← is) (underscore_takes bytes rest f)
+    go None f g = option_and_then_some _ (numeral r bytes) found g (λ n read more.
+        option_and_then_some _ (next_number n.0) found more (λ i next there.
+        takes_takes (numeral_takes r bytes n read) (after_number n i (past_underscore n.1) refl there)))
+
+pub dimension_takes : (bytes : List ℕ) (found : Option ℕ × List ℕ) → dimension_of bytes ≡ Some found → Takes found.1 bytes
+unfolding dimension_of
+dimension_takes bytes found e = go (past_underscore bytes) refl e
+  where
+    go : (o : Option (List ℕ)) → past_underscore bytes ≡ o → dimension_by bytes o ≡ Some found → Takes found.1 bytes
+    go (Some rest) f g = let is : rest ≡ found.1 = (some_pair_parts None found.0 rest found.1 g).1 in rw (← is) (underscore_takes bytes rest f)
+    go None f g = option_and_then_some _ (number bytes) found g (λ n read more. after_number n (past_underscore n.1) refl (number_takes bytes n read) more)
+      where
+        after_number : (n : ℕ × List ℕ) (o : Option (List ℕ)) → past_underscore n.1 ≡ o → Takes n.1 bytes → option_map (λ rest. (Some n.0, rest)) o ≡ Some found → Takes found.1 bytes
+        after_number n None f a g = cc
+        after_number n (Some rest) f a g =
+            let is : rest ≡ found.1 = (some_pair_parts (Some n.0) found.0 rest found.1 g).1 in
+            rw (← is) (takes_takes a (underscore_takes n.1 rest f))
+
+pub reference_after : (bytes : List ℕ) → IsAfter (past_reference bytes) bytes
+reference_after bytes = if_after _ 1 bytes

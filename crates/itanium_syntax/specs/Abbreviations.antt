@@ -1,0 +1,37 @@
+-- The abbreviations of std (Itanium C++ ABI 5.1.10, "Compression").
+use Rattle.std.specs.Prelude.{ℕ, ◌+◌, ◌==◌, List, [], ◌∷◌, length, codes, Option, Some, None, if◌then◌else◌}
+use Rattle.itanium_syntax.specs.declared.abbreviations.Abbreviation.{Abbreviation}
+use Rattle.itanium_syntax.specs.declared.abbreviations.Abbreviation.TheVariants.{Allocator, BasicString, StdString, Istream, Ostream, Iostream}
+
+-- which name the letter stands for
+abbrev pub abbreviation_letter : ℕ → Option Abbreviation
+abbreviation_letter letter =
+    if letter == 97 then Some Allocator else
+    if letter == 98 then Some BasicString else
+    if letter == 115 then Some StdString else
+    if letter == 105 then Some Istream else
+    if letter == 111 then Some Ostream else
+    if letter == 100 then Some Iostream else None
+
+-- the abbreviation that stands in front
+abbrev pub abbreviation_of : List ℕ → Option Abbreviation
+abbreviation_of [] = None
+abbreviation_of (letter ∷ bytes) = abbreviation_letter letter
+
+-- what is printed
+abbrev pub abbreviation_text : Abbreviation → List ℕ
+abbreviation_text Allocator = codes "std::allocator"
+abbreviation_text BasicString = codes "std::basic_string"
+abbreviation_text StdString = codes "std::string"
+abbreviation_text Istream = codes "std::basic_istream<char, std::char_traits<char> >"
+abbreviation_text Ostream = codes "std::ostream"
+abbreviation_text Iostream = codes "std::basic_iostream<char, std::char_traits<char> >"
+
+-- the last own name, which stands after std::
+abbrev pub abbreviation_own : Abbreviation → List ℕ
+abbreviation_own Allocator = codes "allocator"
+abbreviation_own BasicString = codes "basic_string"
+abbreviation_own StdString = codes "string"
+abbreviation_own Istream = codes "basic_istream"
+abbreviation_own Ostream = codes "ostream"
+abbreviation_own Iostream = codes "basic_iostream"

@@ -1,0 +1,11 @@
+-- What a production hands down to those inside it.
+use Rattle.std.specs.Prelude.{Bool, true, not, ◌&&◌}
+use Rattle.itanium_syntax.specs.declared.context.Context.{Context}
+
+-- a list opens a scope where it is a name's and no type is around it
+abbrev pub opens_scope : Bool → Context → Bool
+opens_scope of_name x = of_name && not x.in_type
+
+-- the same, inside a type
+abbrev pub inside_type : Context → Context
+inside_type x = record x { in_type = true }

@@ -1,0 +1,89 @@
+-- The cases of names. Of several cases the first one that fits holds.
+use Rattle.std.specs.Prelude.{ℕ, List, Bool, true, false, ◌&&◌, ◌||◌, drop, codes, if◌then◌else◌}
+use Rattle.demangle_quals.specs.declared.quals.Quals.{Quals}
+use Rattle.demangle_quals.specs.Quals.{no_quals}
+use Rattle.itanium_syntax.specs.Bytes.{begins, begins_between, begins_digit, past_letter}
+use Rattle.itanium_syntax.specs.Cases.{SymbolCase, SpecialSymbol, NameSymbol, NameCase, NestedName, LocalName, UnscopedName, UnscopedCase, StdName, SubstitutionName, PlainName, FirstCase, ParameterFirst, StdFirst, SubstitutionFirst, NameFirst, ComponentCase, EndOfComponents, ArgsComponent, NameComponent, UnqualifiedCase, SourceName, ConstructorName, DestructorName, OtherName, TagCase, NoTag, NextTag, SubstitutionCase, AbbreviationSubstitution, ComponentSubstitution}
+use Rattle.itanium_syntax.specs.Types.{cv_quals, past_cv, reference_of, past_reference}
+
+-- what follows _Z
+abbrev pub symbol_case : List ℕ → SymbolCase
+symbol_case bytes = if begins (codes "T") bytes || begins (codes "G") bytes then SpecialSymbol else NameSymbol
+
+-- <name>
+abbrev pub name_case : List ℕ → NameCase
+name_case bytes =
+    if begins (codes "N") bytes then NestedName else
+    if begins (codes "Z") bytes then LocalName else UnscopedName
+
+-- <unscoped-name>, or a <substitution> for a template's name
+abbrev pub unscoped_case : List ℕ → UnscopedCase
+unscoped_case bytes =
+    if begins (codes "St") bytes then StdName else
+    if begins (codes "S") bytes then SubstitutionName else PlainName
+
+-- the first component of a <nested-name>
+abbrev pub first_case : List ℕ → FirstCase
+first_case bytes =
+    if begins (codes "T") bytes then ParameterFirst else
+    if begins (codes "St") bytes then StdFirst else
+    if begins (codes "S") bytes then SubstitutionFirst else NameFirst
+
+-- whether the first component of a <nested-name> is saved: all but `St` and a substitution are
+abbrev pub saves_first : FirstCase → Bool
+saves_first ParameterFirst = true
+saves_first StdFirst = false
+saves_first SubstitutionFirst = false
+saves_first NameFirst = true
+
+-- a later component of a <nested-name>, or its end
+abbrev pub component_case : List ℕ → ComponentCase
+component_case bytes =
+    if begins (codes "E") bytes then EndOfComponents else
+    if begins (codes "I") bytes then ArgsComponent else NameComponent
+
+-- C1 to C5 of <ctor-dtor-name>
+abbrev pub begins_constructor : List ℕ → Bool
+begins_constructor bytes = begins (codes "C") bytes && begins_between 49 53 (drop 1 bytes)
+
+-- D0, D1, D2, D4 and D5 of <ctor-dtor-name>
+abbrev pub begins_destructor : List ℕ → Bool
+begins_destructor bytes =
+    begins (codes "D") bytes && (begins_between 48 50 (drop 1 bytes) || begins_between 52 53 (drop 1 bytes))
+
+-- <unqualified-name>: constructors and destructors have a scope
+abbrev pub unqualified_case : Bool → List ℕ → UnqualifiedCase
+unqualified_case in_scope bytes =
+    if begins_between 49 57 bytes then SourceName else
+    if in_scope && begins_constructor bytes then ConstructorName else
+    if in_scope && begins_destructor bytes then DestructorName else OtherName
+
+-- an <abi-tag> or none
+abbrev pub tag_case : List ℕ → TagCase
+tag_case bytes = if begins (codes "B") bytes && begins_digit (drop 1 bytes) then NextTag else NoTag
+
+-- <substitution> after its S: a letter of std, or a number
+abbrev pub substitution_case : List ℕ → SubstitutionCase
+substitution_case bytes = if begins_between 97 122 bytes then AbbreviationSubstitution else ComponentSubstitution
+
+-- past the L of an internal name, which a digit follows
+abbrev pub past_internal : List ℕ → List ℕ
+past_internal bytes = if begins (codes "L") bytes && begins_digit (drop 1 bytes) then drop 1 bytes else bytes
+
+-- past the M of a data member's initializer
+abbrev pub past_initializer_letter : List ℕ → List ℕ
+past_initializer_letter bytes = past_letter 77 bytes
+
+-- an unnamed namespace has a text of its own
+abbrev pub source_text : List ℕ → List ℕ
+source_text name = if begins (codes "_GLOBAL__N") name then codes "(anonymous namespace)" else name
+
+-- the qualifiers of a <nested-name>; one with an explicit object parameter, H, has none
+abbrev pub name_quals : List ℕ → Quals
+name_quals bytes =
+    let words = cv_quals bytes in
+    if begins (codes "H") bytes then no_quals else record words { reference = reference_of (past_cv bytes) }
+
+-- what is after the qualifiers of a <nested-name>
+abbrev pub past_name_quals : List ℕ → List ℕ
+past_name_quals bytes = if begins (codes "H") bytes then drop 1 bytes else past_reference (past_cv bytes)

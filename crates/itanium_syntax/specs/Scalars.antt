@@ -1,0 +1,81 @@
+-- Numbers and source names: how many bytes stand in front, and what they say (Itanium C++ ABI 5.1.2).
+use Rattle.std.specs.Prelude.{ℕ, ◌+◌, ◌-◌, ◌*◌, ◌^◌, ◌&&◌, ◌==◌, nat_le, nat_lt, if◌then◌else◌, List, [], ◌∷◌, length, take, drop, Option, Some, None, option_and_then, option_map}
+use Rattle.itanium_syntax.specs.declared.numerals.Radix.{Radix}
+use Rattle.itanium_syntax.specs.declared.numerals.Radix.TheVariants.{Decimal, Base36}
+
+-- how many digits there are
+abbrev pub base : Radix → ℕ
+base Decimal = 10
+base Base36 = 36
+
+-- what a byte is worth as a digit: 0 to 9, and in base 36 also A to Z
+abbrev pub digit_of : Radix → ℕ → Option ℕ
+digit_of Decimal b = if nat_le 48 b && nat_le b 57 then Some (b - 48) else None
+digit_of Base36 b =
+    if nat_le 48 b && nat_le b 57 then Some (b - 48) else
+    if nat_le 65 b && nat_le b 90 then Some (b - 55) else None
+
+-- a digit and those after it, where it is one
+abbrev pub digit_then : Option ℕ → List ℕ → List ℕ
+digit_then None ds = []
+digit_then (Some d) ds = d ∷ ds
+
+-- all digits that stand in front
+unfoldable pub front_digits : Radix → List ℕ → List ℕ
+front_digits r [] = []
+front_digits r (b ∷ bytes) = digit_then (digit_of r b) (front_digits r bytes)
+
+-- the number that digits write: each digit times the power of its place
+unfoldable pub weighted : ℕ → List ℕ → ℕ
+weighted n [] = 0
+weighted n (d ∷ ds) = d * n ^ length ds + weighted n ds
+
+-- one digit or more, as many as stand there: their number, which fits 64 bits, and what follows
+abbrev pub numeral : Radix → List ℕ → Option (ℕ × List ℕ)
+numeral r bytes =
+    let ds = front_digits r bytes in
+    let n = weighted (base r) ds in
+    if nat_lt 0 (length ds) && nat_lt n (2 ^ 64) then Some (n, drop (length ds) bytes) else None
+
+-- <number>, without a sign
+unfoldable pub number : List ℕ → Option (ℕ × List ℕ)
+number bytes = numeral Decimal bytes
+
+-- <source-name> ::= <positive length number> <identifier>: the identifier, and what follows
+unfoldable pub source_name : List ℕ → Option (List ℕ × List ℕ)
+source_name bytes = option_and_then (λ n.
+    if nat_lt 0 n.0 && nat_le n.0 (length n.1) then Some (take n.0 n.1, drop n.0 n.1) else None) (number bytes)
+
+-- <seq-id>: digits in base 36
+unfoldable pub sequence_id : List ℕ → Option (ℕ × List ℕ)
+sequence_id bytes = numeral Base36 bytes
+
+-- the number that follows n, which fits 64 bits
+abbrev pub next_number : ℕ → Option ℕ
+next_number n = if nat_lt (n + 1) (2 ^ 64) then Some (n + 1) else None
+
+-- the next byte is `_`, and what follows it
+abbrev pub past_underscore : List ℕ → Option (List ℕ)
+past_underscore [] = None
+past_underscore (b ∷ bytes) = if b == 95 then Some bytes else None
+
+-- after the `_` of an index without a numeral; else a numeral, `_`, and the number that follows it
+abbrev pub index_by : Radix → List ℕ → Option (List ℕ) → Option (ℕ × List ℕ)
+index_by r bytes (Some rest) = Some (0, rest)
+index_by r bytes None =
+    option_and_then (λ n.
+        option_and_then (λ i. option_map (λ rest. (i, rest)) (past_underscore n.1)) (next_number n.0)) (numeral r bytes)
+
+-- [<numeral>] _: 0 where the numeral is left out, else the number that follows it
+unfoldable pub index_of : Radix → List ℕ → Option (ℕ × List ℕ)
+index_of r bytes = index_by r bytes (past_underscore bytes)
+
+-- after the `_` of an array without a dimension; else the dimension and `_`
+abbrev pub dimension_by : List ℕ → Option (List ℕ) → Option (Option ℕ × List ℕ)
+dimension_by bytes (Some rest) = Some (None, rest)
+dimension_by bytes None =
+    option_and_then (λ n. option_map (λ rest. (Some n.0, rest)) (past_underscore n.1)) (number bytes)
+
+-- [<number>] _: the dimension of an array, which may be left out
+unfoldable pub dimension_of : List ℕ → Option (Option ℕ × List ℕ)
+dimension_of bytes = dimension_by bytes (past_underscore bytes)

@@ -1,0 +1,134 @@
+-- The cases of types. Of several cases the first one that fits holds.
+use Rattle.std.specs.Prelude.{ℕ, List, [], ◌∷◌, Bool, ◌&&◌, ◌||◌, ◌==◌, nat_lt, length, drop, codes, if◌then◌else◌, Option, Some, None}
+use Rattle.demangle_quals.specs.declared.quals.Quals.{Quals}
+use Rattle.demangle_quals.specs.declared.quals.Pointer.TheVariants as Pointer
+use Rattle.demangle_quals.specs.declared.quals.Reference.{Reference}
+use Rattle.demangle_quals.specs.declared.quals.Reference.TheVariants.{Left, Right}
+use Rattle.itanium_syntax.specs.Bytes.{begins, begins_one_of, past_letter}
+use Rattle.itanium_syntax.specs.Cases.{TypeCase, BuiltinType, ExpansionType, VendorType, ArrayType, FunctionType, MemberType, PointerType, CvType, ElaboratedType, ParameterType, SubstitutionType, UnreadType, NameType, CvCase, CvFunction, CvOther, FunctionCase, ExternFunction, PlainFunction, ParamsCase, NoParams, SomeParams, TypesCase, EndOfTypes, NextType}
+
+-- <builtin-type> of a letter
+abbrev pub letter_text : ℕ → List ℕ
+letter_text letter =
+    if letter == 118 then codes "void" else
+    if letter == 119 then codes "wchar_t" else
+    if letter == 98 then codes "bool" else
+    if letter == 99 then codes "char" else
+    if letter == 97 then codes "signed char" else
+    if letter == 104 then codes "unsigned char" else
+    if letter == 115 then codes "short" else
+    if letter == 116 then codes "unsigned short" else
+    if letter == 105 then codes "int" else
+    if letter == 106 then codes "unsigned int" else
+    if letter == 108 then codes "long" else
+    if letter == 109 then codes "unsigned long" else
+    if letter == 120 then codes "long long" else
+    if letter == 121 then codes "unsigned long long" else
+    if letter == 110 then codes "__int128" else
+    if letter == 111 then codes "unsigned __int128" else
+    if letter == 102 then codes "float" else
+    if letter == 100 then codes "double" else
+    if letter == 101 then codes "long double" else
+    if letter == 103 then codes "__float128" else
+    if letter == 122 then codes "..." else []
+
+-- <builtin-type> of D and a letter
+abbrev pub two_letter_text : ℕ → List ℕ
+two_letter_text letter =
+    if letter == 115 then codes "char16_t" else
+    if letter == 105 then codes "char32_t" else
+    if letter == 117 then codes "char8_t" else
+    if letter == 110 then codes "std::nullptr_t" else
+    if letter == 97 then codes "auto" else
+    if letter == 99 then codes "decltype(auto)" else
+    if letter == 104 then codes "half" else
+    if letter == 100 then codes "decimal64" else
+    if letter == 101 then codes "decimal128" else
+    if letter == 102 then codes "decimal32" else []
+
+-- the text of a <builtin-type>
+abbrev pub builtin_text : List ℕ → List ℕ
+builtin_text [] = []
+builtin_text (first ∷ []) = letter_text first
+builtin_text (first ∷ second ∷ bytes) = if first == 68 then two_letter_text second else letter_text first
+
+-- a <builtin-type> is next: a letter, or D and a letter, with a text
+abbrev pub is_builtin : List ℕ → Bool
+is_builtin bytes = nat_lt 0 (length (builtin_text bytes))
+
+-- what is after a <builtin-type>
+abbrev pub past_builtin : List ℕ → List ℕ
+past_builtin bytes = if begins (codes "D") bytes then drop 2 bytes else drop 1 bytes
+
+-- <type>
+abbrev pub type_case : List ℕ → TypeCase
+type_case bytes =
+    if is_builtin bytes then BuiltinType else
+    if begins (codes "Dp") bytes then ExpansionType else
+    if begins (codes "u") bytes then VendorType else
+    if begins (codes "A") bytes then ArrayType else
+    if begins (codes "F") bytes then FunctionType else
+    if begins (codes "M") bytes then MemberType else
+    if begins (codes "P") bytes then PointerType Pointer.Star else
+    if begins (codes "R") bytes then PointerType Pointer.Left else
+    if begins (codes "O") bytes then PointerType Pointer.Right else
+    if begins_one_of (codes "rVK") bytes then CvType else
+    if begins (codes "T") bytes && begins_one_of (codes "sue") (drop 1 bytes) then ElaboratedType else
+    if begins (codes "T") bytes then ParameterType else
+    if begins (codes "St") bytes then NameType else
+    if begins (codes "S") bytes then SubstitutionType else
+    if begins (codes "U") bytes then UnreadType else NameType
+
+-- <CV-qualifiers> ::= [r] [V] [K], and <ref-qualifier> ::= R | O after them
+abbrev pub cv_quals : List ℕ → Quals
+cv_quals bytes =
+    let after_restrict = past_letter 114 bytes in
+    let after_volatile = past_letter 86 after_restrict in
+    record {
+      constant = begins (codes "K") after_volatile;
+      volatile = begins (codes "V") after_restrict;
+      restrict = begins (codes "r") bytes;
+      reference = None;
+    }
+
+-- what is after <CV-qualifiers>
+abbrev pub past_cv : List ℕ → List ℕ
+past_cv bytes = past_letter 75 (past_letter 86 (past_letter 114 bytes))
+
+-- <ref-qualifier> ::= R | O, where one stands in front
+abbrev pub reference_of : List ℕ → Option Reference
+reference_of bytes =
+    if begins (codes "R") bytes then Some Left else
+    if begins (codes "O") bytes then Some Right else None
+
+-- the qualifiers with the reference that stands in front
+abbrev pub with_reference : Quals → List ℕ → Quals
+with_reference quals bytes = record quals { reference = reference_of bytes }
+
+-- past the R or O
+abbrev pub past_reference : List ℕ → List ℕ
+past_reference bytes = if begins (codes "R") bytes || begins (codes "O") bytes then drop 1 bytes else bytes
+
+-- what qualifiers stand in front of: a function type takes them in
+abbrev pub cv_case : List ℕ → CvCase
+cv_case bytes = if begins (codes "F") bytes then CvFunction else CvOther
+
+-- <function-type>: FY isn't read
+abbrev pub function_case : List ℕ → FunctionCase
+function_case bytes = if begins (codes "FY") bytes then ExternFunction else PlainFunction
+
+-- v is no parameter right in front of the E
+abbrev pub params_case : List ℕ → ParamsCase
+params_case bytes = if begins (codes "vE") bytes then NoParams else SomeParams
+
+-- the parameters end at E, or at a <ref-qualifier> in front of it
+abbrev pub types_case : List ℕ → TypesCase
+types_case bytes =
+    if begins (codes "E") bytes || (begins (codes "RE") bytes || begins (codes "OE") bytes)
+    then EndOfTypes else NextType
+
+-- the word in front of an elaborated type's name, and a space
+abbrev pub elaborated_text : List ℕ → List ℕ
+elaborated_text bytes =
+    if begins (codes "Ts") bytes then codes "struct " else
+    if begins (codes "Tu") bytes then codes "union " else codes "enum "

@@ -1,0 +1,60 @@
+//! The cases of template arguments: which one the next bytes begin.
+ghost use Rattle.std.specs.Prelude.{◌≡◌};
+ghost use Rattle.itanium_syntax.specs.Args as spec;
+
+/// Whether `<template-args>` follow.
+#[derive(Clone, Copy)]
+pub enum AttachedCase {
+    NoneAttached,
+    ArgsAttached,
+}
+
+/// The end of `<template-args>`, or one more argument.
+#[derive(Clone, Copy)]
+pub enum ArgsCase {
+    EndOfArguments,
+    NextArgument,
+}
+
+/// `<template-arg>`
+#[derive(Clone, Copy)]
+pub enum ArgumentCase {
+    ExpressionArgument,
+    PackArgument,
+    LiteralArgument,
+    ConstraintArgument,
+    TypeArgument,
+}
+
+/// Whether `<template-args>` stand there.
+pub fn attached_case(bytes: &[u8]) -> AttachedCase
+    ensures case { result ≡ spec.attached_case bytes.now }
+{
+    match bytes {
+        [b'I', ..] => AttachedCase::ArgsAttached,
+        _ => AttachedCase::NoneAttached,
+    }
+}
+
+/// Whether one more `<template-arg>` stands there, or the `E` after them.
+pub fn args_case(bytes: &[u8]) -> ArgsCase
+    ensures case { result ≡ spec.args_case bytes.now }
+{
+    match bytes {
+        [b'E', ..] => ArgsCase::EndOfArguments,
+        _ => ArgsCase::NextArgument,
+    }
+}
+
+/// Which `<template-arg>` stands there.
+pub fn argument_case(bytes: &[u8]) -> ArgumentCase
+    ensures case { result ≡ spec.argument_case bytes.now }
+{
+    match bytes {
+        [b'X', ..] => ArgumentCase::ExpressionArgument,
+        [b'J', ..] => ArgumentCase::PackArgument,
+        [b'L', ..] => ArgumentCase::LiteralArgument,
+        [b'Q', ..] => ArgumentCase::ConstraintArgument,
+        _ => ArgumentCase::TypeArgument,
+    }
+}

@@ -1,0 +1,11 @@
+//! What the next bytes of a mangled C++ symbol are (Itanium C++ ABI 5.1): numbers and source names, the
+//! abbreviations of std, and which case of each production the bytes begin.
+#![tactic(auto)]
+
+pub mod abbreviations;
+pub mod args;
+pub mod context;
+pub mod names;
+pub mod numerals;
+pub mod scalar;
+pub mod types;

@@ -1,0 +1,225 @@
+//! The cases of names: which one the next bytes begin. Of several cases the first one that fits holds.
+ghost use Rattle.std.specs.Prelude.{◌≡◌, ◌≤◌, length};
+ghost use Rattle.itanium_syntax.specs.Names as spec;
+
+use crate::types::{cv_quals, ref_qualifier};
+use demangle_quals::Quals;
+
+/// What follows the prefix of a symbol.
+#[derive(Clone, Copy)]
+pub enum SymbolCase {
+    SpecialSymbol,
+    NameSymbol,
+}
+
+/// `<name>`
+#[derive(Clone, Copy)]
+pub enum NameCase {
+    NestedName,
+    LocalName,
+    UnscopedName,
+}
+
+/// `<unscoped-name>`, and `<substitution>` as a template name.
+#[derive(Clone, Copy)]
+pub enum UnscopedCase {
+    StdName,
+    SubstitutionName,
+    PlainName,
+}
+
+/// The first component of a `<nested-name>`.
+#[derive(Clone, Copy)]
+pub enum FirstCase {
+    ParameterFirst,
+    StdFirst,
+    SubstitutionFirst,
+    NameFirst,
+}
+
+/// A later component of a `<nested-name>`, or its end.
+#[derive(Clone, Copy)]
+pub enum ComponentCase {
+    EndOfComponents,
+    ArgsComponent,
+    NameComponent,
+}
+
+/// `<unqualified-name>`
+#[derive(Clone, Copy)]
+pub enum UnqualifiedCase {
+    SourceName,
+    ConstructorName,
+    DestructorName,
+    OtherName,
+}
+
+/// Whether an `<abi-tag>` follows.
+#[derive(Clone, Copy)]
+pub enum TagCase {
+    NoTag,
+    NextTag,
+}
+
+/// `<substitution>`: an abbreviation of std, or a number.
+#[derive(Clone, Copy)]
+pub enum SubstitutionCase {
+    AbbreviationSubstitution,
+    ComponentSubstitution,
+}
+
+/// Which `<encoding>` stands there: a special name, or a name.
+pub fn symbol_case(bytes: &[u8]) -> SymbolCase
+    ensures case { result ≡ spec.symbol_case bytes.now }
+{
+    match bytes {
+        [b'T' | b'G', ..] => SymbolCase::SpecialSymbol,
+        _ => SymbolCase::NameSymbol,
+    }
+}
+
+/// Which `<name>` stands there.
+pub fn name_case(bytes: &[u8]) -> NameCase
+    ensures case { result ≡ spec.name_case bytes.now }
+{
+    match bytes {
+        [b'N', ..] => NameCase::NestedName,
+        [b'Z', ..] => NameCase::LocalName,
+        _ => NameCase::UnscopedName,
+    }
+}
+
+/// Which `<unscoped-name>` stands there.
+pub fn unscoped_case(bytes: &[u8]) -> UnscopedCase
+    ensures case { result ≡ spec.unscoped_case bytes.now }
+{
+    match bytes {
+        [b'S', b't', ..] => UnscopedCase::StdName,
+        [b'S', ..] => UnscopedCase::SubstitutionName,
+        _ => UnscopedCase::PlainName,
+    }
+}
+
+/// Which first component of a `<nested-name>` stands there.
+pub fn first_case(bytes: &[u8]) -> FirstCase
+    ensures case { result ≡ spec.first_case bytes.now }
+{
+    match bytes {
+        [b'T', ..] => FirstCase::ParameterFirst,
+        [b'S', b't', ..] => FirstCase::StdFirst,
+        [b'S', ..] => FirstCase::SubstitutionFirst,
+        _ => FirstCase::NameFirst,
+    }
+}
+
+/// Whether the first component of a `<nested-name>` is saved.
+pub fn saves_first(form: FirstCase) -> bool
+    ensures value { result ≡ spec.saves_first form }
+{
+    matches!(form, FirstCase::ParameterFirst | FirstCase::NameFirst)
+}
+
+/// Which later component of a `<nested-name>` stands there, or its `E`.
+pub fn component_case(bytes: &[u8]) -> ComponentCase
+    ensures case { result ≡ spec.component_case bytes.now }
+{
+    match bytes {
+        [b'E', ..] => ComponentCase::EndOfComponents,
+        [b'I', ..] => ComponentCase::ArgsComponent,
+        _ => ComponentCase::NameComponent,
+    }
+}
+
+/// Which `<unqualified-name>` stands there: one of a constructor or destructor only in a scope.
+pub fn unqualified_case(in_scope: bool, bytes: &[u8]) -> UnqualifiedCase
+    ensures case { result ≡ spec.unqualified_case in_scope bytes.now }
+{
+    match bytes {
+        [b'1'..=b'9', ..] => UnqualifiedCase::SourceName,
+        [b'C', b'1'..=b'5', ..] if in_scope => UnqualifiedCase::ConstructorName,
+        [b'D', b'0'..=b'2' | b'4' | b'5', ..] if in_scope => UnqualifiedCase::DestructorName,
+        _ => UnqualifiedCase::OtherName,
+    }
+}
+
+/// Whether an `<abi-tag>` stands there: `B`, which a digit follows.
+pub fn tag_case(bytes: &[u8]) -> TagCase
+    ensures case { result ≡ spec.tag_case bytes.now }
+{
+    match bytes {
+        [b'B', b'0'..=b'9', ..] => TagCase::NextTag,
+        _ => TagCase::NoTag,
+    }
+}
+
+/// Which `<substitution>` stands there, after its `S`.
+pub fn substitution_case(bytes: &[u8]) -> SubstitutionCase
+    ensures case { result ≡ spec.substitution_case bytes.now }
+{
+    match bytes {
+        [b'a'..=b'z', ..] => SubstitutionCase::AbbreviationSubstitution,
+        _ => SubstitutionCase::ComponentSubstitution,
+    }
+}
+
+/// Past the `L` of an internal name, which a digit follows.
+pub fn past_internal(bytes: &[u8]) -> &[u8]
+    ensures rest { result.now ≡ spec.past_internal bytes.now }
+    ensures within { length result.now ≤ length bytes.now }
+{
+    match bytes {
+        [b'L', rest @ ..] => match rest {
+            [b'0'..=b'9', ..] => rest,
+            _ => bytes,
+        },
+        _ => bytes,
+    }
+}
+
+/// Past the `M` of a data member's initializer, where one stands.
+pub fn past_initializer_letter(bytes: &[u8]) -> &[u8]
+    ensures rest { result.now ≡ spec.past_initializer_letter bytes.now }
+    ensures within { length result.now ≤ length bytes.now }
+{
+    match bytes {
+        [b'M', rest @ ..] => rest,
+        _ => bytes,
+    }
+}
+
+/// The text of a source name: an unnamed namespace has a text of its own.
+pub fn source_text(name: &[u8]) -> &[u8]
+    ensures text { result.now ≡ spec.source_text name.now }
+{
+    match name {
+        [
+            b'_',
+            b'G',
+            b'L',
+            b'O',
+            b'B',
+            b'A',
+            b'L',
+            b'_',
+            b'_',
+            b'N',
+            ..
+        ] => b"(anonymous namespace)",
+        _ => name,
+    }
+}
+
+/// The qualifiers of a `<nested-name>`, and what follows them: `H`, which says none, or `<CV-qualifiers>` and a
+/// `<ref-qualifier>`.
+pub fn name_quals(bytes: &[u8]) -> (Quals, &[u8])
+    ensures quals { result.0 ≡ spec.name_quals bytes.now }
+    ensures rest { result.1.now ≡ spec.past_name_quals bytes.now }
+    ensures within { length result.1.now ≤ length bytes.now }
+{
+    if let [b'H', rest @ ..] = bytes {
+        return (Quals::none(), rest);
+    }
+    let (words, rest) = cv_quals(bytes);
+    let (reference, rest) = ref_qualifier(rest);
+    (Quals { reference, ..words }, rest)
+}

@@ -1,0 +1,99 @@
+//! Digits, and the indices and dimensions that are written with them (Itanium C++ ABI 5.1.2).
+ghost use Rattle.std.specs.Prelude.{◌≡◌, ◌<◌, ◌≤◌, ◌+◌, ◌*◌, ◌^◌, SomeIff, IfSome, option_map, length, drop};
+ghost use Rattle.itanium_syntax.specs.Scalars as spec;
+
+/// The digits that a numeral is written in.
+#[derive(Clone, Copy)]
+pub enum Radix {
+    Decimal,
+    Base36,
+}
+
+/// What a byte is worth as a digit.
+fn digit(radix: Radix, byte: u8) -> Option<u64>
+    ensures value { result ≡ spec.digit_of radix byte }
+{
+    match (radix, byte) {
+        (_, b'0'..=b'9') => Some((byte - b'0') as u64),
+        (Radix::Base36, b'A'..=b'Z') => Some((byte - b'A') as u64 + 10),
+        _ => None,
+    }
+}
+
+/// How many digits there are.
+fn base(radix: Radix) -> u64
+    ensures value { result ≡ spec.base radix }
+{
+    match radix {
+        Radix::Decimal => 10,
+        Radix::Base36 => 36,
+    }
+}
+
+/// The number with one more digit, where it fits.
+fn with_digit(value: u64, base: u64, worth: u64) -> Option<u64>
+    ensures value { SomeIff result (value * base + worth < 2 ^ 64) (value * base + worth) }
+{
+    value.checked_mul(base)?.checked_add(worth)
+}
+
+/// The number that the digits in front write, and how many digits there are.
+pub fn numeral(radix: Radix, bytes: &[u8]) -> Option<(u64, usize)>
+    ensures value { option_map (λ found. (found.0, drop found.1 bytes.now)) result ≡ spec.numeral radix bytes.now }
+    ensures taken { IfSome result (λ found. 0 < found.1) }
+    ensures within { IfSome result (λ found. found.1 ≤ length bytes.now) }
+{
+    let base = base(radix);
+    let mut value: u64 = 0;
+    let mut count: usize = 0;
+    for byte in bytes {
+        let Some(worth) = digit(radix, *byte) else {
+            break;
+        };
+        value = with_digit(value, base, worth)?;
+        count += 1;
+    }
+    if count == 0 {
+        return None;
+    }
+    Some((value, count))
+}
+
+/// `[<numeral>] _`: 0 where the numeral is left out, else the number that follows it, and what is after the `_`.
+#[tactic(auto, unfolding(crate::specs::Scalars::index_of))]
+pub fn index_of(radix: Radix, bytes: &[u8]) -> Option<(usize, &[u8])>
+    ensures value { option_map (λ found. (found.0, found.1.now)) result ≡ spec.index_of radix bytes.now }
+    ensures shorter { IfSome result (λ found. length found.1.now < length bytes.now) }
+{
+    if let [b'_', rest @ ..] = bytes {
+        return Some((0, rest));
+    }
+    let Some((value, count)) = numeral(radix, bytes) else {
+        return None;
+    };
+    if value == u64::MAX {
+        return None;
+    }
+    match &bytes[count..] {
+        [b'_', rest @ ..] => Some((value as usize + 1, rest)),
+        _ => None,
+    }
+}
+
+/// `[<number>] _`: the dimension of an array, which may be left out, and what is after the `_`.
+#[tactic(auto, unfolding(crate::specs::Scalars::dimension_of, crate::specs::Scalars::number))]
+pub fn dimension_of(bytes: &[u8]) -> Option<(Option<u64>, &[u8])>
+    ensures value { option_map (λ found. (found.0, found.1.now)) result ≡ spec.dimension_of bytes.now }
+    ensures shorter { IfSome result (λ found. length found.1.now < length bytes.now) }
+{
+    if let [b'_', rest @ ..] = bytes {
+        return Some((None, rest));
+    }
+    let Some((value, count)) = numeral(Radix::Decimal, bytes) else {
+        return None;
+    };
+    match &bytes[count..] {
+        [b'_', rest @ ..] => Some((Some(value), rest)),
+        _ => None,
+    }
+}

@@ -1,0 +1,58 @@
+//! What stands in the bytes by itself: numbers and source names (Itanium C++ ABI 5.1.2).
+ghost use Rattle.std.specs.Prelude.{◌≡◌, ◌<◌, ◌≤◌, IfSome, option_map, length, drop, slice_range};
+ghost use Rattle.itanium_syntax.specs.Scalars as spec;
+
+use crate::numerals::{Radix, numeral};
+
+/// `<number>` without a sign: as many decimal digits as stand at `pos`, at least one. The value, and the place after
+/// the digits, in bytes; `None` where no digit stands there or the value is past 2^64 - 1.
+#[tactic(auto, using(crate::proofs::Digits::dropped), unfolding(crate::specs::Scalars::number))]
+pub fn number(input: &[u8], pos: usize) -> Option<(u64, usize)>
+    requires place { pos ≤ length input.now }
+    ensures value { option_map (λ found. (found.0, drop found.1 input.now)) result
+        ≡ spec.number (drop pos input.now) }
+    ensures after { IfSome result (λ found. pos < found.1) }
+    ensures within { IfSome result (λ found. found.1 ≤ length input.now) }
+{
+    match numeral(Radix::Decimal, &input[pos..]) {
+        Some((value, count)) => Some((value, pos + count)),
+        None => None,
+    }
+}
+
+/// `<seq-id>`: as many digits in base 36, `0` to `9` and `A` to `Z`, as stand at `pos`, at least one. The value, and
+/// the place after the digits, in bytes; `None` where no digit stands there or the value is past 2^64 - 1.
+/// (Itanium C++ ABI 5.1.10, "Compression")
+#[tactic(auto, using(crate::proofs::Digits::dropped), unfolding(crate::specs::Scalars::sequence_id))]
+pub fn sequence_id(input: &[u8], pos: usize) -> Option<(u64, usize)>
+    requires place { pos ≤ length input.now }
+    ensures value { option_map (λ found. (found.0, drop found.1 input.now)) result
+        ≡ spec.sequence_id (drop pos input.now) }
+    ensures after { IfSome result (λ found. pos < found.1) }
+    ensures within { IfSome result (λ found. found.1 ≤ length input.now) }
+{
+    match numeral(Radix::Base36, &input[pos..]) {
+        Some((value, count)) => Some((value, pos + count)),
+        None => None,
+    }
+}
+
+/// `<source-name> ::= <positive length number> <identifier>`: the place of the identifier's first byte, and the place
+/// after it. `None` where no number stands at `pos`, it is 0 or past 2^64 - 1, or fewer bytes follow it.
+#[tactic(auto, using(crate::proofs::Digits::dropped), unfolding(crate::specs::Scalars::source_name))]
+pub fn source_name(input: &[u8], pos: usize) -> Option<(usize, usize)>
+    requires place { pos ≤ length input.now }
+    ensures value { option_map (λ found. (slice_range input.now found.0 found.1, drop found.1 input.now)) result
+        ≡ spec.source_name (drop pos input.now) }
+    ensures after { IfSome result (λ found. pos < found.0) }
+    ensures ordered { IfSome result (λ found. found.0 < found.1) }
+    ensures within { IfSome result (λ found. found.1 ≤ length input.now) }
+{
+    let Some((len, first)) = number(input, pos) else {
+        return None;
+    };
+    if len == 0 || (len as usize) > input.len() - first {
+        return None;
+    }
+    Some((first, first + len as usize))
+}

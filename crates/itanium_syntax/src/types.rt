@@ -1,0 +1,240 @@
+//! The cases of types: which one the next bytes begin. Of several cases the first one that fits holds.
+ghost use Rattle.std.specs.Prelude.{◌≡◌, ◌≤◌, length};
+ghost use Rattle.itanium_syntax.specs.Types as spec;
+ghost use Rattle.itanium_syntax.specs.Bytes as bytes_spec;
+
+use demangle_quals::{Pointer, Quals, Reference};
+
+/// `<type>`
+#[derive(Clone, Copy)]
+pub enum TypeCase {
+    BuiltinType,
+    ExpansionType,
+    VendorType,
+    ArrayType,
+    FunctionType,
+    MemberType,
+    PointerType(Pointer),
+    CvType,
+    ElaboratedType,
+    ParameterType,
+    SubstitutionType,
+    UnreadType,
+    NameType,
+}
+
+/// What qualifiers stand in front of.
+#[derive(Clone, Copy)]
+pub enum CvCase {
+    CvFunction,
+    CvOther,
+}
+
+/// `<function-type>`: one with `Y` isn't read.
+#[derive(Clone, Copy)]
+pub enum FunctionCase {
+    ExternFunction,
+    PlainFunction,
+}
+
+/// The parameters of a `<function-type>`.
+#[derive(Clone, Copy)]
+pub enum ParamsCase {
+    NoParams,
+    SomeParams,
+}
+
+/// The end of a function's parameters, with or without a `<ref-qualifier>`, or one more type.
+#[derive(Clone, Copy)]
+pub enum TypesCase {
+    EndOfTypes,
+    NextType,
+}
+
+/// Which `<type>` stands there.
+pub fn type_case(bytes: &[u8]) -> TypeCase
+    ensures case { result ≡ spec.type_case bytes.now }
+{
+    if !builtin_text(bytes).is_empty() {
+        return TypeCase::BuiltinType;
+    }
+    match bytes {
+        [b'D', b'p', ..] => TypeCase::ExpansionType,
+        [b'u', ..] => TypeCase::VendorType,
+        [b'A', ..] => TypeCase::ArrayType,
+        [b'F', ..] => TypeCase::FunctionType,
+        [b'M', ..] => TypeCase::MemberType,
+        [b'P', ..] => TypeCase::PointerType(Pointer::Star),
+        [b'R', ..] => TypeCase::PointerType(Pointer::Left),
+        [b'O', ..] => TypeCase::PointerType(Pointer::Right),
+        [b'r' | b'V' | b'K', ..] => TypeCase::CvType,
+        [b'T', b's' | b'u' | b'e', ..] => TypeCase::ElaboratedType,
+        [b'T', ..] => TypeCase::ParameterType,
+        [b'S', b't', ..] => TypeCase::NameType,
+        [b'S', ..] => TypeCase::SubstitutionType,
+        [b'U', ..] => TypeCase::UnreadType,
+        _ => TypeCase::NameType,
+    }
+}
+
+/// What stands after `<CV-qualifiers>`.
+pub fn cv_case(bytes: &[u8]) -> CvCase
+    ensures case { result ≡ spec.cv_case bytes.now }
+{
+    match bytes {
+        [b'F', ..] => CvCase::CvFunction,
+        _ => CvCase::CvOther,
+    }
+}
+
+/// Which `<function-type>` stands there.
+pub fn function_case(bytes: &[u8]) -> FunctionCase
+    ensures case { result ≡ spec.function_case bytes.now }
+{
+    match bytes {
+        [b'F', b'Y', ..] => FunctionCase::ExternFunction,
+        _ => FunctionCase::PlainFunction,
+    }
+}
+
+/// Whether a `<function-type>` has parameters: `v` right in front of its end stands for none.
+pub fn params_case(bytes: &[u8]) -> ParamsCase
+    ensures case { result ≡ spec.params_case bytes.now }
+{
+    match bytes {
+        [b'v', b'E', ..] => ParamsCase::NoParams,
+        _ => ParamsCase::SomeParams,
+    }
+}
+
+/// Whether one more type of a `<bare-function-type>` stands there, or its end.
+pub fn types_case(bytes: &[u8]) -> TypesCase
+    ensures case { result ≡ spec.types_case bytes.now }
+{
+    match bytes {
+        [b'E', ..] | [b'R', b'E', ..] | [b'O', b'E', ..] => TypesCase::EndOfTypes,
+        _ => TypesCase::NextType,
+    }
+}
+
+/// The text of the `<builtin-type>` that stands there, a letter or `D` and a letter, and no text where none does.
+pub fn builtin_text(bytes: &[u8]) -> &'static [u8]
+    ensures text { result.now ≡ spec.builtin_text bytes.now }
+{
+    match bytes {
+        [b'D', letter, ..] => two_letter_text(*letter),
+        [letter, ..] => letter_text(*letter),
+        [] => b"",
+    }
+}
+
+fn letter_text(letter: u8) -> &'static [u8]
+    ensures text { result.now ≡ spec.letter_text letter }
+{
+    match letter {
+        b'v' => b"void",
+        b'w' => b"wchar_t",
+        b'b' => b"bool",
+        b'c' => b"char",
+        b'a' => b"signed char",
+        b'h' => b"unsigned char",
+        b's' => b"short",
+        b't' => b"unsigned short",
+        b'i' => b"int",
+        b'j' => b"unsigned int",
+        b'l' => b"long",
+        b'm' => b"unsigned long",
+        b'x' => b"long long",
+        b'y' => b"unsigned long long",
+        b'n' => b"__int128",
+        b'o' => b"unsigned __int128",
+        b'f' => b"float",
+        b'd' => b"double",
+        b'e' => b"long double",
+        b'g' => b"__float128",
+        b'z' => b"...",
+        _ => b"",
+    }
+}
+
+fn two_letter_text(letter: u8) -> &'static [u8]
+    ensures text { result.now ≡ spec.two_letter_text letter }
+{
+    match letter {
+        b's' => b"char16_t",
+        b'i' => b"char32_t",
+        b'u' => b"char8_t",
+        b'n' => b"std::nullptr_t",
+        b'a' => b"auto",
+        b'c' => b"decltype(auto)",
+        b'h' => b"half",
+        b'd' => b"decimal64",
+        b'e' => b"decimal128",
+        b'f' => b"decimal32",
+        _ => b"",
+    }
+}
+
+/// What is after a `<builtin-type>`.
+pub fn past_builtin(bytes: &[u8]) -> &[u8]
+    ensures rest { result.now ≡ spec.past_builtin bytes.now }
+{
+    match bytes {
+        [b'D', _, rest @ ..] => rest,
+        [b'D'] => &[],
+        [_, rest @ ..] => rest,
+        [] => &[],
+    }
+}
+
+/// `<CV-qualifiers> ::= [r] [V] [K]`: the qualifiers, and what follows them.
+pub fn cv_quals(bytes: &[u8]) -> (Quals, &[u8])
+    ensures quals { result.0 ≡ spec.cv_quals bytes.now }
+    ensures rest { result.1.now ≡ spec.past_cv bytes.now }
+    ensures within { length result.1.now ≤ length bytes.now }
+{
+    let after_restrict = past_letter(b'r', bytes);
+    let after_volatile = past_letter(b'V', after_restrict);
+    let quals = Quals {
+        constant: matches!(after_volatile, [b'K', ..]),
+        volatile: matches!(after_restrict, [b'V', ..]),
+        restrict: matches!(bytes, [b'r', ..]),
+        reference: None,
+    };
+    (quals, past_letter(b'K', after_volatile))
+}
+
+/// Past one byte that stands there, or none.
+fn past_letter(letter: u8, bytes: &[u8]) -> &[u8]
+    ensures rest { result.now ≡ bytes_spec.past_letter letter bytes.now }
+    ensures within { length result.now ≤ length bytes.now }
+{
+    match bytes {
+        [first, rest @ ..] if *first == letter => rest,
+        _ => bytes,
+    }
+}
+
+/// `<ref-qualifier> ::= R | O`, where one stands, and what follows it.
+pub fn ref_qualifier(bytes: &[u8]) -> (Option<Reference>, &[u8])
+    ensures reference { result.0 ≡ spec.reference_of bytes.now }
+    ensures rest { result.1.now ≡ spec.past_reference bytes.now }
+    ensures within { length result.1.now ≤ length bytes.now }
+{
+    match bytes {
+        [b'R', rest @ ..] => (Some(Reference::Left), rest),
+        [b'O', rest @ ..] => (Some(Reference::Right), rest),
+        _ => (None, bytes),
+    }
+}
+
+/// The word in front of an elaborated type's name: `struct`, `union` or `enum`, and a space.
+pub fn elaborated_text(bytes: &[u8]) -> &'static [u8]
+    ensures text { result.now ≡ spec.elaborated_text bytes.now }
+{
+    match bytes {
+        [b'T', b's', ..] => b"struct ",
+        [b'T', b'u', ..] => b"union ",
+        _ => b"enum ",
+    }
+}
