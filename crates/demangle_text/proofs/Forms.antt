@@ -13,7 +13,7 @@ layout_for (Plain t) = Flat
 layout_for (Declared k before None after) = Cut k None (length before)
 layout_for (Declared k before (Some group) after) = Cut k (Some (length before)) (length before + length group + 2)
 
--- a list cut one place behind its first part
+-- a list cut one place after its first part
 past_one : (p : List ℕ) (x : ℕ) (q : List ℕ) (n : ℕ) → n ≡ length p + 1 → drop n (p ++ x ∷ q) ≡ q
 past_one p x q n e =
     let apart : p ++ x ∷ q ≡ (p ++ x ∷ []) ++ q = sym (append_assoc p (x ∷ []) q) in

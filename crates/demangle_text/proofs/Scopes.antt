@@ -89,7 +89,7 @@ parts_at-open (s ∷ []) xs n e =
     cc
 parts_at-open (s ∷ t ∷ rest) xs n e = ap (λ ps. slice_range xs s t ∷ ps) (parts_at-open (t ∷ rest) xs n e)
 
--- the arguments of the last scope, and another one for them, behind a first scope
+-- the arguments of the last scope, and another one for them, after a first scope
 last_args-more : (args : List Shape) (scopes : List (List Shape)) → 0 < length scopes → last_args (args ∷ scopes) ≡ last_args scopes
 last_args-more args scopes some =
     let e : length (args ∷ scopes) - 1 ≡ suc (length scopes - 1) = omega arith in
@@ -126,89 +126,89 @@ parts_at-push (s ∷ t ∷ rest) xs x h some =
     both ∙ sym (with_arg-more x (slice_range xs s t) (parts_at (t ∷ rest) xs) some)
 
 -- a buffer whose arguments or their places change, and whose texts and saved pieces do not
-module _ (s new : Store) (texts : new.texts ≡ s.texts) where
+module _ (s new : Store) (texts : new.kept_texts ≡ s.kept_texts) where
   shape_same : shape new ≡ shape s
   unfolding shape
   shape_same = ap (λ (ts : List (List ℕ)). λ (p : Piece). shape_of (span_text ts p.span) p.marks) texts
 
   -- the scopes, by the arguments and their places
-  scopes_are : (args : List Piece) (starts : List ℕ) → new.args ≡ args → new.starts ≡ starts → scopes new ≡ parts_at starts (map (shape s) args)
+  scopes_are : (args : List Piece) (starts : List ℕ) → new.arg_pieces ≡ args → new.scope_starts ≡ starts → scopes new ≡ parts_at starts (map (shape s) args)
   unfolding scopes
   scopes_are args starts by_args by_starts = cc (shape_same)
 
   -- a scope is opened
-  pub scopes-open : new.args ≡ s.args → new.starts ≡ s.starts ++ length s.args ∷ [] → scopes new ≡ scopes s ++ [] ∷ []
+  pub scopes-open : new.arg_pieces ≡ s.arg_pieces → new.scope_starts ≡ s.scope_starts ++ length s.arg_pieces ∷ [] → scopes new ≡ scopes s ++ [] ∷ []
   unfolding scopes
   scopes-open args starts =
-      scopes_are s.args (s.starts ++ length s.args ∷ []) args starts
-      ∙ parts_at-open s.starts (map (shape s) s.args) (length s.args) (sym (length-map s.args (shape s)))
+      scopes_are s.arg_pieces (s.scope_starts ++ length s.arg_pieces ∷ []) args starts
+      ∙ parts_at-open s.scope_starts (map (shape s) s.arg_pieces) (length s.arg_pieces) (sym (length-map s.arg_pieces (shape s)))
 
-  pub IsStore-open : IsStore s → new.saved ≡ s.saved → new.args ≡ s.args → new.starts ≡ s.starts ++ length s.args ∷ [] → IsStore new
+  pub IsStore-open : IsStore s → new.saved_pieces ≡ s.saved_pieces → new.arg_pieces ≡ s.arg_pieces → new.scope_starts ≡ s.scope_starts ++ length s.arg_pieces ∷ [] → IsStore new
   IsStore-open i saved args starts = record {
     saved_lie = rw (texts, saved) i.saved_lie;
     args_lie = rw (texts, args) i.args_lie;
-    starts_fit = rw (args, starts) (AreStarts-push s.starts (length s.args) i.starts_fit);
+    starts_fit = rw (args, starts) (AreStarts-push s.scope_starts (length s.arg_pieces) i.starts_fit);
   }
 
   -- the last scope gains an argument
-  pub scopes-arg : IsStore s → (p : Piece) → new.args ≡ s.args ++ p ∷ [] → new.starts ≡ s.starts → 0 < length (scopes s) → scopes new ≡ with_arg (shape s p) (scopes s)
+  pub scopes-arg : IsStore s → (p : Piece) → new.arg_pieces ≡ s.arg_pieces ++ p ∷ [] → new.scope_starts ≡ s.scope_starts → 0 < length (scopes s) → scopes new ≡ with_arg (shape s p) (scopes s)
   unfolding scopes
   scopes-arg i p args starts some =
-      let xs = map (shape s) s.args in
-      let n = length-map s.args (shape s) in
-      let fit : AreStarts s.starts (length xs) = AreStarts-more s.starts (length s.args) (length xs) (omega arith) i.starts_fit in
-      let there : 0 < length s.starts = omega (arith, length-parts_at s.starts xs) in
-      scopes_are (s.args ++ p ∷ []) s.starts args starts
-      ∙ ap (parts_at s.starts) (map_push (shape s) s.args p)
-      ∙ parts_at-push s.starts xs (shape s p) fit there
+      let xs = map (shape s) s.arg_pieces in
+      let n = length-map s.arg_pieces (shape s) in
+      let fit : AreStarts s.scope_starts (length xs) = AreStarts-more s.scope_starts (length s.arg_pieces) (length xs) (omega arith) i.starts_fit in
+      let there : 0 < length s.scope_starts = omega (arith, length-parts_at s.scope_starts xs) in
+      scopes_are (s.arg_pieces ++ p ∷ []) s.scope_starts args starts
+      ∙ ap (parts_at s.scope_starts) (map_push (shape s) s.arg_pieces p)
+      ∙ parts_at-push s.scope_starts xs (shape s p) fit there
 
-  pub IsStore-arg : IsStore s → (p : Piece) → IsLiving s p → new.saved ≡ s.saved → new.args ≡ s.args ++ p ∷ [] → new.starts ≡ s.starts → IsStore new
+  pub IsStore-arg : IsStore s → (p : Piece) → IsLiving s p → new.saved_pieces ≡ s.saved_pieces → new.arg_pieces ≡ s.arg_pieces ++ p ∷ [] → new.scope_starts ≡ s.scope_starts → IsStore new
   unfolding IsLiving
   IsStore-arg i p lies saved args starts = record {
     saved_lie = rw (texts, saved) i.saved_lie;
-    args_lie = rw (texts, args) (All-push (IsPiece s.texts) s.args p i.args_lie lies);
-    starts_fit = rw (args, starts) (AreStarts-more s.starts (length s.args) (length (s.args ++ p ∷ [])) (omega (arith, length-append s.args (p ∷ []))) i.starts_fit);
+    args_lie = rw (texts, args) (All-push (IsPiece s.kept_texts) s.arg_pieces p i.args_lie lies);
+    starts_fit = rw (args, starts) (AreStarts-more s.scope_starts (length s.arg_pieces) (length (s.arg_pieces ++ p ∷ [])) (omega (arith, length-append s.arg_pieces (p ∷ []))) i.starts_fit);
   }
 
   -- the first scopes are kept
-  pub scopes-kept : IsStore s → (n from : ℕ) → n < length s.starts → from ≡ get_or s.starts n 0 → new.args ≡ take from s.args → new.starts ≡ take n s.starts → scopes new ≡ take n (scopes s)
+  pub scopes-kept : IsStore s → (n from : ℕ) → n < length s.scope_starts → from ≡ get_or s.scope_starts n 0 → new.arg_pieces ≡ take from s.arg_pieces → new.scope_starts ≡ take n s.scope_starts → scopes new ≡ take n (scopes s)
   unfolding scopes
   scopes-kept i n from there e args starts =
-      scopes_are (take from s.args) (take n s.starts) args starts
-      ∙ ap (parts_at (take n s.starts)) (sym (take-map (shape s) from s.args) ∙ ap (λ (k : ℕ). take k (map (shape s) s.args)) e)
-      ∙ parts_at-take s.starts (map (shape s) s.args) (length s.args) n i.starts_fit there
+      scopes_are (take from s.arg_pieces) (take n s.scope_starts) args starts
+      ∙ ap (parts_at (take n s.scope_starts)) (sym (take-map (shape s) from s.arg_pieces) ∙ ap (λ (k : ℕ). take k (map (shape s) s.arg_pieces)) e)
+      ∙ parts_at-take s.scope_starts (map (shape s) s.arg_pieces) (length s.arg_pieces) n i.starts_fit there
 
-  pub IsStore-kept : IsStore s → (n from : ℕ) → n < length s.starts → from ≡ get_or s.starts n 0 → new.saved ≡ s.saved → new.args ≡ take from s.args → new.starts ≡ take n s.starts → IsStore new
+  pub IsStore-kept : IsStore s → (n from : ℕ) → n < length s.scope_starts → from ≡ get_or s.scope_starts n 0 → new.saved_pieces ≡ s.saved_pieces → new.arg_pieces ≡ take from s.arg_pieces → new.scope_starts ≡ take n s.scope_starts → IsStore new
   IsStore-kept i n from there e saved args starts =
-      let within : from ≤ length s.args = omega (arith, start_within s.starts (length s.args) n i.starts_fit there) in
-      let m : length (take from s.args) ≡ get_or s.starts n 0 = length-take-le from s.args within ∙ e in
+      let within : from ≤ length s.arg_pieces = omega (arith, start_within s.scope_starts (length s.arg_pieces) n i.starts_fit there) in
+      let m : length (take from s.arg_pieces) ≡ get_or s.scope_starts n 0 = length-take-le from s.arg_pieces within ∙ e in
       record {
         saved_lie = rw (texts, saved) i.saved_lie;
-        args_lie = rw (texts, args) (All-take (IsPiece s.texts) from s.args i.args_lie);
-        starts_fit = rw (args, starts, m) (AreStarts-take s.starts (length s.args) n i.starts_fit there);
+        args_lie = rw (texts, args) (All-take (IsPiece s.kept_texts) from s.arg_pieces i.args_lie);
+        starts_fit = rw (args, starts, m) (AreStarts-take s.scope_starts (length s.arg_pieces) n i.starts_fit there);
       }
 
 -- there are as many scopes as places
-pub length-scopes : (s : Store) → length (scopes s) ≡ length s.starts
+pub length-scopes : (s : Store) → length (scopes s) ≡ length s.scope_starts
 unfolding scopes
-length-scopes s = length-parts_at s.starts (map (shape s) s.args)
+length-scopes s = length-parts_at s.scope_starts (map (shape s) s.arg_pieces)
 
 -- as many as a count of the scopes
-pub length-starts : (s b : Store) (n : ℕ) → s ≡ b → n ≡ length (scopes b) → n ≡ length s.starts
+pub length-starts : (s b : Store) (n : ℕ) → s ≡ b → n ≡ length (scopes b) → n ≡ length s.scope_starts
 length-starts s b n e count = count ∙ ap (λ (v : Store). length (scopes v)) (sym e) ∙ length-scopes s
 
 -- an argument of the last scope
-module _ (s : Store) (i n from : ℕ) (all : n ≡ length s.starts) (some : 0 < n) (e : from ≡ get_or s.starts (n - 1) 0) where
-  pub arg_within : IsStore s → from ≤ length s.args
-  arg_within h = omega (arith, start_within s.starts (length s.args) (n - 1) h.starts_fit (omega arith))
+module _ (s : Store) (i n from : ℕ) (all : n ≡ length s.scope_starts) (some : 0 < n) (e : from ≡ get_or s.scope_starts (n - 1) 0) where
+  pub arg_within : IsStore s → from ≤ length s.arg_pieces
+  arg_within h = omega (arith, start_within s.scope_starts (length s.arg_pieces) (n - 1) h.starts_fit (omega arith))
 
-  pub arg_found : option_map (shape s) (slice_get (drop from s.args) i) ≡ slice_get (last_args (scopes s)) i
+  pub arg_found : option_map (shape s) (slice_get (drop from s.arg_pieces) i) ≡ slice_get (last_args (scopes s)) i
   unfolding scopes
   arg_found =
-      let xs = map (shape s) s.args in
-      sym (slice_get-map (shape s) (drop from s.args) i)
-      ∙ ap (λ (ys : List Shape). slice_get ys i) (sym (drop-map (shape s) from s.args) ∙ ap (λ (k : ℕ). drop k xs) e ∙ sym (last_args-parts_at s.starts xs n all some))
+      let xs = map (shape s) s.arg_pieces in
+      sym (slice_get-map (shape s) (drop from s.arg_pieces) i)
+      ∙ ap (λ (ys : List Shape). slice_get ys i) (sym (drop-map (shape s) from s.arg_pieces) ∙ ap (λ (k : ℕ). drop k xs) e ∙ sym (last_args-parts_at s.scope_starts xs n all some))
 
-  pub arg_lives : IsStore s → IfSome (slice_get (drop from s.args) i) (IsLiving s)
+  pub arg_lives : IsStore s → IfSome (slice_get (drop from s.arg_pieces) i) (IsLiving s)
   unfolding IsLiving
-  arg_lives h = slice_get-All (IsPiece s.texts) (drop from s.args) i (All-drop (IsPiece s.texts) from s.args h.args_lie)
+  arg_lives h = slice_get-All (IsPiece s.kept_texts) (drop from s.arg_pieces) i (All-drop (IsPiece s.kept_texts) from s.arg_pieces h.args_lie)

@@ -1,5 +1,6 @@
 -- How a piece lies in a list of texts.
-use Rattle.std.specs.Prelude.{◌≡◌, ℕ, min, false, ◌+◌, ◌-◌, ◌<◌, ◌≤◌, List, [], ◌∷◌, length, take, drop, slice_range, slice_index, slice_index_or, Some, None, All}
+use Rattle.std.specs.Prelude.{◌≡◌, ℕ, min, false, ◌+◌, ◌-◌, ◌<◌, ◌≤◌, List, [], ◌∷◌, length, take, drop, slice_range}
+use Rattle.std.specs.Prelude.{slice_index, slice_index_or, Some, None, All}
 use Rattle.demangle_text.specs.declared.shape.Kind.{Kind}
 use Rattle.demangle_text.specs.declared.shape.Kind.TheVariants.{Array, Function}
 use Rattle.demangle_text.specs.declared.shape.Place.{Place}
@@ -15,7 +16,8 @@ use Rattle.demangle_text.specs.Shape.{Form, Plain, Declared, Shape}
 abbrev pub form_of : List ℕ → Layout → Form
 form_of t Flat = Plain t
 form_of t (Cut kind None at) = Declared kind (take at t) None (drop at t)
-form_of t (Cut kind (Some group) at) = Declared kind (take group t) (Some (slice_range t (group + 1) (at - 1))) (drop at t)
+form_of t (Cut kind (Some group) at) =
+    Declared kind (take group t) (Some (slice_range t (group + 1) (at - 1))) (drop at t)
 
 -- the shape of a text under its marks
 abbrev pub shape_of : List ℕ → Marks → Shape
@@ -109,14 +111,14 @@ AreStarts (start ∷ next ∷ rest) count = (start ≤ next) × AreStarts (next 
 -- what a buffer keeps: its texts, the saved pieces, the arguments of all scopes with the places where
 -- the scopes begin, and how many texts are older than the innermost mark
 pub record Store : Type 0 where
-  pub texts : List (List ℕ)
-  pub saved : List Piece
-  pub args : List Piece
-  pub starts : List ℕ
-  pub frame : ℕ
+  pub kept_texts : List (List ℕ)
+  pub saved_pieces : List Piece
+  pub arg_pieces : List Piece
+  pub scope_starts : List ℕ
+  pub frame_start : ℕ
 
 -- what is kept lies in the texts
 pub record IsStore (s : Store) : Type 0 where
-  pub saved_lie : All (IsPiece s.texts) s.saved
-  pub args_lie : All (IsPiece s.texts) s.args
-  pub starts_fit : AreStarts s.starts (length s.args)
+  pub saved_lie : All (IsPiece s.kept_texts) s.saved_pieces
+  pub args_lie : All (IsPiece s.kept_texts) s.arg_pieces
+  pub starts_fit : AreStarts s.scope_starts (length s.arg_pieces)

@@ -1,5 +1,6 @@
 -- What a piece stands for: a shape, its text, and the steps on shapes.
-use Rattle.std.specs.Prelude.{ℕ, ◌+◌, ◌-◌, ◌==◌, ◌||◌, Bool, true, false, if◌then◌else◌, List, [], ◌∷◌, ◌++◌, length, take, drop, slice_range, slice_get, nat_le, min, Option, Some, None}
+use Rattle.std.specs.Prelude.{ℕ, ◌+◌, ◌-◌, ◌==◌, ◌||◌, Bool, true, false, if◌then◌else◌, List, [], ◌∷◌, ◌++◌, length}
+use Rattle.std.specs.Prelude.{take, drop, slice_range, slice_get, nat_le, min, Option, Some, None}
 use Rattle.demangle_text.specs.declared.shape.Kind.{Kind}
 use Rattle.demangle_text.specs.declared.shape.Kind.TheVariants.{Array, Function}
 use Rattle.demangle_text.specs.declared.shape.Place.{Place}
@@ -7,7 +8,9 @@ use Rattle.demangle_text.specs.declared.shape.Place.TheVariants.{Start, Close, S
 
 -- a plain text, or a declarator: what stands before, the group if there is one, what stands after
 pub data Form : Type 0 where
+  -- a text
   Plain : List ℕ → Form
+  -- an array or a function: `before`, the group if there is one, and `after`
   Declared : Kind → List ℕ → Option (List ℕ) → List ℕ → Form
 
 -- a form, the last own name as a range of its text, and whether it ends in template arguments
@@ -123,21 +126,22 @@ declared_at kind at s =
 -- declared, with a group between the `(` at one byte and the `)` right before `after`
 abbrev pub declared_group : Kind → ℕ → ℕ → Shape → Shape
 declared_group kind from at s =
-    let form = Declared kind (take from (text s)) (Some (slice_range (text s) (from + 1) (at - 1))) (drop at (text s)) in
+    let group = slice_range (text s) (from + 1) (at - 1) in
+    let form = Declared kind (take from (text s)) (Some group) (drop at (text s)) in
     record s { form = form; own = own_in form s.own }
 
 -- a space, `(` or `*`, which a group follows with no gap
 abbrev pub joins_group : ℕ → Bool
 joins_group byte = byte == 32 || byte == 40 || byte == 42
 
--- the gap behind the last byte of a text, if it has one: nothing, or a space
-abbrev pub gap_behind : Option ℕ → List ℕ
-gap_behind None = []
-gap_behind (Some byte) = if joins_group byte then [] else 32 ∷ []
+-- the gap after the last byte of a text, if it has one: nothing, or a space
+abbrev pub gap_after_byte : Option ℕ → List ℕ
+gap_after_byte None = []
+gap_after_byte (Some byte) = if joins_group byte then [] else 32 ∷ []
 
 -- the gap between a text and a group
 abbrev pub gap_after : List ℕ → List ℕ
-gap_after t = gap_behind (slice_get t (length t - 1))
+gap_after t = gap_after_byte (slice_get t (length t - 1))
 
 -- all text up to `after`
 abbrev pub front_text : Form → List ℕ

@@ -1,5 +1,6 @@
 -- What a buffer is to its callers: the shapes of its pieces, its frames, its saved shapes and its scopes.
-use Rattle.std.specs.Prelude.{◌≡◌, ℕ, ◌<◌, List, [], ◌∷◌, ◌++◌, ◌-◌, length, drop, slice_range, slice_index_or, slice_set, map}
+use Rattle.std.specs.Prelude.{◌≡◌, ℕ, ◌<◌, List, [], ◌∷◌, ◌++◌, ◌-◌, length, drop, slice_range, slice_index_or}
+use Rattle.std.specs.Prelude.{slice_set, map}
 use Rattle.demangle_text.specs.Shape.{Shape}
 use Rattle.demangle_text.specs.Pieces.{Store, IsPiece, shape_of, span_text}
 use Rattle.demangle_text.specs.declared.shape.Piece.{Piece}
@@ -7,15 +8,15 @@ use Rattle.demangle_text.specs.declared.shape.Mark.{Mark}
 
 -- the piece lives in the buffer
 unfoldable pub IsLiving : Store → Piece → Type 0
-IsLiving b p = IsPiece b.texts p
+IsLiving b p = IsPiece b.kept_texts p
 
 -- the shape that a living piece stands for
 unfoldable pub shape : Store → Piece → Shape
-shape b p = shape_of (span_text b.texts p.span) p.marks
+shape b p = shape_of (span_text b.kept_texts p.span) p.marks
 
 -- the saved shapes, the first one saved first
 unfoldable pub saved : Store → List Shape
-saved b = map (shape b) b.saved
+saved b = map (shape b) b.saved_pieces
 
 -- a list cut where its parts begin
 abbrev pub parts_at : {X : Type 0} → List ℕ → List X → List (List X)
@@ -25,7 +26,7 @@ parts_at (start ∷ next ∷ rest) xs = slice_range xs start next ∷ parts_at (
 
 -- the scopes, the outermost first, each with its arguments
 unfoldable pub scopes : Store → List (List Shape)
-scopes b = parts_at b.starts (map (shape b) b.args)
+scopes b = parts_at b.scope_starts (map (shape b) b.arg_pieces)
 
 -- a frame is the stretch of calls from one mark to the next
 unfoldable pub Frame : Type 0
@@ -39,16 +40,16 @@ outermost = 0
 -- the frame inside the innermost open mark
 unfoldable pub frame : Store → Frame
 unfolding Frame
-frame b = b.frame
+frame b = b.frame_start
 
 -- the frame inside a mark, and the one outside it
 unfoldable pub inside : Mark → Frame
 unfolding Frame
-inside m = m.inside
+inside m = m.inside_start
 
 unfoldable pub outside : Mark → Frame
 unfolding Frame
-outside m = m.outside
+outside m = m.outside_start
 
 -- the piece was made before the frame began
 unfoldable pub IsOlder : Piece → Frame → Type 0

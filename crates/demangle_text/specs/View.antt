@@ -6,11 +6,11 @@ use Rattle.demangle_text.specs.Pieces.{Store, IsStore}
 -- the storage that the fields hold
 abbrev pub store_of : Inside → Store
 store_of a = record {
-  texts = map (λ v. v.items) a.texts.items;
-  saved = a.saved.items;
-  args = a.args.items;
-  starts = a.starts.items;
-  frame = a.frame;
+  kept_texts = map (λ v. v.items) a.texts.items;
+  saved_pieces = a.saved.items;
+  arg_pieces = a.args.items;
+  scope_starts = a.starts.items;
+  frame_start = a.frame;
 }
 
 -- what holds of the fields between calls

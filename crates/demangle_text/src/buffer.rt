@@ -1,5 +1,6 @@
 //! A buffer of pieces, each a text of its own.
-ghost use Rattle.std.specs.Prelude.{◌≡◌, ℕ, ◌+◌, ◌-◌, ◌<◌, ◌≤◌, [], ◌∷◌, ◌++◌, length, take, drop, if◌then◌else◌, IfOk, OnOk, OnErr, IfSome, Some, option_map, slice_get, slice_index, is_some};
+ghost use Rattle.std.specs.Prelude.{◌≡◌, ℕ, ◌+◌, ◌-◌, ◌<◌, ◌≤◌, [], ◌∷◌, ◌++◌, length, take, drop, if◌then◌else◌, IfOk};
+ghost use Rattle.std.specs.Prelude.{OnOk, OnErr, IfSome, Some, option_map, slice_get, slice_index, is_some};
 ghost use Rattle.demangle_text.specs.Shape.{gap_after, grouped};
 
 use crate::shape::{Kind, Layout, Mark, Marks, Piece, Place, Span};
@@ -32,10 +33,25 @@ impl Model for Buffer {
     ghost invariant = { IsConsistent };
 }
 
-#[tactic(auto, using(crate::proofs::States::states), unfolding(crate::specs::State::IsLiving, crate::specs::State::shape, crate::specs::State::saved, crate::specs::State::scopes, crate::specs::State::frame, crate::specs::State::inside, crate::specs::State::outside, crate::specs::State::outermost, crate::specs::State::IsOlder, crate::specs::State::IsAsOld,),)]
+#[tactic(auto,
+// The lemmas for what is kept.
+using(crate::proofs::States::states), unfolding(
+// Pieces.
+crate::specs::State::IsLiving, crate::specs::State::shape,
+// How old they are.
+crate::specs::State::frame, crate::specs::State::outermost, crate::specs::State::IsOlder, crate::specs::State::IsAsOld,
+// Marks.
+crate::specs::State::inside, crate::specs::State::outside,
+// Lists.
+crate::specs::State::saved, crate::specs::State::scopes,),)]
 impl Buffer {
-    ghost use Rattle.demangle_text.specs.State.{IsLiving, shape, saved, scopes, frame, inside, outside, outermost, Lives, KeepsAll, SameFrame, SameLists, IsEdit, Opens, Closes, last_args, with_arg, IsAsOld};
-    ghost use Rattle.demangle_text.specs.Shape.{text, text_len, form_text, plain_shape, inserted, appended, opened_group, joined, shortened, CanInsert, IsPlain, IsDeclared, flagged, with_own, flattened, whole_shape, own_shape, IsNotFunction, kind_of, group_of, after_of, declared_at, declared_group};
+    ghost use Rattle.demangle_text.specs.State.{IsLiving, shape, saved, scopes, frame, inside, outside, outermost};
+    ghost use Rattle.demangle_text.specs.State.{Lives, KeepsAll, SameFrame, SameLists, IsEdit, Opens, Closes};
+    ghost use Rattle.demangle_text.specs.State.{last_args, with_arg, IsAsOld};
+    ghost use Rattle.demangle_text.specs.Shape.{text, text_len, form_text, plain_shape, inserted, appended};
+    ghost use Rattle.demangle_text.specs.Shape.{opened_group, joined, shortened, CanInsert, IsPlain, IsDeclared};
+    ghost use Rattle.demangle_text.specs.Shape.{flagged, with_own, flattened, whole_shape, own_shape, IsNotFunction};
+    ghost use Rattle.demangle_text.specs.Shape.{kind_of, group_of, after_of, declared_at, declared_group};
     ghost use Rattle.demangle_text.specs.Pieces.{IsMarked, shape_of};
 
     /// An empty buffer, with no mark open. It takes no memory.
@@ -73,10 +89,10 @@ impl Buffer {
         ensures opens { Opens self.old self.new result }
     {
         let mark = Mark {
-            inside: self.texts.len(),
-            outside: self.frame,
+            inside_start: self.texts.len(),
+            outside_start: self.frame,
         };
-        self.frame = mark.inside;
+        self.frame = mark.inside_start;
         mark
     }
 
@@ -89,7 +105,7 @@ impl Buffer {
         ensures shape { IfOk result (λ p. Lives self.new p (shape self.old piece)) }
         ensures closed { OnOk result (Closes self.old self.new mark) }
     {
-        self.frame = mark.outside;
+        self.frame = mark.outside_start;
         Ok(piece)
     }
 
@@ -160,8 +176,8 @@ impl Buffer {
         self.add(text, marks)
     }
 
-    /// The declarator with a new group of the bytes, behind all text up to its `after`, and behind
-    /// a space where that text isn't empty and doesn't end in a space, `(` or `*`. Ends pieces, and
+    /// The declarator with a new group of the bytes, after all text up to its `after`, and after a
+    /// space where that text isn't empty and doesn't end in a space, `(` or `*`. Ends pieces, and
     /// keeps all after `AllocError`, as `append` does.
     pub fn open_group(&mut self, piece: Piece, bytes: &[u8]) -> Result<Piece, AllocError>
         requires living { IsLiving self.old piece }
@@ -479,7 +495,7 @@ impl Buffer {
             return None;
         }
         let start = self.starts[count - 1];
-        piece_behind(&self.args, start, i)
+        piece_from(&self.args, start, i)
     }
 
     /// How many scopes are open.
@@ -505,7 +521,7 @@ impl Buffer {
 }
 
 // The piece with an index, counted from a place on.
-fn piece_behind(pieces: &[Piece], start: usize, i: usize) -> Option<Piece>
+fn piece_from(pieces: &[Piece], start: usize, i: usize) -> Option<Piece>
     requires within { start ≤ length pieces.now }
     ensures value { result ≡ slice_get (drop start pieces.now) i }
 {
@@ -533,7 +549,7 @@ fn needs_gap(text: &[u8]) -> bool
     }
 }
 
-// What is inserted behind a text for a group: the gap, and the group in its parentheses.
+// What is inserted after a text for a group: the gap, and the group in its parentheses.
 fn group_bytes(alloc: Global, text: &[u8], group: &[u8]) -> Result<Vec<u8>, AllocError>
     ensures text { IfOk result (λ v. v.items ≡ gap_after text.now ++ grouped (Some group.now)) }
 {

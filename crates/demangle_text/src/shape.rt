@@ -1,6 +1,7 @@
 //! Pieces: how their texts are cut into the parts of a shape, and where the last own name lies.
 ghost use Rattle.std.specs.Prelude.{◌≡◌, ℕ, ◌+◌, ◌^◌, ◌<◌, ◌≤◌, if◌then◌else◌};
-ghost use Rattle.demangle_text.specs.Pieces.{place_at, layout_with, layout_opened, layout_end, own_at, own_of, whole_marks, cut_marks};
+ghost use Rattle.demangle_text.specs.Pieces.{place_at, layout_with, layout_opened, layout_end, own_at, own_of};
+ghost use Rattle.demangle_text.specs.Pieces.{whole_marks, cut_marks};
 ghost use Rattle.demangle_text.specs.Shape.{moved};
 
 /// What a declarator declares.
@@ -28,7 +29,9 @@ pub enum Place {
 // How a text is cut: the group has its `(` at byte `group`, and `after` begins at byte `at`.
 #[derive(Clone, Copy)]
 pub(crate) enum Layout {
+    // A plain text.
     Flat,
+    // A declarator.
     Cut {
         kind: Kind,
         group: Option<usize>,
@@ -63,8 +66,8 @@ pub struct Piece {
 /// What `open` hands out, and `close` takes back.
 #[derive(Drop)]
 pub struct Mark {
-    pub(crate) inside: usize,
-    pub(crate) outside: usize,
+    pub(crate) inside_start: usize,
+    pub(crate) outside_start: usize,
 }
 
 impl Layout {

@@ -40,7 +40,7 @@ fn saved_function_under_a_pointer_to_it(rt: HostRuntime) -> Result<(), Fail> {
 
 #[test]
 #[tactic(auto, using(demangle_text::proofs::Laws::laws, demangle_text::proofs::Laws::runs))]
-fn saved_name_behind_a_closed_mark(rt: HostRuntime) -> Result<(), Fail> {
+fn saved_name_after_a_closed_mark(rt: HostRuntime) -> Result<(), Fail> {
     let mut buf = Buffer::new(rt.alloc());
     let mark = buf.open();
     let first = buf.push(b"C")?;
@@ -55,7 +55,7 @@ fn saved_name_behind_a_closed_mark(rt: HostRuntime) -> Result<(), Fail> {
 
 #[test]
 #[tactic(auto, using(demangle_text::proofs::Laws::laws, demangle_text::proofs::Laws::runs))]
-fn argument_in_a_text_behind_a_mark(rt: HostRuntime) -> Result<(), Fail> {
+fn argument_in_a_text_after_a_mark(rt: HostRuntime) -> Result<(), Fail> {
     let mut buf = Buffer::new(rt.alloc());
     let name = buf.push(b"A")?;
     buf.open_scope()?;

@@ -10,23 +10,23 @@ use Rattle.demangle_text.proofs.buffer.Buffer.keep_scopes.Goals as goal
 pub index-start-requires : goal.index-start-requires
 index-start-requires c =
     let s = store_of c.self.inside in
-    let all : c.scopes.result ≡ length s.starts = length-starts s _ _ c.self.view_is c.scopes.ensures.value in
+    let all : c.scopes.result ≡ length s.scope_starts = length-starts s _ _ c.self.view_is c.scopes.ensures.value in
     omega arith
 
 pub invariant_of-self : goal.invariant_of-self
 invariant_of-self c =
     let s = store_of c.self.inside in
-    let all : c.scopes.result ≡ length s.starts = length-starts s _ _ c.self.view_is c.scopes.ensures.value in
+    let all : c.scopes.result ≡ length s.scope_starts = length-starts s _ _ c.self.view_is c.scopes.ensures.value in
     let from = c.index-start.result.now in
-    let e = c.index-start.ensures ∙ get_or_default s.starts c.args.n from 0 (omega arith) in
+    let e = c.index-start.ensures ∙ get_or_default s.scope_starts c.args.n from 0 (omega arith) in
     IsStore-kept s _ refl c.self.invariant c.args.n from (omega arith) e refl c.truncate.ensures.items c.truncate-then-n-scopes.ensures.items
 
 pub returns-then-n-scopes-clause-scopes : goal.returns-then-n-scopes-clause-scopes
 returns-then-n-scopes-clause-scopes c =
     let s = store_of c.self.inside in
-    let all : c.scopes.result ≡ length s.starts = length-starts s _ _ c.self.view_is c.scopes.ensures.value in
+    let all : c.scopes.result ≡ length s.scope_starts = length-starts s _ _ c.self.view_is c.scopes.ensures.value in
     let from = c.index-start.result.now in
-    let e = c.index-start.ensures ∙ get_or_default s.starts c.args.n from 0 (omega arith) in
+    let e = c.index-start.ensures ∙ get_or_default s.scope_starts c.args.n from 0 (omega arith) in
     rw (← c.self.view_is) (scopes-kept s _ refl c.self.invariant c.args.n from (omega arith) e c.truncate.ensures.items c.truncate-then-n-scopes.ensures.items)
 
 pub returns-else-n-scopes-clause-scopes : goal.returns-else-n-scopes-clause-scopes

@@ -13,8 +13,8 @@ unfolding IsLiving shape
 returns-clause-shape c =
     let s = c.args.piece.span in
     let own = c.args.piece.marks.own in
-    let t = get_or c.args.self.now.texts s.text [] in
-    let n : length (span_text c.args.self.now.texts s) ≡ s.to - s.from = length-between t s.from s.to c.requires.living.within in
+    let t = get_or c.args.self.now.kept_texts s.text [] in
+    let n : length (span_text c.args.self.now.kept_texts s) ≡ s.to - s.from = length-between t s.from s.to c.requires.living.within in
     let ordered : own.0 ≤ own.1 = c.requires.living.marked.own_ordered in
     let inside : s.from + own.1 ≤ s.to = omega (arith, n, c.requires.living.marked.own_within, c.requires.living.ordered) in
     let part = part-part t s.from s.to own.0 own.1 ordered inside in

@@ -1,4 +1,4 @@
--- An argument behind all others.
+-- An argument after all others.
 use Rattle.std.proofs.Common.{◌<◌, length, refl, sym, subst, ap, arith}
 use Rattle.demangle_text.specs.Pieces.{Store}
 use Rattle.demangle_text.specs.View.{store_of}

@@ -12,7 +12,7 @@ invariant_of-self-2 c =
     let s = store_of c.self.inside in
     let lies = subst (λ (b : Store). IsLiving b c.args.piece) (sym c.self.view_is) c.requires.living in
     record {
-      saved_lie = rw c.in_ok-push.ensures.items (All-push (IsPiece s.texts) _ _ c.self.invariant.saved_lie lies);
+      saved_lie = rw c.in_ok-push.ensures.items (All-push (IsPiece s.kept_texts) _ _ c.self.invariant.saved_lie lies);
       args_lie = c.self.invariant.args_lie;
       starts_fit = c.self.invariant.starts_fit;
     }
