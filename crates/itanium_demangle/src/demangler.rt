@@ -12,12 +12,15 @@ ghost use Rattle.itanium_demangle.specs.Demangler.{IsPrinted};
 use crate::reader::Reader;
 use crate::stop::Stop;
 use demangle_text::Buffer;
-use itanium_grammar::symbol::{MAX_DEPTH, after_prefix, suffix};
+use itanium_grammar::symbol::{after_prefix, suffix};
 use itanium_syntax::context::OUTSIDE;
 use std::alloc::{AllocError, Global};
 use std::fmt::{self, Debug, Formatter, Write};
 use std::marker::Model;
 use std::str::from_utf8;
+
+/// Most counted productions that may nest in a symbol: names, types, argument lists, packs, thunks and expressions.
+pub const MAX_DEPTH: usize = 128;
 
 /// Answers symbol after symbol from the same buffers, and keeps the last answer.
 #[derive(Drop)]

@@ -10,6 +10,5 @@ mod reader;
 mod stop;
 mod types;
 
-pub use crate::demangler::Demangler;
-pub use itanium_grammar::symbol::MAX_DEPTH;
+pub use crate::demangler::{Demangler, MAX_DEPTH};
 pub use itanium_syntax::scalar;

@@ -1,9 +1,6 @@
-//! The parts of a symbol around its encoding, and how deep an encoding may nest.
+//! The parts of a symbol around its encoding.
 ghost use Rattle.std.specs.Prelude.{◌≡◌, option_map};
 ghost use Rattle.itanium_grammar.specs.Answer as spec;
-
-/// Most counted productions that may nest in a symbol: names, types, argument lists, packs, thunks and expressions.
-pub const MAX_DEPTH: usize = 128;
 
 /// `<mangled-name> ::= _Z <encoding>`, and the same after a further underscore: what follows the prefix of a symbol,
 /// or `None` where it has neither prefix (Itanium C++ ABI 5.1.2).

@@ -113,10 +113,10 @@ pub fn first_case(bytes: &[u8]) -> FirstCase
 }
 
 /// Whether the first component of a `<nested-name>` is saved.
-pub fn saves_first(form: FirstCase) -> bool
-    ensures value { result ≡ spec.saves_first form }
+pub fn saves_first(case: FirstCase) -> bool
+    ensures value { result ≡ spec.saves_first case }
 {
-    matches!(form, FirstCase::ParameterFirst | FirstCase::NameFirst)
+    matches!(case, FirstCase::ParameterFirst | FirstCase::NameFirst)
 }
 
 /// Which later component of a `<nested-name>` stands there, or its `E`.

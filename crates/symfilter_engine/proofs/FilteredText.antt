@@ -5,7 +5,7 @@ use Rattle.std.proofs.lemmas.List.Elements.{All-append, All-nil, All-push}
 use Rattle.std.specs.Str.{is_utf8}
 use Rattle.std.proofs.lemmas.Str.{IsUtf8-from_is_utf8, is_utf8-from_IsUtf8}
 use Rattle.std.proofs.lemmas.Bool.{false≢true, cases_eq}
-use Rattle.itanium_demangle.specs.Answer.{IsAnswer}
+use Rattle.itanium_grammar.specs.Answer.{IsAnswer}
 use Rattle.itanium_demangle.proofs.Answered.{each_answered}
 use Rattle.std.proofs.KnownBytes.{Appends-nil, Appends-trans}
 use Rattle.symfilter_engine.specs.Filtered.{line_feed, HasNoLineFeed, AreLinesFiltered, no_line, one_more, IsFiltered, ended, unended, IsFront, IsBeginning, IsLineAnswer, answered, unanswered, not_utf8, WritesBeginning}

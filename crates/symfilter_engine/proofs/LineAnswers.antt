@@ -3,7 +3,7 @@ use Rattle.std.proofs.Common.{◌≡◌, ℕ, List, ◌++◌, Option, Some, None
 use Rattle.std.specs.Prelude.{option_map, IsUtf8}
 use Rattle.std.proofs.KnownBytes.{Appends-trans}
 use Rattle.std.specs.Io.KnownBytes.{Appends}
-use Rattle.itanium_demangle.specs.Answer.{IsAnswer}
+use Rattle.itanium_grammar.specs.Answer.{IsAnswer}
 use Rattle.symfilter_engine.specs.Filtered.{IsLineAnswer, answered, unanswered, not_utf8}
 use Rattle.symfilter_engine.specs.Progress.{WritesFront, WritesLineFront, front}
 

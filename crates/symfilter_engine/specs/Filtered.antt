@@ -1,7 +1,7 @@
 -- The filtered text of a list of bytes.
 use Rattle.std.specs.Prelude.{◌≡◌, ◌≢◌, ℕ, List, [], ◌∷◌, ◌++◌, All, IsUtf8, Option, Some, None}
 use Rattle.std.specs.Io.KnownBytes.{Appends, Consumes}
-use Rattle.itanium_demangle.specs.Answer.{IsAnswer}
+use Rattle.itanium_grammar.specs.Answer.{IsAnswer}
 
 -- the byte that ends a line
 abbrev pub line_feed : ℕ
