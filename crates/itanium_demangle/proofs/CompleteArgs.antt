@@ -1,5 +1,5 @@
 -- Of template arguments: what the grammar reads, the parser reads.
-use Rattle.std.proofs.Common.{◌≡◌, ◌<◌, ◌≤◌, ℕ, zero, suc, ◌+◌, max, Bool, true, false, List, [], ◌∷◌, ◌++◌, map, length, refl, ◌∙◌, arith, Option, Some, ap, append_assoc}
+use Rattle.std.proofs.Common.{◌≡◌, ◌<◌, ◌≤◌, ℕ, zero, suc, ◌+◌, max, Bool, true, false, List, [], ◌∷◌, ◌++◌, map, length, refl, ◌∙◌, arith, Some, ap, append_assoc}
 use Rattle.std.proofs.lemmas.List.{length-map, append-nil}
 use Rattle.std.specs.Prelude.{codes}
 use Rattle.demangle_text.specs.Shape.{Shape, plain_shape, joined, text}
@@ -8,13 +8,13 @@ use Rattle.itanium_syntax.specs.declared.context.Context.{Context}
 use Rattle.itanium_syntax.specs.Context.{opens_scope}
 use Rattle.itanium_syntax.proofs.Fronts.{after_drop, after-le}
 use Rattle.itanium_grammar.specs.Tree.{Tree, shape_of, closed}
-use Rattle.itanium_grammar.specs.Grammar.{Position, Cost, begin, Args, Arguments, ArgumentsAs, ArgumentAs, args, arguments, end_of_arguments, one_more_argument, type_argument}
+use Rattle.itanium_grammar.specs.Grammar.{Position, Cost, begin, Arguments, ArgumentsAs, ArgumentAs, args, arguments, end_of_arguments, one_more_argument, type_argument}
 use Rattle.itanium_grammar.proofs.Progress.{argument_takes}
 use Rattle.itanium_demangle.specs.Cases.{ArgsCase, ArgumentCase}
-use Rattle.itanium_demangle.specs.Parser.{ParserState, Turn, after_turn, loop, separated, ◌>>=◌, argument_as, argument_by, arguments_as, arguments_turn, parse_args, parse_type}
+use Rattle.itanium_demangle.specs.Parser.{after_turn, loop, separated, ◌>>=◌, argument_as, argument_by, arguments_as, arguments_turn, parse_args, parse_type}
 use Rattle.itanium_demangle.specs.Outcome.{state_at}
 use Rattle.itanium_demangle.proofs.Shapes.{same_read, put-scopes, begin-scopes}
-use Rattle.itanium_demangle.proofs.Readings.{given, shape_of_args, ArgsComplete, TypesComplete}
+use Rattle.itanium_demangle.proofs.Readings.{given, ArgsComplete, TypesComplete}
 
 -- the arguments after what stands of a list
 abbrev list_from : Bool → Shape → List Shape → Shape

@@ -1,5 +1,5 @@
 -- Loops of the parser, turn by turn.
-use Rattle.std.proofs.Common.{◌≡◌, ◌<◌, ◌≤◌, ℕ, zero, suc, ◌+◌, ◌-◌, length, refl, sym, ap, ◌∙◌, arith, Option, Some, None}
+use Rattle.std.proofs.Common.{◌≡◌, ◌<◌, ℕ, zero, suc, ◌+◌, ◌-◌, length, refl, ◌∙◌, arith, Option, Some, None}
 use Rattle.itanium_demangle.specs.Parser.{ParserState, Parses, Turn, ends, goes_on, after_turn, loop, parse_loop, ◌>>=◌}
 
 module _ {L A : Type 0} (turn : L → Parses (Turn L A)) where

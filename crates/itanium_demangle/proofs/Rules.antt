@@ -1,14 +1,14 @@
 -- What the check may use: for the readers the laws of the buffer and what unfolds each, for an answer the theorems over
 -- the grammar.
 use Rattle.demangle_text.proofs.Laws.{laws, runs}
-use Rattle.itanium_syntax.proofs.Fronts.{forms}
+use Rattle.itanium_syntax.proofs.Fronts.{cases}
 use Rattle.itanium_grammar.proofs.Agreement.{one_reading}
 use Rattle.itanium_demangle.proofs.Unfold.{name_opens, no_name, args_opens, no_args, type_opens, no_type, substitution_opens, parameter_opens, unqualified_opens, symbol_opens, nested_opens, kept_scope, some_scope}
 use Rattle.itanium_demangle.proofs.Symbols.{reads_as, stands_at_start, no_prefix, not_read}
 
 pub ruleset buffers = (laws, runs)
 
-pub ruleset fronts = (buffers, forms)
+pub ruleset fronts = (buffers, cases)
 
 pub ruleset substitutions = (buffers, substitution_opens)
 

@@ -1,5 +1,5 @@
 -- Of template arguments: what the parser reads, the grammar reads.
-use Rattle.std.proofs.Common.{◌≡◌, ◌<◌, ◌≤◌, ℕ, zero, suc, ◌+◌, max, Bool, true, false, List, [], ◌∷◌, map, length, refl, ◌∙◌, sym, arith, Option, Some, None, codes}
+use Rattle.std.proofs.Common.{◌≡◌, ◌<◌, ℕ, zero, suc, ◌+◌, max, Bool, true, false, [], ◌∷◌, map, length, ◌∙◌, sym, arith, Some, codes}
 use Rattle.std.proofs.lemmas.Option.{same_Some, option_and_then_some}
 use Rattle.std.proofs.lemmas.List.{length-map}
 use Rattle.demangle_text.specs.Shape.{Shape, plain_shape, joined}
@@ -7,14 +7,14 @@ use Rattle.itanium_syntax.specs.declared.context.Context.{Context}
 use Rattle.itanium_syntax.specs.Context.{opens_scope}
 use Rattle.itanium_syntax.specs.Args.{args_case, argument_case}
 use Rattle.itanium_syntax.proofs.Fronts.{after_drop, after-le}
-use Rattle.itanium_grammar.specs.Tree.{Tree, shape_of}
-use Rattle.itanium_grammar.specs.Grammar.{Position, Cost, put, begin, skip, scopes_in, Args, Arguments, ArgumentsAs, ArgumentAs, args, arguments, end_of_arguments, one_more_argument, type_argument}
+use Rattle.itanium_grammar.specs.Tree.{shape_of}
+use Rattle.itanium_grammar.specs.Grammar.{Position, put, begin, skip, Args, Arguments, ArgumentsAs, ArgumentAs, args, arguments, end_of_arguments, one_more_argument, type_argument}
 use Rattle.itanium_grammar.proofs.Progress.{argument_takes}
 use Rattle.itanium_demangle.specs.Cases.{ArgsCase, EndOfArguments, NextArgument, ArgumentCase, ExpressionArgument, PackArgument, LiteralArgument, ConstraintArgument, TypeArgument}
-use Rattle.itanium_demangle.specs.Parser.{ParserState, Turn, after_turn, loop, separated, goes_on, ◌>>=◌, argument_as, argument_by, arguments_as, arguments_turn, parse_args, parse_type}
+use Rattle.itanium_demangle.specs.Parser.{ParserState, after_turn, loop, separated, ◌>>=◌, argument_as, argument_by, arguments_as, arguments_turn, parse_args, parse_type}
 use Rattle.itanium_demangle.specs.Outcome.{state_at}
 use Rattle.itanium_demangle.proofs.Shapes.{put-scopes, begin-scopes}
-use Rattle.itanium_demangle.proofs.Readings.{Within, Found, given, TypesSound, TypesComplete, ArgsSound}
+use Rattle.itanium_demangle.proofs.Readings.{Within, Found, TypesSound, TypesComplete, ArgsSound}
 use Rattle.itanium_demangle.proofs.CompleteArgs.{argument_complete, args_complete}
 
 -- the arguments after what stands of a list, in n turns

@@ -1,5 +1,5 @@
 -- What a reader of symbols says, in the grammar's words, and what follows for the answer.
-use Rattle.std.proofs.Common.{◌≡◌, ◌<◌, ◌≤◌, ℕ, ◌+◌, max, ◌++◌, List, [], ◌∷◌, Bool, true, false, Option, Some, None, Result, Ok, Err, ap, if◌then◌else◌, ◌∙◌, sym, refl, subst, arith, length, drop, get_or}
+use Rattle.std.proofs.Common.{◌≡◌, ◌<◌, ℕ, ◌++◌, List, [], ◌∷◌, Bool, true, false, Option, Some, None, Result, Ok, Err, ap, if◌then◌else◌, ◌∙◌, sym, refl, subst, arith, length, drop, get_or}
 use Rattle.std.proofs.lemmas.Grind.{common_steps}
 use Rattle.std.proofs.lemmas.List.{length-drop, get_or-drop}
 use Rattle.std.proofs.lemmas.Str.{IsUtf8-nil, IsUtf8-drop, IsCharBoundary-before_ascii}
@@ -11,10 +11,9 @@ use Rattle.itanium_syntax.specs.Bytes.{begins}
 use Rattle.itanium_syntax.proofs.Fronts.{IsAfter, after_then}
 use Rattle.itanium_grammar.specs.Tree.{shape_of, printing}
 use Rattle.itanium_grammar.specs.Grammar.{Position, Symbol}
-use Rattle.itanium_grammar.specs.Answer.{after_prefix, start, outside, suffix, max_depth, HasAnswer, HasNoAnswer, HasOneReading, IsAnswer}
+use Rattle.itanium_grammar.specs.Answer.{after_prefix, start, outside, suffix, max_depth, HasAnswer, HasNoAnswer, IsAnswer}
 use Rattle.itanium_grammar.proofs.Unambiguous.{one_symbol}
 use Rattle.itanium_grammar.proofs.Progress.{symbol_takes}
-use Rattle.itanium_grammar.proofs.Agreement.{one_reading}
 use Rattle.itanium_demangle.specs.declared.reader.Reader.{Reader}
 use Rattle.itanium_demangle.specs.declared.stop.Stop.{Stop}
 use Rattle.itanium_demangle.specs.declared.stop.Stop.TheVariants.{Unread, Memory}
@@ -48,8 +47,11 @@ found_none d x p e m none tree next cost reading deep = let there = symbol_compl
 -- what a call says of the parser, it says of trees
 pub reads_as : (result : Result (Unit {0}) Stop) (x : Context) (d : ℕ) (before after : Reader) → Gives result after (parse_symbol d x (state before))
     → ReadsAs result x d before after
-reads_as (Ok u) x d before after gives = (gives.0, λ p stands.
-    found_reading d x p before.entered before.most_saved (shape after.buffer after.found) (state after) (rw stands at gives.1))
+reads_as (Ok u) x d before after gives = (
+  gives.0,
+  λ p stands.
+      found_reading d x p before.entered before.most_saved (shape after.buffer after.found) (state after) (rw stands at gives.1),
+)
 reads_as (Err Unread) x d before after none = λ p stands. found_none d x p before.entered before.most_saved (rw stands at none)
 reads_as (Err Memory) x d before after gives = tt
 

@@ -1,5 +1,5 @@
 -- One level of the parser's functions, and the turns of its loops.
-use Rattle.std.proofs.Common.{◌≡◌, ◌<◌, ◌≤◌, ℕ, zero, suc, ◌-◌, Bool, true, false, List, [], ◌∷◌, ◌++◌, length, drop, map, All, refl, ap, ap₂, arith, Option, Some, None, Result, Ok, Err}
+use Rattle.std.proofs.Common.{◌≡◌, ◌<◌, ◌≤◌, ℕ, zero, suc, ◌+◌, ◌-◌, max, Bool, true, false, List, [], ◌∷◌, ◌++◌, length, drop, map, All, refl, ap, ap₂, arith, Option, Some, None, Result, Ok, Err}
 use Rattle.std.specs.Prelude.{IfSome, option_map, is_some}
 use Rattle.demangle_text.specs.declared.shape.Piece.{Piece}
 use Rattle.demangle_text.specs.declared.buffer.Buffer.{Buffer}
@@ -17,10 +17,10 @@ use Rattle.itanium_grammar.specs.Tree.{closed}
 use Rattle.itanium_demangle.specs.declared.reader.Reader.{Reader}
 use Rattle.itanium_demangle.specs.declared.stop.Stop.{Stop}
 use Rattle.itanium_demangle.specs.declared.stop.Stop.TheVariants.{Unread, Memory}
-use Rattle.itanium_demangle.specs.Outcome.{Gives, GivesList}
+use Rattle.itanium_demangle.specs.Outcome.{Gives, GivesList, SavedBounds}
 use Rattle.itanium_demangle.proofs.Loops.{LoopSoFar, loop_end, loop_more, loop_fail}
 use Rattle.itanium_demangle.specs.Cases.{EndOfComponents, ArgsComponent, NameComponent, EndOfArguments, NextArgument, EndOfTypes, NextType}
-use Rattle.itanium_demangle.specs.Parser.{ParserState, Parses, Turn, ends, goes_on, separated, ◌>>=◌, enter, at, save, skip, put, taken_back, past_initializer, substitution_as, parse_substitution, parameter_as, parse_parameter, unqualified_as, parse_unqualified, first_as, attached_by, component_turn, parse_components, parse_nested, name_as, parse_name, argument_by, arguments_turn, parse_list, parse_args, types_turn, type_as, parse_type, symbol_as, parse_symbol}
+use Rattle.itanium_demangle.specs.Parser.{ParserState, Parses, separated, ◌>>=◌, enter, at, save, skip, put, taken_back, past_initializer, substitution_as, parse_substitution, parameter_as, parse_parameter, unqualified_as, parse_unqualified, first_as, attached_by, component_turn, parse_components, parse_nested, name_as, parse_name, argument_by, arguments_turn, parse_list, parse_args, types_turn, type_as, parse_type, symbol_as, parse_symbol}
 
 pub name_opens : (d : ℕ) (x : Context) (s : ParserState) → 0 < d → parse_name d x s ≡ name_as (name_case s.rest) (parse_args (d - 1) x true) x (enter s)
 unfolding parse_name
@@ -84,6 +84,13 @@ stops after Memory gives follows = tt
 pub list_stops : (after : Reader) {inner : Option (Shape × ParserState)} {whole : Option (List Shape × ParserState)} (e : Stop) → Gives (Err e) after inner → (inner ≡ None → whole ≡ None) → GivesList (Err e) after whole
 list_stops after Unread none follows = follows none
 list_stops after Memory gives follows = tt
+
+-- a name is saved, and then a list with a byte of its own is read
+pub saved_first : (result : Result (Unit {0}) Stop) (before mid after : ParserState) → SavedBounds 2 result mid after → length mid.saved ≡ length before.saved + 1
+    → length mid.rest ≡ length before.rest → 0 < length before.rest → mid.most_saved ≡ max before.most_saved (length before.saved + 1) → SavedBounds 0 result before after
+saved_first (Ok u) before mid after bounds longer same some most = (omega (arith, bounds.0), omega (arith, bounds.1))
+saved_first (Err Unread) before mid after bounds longer same some most = omega (arith, bounds)
+saved_first (Err Memory) before mid after bounds longer same some most = tt
 
 -- the turns of the components of a nested name
 pub components_end : {whole : Option (Shape × ParserState)} (args : Parses Shape) {takes : Bool} {name found : Shape} {s after : ParserState} → LoopSoFar whole (component_turn args) (takes, name) s

@@ -1,5 +1,5 @@
 -- What a reader says of a call.
-use Rattle.std.specs.Prelude.{◌≡◌, ◌≤◌, ℕ, ◌+◌, ◌*◌, ◌^◌, ◌<◌, max, List, length, map, All, Vec, Option, Some, None, Result, Ok, Err}
+use Rattle.std.specs.Prelude.{◌≡◌, ◌≤◌, ℕ, ◌+◌, ◌*◌, ◌^◌, ◌<◌, max, min, List, length, map, All, Vec, Option, Some, None, Result, Ok, Err}
 use Rattle.std.specs.Global.{Global}
 use Rattle.demangle_text.specs.declared.shape.Piece.{Piece}
 use Rattle.demangle_text.specs.Shape.{Shape}
@@ -51,7 +51,8 @@ state_at p entered most_saved = record {
 
 -- the grammar reads these bytes within the depth: there is a tree whose shape this is, what its reading leaves is this
 -- state, with its count and its peak added, and every reading within the depth agrees with it
-pub record HasReading (x : Context) (p : Position) (depth entered most_saved : ℕ) (found : Shape) (after : ParserState) : Type 0 where
+pub record HasReading (x : Context) (p : Position) (depth entered most_saved : ℕ) (found : Shape)
+    (after : ParserState) : Type 0 where
   pub tree : Tree
   pub next : Position
   pub cost : Cost
@@ -82,7 +83,7 @@ abbrev pub ReadsAs : Result (Unit {0}) Stop → Context → ℕ → Reader → R
 ReadsAs (Ok u) x depth before after =
     IsLiving after.buffer after.found
     × ((p : Position) → StandsFor before p
-        → HasReading x p depth before.entered before.most_saved (shape after.buffer after.found) (state after))
+    → HasReading x p depth before.entered before.most_saved (shape after.buffer after.found) (state after))
 ReadsAs (Err Unread) x depth before after = (p : Position) → StandsFor before p → HasNoReading x p depth
 ReadsAs (Err Memory) x depth before after = Unit {0}
 
@@ -121,3 +122,26 @@ abbrev pub ListBounds : {A : Type 0} → Result A Stop → ParserState → Parse
 ListBounds (Ok a) before after = OptionallyTaken before after
 ListBounds (Err Unread) before after = after.entered ≤ before.entered + 2 * length before.rest + 2
 ListBounds (Err Memory) before after = Unit {0}
+
+-- at no moment are more shapes saved than were there before, with one for each byte that was left; one fewer where
+-- there is some slack
+abbrev pub MostSaved : ℕ → ParserState → ParserState → Type 0
+MostSaved slack before after =
+    after.most_saved + slack ≤ max (before.most_saved + slack) (length before.saved + length before.rest)
+
+-- the saved list rises by at most one for each byte that a reading takes, less the slack; also in a failing run at no
+-- moment are too many saved
+abbrev pub SavedBounds : {A : Type 0} → ℕ → Result A Stop → ParserState → ParserState → Type 0
+SavedBounds slack (Ok a) before after =
+    (length after.saved + length after.rest + slack ≤ length before.saved + length before.rest)
+    × MostSaved (min 1 slack) before after
+SavedBounds slack (Err Unread) before after = MostSaved (min 1 slack) before after
+SavedBounds slack (Err Memory) before after = Unit {0}
+
+-- one shape more is saved, or none
+abbrev pub SavesOne : {A : Type 0} → Result A Stop → ParserState → ParserState → Type 0
+SavesOne (Ok a) before after =
+    (length after.saved ≡ length before.saved + 1)
+    × (after.most_saved ≡ max before.most_saved (length before.saved + 1))
+SavesOne (Err Unread) before after = after.most_saved ≡ before.most_saved
+SavesOne (Err Memory) before after = Unit {0}

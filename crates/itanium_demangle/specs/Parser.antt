@@ -214,7 +214,7 @@ unfoldable pub parse_nested : Parses Shape → Context → Parses Shape
 parse_nested args x s =
     first_as (first_case (past_name_quals s.rest)) x (at (past_name_quals s.rest) s) >>= λ first.
     parse_components args (saves_first (first_case (past_name_quals s.rest))) first.0
-        (past_initializer first.1) >>= λ name.
+    (past_initializer first.1) >>= λ name.
     Some (with_name_qualifiers name.0 (name_quals s.rest) x.shown, name.1)
 
 -- <name>, by what it begins with
@@ -254,7 +254,7 @@ scopes_in opens s = length (begin opens s).scopes
 abbrev pub parse_list : Parses Shape → Bool → Parses Shape
 parse_list argument opens s =
     parse_loop (arguments_turn opens (scopes_in opens s) argument) (true, plain_shape (codes "<"))
-        (begin opens (skip 1 s))
+    (begin opens (skip 1 s))
 
 -- <template-args> after a type, which is saved with them
 abbrev pub type_attached_as : AttachedCase → Parses Shape → Shape → Parses Shape
@@ -391,7 +391,7 @@ unfoldable mutual
   parse_type zero x s = None
   parse_type (suc d) x s =
       type_as (type_case s.rest) (parse_type d (inside_type x)) (parse_name d (inside_type x))
-          (parse_args d (inside_type x) false) (inside_type x) (enter s)
+      (parse_args d (inside_type x) false) (inside_type x) (enter s)
 
 -- what follows the prefix of a symbol, by what it begins with
 abbrev pub symbol_as : SymbolCase → ℕ → Context → Parses Shape

@@ -2,7 +2,7 @@
 ghost use Rattle.std.specs.Prelude.{◌≡◌, ◌<◌, OnOk, length};
 ghost use Rattle.demangle_text.specs.State.{IsLiving, shape, IsRun, SameFrame};
 ghost use Rattle.itanium_demangle.specs.Parser as spec;
-ghost use Rattle.itanium_demangle.specs.Outcome.{state, Gives, HasRoom, Bounds};
+ghost use Rattle.itanium_demangle.specs.Outcome.{state, Gives, HasRoom, Bounds, SavedBounds};
 
 use crate::reader::{Reader, close_list, separate};
 use crate::stop::Stop;
@@ -16,17 +16,13 @@ impl<'a> Reader<'a> {
     /// `<template-args> ::= I <template-arg>* E`, of a name or of a type, within `depth` open productions.
     #[tactic(auto, using(crate::proofs::Rules::argument_lists))]
     #[cycle(reader)]
-    pub fn read_args(
-        &mut self,
-        depth: usize,
-        context: Context,
-        of_name: bool,
-    ) -> Result<(), Stop>
+    pub fn read_args(&mut self, depth: usize, context: Context, of_name: bool) -> Result<(), Stop>
         requires room { HasRoom 1 (state self.old) }
         requires some { 0 < length self.old.rest.now }
         ensures reads { Gives result self.new (spec.parse_args depth context of_name (state self.old)) }
         ensures run { OnOk result (IsRun self.old.buffer self.new.buffer) }
         ensures bounds { Bounds 1 result (state self.old) (state self.new) }
+        ensures saved { SavedBounds 2 result (state self.old) (state self.new) }
     {
         if depth == 0 {
             return Err(Stop::Unread);
@@ -59,17 +55,13 @@ impl<'a> Reader<'a> {
 
     /// `<template-args>` in a frame of their own: what lived keeps its shape.
     #[cycle(reader)]
-    fn framed_args(
-        &mut self,
-        depth: usize,
-        context: Context,
-        of_name: bool,
-    ) -> Result<(), Stop>
+    fn framed_args(&mut self, depth: usize, context: Context, of_name: bool) -> Result<(), Stop>
         requires room { HasRoom 1 (state self.old) }
         requires some { 0 < length self.old.rest.now }
         ensures reads { Gives result self.new (spec.parse_args depth context of_name (state self.old)) }
         ensures kept { OnOk result (SameFrame self.old.buffer self.new.buffer) }
         ensures bounds { Bounds 1 result (state self.old) (state self.new) }
+        ensures saved { SavedBounds 2 result (state self.old) (state self.new) }
     {
         let mark = self.buffer.open();
         self.read_args(depth, context, of_name)?;
@@ -93,6 +85,7 @@ impl<'a> Reader<'a> {
             (spec.attached_by (spec.parse_args depth context of_name) (shape self.old.buffer name) (state self.old)) }
         ensures run { OnOk result (IsRun self.old.buffer self.new.buffer) }
         ensures bounds { Bounds 1 result (state self.old) (state self.new) }
+        ensures saved { SavedBounds 2 result (state self.old) (state self.new) }
     {
         self.framed_args(depth, context, of_name)?;
         self.found = attach_template_args(&mut self.buffer, name, self.found)?;
@@ -106,6 +99,7 @@ impl<'a> Reader<'a> {
         ensures reads { Gives result self.new (spec.argument_by (spec.parse_type depth context) (state self.old)) }
         ensures run { OnOk result (IsRun self.old.buffer self.new.buffer) }
         ensures bounds { Bounds 0 result (state self.old) (state self.new) }
+        ensures saved { SavedBounds 0 result (state self.old) (state self.new) }
     {
         match argument_case(self.rest) {
             ArgumentCase::ExpressionArgument
@@ -123,6 +117,7 @@ impl<'a> Reader<'a> {
         ensures reads { Gives result self.new (spec.argument_by (spec.parse_type depth context) (state self.old)) }
         ensures kept { OnOk result (SameFrame self.old.buffer self.new.buffer) }
         ensures bounds { Bounds 0 result (state self.old) (state self.new) }
+        ensures saved { SavedBounds 0 result (state self.old) (state self.new) }
     {
         let mark = self.buffer.open();
         self.read_argument(depth, context)?;

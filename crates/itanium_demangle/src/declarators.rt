@@ -5,7 +5,7 @@ ghost use Rattle.demangle_edit.specs.Types.{pointer_shape, cv_shape};
 ghost use Rattle.itanium_syntax.specs.Args.{attached_case};
 ghost use Rattle.itanium_grammar.specs.Tree.{elaborated_shape};
 ghost use Rattle.itanium_demangle.specs.Parser as spec;
-ghost use Rattle.itanium_demangle.specs.Outcome.{state, Gives, Bounds, OptionalBounds};
+ghost use Rattle.itanium_demangle.specs.Outcome.{state, Gives, Bounds, OptionalBounds, SavedBounds, SavesOne};
 
 use crate::reader::Reader;
 use crate::stop::Stop;
@@ -52,6 +52,7 @@ impl<'a> Reader<'a> {
             (shape self.old.buffer self.old.found) (state self.old)) }
         ensures run { OnOk result (IsRun self.old.buffer self.new.buffer) }
         ensures bounds { OptionalBounds result (state self.old) (state self.new) }
+        ensures one { SavesOne result (state self.old) (state self.new) }
     {
         let Some(whole) = wrap_array(&mut self.buffer, self.found, dimension)? else {
             return Err(Stop::Unread);
@@ -69,6 +70,7 @@ impl<'a> Reader<'a> {
             (spec.saved_member (shape self.old.buffer class) (shape self.old.buffer self.old.found) (state self.old)) }
         ensures run { OnOk result (IsRun self.old.buffer self.new.buffer) }
         ensures bounds { OptionalBounds result (state self.old) (state self.new) }
+        ensures one { SavesOne result (state self.old) (state self.new) }
     {
         let Some(whole) = wrap_member_pointer(&mut self.buffer, class, self.found)? else {
             return Err(Stop::Unread);
@@ -79,12 +81,7 @@ impl<'a> Reader<'a> {
     }
 
     /// The function type, where there is one, and what is after its parameters: `[<ref-qualifier>] E`.
-    pub fn end_function(
-        &mut self,
-        quals: Quals,
-        ret: Piece,
-        params: &[Piece],
-    ) -> Result<(), Stop>
+    pub fn end_function(&mut self, quals: Quals, ret: Piece, params: &[Piece]) -> Result<(), Stop>
         requires ret { IsLiving self.old.buffer ret }
         requires params { All (IsLiving self.old.buffer) params.now }
         ensures reads { Gives result self.new
@@ -92,6 +89,7 @@ impl<'a> Reader<'a> {
             (state self.old)) }
         ensures run { OnOk result (IsRun self.old.buffer self.new.buffer) }
         ensures bounds { OptionalBounds result (state self.old) (state self.new) }
+        ensures saved { SavedBounds 0 result (state self.old) (state self.new) }
     {
         let (reference, rest) = ref_qualifier(self.rest);
         let all = Quals { reference, ..quals };
@@ -123,6 +121,7 @@ impl<'a> Reader<'a> {
         ensures reads { Gives result self.new (spec.parse_vendor (state self.old)) }
         ensures run { OnOk result (IsRun self.old.buffer self.new.buffer) }
         ensures bounds { Bounds 2 result (state self.old) (state self.new) }
+        ensures saved { SavedBounds 0 result (state self.old) (state self.new) }
     {
         self.skip(1);
         self.read_source()?;

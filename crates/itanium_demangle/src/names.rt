@@ -4,7 +4,7 @@ ghost use Rattle.demangle_text.specs.State.{IsLiving, shape, Lives, IsEdit, IsRu
 ghost use Rattle.itanium_syntax.specs.Names.{tag_case, first_case, unscoped_case, saves_first};
 ghost use Rattle.itanium_syntax.specs.Args.{attached_case};
 ghost use Rattle.itanium_demangle.specs.Parser as spec;
-ghost use Rattle.itanium_demangle.specs.Outcome.{state, Gives, ReadsAs, HasRoom, Bounds, OptionalBounds};
+ghost use Rattle.itanium_demangle.specs.Outcome.{state, Gives, ReadsAs, HasRoom, Bounds, OptionalBounds, SavedBounds};
 
 use crate::reader::Reader;
 use crate::stop::Stop;
@@ -44,6 +44,7 @@ impl<'a> Reader<'a> {
             (spec.tagged_as (tag_case self.old.rest.now) (shape self.old.buffer name) (state self.old)) }
         ensures kept { OnOk result (SameFrame self.old.buffer self.new.buffer) }
         ensures bounds { OptionalBounds result (state self.old) (state self.new) }
+        ensures saved { SavedBounds 0 result (state self.old) (state self.new) }
     {
         match tag_case(self.rest) {
             TagCase::NoTag => {
@@ -61,6 +62,7 @@ impl<'a> Reader<'a> {
             (spec.ctor_dtor_as destructor (option_map (shape self.old.buffer) scope) (state self.old)) }
         ensures run { OnOk result (IsRun self.old.buffer self.new.buffer) }
         ensures bounds { OptionalBounds result (spec.skip 2 (state self.old)) (state self.new) }
+        ensures saved { SavedBounds 0 result (spec.skip 2 (state self.old)) (state self.new) }
     {
         let Some(scope) = scope else {
             return Err(Stop::Unread);
@@ -78,6 +80,7 @@ impl<'a> Reader<'a> {
             (spec.source_as (option_map (shape self.old.buffer) scope) (state self.old)) }
         ensures run { OnOk result (IsRun self.old.buffer self.new.buffer) }
         ensures bounds { Bounds 2 result (state self.old) (state self.new) }
+        ensures saved { SavedBounds 2 result (state self.old) (state self.new) }
     {
         self.read_source()?;
         self.read_tags(self.found)?;
@@ -94,6 +97,7 @@ impl<'a> Reader<'a> {
             (spec.parse_unqualified (option_map (shape self.old.buffer) scope) (state self.old)) }
         ensures run { OnOk result (IsRun self.old.buffer self.new.buffer) }
         ensures bounds { Bounds 2 result (state self.old) (state self.new) }
+        ensures saved { SavedBounds 2 result (state self.old) (state self.new) }
     {
         self.rest = past_internal(self.rest);
         match unqualified_case(scope.is_some(), self.rest) {
@@ -110,9 +114,10 @@ impl<'a> Reader<'a> {
         ensures reads { Gives result self.new
             (spec.first_as (first_case self.old.rest.now) context (state self.old)) }
         ensures run { OnOk result (IsRun self.old.buffer self.new.buffer) }
-        ensures saved { OnOk result (saves_first (first_case self.old.rest.now) ≡ true
+        ensures first_saved { OnOk result (saves_first (first_case self.old.rest.now) ≡ true
             → 0 < length (saved self.new.buffer)) }
         ensures bounds { Bounds 2 result (state self.old) (state self.new) }
+        ensures saved { SavedBounds 1 result (state self.old) (state self.new) }
     {
         match first_case(self.rest) {
             FirstCase::ParameterFirst => self.read_saved_parameter(context),
@@ -139,6 +144,7 @@ impl<'a> Reader<'a> {
             (spec.parse_args depth context true) context (state self.old)) }
         ensures run { OnOk result (IsRun self.old.buffer self.new.buffer) }
         ensures bounds { Bounds 1 result (state self.old) (state self.new) }
+        ensures saved { SavedBounds 1 result (state self.old) (state self.new) }
     {
         let (quals, rest) = name_quals(self.rest);
         self.rest = rest;
@@ -168,6 +174,7 @@ impl<'a> Reader<'a> {
             (state self.old)) }
         ensures run { OnOk result (IsRun self.old.buffer self.new.buffer) }
         ensures bounds { Bounds 1 result (state self.old) (state self.new) }
+        ensures saved { SavedBounds 1 result (state self.old) (state self.new) }
     {
         let mut takes = takes;
         let mut name = first;
@@ -213,6 +220,7 @@ impl<'a> Reader<'a> {
             (shape self.old.buffer name) (state self.old)) }
         ensures run { OnOk result (IsRun self.old.buffer self.new.buffer) }
         ensures bounds { OptionalBounds result (state self.old) (state self.new) }
+        ensures saved { SavedBounds 0 result (state self.old) (state self.new) }
     {
         match attached_case(self.rest) {
             AttachedCase::NoneAttached => {
@@ -236,6 +244,7 @@ impl<'a> Reader<'a> {
             (spec.unscoped_as (unscoped_case self.old.rest.now) (spec.parse_args depth context true) (state self.old)) }
         ensures run { OnOk result (IsRun self.old.buffer self.new.buffer) }
         ensures bounds { Bounds 2 result (state self.old) (state self.new) }
+        ensures saved { SavedBounds 1 result (state self.old) (state self.new) }
     {
         match unscoped_case(self.rest) {
             UnscopedCase::StdName => {
@@ -248,7 +257,9 @@ impl<'a> Reader<'a> {
                 self.read_substitution()?;
                 match attached_case(self.rest) {
                     AttachedCase::NoneAttached => Err(Stop::Unread),
-                    AttachedCase::ArgsAttached => self.read_attached(depth, context, true, self.found),
+                    AttachedCase::ArgsAttached => self.read_attached(
+                        depth, context, true, self.found,
+                    ),
                 }
             }
             UnscopedCase::PlainName => {
@@ -267,6 +278,7 @@ impl<'a> Reader<'a> {
         ensures reads { Gives result self.new (spec.parse_name depth context (state self.old)) }
         ensures run { OnOk result (IsRun self.old.buffer self.new.buffer) }
         ensures bounds { Bounds 1 result (state self.old) (state self.new) }
+        ensures saved { SavedBounds 1 result (state self.old) (state self.new) }
     {
         if depth == 0 {
             return Err(Stop::Unread);
@@ -290,6 +302,7 @@ impl<'a> Reader<'a> {
         // Of trees: a reading of the bytes, with which every other agrees, or none.
         ensures reading { ReadsAs result context depth self.old self.new }
         ensures bounds { Bounds 1 result (state self.old) (state self.new) }
+        ensures saved { SavedBounds 1 result (state self.old) (state self.new) }
     {
         match symbol_case(self.rest) {
             SymbolCase::SpecialSymbol => Err(Stop::Unread),

@@ -1,11 +1,11 @@
 //! What the readers share: the bytes that are left, the buffer with what was saved, and the piece that was found.
-ghost use Rattle.std.specs.Prelude.{◌≡◌, ◌<◌, ◌≤◌, IfOk, OnOk, length, true};
+ghost use Rattle.std.specs.Prelude.{◌≡◌, ◌<◌, ◌≤◌, ◌+◌, IfOk, OnOk, length, max, true};
 ghost use Rattle.demangle_text.specs.Shape.{joined, plain_shape};
 ghost use Rattle.demangle_text.specs.State.{IsLiving, Lives, shape, SameFrame, IsEdit, saved, scopes};
 ghost use Rattle.itanium_syntax.specs.Types.{builtin_text, past_builtin};
 ghost use Rattle.itanium_grammar.specs.Tree.{abbreviation_shape, closed};
 ghost use Rattle.itanium_demangle.specs.Parser as spec;
-ghost use Rattle.itanium_demangle.specs.Outcome.{state, Gives, Bounds};
+ghost use Rattle.itanium_demangle.specs.Outcome.{state, Gives, Bounds, SavedBounds};
 
 use crate::stop::Stop;
 use demangle_text::{Buffer, Piece};
@@ -69,6 +69,7 @@ impl<'a> Reader<'a> {
     pub fn skip_initializer(&mut self)
         ensures state { state self.new ≡ spec.past_initializer (state self.old) }
         ensures within { length self.new.rest.now ≤ length self.old.rest.now }
+        ensures saved { saved self.new.buffer ≡ saved self.old.buffer }
         ensures buffer { self.new.buffer ≡ self.old.buffer }
     {
         self.rest = past_initializer_letter(self.rest);
@@ -79,7 +80,9 @@ impl<'a> Reader<'a> {
         requires living { IsLiving self.old.buffer piece }
         ensures state { OnOk result (state self.new ≡ spec.save (shape self.old.buffer piece) (state self.old)) }
         ensures found { OnOk result (self.new.found ≡ self.old.found) }
-        ensures some { OnOk result (0 < length (saved self.new.buffer)) }
+        ensures longer { OnOk result (length (saved self.new.buffer) ≡ length (saved self.old.buffer) + 1) }
+        ensures most { OnOk result (self.new.most_saved
+            ≡ max self.old.most_saved (length (saved self.old.buffer) + 1)) }
         ensures kept { OnOk result (SameFrame self.old.buffer self.new.buffer) }
     {
         self.buffer.save(piece)?;
@@ -93,7 +96,9 @@ impl<'a> Reader<'a> {
         ensures shape { OnOk result (Lives self.new.buffer self.new.found (shape self.old.buffer self.old.found)) }
         ensures state { OnOk result (state self.new ≡ spec.save
             (shape self.old.buffer self.old.found) (state self.old)) }
-        ensures some { OnOk result (0 < length (saved self.new.buffer)) }
+        ensures longer { OnOk result (length (saved self.new.buffer) ≡ length (saved self.old.buffer) + 1) }
+        ensures most { OnOk result (self.new.most_saved
+            ≡ max self.old.most_saved (length (saved self.old.buffer) + 1)) }
         ensures kept { OnOk result (SameFrame self.old.buffer self.new.buffer) }
     {
         self.save(self.found)
@@ -103,6 +108,7 @@ impl<'a> Reader<'a> {
     pub fn take_back(&mut self, takes: bool)
         requires saved { takes ≡ true → 0 < length (saved self.old.buffer) }
         ensures state { state self.new ≡ spec.taken_back takes (state self.old) }
+        ensures fewer { length (saved self.new.buffer) ≤ length (saved self.old.buffer) }
         ensures kept { SameFrame self.old.buffer self.new.buffer }
     {
         if takes {
@@ -115,6 +121,7 @@ impl<'a> Reader<'a> {
         ensures reads { Gives result self.new (spec.parse_source (state self.old)) }
         ensures kept { OnOk result (SameFrame self.old.buffer self.new.buffer) }
         ensures bounds { Bounds 2 result (state self.old) (state self.new) }
+        ensures saved { SavedBounds 2 result (state self.old) (state self.new) }
     {
         let Some((from, to)) = source_name(self.rest, 0) else {
             return Err(Stop::Unread);
@@ -143,6 +150,7 @@ impl<'a> Reader<'a> {
         ensures reads { Gives result self.new (spec.parse_substitution (state self.old)) }
         ensures kept { OnOk result (SameFrame self.old.buffer self.new.buffer) }
         ensures bounds { Bounds 2 result (state self.old) (state self.new) }
+        ensures saved { SavedBounds 2 result (state self.old) (state self.new) }
     {
         self.skip(1);
         match substitution_case(self.rest) {
@@ -174,6 +182,7 @@ impl<'a> Reader<'a> {
         ensures reads { Gives result self.new (spec.parse_parameter context (state self.old)) }
         ensures kept { OnOk result (SameFrame self.old.buffer self.new.buffer) }
         ensures bounds { Bounds 2 result (state self.old) (state self.new) }
+        ensures saved { SavedBounds 2 result (state self.old) (state self.new) }
     {
         self.skip(1);
         let Some((index, rest)) = index_of(Radix::Decimal, self.rest) else {
@@ -197,6 +206,7 @@ impl<'a> Reader<'a> {
         ensures some { OnOk result (0 < length (saved self.new.buffer)) }
         ensures kept { OnOk result (SameFrame self.old.buffer self.new.buffer) }
         ensures bounds { Bounds 2 result (state self.old) (state self.new) }
+        ensures saved { SavedBounds 1 result (state self.old) (state self.new) }
     {
         self.read_parameter(context)?;
         self.save_found()?;

@@ -5,7 +5,7 @@ ghost use Rattle.demangle_quals.specs.Quals.{no_quals};
 ghost use Rattle.itanium_syntax.specs.Args.{attached_case};
 ghost use Rattle.itanium_syntax.specs.Types.{params_case, past_cv};
 ghost use Rattle.itanium_demangle.specs.Parser as spec;
-ghost use Rattle.itanium_demangle.specs.Outcome.{state, Gives, HasRoom, Bounds, OptionalBounds, GivesList, ListBounds};
+ghost use Rattle.itanium_demangle.specs.Outcome.{state, Gives, HasRoom, Bounds, OptionalBounds, GivesList, ListBounds, SavedBounds};
 
 use crate::reader::Reader;
 use crate::stop::Stop;
@@ -36,6 +36,7 @@ impl<'a> Reader<'a> {
             (spec.parse_args depth context false) (shape self.old.buffer name) (state self.old)) }
         ensures run { OnOk result (IsRun self.old.buffer self.new.buffer) }
         ensures bounds { OptionalBounds result (state self.old) (state self.new) }
+        ensures saved { SavedBounds 0 result (state self.old) (state self.new) }
     {
         match attached_case(self.rest) {
             AttachedCase::NoneAttached => {
@@ -58,6 +59,7 @@ impl<'a> Reader<'a> {
         ensures reads { Gives result self.new (spec.parse_type depth context (state self.old)) }
         ensures run { OnOk result (IsRun self.old.buffer self.new.buffer) }
         ensures bounds { Bounds 0 result (state self.old) (state self.new) }
+        ensures saved { SavedBounds 0 result (state self.old) (state self.new) }
     {
         if depth == 0 {
             return Err(Stop::Unread);
@@ -91,6 +93,7 @@ impl<'a> Reader<'a> {
         ensures reads { Gives result self.new (spec.parse_array (spec.parse_type depth context) (state self.old)) }
         ensures run { OnOk result (IsRun self.old.buffer self.new.buffer) }
         ensures bounds { Bounds 2 result (state self.old) (state self.new) }
+        ensures saved { SavedBounds 0 result (state self.old) (state self.new) }
     {
         self.skip(1);
         let Some((dimension, rest)) = dimension_of(self.rest) else {
@@ -103,18 +106,14 @@ impl<'a> Reader<'a> {
 
     /// `P <type>`, `R <type>` and `O <type>`
     #[cycle(reader)]
-    fn read_pointer(
-        &mut self,
-        depth: usize,
-        context: Context,
-        kind: Pointer,
-    ) -> Result<(), Stop>
+    fn read_pointer(&mut self, depth: usize, context: Context, kind: Pointer) -> Result<(), Stop>
         requires room { HasRoom 1 (state self.old) }
         requires some { 0 < length self.old.rest.now }
         ensures reads { Gives result self.new (spec.parse_pointer
             (spec.parse_type depth context) kind (state self.old)) }
         ensures run { OnOk result (IsRun self.old.buffer self.new.buffer) }
         ensures bounds { Bounds 2 result (state self.old) (state self.new) }
+        ensures saved { SavedBounds 0 result (state self.old) (state self.new) }
     {
         self.skip(1);
         self.read_type(depth, context)?;
@@ -131,6 +130,7 @@ impl<'a> Reader<'a> {
             (spec.saved_by (spec.parse_function (spec.parse_type depth context) no_quals) (state self.old)) }
         ensures run { OnOk result (IsRun self.old.buffer self.new.buffer) }
         ensures bounds { Bounds 2 result (state self.old) (state self.new) }
+        ensures saved { SavedBounds 0 result (state self.old) (state self.new) }
     {
         self.read_function(depth, context, Quals::none())?;
         self.save_found()?;
@@ -146,6 +146,7 @@ impl<'a> Reader<'a> {
             (spec.saved_by (spec.parse_cv (spec.parse_type depth context)) (state self.old)) }
         ensures run { OnOk result (IsRun self.old.buffer self.new.buffer) }
         ensures bounds { Bounds 2 result (state self.old) (state self.new) }
+        ensures saved { SavedBounds 0 result (state self.old) (state self.new) }
     {
         self.read_cv(depth, context)?;
         self.save_found()?;
@@ -159,6 +160,7 @@ impl<'a> Reader<'a> {
         ensures reads { Gives result self.new (spec.parse_elaborated (spec.parse_name depth context) (state self.old)) }
         ensures run { OnOk result (IsRun self.old.buffer self.new.buffer) }
         ensures bounds { Bounds 1 result (state self.old) (state self.new) }
+        ensures saved { SavedBounds 0 result (state self.old) (state self.new) }
     {
         let word = elaborated_text(self.rest);
         self.skip(2);
@@ -175,6 +177,7 @@ impl<'a> Reader<'a> {
             (spec.parameter_type (spec.parse_args depth context false) context (state self.old)) }
         ensures run { OnOk result (IsRun self.old.buffer self.new.buffer) }
         ensures bounds { Bounds 1 result (state self.old) (state self.new) }
+        ensures saved { SavedBounds 0 result (state self.old) (state self.new) }
     {
         self.read_saved_parameter(context)?;
         self.read_type_attached(depth, context, self.found)
@@ -188,6 +191,7 @@ impl<'a> Reader<'a> {
             (spec.substitution_type (spec.parse_args depth context false) (state self.old)) }
         ensures run { OnOk result (IsRun self.old.buffer self.new.buffer) }
         ensures bounds { Bounds 1 result (state self.old) (state self.new) }
+        ensures saved { SavedBounds 0 result (state self.old) (state self.new) }
     {
         self.read_substitution()?;
         self.read_type_attached(depth, context, self.found)
@@ -200,6 +204,7 @@ impl<'a> Reader<'a> {
         ensures reads { Gives result self.new (spec.saved_by (spec.parse_name depth context) (state self.old)) }
         ensures run { OnOk result (IsRun self.old.buffer self.new.buffer) }
         ensures bounds { Bounds 1 result (state self.old) (state self.new) }
+        ensures saved { SavedBounds 0 result (state self.old) (state self.new) }
     {
         self.read_name(depth, context)?;
         self.save_found()?;
@@ -213,6 +218,7 @@ impl<'a> Reader<'a> {
         ensures reads { Gives result self.new (spec.parse_type depth context (state self.old)) }
         ensures kept { OnOk result (SameFrame self.old.buffer self.new.buffer) }
         ensures bounds { Bounds 0 result (state self.old) (state self.new) }
+        ensures saved { SavedBounds 0 result (state self.old) (state self.new) }
     {
         let mark = self.buffer.open();
         self.read_type(depth, context)?;
@@ -228,6 +234,7 @@ impl<'a> Reader<'a> {
         ensures reads { Gives result self.new (spec.parse_member (spec.parse_type depth context) (state self.old)) }
         ensures run { OnOk result (IsRun self.old.buffer self.new.buffer) }
         ensures bounds { Bounds 2 result (state self.old) (state self.new) }
+        ensures saved { SavedBounds 0 result (state self.old) (state self.new) }
     {
         self.skip(1);
         self.read_type(depth, context)?;
@@ -244,6 +251,7 @@ impl<'a> Reader<'a> {
         ensures reads { Gives result self.new (spec.parse_cv (spec.parse_type depth context) (state self.old)) }
         ensures run { OnOk result (IsRun self.old.buffer self.new.buffer) }
         ensures bounds { Bounds 2 result (state self.old) (state self.new) }
+        ensures saved { SavedBounds 1 result (state self.old) (state self.new) }
     {
         let (quals, rest) = cv_quals(self.rest);
         self.rest = rest;
@@ -259,18 +267,14 @@ impl<'a> Reader<'a> {
 
     /// `<function-type> ::= F <return type> <parameter types> [<ref-qualifier>] E`, with qualifiers in front of it.
     #[cycle(reader)]
-    fn read_function(
-        &mut self,
-        depth: usize,
-        context: Context,
-        quals: Quals,
-    ) -> Result<(), Stop>
+    fn read_function(&mut self, depth: usize, context: Context, quals: Quals) -> Result<(), Stop>
         requires room { HasRoom 1 (state self.old) }
         requires some { 0 < length self.old.rest.now }
         ensures reads { Gives result self.new (spec.parse_function
             (spec.parse_type depth context) quals (state self.old)) }
         ensures run { OnOk result (IsRun self.old.buffer self.new.buffer) }
         ensures bounds { Bounds 2 result (state self.old) (state self.new) }
+        ensures saved { SavedBounds 1 result (state self.old) (state self.new) }
     {
         match function_case(self.rest) {
             FunctionCase::ExternFunction => Err(Stop::Unread),
@@ -286,16 +290,13 @@ impl<'a> Reader<'a> {
 
     /// The parameters of a `<function-type>`: `v` right in front of its end stands for none.
     #[cycle(reader)]
-    fn read_params(
-        &mut self,
-        depth: usize,
-        context: Context,
-    ) -> Result<Vec<Piece>, Stop>
+    fn read_params(&mut self, depth: usize, context: Context) -> Result<Vec<Piece>, Stop>
         requires room { HasRoom 2 (state self.old) }
         ensures reads { GivesList result self.new
             (spec.params_as (params_case self.old.rest.now) (spec.parse_type depth context) (state self.old)) }
         ensures kept { OnOk result (SameFrame self.old.buffer self.new.buffer) }
         ensures bounds { ListBounds result (state self.old) (state self.new) }
+        ensures saved { SavedBounds 0 result (state self.old) (state self.new) }
     {
         match params_case(self.rest) {
             ParamsCase::NoParams => {
@@ -309,15 +310,12 @@ impl<'a> Reader<'a> {
 
     /// Types up to `E`, or to a `<ref-qualifier>` in front of it.
     #[cycle(reader)]
-    fn read_types(
-        &mut self,
-        depth: usize,
-        context: Context,
-    ) -> Result<Vec<Piece>, Stop>
+    fn read_types(&mut self, depth: usize, context: Context) -> Result<Vec<Piece>, Stop>
         requires room { HasRoom 2 (state self.old) }
         ensures reads { GivesList result self.new (spec.parse_types (spec.parse_type depth context) (state self.old)) }
         ensures kept { OnOk result (SameFrame self.old.buffer self.new.buffer) }
         ensures bounds { ListBounds result (state self.old) (state self.new) }
+        ensures saved { SavedBounds 0 result (state self.old) (state self.new) }
     {
         let mut list = Vec::new(self.alloc);
         loop {

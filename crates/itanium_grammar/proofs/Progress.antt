@@ -7,7 +7,7 @@ use Rattle.itanium_grammar.specs.Cases.{SymbolCase, NameCase, UnscopedCase, Atta
 use Rattle.itanium_syntax.specs.Names.{first_case, component_case, unqualified_case}
 use Rattle.itanium_syntax.specs.Args.{args_case}
 use Rattle.itanium_syntax.specs.Types.{type_case, types_case, past_reference}
-use Rattle.itanium_syntax.proofs.Fronts.{IsAfter, Takes, after_none, after_drop, after_then, takes_then, after_takes, takes_takes, takes_drop, internal_after, initializer_after, cv_after, quals_after, reference_after, builtin_after, builtin_shorter, abbreviation_takes, index_takes, source_takes, dimension_takes, constructor_some, destructor_some, std_shorter, end_shorter, args_end_shorter, types_end_some}
+use Rattle.itanium_syntax.proofs.Fronts.{IsAfter, Takes, after_none, after_drop, after_then, takes_then, after_takes, takes_takes, takes_drop, internal_after, initializer_after, cv_after, quals_after, reference_after, builtin_after, builtin_shorter, abbreviation_takes, index_takes, source_takes, dimension_takes, constructor_some, destructor_some, std_shorter, components_end_shorter, arguments_end_shorter, types_end_some}
 use Rattle.itanium_grammar.specs.Tree.{Tree}
 use Rattle.itanium_grammar.specs.Grammar.{Position, Cost, SubstitutionAs, Substitution, Parameter, TaggedAs, UnqualifiedAs, Unqualified, FirstAs, Name, NameAs, UnscopedAs, AttachedAs, Nested, Components, ComponentsAs, Args, Arguments, ArgumentsAs, ArgumentAs, TypeOf, TypeAs, CvAs, Function, ParamsAs, Types, TypesAs, TypeAttachedAs, SymbolAs, Symbol, abbreviation_substitution, component_substitution, substitution, parameter, no_tag, source_component, constructor_component, destructor_component, unqualified, parameter_first, std_first, substitution_first, name_first, name, nested_name, unscoped_name, std_name, substitution_name, global_name, none_attached, args_attached, nested, components, end_of_components, args_component, name_component, args, arguments, end_of_arguments, one_more_argument, type_argument, type, builtin_type, vendor_type, array_type, function_type, member_type, pointer_type, cv_type, elaborated_type, parameter_type, substitution_type, name_type, cv_function, cv_other, function, no_params, some_params, types, end_of_types, one_more_type, none_attached_to_type, args_attached_to_type, name_symbol, symbol}
 
@@ -63,7 +63,7 @@ mutual
   components_takes (components a) = component_takes refl a
 
   component_takes : {case : ComponentCase} {x : Context} {takes : Bool} {t u : Tree} {p q : Position} {c : Cost} → component_case p.rest ≡ case → ComponentsAs case x takes t p u q c → Takes q.rest p.rest
-  component_takes form (end_of_components {p = p}) = record { after = after_drop 1 p.rest; shorter = end_shorter p.rest form }
+  component_takes form (end_of_components {p = p}) = record { after = after_drop 1 p.rest; shorter = components_end_shorter p.rest form }
   component_takes form (args_component {q = q} a b) = after_takes (args_after a) (after_takes (initializer_after q.rest) (components_takes b))
   component_takes form (name_component {q = q} a b) = takes_takes (unqualified_takes a) (after_takes (initializer_after q.rest) (components_takes b))
 
@@ -77,7 +77,7 @@ mutual
   arguments_takes (arguments a) = arguments_as_takes refl a
 
   arguments_as_takes : {case : ArgsCase} {x : Context} {o : Bool} {k : ℕ} {p q : Position} {list : List Tree} {c : Cost} → args_case p.rest ≡ case → ArgumentsAs case x o k p list q c → Takes q.rest p.rest
-  arguments_as_takes form (end_of_arguments {p = p}) = record { after = after_drop 1 p.rest; shorter = args_end_shorter p.rest form }
+  arguments_as_takes form (end_of_arguments {p = p}) = record { after = after_drop 1 p.rest; shorter = arguments_end_shorter p.rest form }
   arguments_as_takes form (one_more_argument a b) = takes_takes (argument_takes a) (arguments_takes b)
 
   pub argument_takes : {case : ArgumentCase} {x : Context} {p q : Position} {t : Tree} {c : Cost} → ArgumentAs case x p t q c → Takes q.rest p.rest

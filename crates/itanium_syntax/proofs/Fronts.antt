@@ -7,13 +7,13 @@ use Rattle.std.proofs.lemmas.Option.{cond_some, option_and_then_some, some_pair_
 use Rattle.demangle_quals.specs.declared.quals.Pointer.{Pointer}
 use Rattle.itanium_syntax.specs.declared.abbreviations.Abbreviation.{Abbreviation}
 use Rattle.itanium_syntax.specs.declared.numerals.Radix.{Radix}
-use Rattle.itanium_syntax.specs.declared.numerals.Radix.TheVariants.{Decimal, Base36}
+use Rattle.itanium_syntax.specs.declared.numerals.Radix.TheVariants.{Decimal}
 use Rattle.itanium_syntax.specs.Abbreviations.{abbreviation_of}
 use Rattle.itanium_syntax.specs.Bytes.{begins, begins_one_of, past_letter}
-use Rattle.itanium_syntax.specs.Cases.{StdFirst, EndOfComponents, ArgsComponent, ConstructorName, DestructorName, ArgsAttached, EndOfArguments, TypeCase, BuiltinType, ExpansionType, VendorType, ArrayType, FunctionType, MemberType, PointerType, CvType, ElaboratedType, ParameterType, SubstitutionType, UnreadType, NameType, CvFunction, NoParams, EndOfTypes}
+use Rattle.itanium_syntax.specs.Cases.{StdFirst, EndOfComponents, ArgsComponent, ConstructorName, DestructorName, ArgsAttached, EndOfArguments, BuiltinType, ArrayType, FunctionType, MemberType, PointerType, CvFunction, NoParams, EndOfTypes}
 use Rattle.itanium_syntax.specs.Names.{first_case, component_case, unqualified_case, past_internal, past_initializer_letter, past_name_quals}
 use Rattle.itanium_syntax.specs.Args.{attached_case, args_case}
-use Rattle.itanium_syntax.specs.Types.{type_case, types_case, cv_case, params_case, is_builtin, past_builtin, past_cv, past_reference}
+use Rattle.itanium_syntax.specs.Types.{type_case, types_case, cv_case, params_case, past_builtin, past_cv, past_reference}
 use Rattle.itanium_syntax.specs.Scalars.{front_digits, digit_then, digit_of, weighted, base, numeral, number, source_name, past_underscore, next_number, index_by, index_of, dimension_by, dimension_of}
 
 -- the rest lies after a front of the bytes
@@ -110,22 +110,22 @@ pub std_shorter : (bytes : List ℕ) → first_case bytes ≡ StdFirst → lengt
 std_shorter [] e = cc
 std_shorter (b ∷ bytes) e = (takes_drop 2 (b ∷ bytes) (omega arith) (omega arith)).shorter
 
-pub end_shorter : (bytes : List ℕ) → component_case bytes ≡ EndOfComponents → length (drop 1 bytes) < length bytes
-end_shorter [] e = cc
-end_shorter (b ∷ bytes) e = omega arith
+pub components_end_shorter : (bytes : List ℕ) → component_case bytes ≡ EndOfComponents → length (drop 1 bytes) < length bytes
+components_end_shorter [] e = cc
+components_end_shorter (b ∷ bytes) e = omega arith
 
-pub args_end_shorter : (bytes : List ℕ) → args_case bytes ≡ EndOfArguments → length (drop 1 bytes) < length bytes
-args_end_shorter [] e = cc
-args_end_shorter (b ∷ bytes) e = omega arith
+pub arguments_end_shorter : (bytes : List ℕ) → args_case bytes ≡ EndOfArguments → length (drop 1 bytes) < length bytes
+arguments_end_shorter [] e = cc
+arguments_end_shorter (b ∷ bytes) e = omega arith
 
 -- a list has its I
-pub list_some : (bytes : List ℕ) → attached_case bytes ≡ ArgsAttached → 0 < length bytes
-list_some [] e = cc
-list_some (b ∷ bytes) e = omega arith
+pub attached_some : (bytes : List ℕ) → attached_case bytes ≡ ArgsAttached → 0 < length bytes
+attached_some [] e = cc
+attached_some (b ∷ bytes) e = omega arith
 
-pub component_list_some : (bytes : List ℕ) → component_case bytes ≡ ArgsComponent → 0 < length bytes
-component_list_some [] e = cc
-component_list_some (b ∷ bytes) e = omega arith
+pub component_args_some : (bytes : List ℕ) → component_case bytes ≡ ArgsComponent → 0 < length bytes
+component_args_some [] e = cc
+component_args_some (b ∷ bytes) e = omega arith
 
 past_builtin_shorter : (bytes : List ℕ) → 0 < length bytes → length (past_builtin bytes) < length bytes
 past_builtin_shorter bytes some = go (begins (codes "D") bytes)
@@ -186,42 +186,13 @@ pub no_params_some : (bytes : List ℕ) → params_case bytes ≡ NoParams → 0
 no_params_some [] e = cc
 no_params_some (b ∷ bytes) e = omega arith
 
--- a type of qualifiers begins with one of their letters
-tenth : (a b c d e f g h i j : Bool) (y : TypeCase) → (y ≡ CvType → ⊥)
-    → ◌≡◌ {A = TypeCase} (if a then BuiltinType else (if b then ExpansionType else (if c then VendorType else (if d then ArrayType else (if e then FunctionType else (if f then MemberType else
-    (if g then PointerType Pointer.Star else (if h then PointerType Pointer.Left else (if i then PointerType Pointer.Right else (if j then CvType else y)))))))))) CvType
-    → j ≡ true
-tenth true b c d e f g h i j y n q = cc
-tenth false true c d e f g h i j y n q = cc
-tenth false false true d e f g h i j y n q = cc
-tenth false false false true e f g h i j y n q = cc
-tenth false false false false true f g h i j y n q = cc
-tenth false false false false false true g h i j y n q = cc
-tenth false false false false false false true h i j y n q = cc
-tenth false false false false false false false true i j y n q = cc
-tenth false false false false false false false false true j y n q = cc
-tenth false false false false false false false false false true y n q = refl
-tenth false false false false false false false false false false y n q = absurd (n q)
-
-later : (a b c d e : Bool) → ◌≡◌ {A = TypeCase} (if a then ElaboratedType else (if b then ParameterType else (if c then NameType else (if d then SubstitutionType else (if e then UnreadType else NameType))))) CvType → ⊥
-later true b c d e q = cc
-later false true c d e q = cc
-later false false true d e q = cc
-later false false false true e q = cc
-later false false false false true q = cc
-later false false false false false q = cc
-
-cv_first : (bytes : List ℕ) → type_case bytes ≡ CvType → begins_one_of (codes "rVK") bytes ≡ true
-cv_first bytes e = tenth (is_builtin bytes) (begins (codes "Dp") bytes) (begins (codes "u") bytes) (begins (codes "A") bytes) (begins (codes "F") bytes) (begins (codes "M") bytes)
-    (begins (codes "P") bytes) (begins (codes "R") bytes) (begins (codes "O") bytes) (begins_one_of (codes "rVK") bytes) _
-    (later (begins (codes "T") bytes && begins_one_of (codes "sue") (drop 1 bytes)) (begins (codes "T") bytes) (begins (codes "St") bytes) (begins (codes "S") bytes) (begins (codes "U") bytes)) e
-
 -- a letter that stands there is gone past
 letter_shorter : (letter : ℕ) (bytes : List ℕ) → begins (letter ∷ []) bytes ≡ true → length (past_letter letter bytes) < length bytes
 letter_shorter letter [] e = cc
 letter_shorter letter (b ∷ bytes) e = rw e (omega arith)
 
-cv_shorter : (bytes : List ℕ) → begins_one_of (codes "rVK") bytes ≡ true → length (past_cv bytes) < length bytes
+-- qualifiers have a letter
+pub cv_shorter : (bytes : List ℕ) → begins_one_of (codes "rVK") bytes ≡ true → length (past_cv bytes) < length bytes
 cv_shorter [] e = cc
 cv_shorter (b ∷ bytes) e = go (b == 114) (b == 86) (b == 75) refl refl refl e
   where
@@ -231,10 +202,7 @@ cv_shorter (b ∷ bytes) e = go (b == 114) (b == 86) (b == 75) refl refl refl e
     go false false true er ev ek h = rw (er, ev, ek) (omega arith)
     go false false false er ev ek h = cc
 
-pub cv_type_shorter : (bytes : List ℕ) → type_case bytes ≡ CvType → length (past_cv bytes) < length bytes
-cv_type_shorter bytes e = cv_shorter bytes (cv_first bytes e)
-
-pub ruleset forms = (types_end_some, array_some, member_some, function_some, pointer_some, cv_function_some, no_params_some, cv_type_shorter, std_shorter, end_shorter, args_end_shorter, list_some, component_list_some, builtin_shorter)
+pub ruleset cases = (types_end_some, array_some, member_some, function_some, pointer_some, cv_function_some, no_params_some, std_shorter, components_end_shorter, arguments_end_shorter, attached_some, component_args_some, builtin_shorter)
 
 take_none : (b : ℕ) (bytes : List ℕ) (found : List ℕ) → past_underscore (b ∷ bytes) ≡ Some found → found ≡ bytes
 take_none b bytes found e = sym ((cond_some (b == 95) bytes found e).1)

@@ -64,7 +64,7 @@ abbrev pub index_by : Radix → List ℕ → Option (List ℕ) → Option (ℕ �
 index_by r bytes (Some rest) = Some (0, rest)
 index_by r bytes None =
     option_and_then (λ n.
-        option_and_then (λ i. option_map (λ rest. (i, rest)) (past_underscore n.1)) (next_number n.0)) (numeral r bytes)
+    option_and_then (λ i. option_map (λ rest. (i, rest)) (past_underscore n.1)) (next_number n.0)) (numeral r bytes)
 
 -- [<numeral>] _: 0 where the numeral is left out, else the number that follows it
 unfoldable pub index_of : Radix → List ℕ → Option (ℕ × List ℕ)

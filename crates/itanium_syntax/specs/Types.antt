@@ -109,6 +109,11 @@ with_reference quals bytes = record quals { reference = reference_of bytes }
 abbrev pub past_reference : List ℕ → List ℕ
 past_reference bytes = if begins (codes "R") bytes || begins (codes "O") bytes then drop 1 bytes else bytes
 
+-- a fact for the case of qualifiers
+abbrev pub OnCv : TypeCase → Type 0 → Type 0
+OnCv CvType P = P
+OnCv other P = Unit {0}
+
 -- what qualifiers stand in front of: a function type takes them in
 abbrev pub cv_case : List ℕ → CvCase
 cv_case bytes = if begins (codes "F") bytes then CvFunction else CvOther

@@ -1,5 +1,5 @@
 //! The cases of types: which one the next bytes begin. Of several cases the first one that fits holds.
-ghost use Rattle.std.specs.Prelude.{◌≡◌, ◌≤◌, length};
+ghost use Rattle.std.specs.Prelude.{◌≡◌, ◌<◌, ◌≤◌, length};
 ghost use Rattle.itanium_syntax.specs.Types as spec;
 ghost use Rattle.itanium_syntax.specs.Bytes as bytes_spec;
 
@@ -51,9 +51,11 @@ pub enum TypesCase {
     NextType,
 }
 
-/// Which `<type>` stands there.
+/// Which `<type>` stands there. One of qualifiers takes a byte for them.
+#[tactic(auto, using(crate::proofs::Fronts::cv_shorter))]
 pub fn type_case(bytes: &[u8]) -> TypeCase
     ensures case { result ≡ spec.type_case bytes.now }
+    ensures cv { spec.OnCv result (length (spec.past_cv bytes.now) < length bytes.now) }
 {
     if !builtin_text(bytes).is_empty() {
         return TypeCase::BuiltinType;

@@ -1,10 +1,10 @@
 use Rattle.std.proofs.Common.{rules, sym}
 use Rattle.std.proofs.lemmas.List.{map-append}
 use Rattle.std.proofs.lemmas.Result.{err_from_is_err_and}
+use Rattle.itanium_syntax.proofs.Fronts.{attached_some}
 use Rattle.demangle_text.specs.State.{shape, SameFrame}
-use Rattle.itanium_demangle.specs.Parser as spec
 use Rattle.itanium_demangle.specs.Outcome.{state}
-use Rattle.itanium_demangle.proofs.Unfold.{stops, list_stops, components_end, components_args, components_no_args, components_name, components_no_name, arguments_end, arguments_more, arguments_fail, types_end, types_more, types_fail, kept_shapes, one_more_lives}
+use Rattle.itanium_demangle.proofs.Unfold.{saved_first, stops, list_stops, components_end, components_args, components_no_args, components_name, components_no_name, arguments_end, arguments_more, arguments_fail, types_end, types_more, types_fail, kept_shapes, one_more_lives}
 use Rattle.itanium_demangle.proofs.reader.Reader.+reader.Goals as goal
 
 pub read_args-returns-in-EndOfArguments-clause-reads : goal.read_args-returns-in-EndOfArguments-clause-reads
@@ -30,6 +30,8 @@ read_args-loop-self-preserved t c = record {
   opened = search rules;
   taken = search rules;
   counted = search rules;
+  list = search rules;
+  most = search rules;
 }
 
 pub read_components-returns-in-EndOfComponents-clause-reads : goal.read_components-returns-in-EndOfComponents-clause-reads
@@ -54,9 +56,11 @@ read_components-loop-self-preserved t c = record {
   reads = components_name _ {mid = state c.read_unqualified.new.self} c.loop-self.invariant.reads (sym c.in-NameComponent.ensures.case) (search rules) (search rules) (search rules) (search rules);
   living = search rules;
   run = search rules;
-  saved = search rules;
+  some_saved = search rules;
   taken = search rules;
   counted = search rules;
+  list = search rules;
+  most = search rules;
   scopes_stand = search rules;
 }
 
@@ -65,9 +69,11 @@ read_components-loop-self-preserved-in-ArgsComponent t c = record {
   reads = components_args _ {mid = state c.read_attached.new.self} c.loop-self.invariant.reads (sym c.in-ArgsComponent.ensures.case) (search rules) (search rules) (search rules) (search rules);
   living = search rules;
   run = search rules;
-  saved = search rules;
+  some_saved = search rules;
   taken = search rules;
   counted = search rules;
+  list = search rules;
+  most = search rules;
   scopes_stand = search rules;
 }
 
@@ -94,4 +100,12 @@ read_types-loop-list-preserved t c =
       scopes_stand = search rules;
       taken = search rules;
       counted = search rules;
+      list = search rules;
+      most = search rules;
     }
+
+pub read_attached_args-returns-in_ok-save-in-ArgsAttached-clause-saved : goal.read_attached_args-returns-in_ok-save-in-ArgsAttached-clause-saved
+read_attached_args-returns-in_ok-save-in-ArgsAttached-clause-saved t c =
+    let save = c.in_ok-save-in-ArgsAttached.ensures {u = tt} in
+    saved_first c.read_attached.result (state c.args.self.now) (state c.save.new.self) (state c.read_attached.new.self) c.read_attached.ensures.saved
+    save.longer (search rules) (search (rules, attached_some)) save.most

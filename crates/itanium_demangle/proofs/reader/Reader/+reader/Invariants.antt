@@ -1,4 +1,4 @@
-use Rattle.std.proofs.Common.{◌≡◌, ◌+◌, ◌-◌, ◌*◌, ◌<◌, ◌≤◌, length, true, map, All}
+use Rattle.std.proofs.Common.{◌≡◌, ◌+◌, ◌-◌, ◌*◌, ◌<◌, ◌≤◌, length, max, true, map, All}
 use Rattle.demangle_text.specs.State.{IsLiving, IsRun, SameFrame, shape, saved, scopes}
 use Rattle.itanium_demangle.specs.Parser as spec
 use Rattle.itanium_demangle.specs.Outcome.{state}
@@ -47,10 +47,12 @@ invariant-read_components-loop-self l = record {
       (spec.component_turn (spec.parse_args l.depth l.context true)) (l.takes, shape l.self.buffer l.name) (state l.self);
   living : IsLiving l.self.buffer l.name;
   run : IsRun l.fn.self.buffer l.self.buffer;
-  saved : l.takes ≡ true → 0 < length (saved l.self.buffer);
+  some_saved : l.takes ≡ true → 0 < length (saved l.self.buffer);
   taken : length l.self.rest.now ≤ length l.fn.self.rest.now;
   counted : l.self.entered + 2 * length l.self.rest.now ≤ l.fn.self.entered + 2 * length l.fn.self.rest.now;
   scopes_stand : length (scopes l.fn.self.buffer) ≤ length (scopes l.self.buffer);
+  list : length (saved l.self.buffer) + length l.self.rest.now ≤ length (saved l.fn.self.buffer) + length l.fn.self.rest.now;
+  most : l.self.most_saved + 1 ≤ max (l.fn.self.most_saved + 1) (length (saved l.fn.self.buffer) + length l.fn.self.rest.now);
 }
 
 abbrev pub decreases-read_components-loop-self : goal.decreases-read_components-loop-self
@@ -68,6 +70,8 @@ invariant-read_args-loop-self l = record {
   opened : l.opens ≡ true → 0 < l.scopes;
   taken : length l.self.rest.now < length l.fn.self.rest.now;
   counted : l.self.entered + 2 * length l.self.rest.now + 1 ≤ l.fn.self.entered + 2 * length l.fn.self.rest.now;
+  list : length (saved l.self.buffer) + length l.self.rest.now + 1 ≤ length (saved l.fn.self.buffer) + length l.fn.self.rest.now;
+  most : l.self.most_saved + 1 ≤ max (l.fn.self.most_saved + 1) (length (saved l.fn.self.buffer) + length l.fn.self.rest.now);
 }
 
 abbrev pub decreases-read_args-loop-self : goal.decreases-read_args-loop-self
@@ -96,6 +100,8 @@ invariant-read_types-loop-list l = record {
   scopes_stand : length (scopes l.fn.self.buffer) ≤ length (scopes l.self.buffer);
   taken : length l.self.rest.now ≤ length l.fn.self.rest.now;
   counted : l.self.entered + 2 * length l.self.rest.now ≤ l.fn.self.entered + 2 * length l.fn.self.rest.now;
+  list : length (saved l.self.buffer) + length l.self.rest.now ≤ length (saved l.fn.self.buffer) + length l.fn.self.rest.now;
+  most : l.self.most_saved ≤ max l.fn.self.most_saved (length (saved l.fn.self.buffer) + length l.fn.self.rest.now);
 }
 
 abbrev pub decreases-read_types-loop-list : goal.decreases-read_types-loop-list
