@@ -1,4 +1,4 @@
-pub mod Appends
+pub mod Insertions
 pub mod Listed
 pub mod Declarators
 pub mod Cuts

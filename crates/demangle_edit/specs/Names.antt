@@ -26,6 +26,10 @@ abbrev pub attached : Shape → Shape → Shape
 attached name list =
     flagged true name.ctor (appended (angle_gap (text name) ++ text list) (flattened name))
 
+-- the name as a plain text, with an ABI tag after it
+abbrev pub tagged : Shape → List ℕ → Shape
+tagged name tag = appended (codes "[abi:" ++ (tag ++ codes "]")) (flattened name)
+
 -- the name as a plain text with its qualifiers after it, the words only where they are shown; without
 -- qualifiers the name itself
 abbrev pub with_name_qualifiers : Shape → Quals → Bool → Shape

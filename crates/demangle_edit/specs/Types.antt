@@ -130,3 +130,7 @@ function_shape ret params quals =
 -- what a function returns is plain
 abbrev pub function_step : Shape → List Shape → Quals → Option Shape
 function_step ret params quals = if is_plain ret.form then Some (function_shape ret params quals) else None
+
+-- the expansion of a pack
+abbrev pub expansion_shape : Shape → Shape
+expansion_shape s = appended (codes "...") s

@@ -2,8 +2,8 @@
 
 use demangle_edit::{
     Glue, Pointer, Quals, Reference, apply_name_qualifiers, attach_template_args, collapse_ref,
-    function_type, glue, qualify, qualify_ctor, wrap_array, wrap_cv, wrap_member_pointer,
-    wrap_pointer,
+    expand, function_type, glue, qualify, qualify_ctor, tag, wrap_array, wrap_cv,
+    wrap_member_pointer, wrap_pointer,
 };
 use demangle_text::{Buffer, Kind};
 use std::test::Fail;
@@ -121,6 +121,21 @@ fn qualifiers_of_a_name(rt: HostRuntime) -> Result<(), Fail> {
     let name = buf.push(b"f")?;
     let bare = apply_name_qualifiers(&mut buf, name, NO_QUALS, true)?;
     assert_eq!(rt; buf.bytes(bare), b"f".as_slice());
+    Ok(())
+}
+
+#[test]
+#[tactic(auto, using(demangle_text::proofs::Laws::laws))]
+fn tagged_names(rt: HostRuntime) -> Result<(), Fail> {
+    let mut buf = Buffer::new(rt.alloc());
+    let text = buf.push(b"Foo::~Foo")?;
+    let own = buf.own_at(text, 5, 9);
+    let flagged = buf.with_flags(own, true, true);
+    let name = tag(&mut buf, flagged, b"nn180100")?;
+    assert_eq!(rt; buf.bytes(name), b"Foo::~Foo[abi:nn180100]".as_slice());
+    assert_eq!(rt; buf.own_range(name), (5, 9));
+    assert!(rt; buf.templ(name));
+    assert!(rt; buf.ctor(name));
     Ok(())
 }
 
@@ -340,5 +355,24 @@ fn function_types(rt: HostRuntime) -> Result<(), Fail> {
     };
     assert_eq!(rt; buf.bytes(function), b"int ()".as_slice());
     assert_eq!(rt; buf.own_range(function), (0, 6));
+    Ok(())
+}
+
+#[test]
+#[tactic(auto, using(demangle_text::proofs::Laws::laws))]
+fn expansions(rt: HostRuntime) -> Result<(), Fail> {
+    let mut buf = Buffer::new(rt.alloc());
+    let text = buf.push(b"A<int>")?;
+    let own = buf.own_at(text, 0, 1);
+    let flagged = buf.with_flags(own, true, false);
+    let expansion = expand(&mut buf, flagged)?;
+    assert_eq!(rt; buf.bytes(expansion), b"A<int>...".as_slice());
+    assert_eq!(rt; buf.own_range(expansion), (0, 1));
+    assert!(rt; buf.templ(expansion));
+    let text = buf.push(b"void (*)()")?;
+    let pointer = buf.declare_group(text, Kind::Function, 5, 8);
+    let expansion = expand(&mut buf, pointer)?;
+    assert_eq!(rt; buf.bytes(expansion), b"void (*)()...".as_slice());
+    assert_eq!(rt; buf.kind(expansion), Some(Kind::Function));
     Ok(())
 }
