@@ -1,5 +1,6 @@
 pub mod Insertions
 pub mod Listed
+pub mod Built
 pub mod Declarators
 pub mod Cuts
 pub mod Arrays

@@ -1,4 +1,5 @@
 pub mod Lists
 pub mod Names
+pub mod Built
 pub mod Types
 pub mod Answers

@@ -13,8 +13,13 @@ mod names;
 mod parts;
 mod types;
 
-pub use crate::lists::glue;
-pub use crate::names::{apply_name_qualifiers, attach_template_args, qualify, qualify_ctor, tag};
+pub use crate::lists::{
+    append_number, close_arguments, close_lambda, close_params, glue, list_more, open_arguments,
+    open_params,
+};
+pub use crate::names::{
+    apply_name_qualifiers, attach_template_args, format_params, qualify, qualify_ctor, tag,
+};
 pub use crate::parts::Glue;
 pub use crate::types::{
     collapse_ref, expand, function_type, wrap_array, wrap_cv, wrap_member_pointer, wrap_pointer,

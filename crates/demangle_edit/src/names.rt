@@ -1,9 +1,11 @@
 //! Edits that make a name out of names (Itanium C++ ABI 5.1.2).
-ghost use Rattle.std.specs.Prelude.{◌≡◌, IfOk, OnOk};
+ghost use Rattle.std.specs.Prelude.{◌≡◌, All, map, IfOk, OnOk};
 ghost use Rattle.demangle_text.specs.State.{IsLiving, shape, Lives, IsEdit};
-ghost use Rattle.demangle_edit.specs.Names.{qualified, qualified_ctor, angle_gap, attached, tagged, with_name_qualifiers};
+ghost use Rattle.demangle_edit.specs.Names.{qualified, qualified_ctor, angle_gap, attached, tagged};
+ghost use Rattle.demangle_edit.specs.Names.{encoding_shape, with_name_qualifiers};
 
 use crate::appends::append_piece;
+use crate::lists::{close_params, list_more, open_params};
 use demangle_quals::{Quals, reference_bytes};
 use demangle_text::{Buffer, Piece};
 use std::alloc::AllocError;
@@ -52,7 +54,7 @@ pub fn qualify_ctor(buf: &mut Buffer, scope: Piece, destructor: bool) -> Result<
 }
 
 // What stands between a name's text and its template arguments.
-fn gap_before_args(name: &[u8]) -> &'static [u8]
+pub(crate) fn gap_before_args(name: &[u8]) -> &'static [u8]
     ensures value { result.now ≡ angle_gap name.now }
 {
     if name.ends_with(b"<") { b" " } else { b"" }
@@ -75,6 +77,33 @@ pub fn attach_template_args(buf: &mut Buffer, name: Piece, args: Piece) -> Resul
     let gap = gap_before_args(buf.bytes(name));
     let whole = append_piece(buf, name, gap, args)?;
     Ok(buf.with_flags(whole, true, ctor))
+}
+
+/// The name of a function with its parameters in parentheses, `, ` between them, and its
+/// qualifiers: the words and then the reference. A plain piece with the last own name and the flag
+/// `ctor` of the name; `templ` doesn't hold. Of no parameters it is `name()`.
+///
+/// An error comes where memory is refused, and then only `clear` of the buffer is promised.
+#[tactic(auto, using(demangle_text::proofs::Laws::laws))]
+pub fn format_params(
+    buf: &mut Buffer,
+    name: Piece,
+    params: &[Piece],
+    quals: Quals,
+) -> Result<Piece, AllocError>
+    requires name { IsLiving buf.old name }
+    requires params { All (IsLiving buf.old) params.now }
+    ensures shape { IfOk result (λ p. Lives buf.new p
+        (encoding_shape (shape buf.old name) (map (shape buf.old) params.now) quals)) }
+    ensures edit { OnOk result (IsEdit buf.old buf.new) }
+{
+    let mark = buf.open();
+    let mut list = open_params(buf, name)?;
+    for (i, param) in params.iter().enumerate() {
+        list = list_more(buf, i == 0, list, *param)?;
+    }
+    let whole = close_params(buf, list, quals)?;
+    buf.close(mark, whole)
 }
 
 /// The name with an ABI tag after it, `name[abi:tag]`, as a plain piece with the last own name and

@@ -1,9 +1,10 @@
 //! Each edit of the tree steps, with the texts, the last own names and the flags of its answers.
 
 use demangle_edit::{
-    Glue, Pointer, Quals, Reference, apply_name_qualifiers, attach_template_args, collapse_ref,
-    expand, function_type, glue, qualify, qualify_ctor, tag, wrap_array, wrap_cv,
-    wrap_member_pointer, wrap_pointer,
+    Glue, Pointer, Quals, Reference, append_number, apply_name_qualifiers, attach_template_args,
+    close_arguments, close_lambda, close_params, collapse_ref, expand, format_params,
+    function_type, glue, list_more, open_arguments, open_params, qualify, qualify_ctor, tag,
+    wrap_array, wrap_cv, wrap_member_pointer, wrap_pointer,
 };
 use demangle_text::{Buffer, Kind};
 use std::test::Fail;
@@ -136,6 +137,98 @@ fn tagged_names(rt: HostRuntime) -> Result<(), Fail> {
     assert_eq!(rt; buf.own_range(name), (5, 9));
     assert!(rt; buf.templ(name));
     assert!(rt; buf.ctor(name));
+    Ok(())
+}
+
+#[test]
+#[tactic(auto, using(demangle_text::proofs::Laws::laws))]
+fn parameters_of_a_name(rt: HostRuntime) -> Result<(), Fail> {
+    let mut buf = Buffer::new(rt.alloc());
+    let text = buf.push(b"A::f<int>")?;
+    let own = buf.own_at(text, 3, 4);
+    let name = buf.with_flags(own, true, true);
+    let int = buf.push(b"int")?;
+    let char = buf.push(b"char")?;
+    let params = [int, char];
+    let encoding = format_params(&mut buf, name, params.as_slice(), ALL_QUALS)?;
+    let expected = b"A::f<int>(int, char) const volatile restrict &&";
+    assert_eq!(rt; buf.bytes(encoding), expected.as_slice());
+    assert_eq!(rt; buf.own_range(encoding), (3, 4));
+    assert!(rt; !buf.templ(encoding));
+    assert!(rt; buf.ctor(encoding));
+    let text = buf.push(b"Foo::bar")?;
+    let name = buf.own_at(text, 5, 8);
+    let encoding = format_params(&mut buf, name, [].as_slice(), CONSTANT)?;
+    assert_eq!(rt; buf.bytes(encoding), b"Foo::bar() const".as_slice());
+    assert_eq!(rt; buf.own_range(encoding), (5, 8));
+    Ok(())
+}
+
+#[test]
+#[tactic(auto, using(demangle_text::proofs::Laws::laws))]
+fn parameters_built_on_a_name(rt: HostRuntime) -> Result<(), Fail> {
+    let mut buf = Buffer::new(rt.alloc());
+    let text = buf.push(b"f<int>")?;
+    let own = buf.own_at(text, 0, 1);
+    let name = buf.with_flags(own, true, false);
+    let opened = open_params(&mut buf, name)?;
+    let int = buf.push(b"int")?;
+    let one = list_more(&mut buf, true, opened, int)?;
+    let char = buf.push(b"char")?;
+    let two = list_more(&mut buf, false, one, char)?;
+    let encoding = close_params(&mut buf, two, CONSTANT)?;
+    assert_eq!(rt; buf.bytes(encoding), b"f<int>(int, char) const".as_slice());
+    assert_eq!(rt; buf.own_range(encoding), (0, 1));
+    assert!(rt; !buf.templ(encoding));
+    Ok(())
+}
+
+#[test]
+#[tactic(auto, using(demangle_text::proofs::Laws::laws))]
+fn arguments_built_on_a_name(rt: HostRuntime) -> Result<(), Fail> {
+    let mut buf = Buffer::new(rt.alloc());
+    let text = buf.push(b"A::f")?;
+    let name = buf.own_at(text, 3, 4);
+    let opened = open_arguments(&mut buf, name)?;
+    let first = buf.push(b"A")?;
+    let one = list_more(&mut buf, true, opened, first)?;
+    let second = buf.push(b"B<A, A>")?;
+    let two = list_more(&mut buf, false, one, second)?;
+    let whole = close_arguments(&mut buf, two)?;
+    assert_eq!(rt; buf.bytes(whole), b"A::f<A, B<A, A> >".as_slice());
+    assert_eq!(rt; buf.own_range(whole), (3, 4));
+    assert!(rt; buf.templ(whole));
+    let operator = buf.push(b"operator<")?;
+    let opened = open_arguments(&mut buf, operator)?;
+    let whole = close_arguments(&mut buf, opened)?;
+    assert_eq!(rt; buf.bytes(whole), b"operator< <>".as_slice());
+    assert_eq!(rt; buf.own_range(whole), (0, 9));
+    Ok(())
+}
+
+#[test]
+#[tactic(auto, using(demangle_text::proofs::Laws::laws))]
+fn lambdas_and_packs(rt: HostRuntime) -> Result<(), Fail> {
+    let mut buf = Buffer::new(rt.alloc());
+    let opened = buf.push(b"{lambda(")?;
+    let first = buf.push(b"auto")?;
+    let one = list_more(&mut buf, true, opened, first)?;
+    let second = buf.push(b"auto")?;
+    let two = list_more(&mut buf, false, one, second)?;
+    let lambda = close_lambda(&mut buf, two, 1)?;
+    assert_eq!(rt; buf.bytes(lambda), b"{lambda(auto, auto)#1}".as_slice());
+    assert_eq!(rt; buf.own_range(lambda), (0, 22));
+    let opened = buf.push(b"")?;
+    let first = buf.push(b"Bar")?;
+    let one = list_more(&mut buf, true, opened, first)?;
+    let second = buf.push(b"Baz")?;
+    let two = list_more(&mut buf, false, one, second)?;
+    let pack = buf.whole(two);
+    assert_eq!(rt; buf.bytes(pack), b"Bar, Baz".as_slice());
+    assert_eq!(rt; buf.own_range(pack), (0, 8));
+    let opened = buf.push(b"#")?;
+    let numbered = append_number(&mut buf, opened, 18_446_744_073_709_551_615)?;
+    assert_eq!(rt; buf.bytes(numbered), b"#18446744073709551615".as_slice());
     Ok(())
 }
 
