@@ -8,11 +8,13 @@
 
 mod appends;
 mod dimensions;
+mod expressions;
 mod lists;
 mod names;
 mod parts;
 mod types;
 
+pub use crate::expressions::{address, subexpr, write_literal};
 pub use crate::lists::{
     append_number, close_arguments, close_lambda, close_params, glue, list_more, open_arguments,
     open_params,

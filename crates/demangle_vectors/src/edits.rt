@@ -1,10 +1,11 @@
 //! Each edit of the tree steps, with the texts, the last own names and the flags of its answers.
 
 use demangle_edit::{
-    Glue, Pointer, Quals, Reference, append_number, apply_name_qualifiers, attach_template_args,
-    close_arguments, close_lambda, close_params, collapse_ref, expand, format_params,
-    function_type, glue, list_more, open_arguments, open_params, qualify, qualify_ctor, tag,
-    wrap_array, wrap_cv, wrap_member_pointer, wrap_pointer,
+    Glue, Pointer, Quals, Reference, address, append_number, apply_name_qualifiers,
+    attach_template_args, close_arguments, close_lambda, close_params, collapse_ref, expand,
+    format_params, function_type, glue, list_more, open_arguments, open_params, qualify,
+    qualify_ctor, subexpr, tag, wrap_array, wrap_cv, wrap_member_pointer, wrap_pointer,
+    write_literal,
 };
 use demangle_text::{Buffer, Kind};
 use std::test::Fail;
@@ -467,5 +468,105 @@ fn expansions(rt: HostRuntime) -> Result<(), Fail> {
     let expansion = expand(&mut buf, pointer)?;
     assert_eq!(rt; buf.bytes(expansion), b"void (*)()...".as_slice());
     assert_eq!(rt; buf.kind(expansion), Some(Kind::Function));
+    Ok(())
+}
+
+#[test]
+#[tactic(auto, using(demangle_text::proofs::Laws::laws))]
+fn literals(rt: HostRuntime) -> Result<(), Fail> {
+    let rows = [
+        ("int", "007", "007"),
+        ("int", "n1", "-1"),
+        ("int", "", ""),
+        ("int", "nn1", "-n1"),
+        ("bool", "0", "false"),
+        ("bool", "1", "true"),
+        ("bool", "n1", "(bool)-1"),
+        ("std::nullptr_t", "0", "nullptr"),
+        ("std::nullptr_t", "n5", "nullptr"),
+        ("float", "3f800000", "[3f800000]"),
+        ("double", "n3f", "-[3f]"),
+        ("long double", "", "[]"),
+        ("unsigned long", "4", "(unsigned long)4"),
+        ("char", "n49", "(char)-49"),
+        ("", "1", "()1"),
+    ];
+    for (ty, value, expected) in rows.iter() {
+        let mut buf = Buffer::new(rt.alloc());
+        let text = buf.push(ty.as_bytes())?;
+        let flagged = buf.with_flags(text, true, true);
+        let Some(literal) = write_literal(&mut buf, flagged, value)? else {
+            return Err("no literal".into());
+        };
+        assert_eq!(rt; buf.bytes(literal), expected.as_bytes());
+        assert_eq!(rt; buf.own_range(literal), (0, expected.len()));
+        assert!(rt; !buf.templ(literal));
+        assert!(rt; !buf.ctor(literal));
+    }
+    Ok(())
+}
+
+#[test]
+#[tactic(auto, using(demangle_text::proofs::Laws::laws))]
+fn no_literals(rt: HostRuntime) -> Result<(), Fail> {
+    let values = ["2", "00", "", "true"];
+    for value in values.iter() {
+        let mut buf = Buffer::new(rt.alloc());
+        let bool = buf.push(b"bool")?;
+        assert!(rt; write_literal(&mut buf, bool, value)?.is_none());
+        assert_eq!(rt; buf.bytes(bool), b"bool".as_slice());
+    }
+    Ok(())
+}
+
+#[test]
+#[tactic(auto, using(demangle_text::proofs::Laws::laws))]
+fn literal_of_a_declarator(rt: HostRuntime) -> Result<(), Fail> {
+    let mut buf = Buffer::new(rt.alloc());
+    let text = buf.push(b"void (*)()")?;
+    let pointer = buf.declare_group(text, Kind::Function, 5, 8);
+    let Some(literal) = write_literal(&mut buf, pointer, "0")? else {
+        return Err("no literal".into());
+    };
+    assert_eq!(rt; buf.bytes(literal), b"(void (*)())0".as_slice());
+    assert!(rt; buf.kind(literal).is_none());
+    Ok(())
+}
+
+#[test]
+#[tactic(auto, using(demangle_text::proofs::Laws::laws))]
+fn operands(rt: HostRuntime) -> Result<(), Fail> {
+    let mut buf = Buffer::new(rt.alloc());
+    let text = buf.push(b"A::g<int>")?;
+    let own = buf.own_at(text, 3, 4);
+    let name = buf.with_flags(own, true, false);
+    let same = subexpr(&mut buf, name, false)?;
+    assert_eq!(rt; buf.bytes(same), b"A::g<int>".as_slice());
+    assert_eq!(rt; buf.own_range(same), (3, 4));
+    assert!(rt; buf.templ(same));
+    let operand = subexpr(&mut buf, same, true)?;
+    assert_eq!(rt; buf.bytes(operand), b"(A::g<int>)".as_slice());
+    assert_eq!(rt; buf.own_range(operand), (0, 11));
+    assert!(rt; !buf.templ(operand));
+    Ok(())
+}
+
+#[test]
+#[tactic(auto, using(demangle_text::proofs::Laws::laws))]
+fn addresses(rt: HostRuntime) -> Result<(), Fail> {
+    let mut buf = Buffer::new(rt.alloc());
+    let text = buf.push(b"Foo::bar(int)")?;
+    let own = buf.own_at(text, 5, 8);
+    let name = buf.with_flags(own, true, true);
+    let pointer = address(&mut buf, name)?;
+    assert_eq!(rt; buf.bytes(pointer), b"&Foo::bar(int)".as_slice());
+    assert_eq!(rt; buf.own_range(pointer), (6, 9));
+    assert!(rt; buf.templ(pointer));
+    assert!(rt; buf.ctor(pointer));
+    let text = buf.push(b"int [3]")?;
+    let array = buf.declare(text, Kind::Array, 3);
+    let pointer = address(&mut buf, array)?;
+    assert_eq!(rt; buf.bytes(pointer), b"&int [3]".as_slice());
+    assert_eq!(rt; buf.after_at(pointer), Some(4));
     Ok(())
 }
