@@ -8,14 +8,9 @@ use demangle_edit::{
     write_literal,
 };
 use demangle_text::{Buffer, Kind};
+use std::alloc::Global;
+use std::process::Abort;
 use std::test::Fail;
-
-const NO_QUALS: Quals = Quals {
-    constant: false,
-    volatile: false,
-    restrict: false,
-    reference: None,
-};
 
 const CONSTANT: Quals = Quals {
     constant: true,
@@ -121,7 +116,7 @@ fn qualifiers_of_a_name(rt: HostRuntime) -> Result<(), Fail> {
         b"f const volatile restrict &&".as_slice()
     );
     let name = buf.push(b"f")?;
-    let bare = apply_name_qualifiers(&mut buf, name, NO_QUALS, true)?;
+    let bare = apply_name_qualifiers(&mut buf, name, Quals::none(), true)?;
     assert_eq!(rt; buf.bytes(bare), b"f".as_slice());
     Ok(())
 }
@@ -442,9 +437,9 @@ fn function_types(rt: HostRuntime) -> Result<(), Fail> {
     let expected = b"void (int, char) const volatile restrict &&";
     assert_eq!(rt; buf.bytes(function), expected.as_slice());
     assert_eq!(rt; buf.after_at(function), Some(5));
-    assert!(rt; function_type(&mut buf, function, [].as_slice(), NO_QUALS)?.is_none());
+    assert!(rt; function_type(&mut buf, function, [].as_slice(), Quals::none())?.is_none());
     let ret = buf.push(b"int")?;
-    let Some(function) = function_type(&mut buf, ret, [].as_slice(), NO_QUALS)? else {
+    let Some(function) = function_type(&mut buf, ret, [].as_slice(), Quals::none())? else {
         return Err("no function".into());
     };
     assert_eq!(rt; buf.bytes(function), b"int ()".as_slice());
@@ -471,8 +466,29 @@ fn expansions(rt: HostRuntime) -> Result<(), Fail> {
     Ok(())
 }
 
-#[test]
+// The literal of the type with this value has this text, which is its last own name, and no flag.
 #[tactic(auto, using(demangle_text::proofs::Laws::laws))]
+fn assert_literal(
+    rt: &impl Abort,
+    alloc: Global,
+    ty: &str,
+    value: &str,
+    expected: &str,
+) -> Result<(), Fail> {
+    let mut buf = Buffer::new(alloc);
+    let text = buf.push(ty.as_bytes())?;
+    let flagged = buf.with_flags(text, true, true);
+    let Some(literal) = write_literal(&mut buf, flagged, value)? else {
+        return Err("no literal".into());
+    };
+    assert_eq!(rt; buf.bytes(literal), expected.as_bytes());
+    assert_eq!(rt; buf.own_range(literal), (0, expected.len()));
+    assert!(rt; !buf.templ(literal));
+    assert!(rt; !buf.ctor(literal));
+    Ok(())
+}
+
+#[test]
 fn literals(rt: HostRuntime) -> Result<(), Fail> {
     let rows = [
         ("int", "007", "007"),
@@ -492,16 +508,7 @@ fn literals(rt: HostRuntime) -> Result<(), Fail> {
         ("", "1", "()1"),
     ];
     for (ty, value, expected) in rows.iter() {
-        let mut buf = Buffer::new(rt.alloc());
-        let text = buf.push(ty.as_bytes())?;
-        let flagged = buf.with_flags(text, true, true);
-        let Some(literal) = write_literal(&mut buf, flagged, value)? else {
-            return Err("no literal".into());
-        };
-        assert_eq!(rt; buf.bytes(literal), expected.as_bytes());
-        assert_eq!(rt; buf.own_range(literal), (0, expected.len()));
-        assert!(rt; !buf.templ(literal));
-        assert!(rt; !buf.ctor(literal));
+        assert_literal(&rt, rt.alloc(), ty, value, expected)?;
     }
     Ok(())
 }
