@@ -51,7 +51,8 @@ each_from : (first : Bool) (t : List ℕ) (own : ℕ × ℕ) (templ ctor : Bool)
 each_from first t own templ ctor [] = sym (nothing_appended t own templ ctor)
 each_from first t own templ ctor (next ∷ rest) =
     let added = separator first ++ text next in
-    each_from false (t ++ added) (moved (length t) (length added) own) templ ctor rest
+    ap (λ (s : Shape). listed_each false s rest) (appended_twice (separator first) (text next) (plain_of t own templ ctor))
+    ∙ each_from false (t ++ added) (moved (length t) (length added) own) templ ctor rest
     ∙ appended_twice added (listed_from false (map text rest)) (plain_of t own templ ctor)
 
 -- one text after another is what is listed of all

@@ -1,5 +1,5 @@
 pub mod Insertions
-pub mod Listed
+pub mod Glued
 pub mod Built
 pub mod Declarators
 pub mod Cuts

@@ -16,9 +16,17 @@ abbrev pub is_first : List Shape → Bool
 is_first [] = true
 is_first (s ∷ rest) = false
 
--- a list as a plain text, with one text more
+-- a list as a plain text, with what stands in front of its next text
+abbrev pub separated : Bool → Shape → Shape
+separated first list = appended (separator first) (flattened list)
+
+-- a list as a plain text, with a text at its end
+abbrev pub followed : Shape → Shape → Shape
+followed list next = appended (text next) (flattened list)
+
+-- a list with one text more
 abbrev pub listed_more : Bool → Shape → Shape → Shape
-listed_more first list next = appended (separator first ++ text next) (flattened list)
+listed_more first list next = followed (separated first list) next
 
 -- a list with each of these texts more
 abbrev pub listed_each : Bool → Shape → List Shape → Shape

@@ -16,8 +16,8 @@ mod types;
 
 pub use crate::expressions::{address, subexpr, write_literal};
 pub use crate::lists::{
-    append_number, close_arguments, close_lambda, close_params, glue, list_more, open_arguments,
-    open_params,
+    append_number, close_arguments, close_lambda, close_params, glue, list_next, open_arguments,
+    open_params, separate,
 };
 pub use crate::names::{
     apply_name_qualifiers, attach_template_args, format_params, qualify, qualify_ctor, tag,

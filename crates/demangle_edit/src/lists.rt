@@ -3,7 +3,8 @@ ghost use Rattle.std.specs.Prelude.{◌≡◌, ◌++◌, All, map, decimal, IfOk
 ghost use Rattle.demangle_text.specs.Shape.{text, plain_shape, appended};
 ghost use Rattle.demangle_text.specs.State.{IsLiving, shape, Lives, IsEdit, KeepsAll};
 ghost use Rattle.demangle_edit.specs.Lists.{glued, part_text, IsLivingPart};
-ghost use Rattle.demangle_edit.specs.Built.{separator, listed_more, arguments_opened, arguments_closed};
+ghost use Rattle.demangle_edit.specs.Built.{separator, separated, followed, listed_more};
+ghost use Rattle.demangle_edit.specs.Built.{arguments_opened, arguments_closed};
 ghost use Rattle.demangle_edit.specs.Built.{params_opened, params_closed, pack_shape, lambda_closed};
 
 use crate::appends::append_piece;
@@ -76,15 +77,9 @@ fn separator_bytes(first: bool) -> &'static [u8]
     if first { b"" } else { b", " }
 }
 
-/// A list with one text more, that of the piece, and `, ` in front of it unless it is the first. A
-/// plain piece with the last own name and the flags that the list had.
-///
-/// The list is what `open_arguments` or `open_params` answers, or a piece of the bytes that open it:
-/// `{lambda(` for a lambda, none for a pack. A pack needs no end but `whole` of the buffer.
-///
-/// An error comes where memory is refused, and then only `clear` of the buffer is promised.
+// A list with one text more, that of the piece, and what stands in front of it.
 #[tactic(auto, using(demangle_text::proofs::Laws::laws))]
-pub fn list_more(
+pub(crate) fn list_more(
     buf: &mut Buffer,
     first: bool,
     list: Piece,
@@ -99,10 +94,43 @@ pub fn list_more(
     append_piece(buf, list, separator_bytes(first), next)
 }
 
+/// A list that is built as it is read, before its next text: `, ` at its end, and nothing before the
+/// first text. A plain piece with the last own name and the flags that the list had.
+///
+/// The list is what `open_arguments` or `open_params` answers, or a piece of the bytes that open it:
+/// `{lambda(` for a lambda, none for a pack. Of each text `separate` comes before it is read, and
+/// `list_next` after it. A pack needs no end but `whole` of the buffer.
+///
+/// An error comes where memory is refused, and then only `clear` of the buffer is promised.
+#[tactic(auto, using(demangle_text::proofs::Laws::laws))]
+pub fn separate(buf: &mut Buffer, list: Piece, first: bool) -> Result<Piece, AllocError>
+    requires list { IsLiving buf.old list }
+    ensures shape { IfOk result (λ p. Lives buf.new p (separated first (shape buf.old list))) }
+    ensures edit { OnOk result (IsEdit buf.old buf.new) }
+{
+    let plain = buf.plain(list);
+    buf.append(plain, separator_bytes(first))
+}
+
+/// A list that is built as it is read, with the text of the piece at its end. A plain piece with the
+/// last own name and the flags that the list had.
+///
+/// An error comes where memory is refused, and then only `clear` of the buffer is promised.
+#[tactic(auto, using(demangle_text::proofs::Laws::laws))]
+pub fn list_next(buf: &mut Buffer, list: Piece, next: Piece) -> Result<Piece, AllocError>
+    requires list { IsLiving buf.old list }
+    requires next { IsLiving buf.old next }
+    ensures shape { IfOk result (λ p. Lives buf.new p
+        (followed (shape buf.old list) (shape buf.old next))) }
+    ensures edit { OnOk result (IsEdit buf.old buf.new) }
+{
+    append_piece(buf, list, b"", next)
+}
+
 /// The name with the `<` of its template arguments, after a space where the name ends in `<`. A
 /// plain piece with the last own name and the flag `ctor` of the name; `templ` holds.
 ///
-/// With each argument by `list_more` and then `close_arguments` it is what `attach_template_args`
+/// With each argument by `separate` and `list_next` and then `close_arguments` it is what `attach_template_args`
 /// makes of the name and the list. An error comes where memory is refused, and then only `clear` of
 /// the buffer is promised.
 #[tactic(auto, using(demangle_text::proofs::Laws::laws, crate::proofs::Insertions::insertions))]
@@ -138,7 +166,7 @@ pub fn close_arguments(buf: &mut Buffer, list: Piece) -> Result<Piece, AllocErro
 /// The name with the `(` of its parameters. A plain piece with the last own name and the flag `ctor`
 /// of the name; `templ` doesn't hold.
 ///
-/// With each parameter by `list_more` and then `close_params` it is what `format_params` makes of
+/// With each parameter by `separate` and `list_next` and then `close_params` it is what `format_params` makes of
 /// the name, the parameters and the qualifiers. An error comes where memory is refused, and then
 /// only `clear` of the buffer is promised.
 #[tactic(auto, using(demangle_text::proofs::Laws::laws))]

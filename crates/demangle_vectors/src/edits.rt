@@ -3,8 +3,8 @@
 use demangle_edit::{
     Glue, Pointer, Quals, Reference, address, append_number, apply_name_qualifiers,
     attach_template_args, close_arguments, close_lambda, close_params, collapse_ref, expand,
-    format_params, function_type, glue, list_more, open_arguments, open_params, qualify,
-    qualify_ctor, subexpr, tag, wrap_array, wrap_cv, wrap_member_pointer, wrap_pointer,
+    format_params, function_type, glue, list_next, open_arguments, open_params, qualify,
+    qualify_ctor, separate, subexpr, tag, wrap_array, wrap_cv, wrap_member_pointer, wrap_pointer,
     write_literal,
 };
 use demangle_text::{Buffer, Kind};
@@ -168,10 +168,12 @@ fn parameters_built_on_a_name(rt: HostRuntime) -> Result<(), Fail> {
     let own = buf.own_at(text, 0, 1);
     let name = buf.with_flags(own, true, false);
     let opened = open_params(&mut buf, name)?;
+    let list = separate(&mut buf, opened, true)?;
     let int = buf.push(b"int")?;
-    let one = list_more(&mut buf, true, opened, int)?;
+    let one = list_next(&mut buf, list, int)?;
+    let list = separate(&mut buf, one, false)?;
     let char = buf.push(b"char")?;
-    let two = list_more(&mut buf, false, one, char)?;
+    let two = list_next(&mut buf, list, char)?;
     let encoding = close_params(&mut buf, two, CONSTANT)?;
     assert_eq!(rt; buf.bytes(encoding), b"f<int>(int, char) const".as_slice());
     assert_eq!(rt; buf.own_range(encoding), (0, 1));
@@ -186,10 +188,12 @@ fn arguments_built_on_a_name(rt: HostRuntime) -> Result<(), Fail> {
     let text = buf.push(b"A::f")?;
     let name = buf.own_at(text, 3, 4);
     let opened = open_arguments(&mut buf, name)?;
+    let list = separate(&mut buf, opened, true)?;
     let first = buf.push(b"A")?;
-    let one = list_more(&mut buf, true, opened, first)?;
+    let one = list_next(&mut buf, list, first)?;
+    let list = separate(&mut buf, one, false)?;
     let second = buf.push(b"B<A, A>")?;
-    let two = list_more(&mut buf, false, one, second)?;
+    let two = list_next(&mut buf, list, second)?;
     let whole = close_arguments(&mut buf, two)?;
     assert_eq!(rt; buf.bytes(whole), b"A::f<A, B<A, A> >".as_slice());
     assert_eq!(rt; buf.own_range(whole), (3, 4));
@@ -207,18 +211,22 @@ fn arguments_built_on_a_name(rt: HostRuntime) -> Result<(), Fail> {
 fn lambdas_and_packs(rt: HostRuntime) -> Result<(), Fail> {
     let mut buf = Buffer::new(rt.alloc());
     let opened = buf.push(b"{lambda(")?;
+    let list = separate(&mut buf, opened, true)?;
     let first = buf.push(b"auto")?;
-    let one = list_more(&mut buf, true, opened, first)?;
+    let one = list_next(&mut buf, list, first)?;
+    let list = separate(&mut buf, one, false)?;
     let second = buf.push(b"auto")?;
-    let two = list_more(&mut buf, false, one, second)?;
+    let two = list_next(&mut buf, list, second)?;
     let lambda = close_lambda(&mut buf, two, 1)?;
     assert_eq!(rt; buf.bytes(lambda), b"{lambda(auto, auto)#1}".as_slice());
     assert_eq!(rt; buf.own_range(lambda), (0, 22));
     let opened = buf.push(b"")?;
+    let list = separate(&mut buf, opened, true)?;
     let first = buf.push(b"Bar")?;
-    let one = list_more(&mut buf, true, opened, first)?;
+    let one = list_next(&mut buf, list, first)?;
+    let list = separate(&mut buf, one, false)?;
     let second = buf.push(b"Baz")?;
-    let two = list_more(&mut buf, false, one, second)?;
+    let two = list_next(&mut buf, list, second)?;
     let pack = buf.whole(two);
     assert_eq!(rt; buf.bytes(pack), b"Bar, Baz".as_slice());
     assert_eq!(rt; buf.own_range(pack), (0, 8));

@@ -1,4 +1,4 @@
--- A text of several parts gains one at its end.
+-- A text that is put together gains a part at its end.
 use Rattle.std.proofs.Common.{◌≡◌, ℕ, ◌+◌, ◌<◌, List, [], ◌∷◌, ◌++◌, length, take, get_or, map, sym, ap, ◌∙◌, refl, append_assoc, subst, All}
 use Rattle.std.specs.List.{concat}
 use Rattle.std.proofs.lemmas.List.{map_more, append-nil}
@@ -12,6 +12,7 @@ use Rattle.demangle_edit.specs.declared.parts.Glue.{Glue}
 use Rattle.demangle_edit.specs.declared.parts.Glue.TheVariants.{Text, Piece as Part}
 use Rattle.demangle_edit.specs.Lists.{glued, part_text, IsLivingPart}
 
+-- a text more of those that follow one another
 concat_more : (ts : List (List ℕ)) (t : List ℕ) → concat (ts ++ t ∷ []) ≡ concat ts ++ t
 concat_more [] t = append-nil t
 concat_more (s ∷ ts) t = ap (λ (v : List ℕ). s ++ v) (concat_more ts t) ∙ sym (append_assoc s (concat ts) t)
