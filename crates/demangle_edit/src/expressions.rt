@@ -1,4 +1,4 @@
-//! Edits that make literals and operands of expressions (Itanium C++ ABI 5.1.6).
+//! Edits that make literals and operands of expressions (Itanium C++ ABI 5.1, "Expressions").
 ghost use Rattle.std.specs.Prelude.{◌≡◌, IfOk, OnOk};
 ghost use Rattle.demangle_text.specs.Shape.{text, plain_shape, appended, whole_shape};
 ghost use Rattle.demangle_text.specs.State.{IsLiving, shape, Lives, IsEdit, KeepsAll};
@@ -161,7 +161,7 @@ fn print_literal(
 /// and `true` for `1`; of `std::nullptr_t` `nullptr`, whatever the value; of `int` the digits; of
 /// `float`, `double` and `long double` the digits in square brackets; of all others the type in
 /// parentheses and then the digits. `-` stands in front of the digits, or of their brackets. A plain
-/// piece whose last own name is the whole, with no flag set (5.1.6.2).
+/// piece whose last own name is the whole, with no flag set.
 ///
 /// `None`, and all stays, for a `bool` without minus whose value is neither `0` nor `1`. An error
 /// comes where memory is refused, and then only `clear` of the buffer is promised.

@@ -8,7 +8,7 @@ ghost use Rattle.demangle_edit.specs.Built.{arguments_opened, arguments_closed};
 ghost use Rattle.demangle_edit.specs.Built.{params_opened, params_closed, pack_shape, lambda_closed};
 
 use crate::appends::append_piece;
-use crate::dimensions::{MOST_DIGITS, dimension_bytes};
+use crate::dimensions::{MOST_DIGITS, number_bytes};
 use crate::names::gap_before_args;
 use crate::parts::Glue;
 use demangle_quals::{Quals, reference_bytes};
@@ -207,7 +207,7 @@ pub fn append_number(buf: &mut Buffer, piece: Piece, number: u64) -> Result<Piec
     ensures edit { OnOk result (IsEdit buf.old buf.new) }
 {
     let mut room = [0; MOST_DIGITS];
-    let digits = dimension_bytes(&mut room, Some(number));
+    let digits = number_bytes(&mut room, number);
     buf.append(piece, digits)
 }
 

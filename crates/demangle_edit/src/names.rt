@@ -107,7 +107,7 @@ pub fn format_params(
 }
 
 /// The name with an ABI tag after it, `name[abi:tag]`, as a plain piece with the last own name and
-/// the flags of the name (5.1.8).
+/// the flags of the name.
 ///
 /// An error comes where memory is refused, and then only `clear` of the buffer is promised.
 #[tactic(auto, using(demangle_text::proofs::Laws::laws, crate::proofs::Insertions::insertions))]

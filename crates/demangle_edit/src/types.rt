@@ -388,7 +388,7 @@ pub fn function_type(
 }
 
 /// The expansion of a pack, `...` at the end of the text of the type. What it declares and the
-/// flags stay, and but for a function the last own name (5.1.5.3).
+/// flags stay, and but for a function the last own name.
 ///
 /// An error comes where memory is refused, and then only `clear` of the buffer is promised.
 pub fn expand(buf: &mut Buffer, inner: Piece) -> Result<Piece, AllocError>
