@@ -42,10 +42,12 @@ nothing_moved at (from, to) = grind (arith, nat_tests)
 abbrev plain_of : List ℕ → ℕ × ℕ → Bool → Bool → Shape
 plain_of t own templ ctor = record { form = Plain t; own = own; templ = templ; ctor = ctor }
 
+-- nothing put at the end of a plain shape
 nothing_appended : (t : List ℕ) (own : ℕ × ℕ) (templ ctor : Bool) → appended [] (plain_of t own templ ctor) ≡ plain_of t own templ ctor
 nothing_appended t own templ ctor =
     λ j. record { form = Plain (append-nil t j); own = nothing_moved (length t) own j; templ = templ; ctor = ctor }
 
+-- one text after another, from some place of a list on
 each_from : (first : Bool) (t : List ℕ) (own : ℕ × ℕ) (templ ctor : Bool) (all : List Shape)
     → listed_each first (plain_of t own templ ctor) all ≡ appended (listed_from first (map text all)) (plain_of t own templ ctor)
 each_from first t own templ ctor [] = sym (nothing_appended t own templ ctor)
@@ -69,12 +71,14 @@ abbrev still_first : Bool → List Shape → Bool
 still_first first [] = first
 still_first first (s ∷ rest) = false
 
+-- the same with one text more at the end
 each_more_from : (first : Bool) (s : Shape) (all : List Shape) (next : Shape)
     → listed_each first s (all ++ next ∷ []) ≡ listed_more (still_first first all) (listed_each first s all) next
 each_more_from first s [] next = refl
 each_more_from first s (x ∷ []) next = refl
 each_more_from first s (x ∷ y ∷ rest) next = each_more_from false (listed_more first s x) (y ∷ rest) next
 
+-- from the front of a list on that is whether no text is there
 at_first : (all : List Shape) → still_first true all ≡ is_first all
 at_first [] = refl
 at_first (s ∷ rest) = refl
@@ -137,6 +141,7 @@ lambda_built params number = ap (lambda_closed number) (each_listed (plain_shape
 
 -- one more piece is put into the list
 module _ (old mid new : Buffer) (m : Mark) (pieces : List Piece) (i : ℕ) (d list next : Piece) (first : Bool) (begun : Shape) where
+  -- that no text is there, by their number
   first_at : (xs : List Shape) → first ≡ (length xs == 0) → first ≡ is_first xs
   first_at [] e = e ∙ refl
   first_at (x ∷ xs) e = e ∙ grind (arith, nat_tests)

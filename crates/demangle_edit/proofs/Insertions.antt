@@ -15,6 +15,7 @@ module _ (a b : List ℕ) (own : ℕ × ℕ) (templ ctor : Bool) where
   abbrev of : Form → Shape
   of f = record { form = f; own = own; templ = templ; ctor = ctor }
 
+  -- two insertions at a place, by the parts of the shape
   twice : (place : Place) (f : Form) → (place ≡ Start → ⊥) → CanInsert place f → inserted place b (inserted place a (of f)) ≡ inserted place (a ++ b) (of f)
   twice Start f follows fits = absurd (follows refl)
   twice End (Plain t) follows fits =
@@ -58,6 +59,7 @@ can_again Suffix bytes (Plain t) fits = fits
 can_again Suffix bytes (Declared k before None after) fits = tt
 can_again Suffix bytes (Declared k before (Some group) after) fits = fits
 
+-- the same of three
 pub inserted_thrice : (place : Place) (a b c : List ℕ) (s : Shape) → (place ≡ Start → ⊥) → CanInsert place s.form
     → inserted place c (inserted place b (inserted place a s)) ≡ inserted place (a ++ (b ++ c)) s
 inserted_thrice place a b c s follows fits =
