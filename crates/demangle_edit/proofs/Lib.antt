@@ -1,5 +1,6 @@
-pub mod Appends
-pub mod Listed
+pub mod Insertions
+pub mod Glued
+pub mod Built
 pub mod Declarators
 pub mod Cuts
 pub mod Arrays

@@ -3,9 +3,24 @@ use Rattle.std.proofs.Common.{◌≡◌, ℕ, ◌+◌, ◌-◌, Bool, Option, So
 use Rattle.std.specs.Prelude.{slice_range}
 use Rattle.std.proofs.lemmas.List.{length-append, append-nil}
 use Rattle.demangle_text.specs.declared.shape.Kind.TheVariants.{Array, Function}
-use Rattle.demangle_text.specs.Shape.{Form, Plain, Declared, Shape, form_text, text, text_len, IsDeclared, plain_shape, front_text, grouped, gap_after, flagged, kind_of, after_of, declared_group}
-use Rattle.demangle_edit.specs.Types.{after_text, member_pointer_shape}
+use Rattle.demangle_text.specs.Shape.{Form, Plain, Declared, Shape, form_text, text, text_len, IsDeclared, IsPlain, plain_shape, appended, flattened, front_text, grouped, gap_after, flagged, kind_of, after_of, declared_group}
+use Rattle.demangle_edit.specs.Types.{after_text, member_gap, member_pointer_shape}
+use Rattle.demangle_text.specs.declared.shape.Place.TheVariants.{End}
+use Rattle.demangle_edit.proofs.Insertions.{inserted_twice}
 use Rattle.demangle_edit.proofs.Cuts.{take_front, drop_front}
+
+-- a pointer to a member of a plain type, put together step by step
+pub member_pointer_after : (class member begun : Shape) (gap : List ℕ) → IsPlain member.form → gap ≡ member_gap (text member)
+    → begun ≡ appended (gap ++ text class) (flattened member) → appended (codes "::*") begun ≡ member_pointer_shape class member
+member_pointer_after class member begun gap flat by_gap by_begun =
+    ap (appended (codes "::*")) by_begun ∙ inserted_twice End (gap ++ text class) (codes "::*") (flattened member) (λ e. cc) tt
+    ∙ ap (λ (v : List ℕ). appended v (flattened member)) (append_assoc gap (text class) (codes "::*") ∙ ap (λ (v : List ℕ). v ++ (text class ++ codes "::*")) by_gap)
+    ∙ in_form member.form flat
+  where
+    in_form : (f : Form) → IsPlain f
+        → appended (member_gap (form_text f) ++ (text class ++ codes "::*")) (flattened (record member { form = f })) ≡ member_pointer_shape class (record member { form = f })
+    in_form (Plain t) h = refl
+    in_form (Declared k before group after) h = absurd h
 
 after_at : (at : ℕ) (before : List ℕ) (group : Option (List ℕ)) → Some at ≡ Some (length (before ++ grouped group)) → at ≡ length (before ++ grouped group)
 after_at at before group e = cc

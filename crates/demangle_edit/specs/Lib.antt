@@ -1,4 +1,6 @@
 pub mod Lists
 pub mod Names
+pub mod Built
 pub mod Types
+pub mod Expressions
 pub mod Answers

@@ -1,10 +1,12 @@
 -- Texts that follow one another.
-use Rattle.std.specs.Prelude.{ℕ, List, [], ◌∷◌, ◌++◌, codes}
+use Rattle.std.specs.Prelude.{ℕ, List, [], ◌∷◌, ◌++◌, map, codes}
 use Rattle.std.specs.List.{concat}
 use Rattle.demangle_text.specs.declared.shape.Piece.{Piece}
 use Rattle.demangle_text.specs.declared.buffer.Buffer.{Buffer}
 use Rattle.demangle_text.specs.Shape.{Shape, text, plain_shape}
 use Rattle.demangle_text.specs.State.{IsLiving}
+use Rattle.demangle_quals.specs.declared.quals.Quals.{Quals}
+use Rattle.demangle_quals.specs.Quals.{quals_text}
 use Rattle.demangle_edit.specs.declared.parts.Glue.{Glue}
 use Rattle.demangle_edit.specs.declared.parts.Glue.TheVariants.{Text, Piece as Part}
 
@@ -13,6 +15,10 @@ abbrev pub listed : List (List ℕ) → List ℕ
 listed [] = []
 listed (t ∷ []) = t
 listed (t ∷ next ∷ rest) = t ++ (codes ", " ++ listed (next ∷ rest))
+
+-- the parameters and the qualifiers of a function
+abbrev pub params_text : List Shape → Quals → List ℕ
+params_text params quals = codes "(" ++ (listed (map text params) ++ (codes ")" ++ quals_text quals))
 
 -- the texts with nothing between them, as a plain shape
 abbrev pub glued : List (List ℕ) → Shape

@@ -5,6 +5,7 @@ use Rattle.demangle_text.specs.declared.shape.Place.TheVariants.{Start}
 use Rattle.demangle_text.specs.Shape.{Shape, Plain, text, flattened, inserted, appended, own_shape, flagged}
 use Rattle.demangle_quals.specs.declared.quals.Quals.{Quals}
 use Rattle.demangle_quals.specs.Quals.{words_text, reference_text, has_quals}
+use Rattle.demangle_edit.specs.Lists.{params_text}
 
 -- the leaf as a plain text, with its scope and `::` in front
 abbrev pub qualified : Shape → Shape → Shape
@@ -25,6 +26,14 @@ angle_gap t = if ends_with nat_eq t (codes "<") then codes " " else []
 abbrev pub attached : Shape → Shape → Shape
 attached name list =
     flagged true name.ctor (appended (angle_gap (text name) ++ text list) (flattened name))
+
+-- the name of a function as a plain text, with parameters and qualifiers after it
+abbrev pub encoding_shape : Shape → List Shape → Quals → Shape
+encoding_shape name params quals = flagged false name.ctor (appended (params_text params quals) (flattened name))
+
+-- the name as a plain text, with an ABI tag after it
+abbrev pub tagged : Shape → List ℕ → Shape
+tagged name tag = appended (codes "[abi:" ++ (tag ++ codes "]")) (flattened name)
 
 -- the name as a plain text with its qualifiers after it, the words only where they are shown; without
 -- qualifiers the name itself

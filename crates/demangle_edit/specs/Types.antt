@@ -1,5 +1,5 @@
 -- The shapes of types, and which types there are.
-use Rattle.std.specs.Prelude.{ℕ, List, [], ◌++◌, length, map, take, drop, codes, nat_eq, decimal}
+use Rattle.std.specs.Prelude.{ℕ, List, [], ◌++◌, length, take, drop, codes, nat_eq, decimal}
 use Rattle.std.specs.Prelude.{Bool, true, false, not, ◌&&◌, ◌||◌, if◌then◌else◌, Option, Some, None, unwrap_or}
 use Rattle.std.specs.List.{ends_with}
 use Rattle.demangle_text.specs.declared.shape.Kind.TheVariants.{Array, Function}
@@ -10,8 +10,8 @@ use Rattle.demangle_text.specs.Shape.{appended, inserted, shortened, opened_grou
 use Rattle.demangle_quals.specs.declared.quals.Quals.{Quals}
 use Rattle.demangle_quals.specs.declared.quals.Pointer.{Pointer}
 use Rattle.demangle_quals.specs.declared.quals.Pointer.TheVariants.{Star, Left, Right}
-use Rattle.demangle_quals.specs.Quals.{pointer_text, words_text, quals_text}
-use Rattle.demangle_edit.specs.Lists.{listed}
+use Rattle.demangle_quals.specs.Quals.{pointer_text, words_text}
+use Rattle.demangle_edit.specs.Lists.{params_text}
 
 -- a token at the end of a plain text or of a group, or in a group that is opened for it
 abbrev pub pointed_in : Form → List ℕ → Shape → Shape
@@ -113,10 +113,6 @@ abbrev pub member_pointer_step : Shape → Shape → Option Shape
 member_pointer_step class member =
     if has_member_pointer member.form then Some (member_pointer_shape class member) else None
 
--- a function type's parameters and qualifiers
-abbrev pub params_text : List Shape → Quals → List ℕ
-params_text params quals = codes "(" ++ (listed (map text params) ++ (codes ")" ++ quals_text quals))
-
 -- the function type: its last own name is its whole text
 abbrev pub function_shape : Shape → List Shape → Quals → Shape
 function_shape ret params quals =
@@ -130,3 +126,7 @@ function_shape ret params quals =
 -- what a function returns is plain
 abbrev pub function_step : Shape → List Shape → Quals → Option Shape
 function_step ret params quals = if is_plain ret.form then Some (function_shape ret params quals) else None
+
+-- the expansion of a pack
+abbrev pub expansion_shape : Shape → Shape
+expansion_shape s = appended (codes "...") s

@@ -1,8 +1,8 @@
-//! The digits of an array's dimension.
+//! The digits of numbers, and of an array's dimension.
 ghost use Rattle.std.specs.Prelude.{◌≡◌, ◌≤◌, drop, length, decimal};
 ghost use Rattle.demangle_edit.specs.Types.{dimension_digits};
 
-/// The most digits that a dimension has.
+/// The most digits that a number below 2^64 has.
 pub const MOST_DIGITS: usize = 20;
 
 // Writes the digits of the number at the end of the room, and answers the place of the first.
@@ -23,6 +23,15 @@ fn put_digits(room: &mut [u8], number: u64) -> usize
     at
 }
 
+/// The digits of a number, without leading zeros, written into the room.
+pub fn number_bytes(room: &mut [u8], number: u64) -> &[u8]
+    requires room { MOST_DIGITS ≤ length room.old }
+    ensures value { result.now ≡ decimal number }
+{
+    let at = put_digits(room, number);
+    &room[at..]
+}
+
 /// The digits of a dimension, written into the room, and none where it isn't known.
 pub fn dimension_bytes(room: &mut [u8], dimension: Option<u64>) -> &[u8]
     requires room { MOST_DIGITS ≤ length room.old }
@@ -30,9 +39,6 @@ pub fn dimension_bytes(room: &mut [u8], dimension: Option<u64>) -> &[u8]
 {
     match dimension {
         None => b"",
-        Some(number) => {
-            let at = put_digits(room, number);
-            &room[at..]
-        }
+        Some(number) => number_bytes(room, number),
     }
 }

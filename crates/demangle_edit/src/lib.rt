@@ -6,16 +6,24 @@
 //! scopes. After an `AllocError` `clear` of the buffer is the only call that is promised.
 #![tactic(auto)]
 
+mod appends;
 mod dimensions;
+mod expressions;
 mod lists;
 mod names;
 mod parts;
 mod types;
 
-pub use crate::lists::glue;
-pub use crate::names::{apply_name_qualifiers, attach_template_args, qualify, qualify_ctor};
+pub use crate::expressions::{address, subexpr, write_literal};
+pub use crate::lists::{
+    append_number, close_arguments, close_lambda, close_params, glue, list_next, open_arguments,
+    open_params, separate,
+};
+pub use crate::names::{
+    apply_name_qualifiers, attach_template_args, format_params, qualify, qualify_ctor, tag,
+};
 pub use crate::parts::Glue;
 pub use crate::types::{
-    collapse_ref, function_type, wrap_array, wrap_cv, wrap_member_pointer, wrap_pointer,
+    collapse_ref, expand, function_type, wrap_array, wrap_cv, wrap_member_pointer, wrap_pointer,
 };
 pub use demangle_quals::{Pointer, Quals, Reference};

@@ -1,10 +1,17 @@
-//! Texts that follow one another.
-ghost use Rattle.std.specs.Prelude.{◌≡◌, ◌++◌, All, map, IfOk, OnOk};
-ghost use Rattle.demangle_text.specs.Shape.{text, plain_shape};
+//! Texts that follow one another, and lists that are built as they are read.
+ghost use Rattle.std.specs.Prelude.{◌≡◌, ◌++◌, All, map, decimal, IfOk, OnOk};
+ghost use Rattle.demangle_text.specs.Shape.{text, plain_shape, appended};
 ghost use Rattle.demangle_text.specs.State.{IsLiving, shape, Lives, IsEdit, KeepsAll};
-ghost use Rattle.demangle_edit.specs.Lists.{listed, glued, part_text, IsLivingPart};
+ghost use Rattle.demangle_edit.specs.Lists.{glued, part_text, IsLivingPart};
+ghost use Rattle.demangle_edit.specs.Built.{separator, separated, followed, listed_more};
+ghost use Rattle.demangle_edit.specs.Built.{arguments_opened, arguments_closed};
+ghost use Rattle.demangle_edit.specs.Built.{params_opened, params_closed, pack_shape, lambda_closed};
 
+use crate::appends::append_piece;
+use crate::dimensions::{MOST_DIGITS, number_bytes};
+use crate::names::gap_before_args;
 use crate::parts::Glue;
+use demangle_quals::{Quals, reference_bytes};
 use demangle_text::{Buffer, Piece};
 use std::alloc::AllocError;
 
@@ -51,14 +58,171 @@ pub fn glue(buf: &mut Buffer, parts: &[Glue]) -> Result<Piece, AllocError>
 pub(crate) fn list_pieces(buf: &mut Buffer, pieces: &[Piece]) -> Result<Piece, AllocError>
     requires pieces { All (IsLiving buf.old) pieces.now }
     ensures shape { IfOk result (λ p. Lives buf.new p
-        (plain_shape (listed (map text (map (shape buf.old) pieces.now))))) }
+        (pack_shape (map (shape buf.old) pieces.now))) }
     ensures kept { OnOk result (KeepsAll buf.old buf.new) }
 {
     let mark = buf.open();
     let mut list = buf.push(b"")?;
     for (i, piece) in pieces.iter().enumerate() {
-        let between: &[u8] = if i == 0 { b"" } else { b", " };
-        list = buf.join(list, between, *piece)?;
+        list = list_more(buf, i == 0, list, *piece)?;
     }
-    buf.close(mark, list)
+    let whole = buf.whole(list);
+    buf.close(mark, whole)
+}
+
+// What stands in front of a text of a list.
+fn separator_bytes(first: bool) -> &'static [u8]
+    ensures value { result.now ≡ separator first }
+{
+    if first { b"" } else { b", " }
+}
+
+// A list with one text more, that of the piece, and what stands in front of it.
+#[tactic(auto, using(demangle_text::proofs::Laws::laws))]
+pub(crate) fn list_more(
+    buf: &mut Buffer,
+    first: bool,
+    list: Piece,
+    next: Piece,
+) -> Result<Piece, AllocError>
+    requires list { IsLiving buf.old list }
+    requires next { IsLiving buf.old next }
+    ensures shape { IfOk result (λ p. Lives buf.new p
+        (listed_more first (shape buf.old list) (shape buf.old next))) }
+    ensures edit { OnOk result (IsEdit buf.old buf.new) }
+{
+    append_piece(buf, list, separator_bytes(first), next)
+}
+
+/// A list that is built as it is read, before its next text: `, ` at its end, and nothing before the
+/// first text. A plain piece with the last own name and the flags that the list had.
+///
+/// The list is what `open_arguments` or `open_params` answers, or a piece of the bytes that open it:
+/// `{lambda(` for a lambda, none for a pack. Of each text `separate` comes before it is read, and
+/// `list_next` after it. A pack needs no end but `whole` of the buffer.
+///
+/// An error comes where memory is refused, and then only `clear` of the buffer is promised.
+#[tactic(auto, using(demangle_text::proofs::Laws::laws))]
+pub fn separate(buf: &mut Buffer, list: Piece, first: bool) -> Result<Piece, AllocError>
+    requires list { IsLiving buf.old list }
+    ensures shape { IfOk result (λ p. Lives buf.new p (separated first (shape buf.old list))) }
+    ensures edit { OnOk result (IsEdit buf.old buf.new) }
+{
+    let plain = buf.plain(list);
+    buf.append(plain, separator_bytes(first))
+}
+
+/// A list that is built as it is read, with the text of the piece at its end. A plain piece with the
+/// last own name and the flags that the list had.
+///
+/// An error comes where memory is refused, and then only `clear` of the buffer is promised.
+#[tactic(auto, using(demangle_text::proofs::Laws::laws))]
+pub fn list_next(buf: &mut Buffer, list: Piece, next: Piece) -> Result<Piece, AllocError>
+    requires list { IsLiving buf.old list }
+    requires next { IsLiving buf.old next }
+    ensures shape { IfOk result (λ p. Lives buf.new p
+        (followed (shape buf.old list) (shape buf.old next))) }
+    ensures edit { OnOk result (IsEdit buf.old buf.new) }
+{
+    append_piece(buf, list, b"", next)
+}
+
+/// The name with the `<` of its template arguments, after a space where the name ends in `<`. A
+/// plain piece with the last own name and the flag `ctor` of the name; `templ` holds.
+///
+/// With each argument by `separate` and `list_next` and then `close_arguments` it is what `attach_template_args`
+/// makes of the name and the list. An error comes where memory is refused, and then only `clear` of
+/// the buffer is promised.
+#[tactic(auto, using(demangle_text::proofs::Laws::laws, crate::proofs::Insertions::insertions))]
+pub fn open_arguments(buf: &mut Buffer, name: Piece) -> Result<Piece, AllocError>
+    requires name { IsLiving buf.old name }
+    ensures shape { IfOk result (λ p. Lives buf.new p (arguments_opened (shape buf.old name))) }
+    ensures edit { OnOk result (IsEdit buf.old buf.new) }
+{
+    let ctor = buf.ctor(name);
+    let gap = gap_before_args(buf.bytes(name));
+    let plain = buf.plain(name);
+    let apart = buf.append(plain, gap)?;
+    let opened = buf.append(apart, b"<")?;
+    Ok(buf.with_flags(opened, true, ctor))
+}
+
+/// The list of template arguments with its `>`, after a space where its text ends in `>`.
+///
+/// An error comes where memory is refused, and then only `clear` of the buffer is promised.
+#[tactic(auto, using(demangle_text::proofs::Laws::laws))]
+pub fn close_arguments(buf: &mut Buffer, list: Piece) -> Result<Piece, AllocError>
+    requires list { IsLiving buf.old list }
+    ensures shape { IfOk result (λ p. Lives buf.new p (arguments_closed (shape buf.old list))) }
+    ensures edit { OnOk result (IsEdit buf.old buf.new) }
+{
+    if buf.bytes(list).ends_with(b">") {
+        buf.append(list, b" >")
+    } else {
+        buf.append(list, b">")
+    }
+}
+
+/// The name with the `(` of its parameters. A plain piece with the last own name and the flag `ctor`
+/// of the name; `templ` doesn't hold.
+///
+/// With each parameter by `separate` and `list_next` and then `close_params` it is what `format_params` makes of
+/// the name, the parameters and the qualifiers. An error comes where memory is refused, and then
+/// only `clear` of the buffer is promised.
+#[tactic(auto, using(demangle_text::proofs::Laws::laws))]
+pub fn open_params(buf: &mut Buffer, name: Piece) -> Result<Piece, AllocError>
+    requires name { IsLiving buf.old name }
+    ensures shape { IfOk result (λ p. Lives buf.new p (params_opened (shape buf.old name))) }
+    ensures edit { OnOk result (IsEdit buf.old buf.new) }
+{
+    let ctor = buf.ctor(name);
+    let plain = buf.plain(name);
+    let opened = buf.append(plain, b"(")?;
+    Ok(buf.with_flags(opened, false, ctor))
+}
+
+/// The list of parameters with its `)` and the qualifiers of the function: the words and then the
+/// reference.
+///
+/// An error comes where memory is refused, and then only `clear` of the buffer is promised.
+#[tactic(auto, using(demangle_text::proofs::Laws::laws, crate::proofs::Insertions::insertions))]
+pub fn close_params(buf: &mut Buffer, list: Piece, quals: Quals) -> Result<Piece, AllocError>
+    requires list { IsLiving buf.old list }
+    ensures shape { IfOk result (λ p. Lives buf.new p (params_closed quals (shape buf.old list))) }
+    ensures edit { OnOk result (IsEdit buf.old buf.new) }
+{
+    let closed = buf.append(list, b")")?;
+    let worded = buf.append(closed, quals.words())?;
+    buf.append(worded, reference_bytes(quals.reference))
+}
+
+/// The piece with the number at the end of its text, in decimal digits without leading zeros.
+///
+/// An error comes where memory is refused, and then only `clear` of the buffer is promised.
+#[tactic(auto, using(demangle_text::proofs::Laws::laws))]
+pub fn append_number(buf: &mut Buffer, piece: Piece, number: u64) -> Result<Piece, AllocError>
+    requires piece { IsLiving buf.old piece }
+    ensures shape { IfOk result (λ p. Lives buf.new p
+        (appended (decimal number) (shape buf.old piece))) }
+    ensures edit { OnOk result (IsEdit buf.old buf.new) }
+{
+    let mut room = [0; MOST_DIGITS];
+    let digits = number_bytes(&mut room, number);
+    buf.append(piece, digits)
+}
+
+/// The list of a lambda's parameters with `)#`, the lambda's number and `}`. The whole text is its
+/// last own name.
+///
+/// An error comes where memory is refused, and then only `clear` of the buffer is promised.
+#[tactic(auto, using(demangle_text::proofs::Laws::laws, crate::proofs::Insertions::insertions))]
+pub fn close_lambda(buf: &mut Buffer, list: Piece, number: u64) -> Result<Piece, AllocError>
+    requires list { IsLiving buf.old list }
+    ensures shape { IfOk result (λ p. Lives buf.new p (lambda_closed number (shape buf.old list))) }
+    ensures edit { OnOk result (IsEdit buf.old buf.new) }
+{
+    let closed = buf.append(list, b")#")?;
+    let numbered = append_number(buf, closed, number)?;
+    let lambda = buf.append(numbered, b"}")?;
+    Ok(buf.whole(lambda))
 }

@@ -1,9 +1,11 @@
 //! Edits that make a name out of names (Itanium C++ ABI 5.1.2).
-ghost use Rattle.std.specs.Prelude.{◌≡◌, ◌+◌, ◌^◌, ◌<◌, ◌≤◌, ◌++◌, IfOk, OnOk};
-ghost use Rattle.demangle_text.specs.Shape.{moved};
+ghost use Rattle.std.specs.Prelude.{◌≡◌, All, map, IfOk, OnOk};
 ghost use Rattle.demangle_text.specs.State.{IsLiving, shape, Lives, IsEdit};
-ghost use Rattle.demangle_edit.specs.Names.{qualified, qualified_ctor, angle_gap, attached, with_name_qualifiers};
+ghost use Rattle.demangle_edit.specs.Names.{qualified, qualified_ctor, angle_gap, attached, tagged};
+ghost use Rattle.demangle_edit.specs.Names.{encoding_shape, with_name_qualifiers};
 
+use crate::appends::append_piece;
+use crate::lists::{close_params, list_more, open_params};
 use demangle_quals::{Quals, reference_bytes};
 use demangle_text::{Buffer, Piece};
 use std::alloc::AllocError;
@@ -51,22 +53,8 @@ pub fn qualify_ctor(buf: &mut Buffer, scope: Piece, destructor: bool) -> Result<
     Ok(buf.with_flags(named, false, true))
 }
 
-// A range of a text of this length, when n bytes are put after the text.
-pub(crate) fn range_before(own: (usize, usize), len: usize, n: usize) -> (usize, usize)
-    requires ordered { own.0 ≤ own.1 }
-    requires within { own.1 ≤ len }
-    requires fits { len + n < 2 ^ 64 }
-    ensures value { result ≡ moved len n own }
-{
-    if len <= own.0 {
-        (own.0 + n, own.1 + n)
-    } else {
-        own
-    }
-}
-
 // What stands between a name's text and its template arguments.
-fn gap_before_args(name: &[u8]) -> &'static [u8]
+pub(crate) fn gap_before_args(name: &[u8]) -> &'static [u8]
     ensures value { result.now ≡ angle_gap name.now }
 {
     if name.ends_with(b"<") { b" " } else { b"" }
@@ -85,15 +73,53 @@ pub fn attach_template_args(buf: &mut Buffer, name: Piece, args: Piece) -> Resul
         (attached (shape buf.old name) (shape buf.old args))) }
     ensures edit { OnOk result (IsEdit buf.old buf.new) }
 {
-    let before = buf.len(name);
-    let own = buf.own_range(name);
     let ctor = buf.ctor(name);
     let gap = gap_before_args(buf.bytes(name));
-    let whole = buf.join(name, gap, args)?;
-    let len = buf.len(whole);
-    let (from, to) = range_before(own, before, len - before);
-    let named = buf.own_at(whole, from, to);
-    Ok(buf.with_flags(named, true, ctor))
+    let whole = append_piece(buf, name, gap, args)?;
+    Ok(buf.with_flags(whole, true, ctor))
+}
+
+/// The name of a function with its parameters in parentheses, `, ` between them, and its
+/// qualifiers: the words and then the reference. A plain piece with the last own name and the flag
+/// `ctor` of the name; `templ` doesn't hold. Of no parameters it is `name()`.
+///
+/// An error comes where memory is refused, and then only `clear` of the buffer is promised.
+#[tactic(auto, using(demangle_text::proofs::Laws::laws))]
+pub fn format_params(
+    buf: &mut Buffer,
+    name: Piece,
+    params: &[Piece],
+    quals: Quals,
+) -> Result<Piece, AllocError>
+    requires name { IsLiving buf.old name }
+    requires params { All (IsLiving buf.old) params.now }
+    ensures shape { IfOk result (λ p. Lives buf.new p
+        (encoding_shape (shape buf.old name) (map (shape buf.old) params.now) quals)) }
+    ensures edit { OnOk result (IsEdit buf.old buf.new) }
+{
+    let mark = buf.open();
+    let mut list = open_params(buf, name)?;
+    for (i, param) in params.iter().enumerate() {
+        list = list_more(buf, i == 0, list, *param)?;
+    }
+    let whole = close_params(buf, list, quals)?;
+    buf.close(mark, whole)
+}
+
+/// The name with an ABI tag after it, `name[abi:tag]`, as a plain piece with the last own name and
+/// the flags of the name.
+///
+/// An error comes where memory is refused, and then only `clear` of the buffer is promised.
+#[tactic(auto, using(demangle_text::proofs::Laws::laws, crate::proofs::Insertions::insertions))]
+pub fn tag(buf: &mut Buffer, name: Piece, text: &[u8]) -> Result<Piece, AllocError>
+    requires name { IsLiving buf.old name }
+    ensures shape { IfOk result (λ p. Lives buf.new p (tagged (shape buf.old name) text.now)) }
+    ensures edit { OnOk result (IsEdit buf.old buf.new) }
+{
+    let plain = buf.plain(name);
+    let opened = buf.append(plain, b"[abi:")?;
+    let filled = buf.append(opened, text)?;
+    buf.append(filled, b"]")
 }
 
 /// The name with its qualifiers after it: the words ` const`, ` volatile` and ` restrict` only

@@ -5,13 +5,14 @@ ghost use Rattle.demangle_text.specs.Shape.{CanInsert, IsPlain, IsDeclared, text
 ghost use Rattle.demangle_text.specs.Shape.{kind_of, group_of, gap_after, front_text};
 ghost use Rattle.demangle_text.specs.State.{IsLiving, shape, Lives, IsEdit, KeepsAll};
 ghost use Rattle.demangle_edit.specs.Answers.{Answers, OnNone};
-ghost use Rattle.demangle_edit.specs.Types.{pointed, collapse_step, pointer_shape, cv_place, cv_shape, function_step};
+ghost use Rattle.demangle_edit.specs.Types.{pointed, collapse_step, pointer_shape, cv_place, cv_shape};
+ghost use Rattle.demangle_edit.specs.Types.{function_step, expansion_shape};
 ghost use Rattle.demangle_edit.specs.Types.{dimension_digits, array_shape, array_step};
 ghost use Rattle.demangle_edit.specs.Types.{member_gap, after_text, member_pointer_shape, member_pointer_step};
 
+use crate::appends::append_piece;
 use crate::dimensions::{MOST_DIGITS, dimension_bytes};
 use crate::lists::list_pieces;
-use crate::names::range_before;
 use demangle_quals::{Pointer, Quals, reference_bytes};
 use demangle_text::{Buffer, Kind, Piece, Place};
 use std::alloc::AllocError;
@@ -119,7 +120,7 @@ pub fn wrap_cv(buf: &mut Buffer, inner: Piece, quals: Quals) -> Result<Piece, Al
 }
 
 // The opening bytes, the digits of a dimension and `]`, at a place of the piece's text.
-#[tactic(auto, using(demangle_text::proofs::Laws::laws, crate::proofs::Appends::appends))]
+#[tactic(auto, using(demangle_text::proofs::Laws::laws, crate::proofs::Insertions::insertions))]
 fn insert_dimension(
     buf: &mut Buffer,
     piece: Piece,
@@ -229,7 +230,7 @@ fn gap_before_member(member: &[u8]) -> &'static [u8]
 }
 
 // A pointer to a member of a plain type.
-#[tactic(auto, using(demangle_text::proofs::Laws::laws))]
+#[tactic(auto, using(demangle_text::proofs::Laws::laws, crate::proofs::Insertions::insertions))]
 fn append_member(buf: &mut Buffer, class: Piece, member: Piece) -> Result<Piece, AllocError>
     requires class { IsLiving buf.old class }
     requires member { IsLiving buf.old member }
@@ -238,16 +239,9 @@ fn append_member(buf: &mut Buffer, class: Piece, member: Piece) -> Result<Piece,
         (member_pointer_shape (shape buf.old class) (shape buf.old member))) }
     ensures edit { OnOk result (IsEdit buf.old buf.new) }
 {
-    let before = buf.len(member);
-    let own = buf.own_range(member);
-    let flags = (buf.templ(member), buf.ctor(member));
     let gap = gap_before_member(buf.bytes(member));
-    let begun = buf.join(member, gap, class)?;
-    let whole = buf.append(begun, b"::*")?;
-    let len = buf.len(whole);
-    let (from, to) = range_before(own, before, len - before);
-    let named = buf.own_at(whole, from, to);
-    Ok(buf.with_flags(named, flags.0, flags.1))
+    let begun = append_piece(buf, member, gap, class)?;
+    buf.append(begun, b"::*")
 }
 
 // What opens a group after a text: a space unless the text is empty or ends in a space, `(` or
@@ -391,4 +385,16 @@ pub fn function_type(
     // The check learns here that the length fits 64 bits, and so does each place in the text.
     let _len = buf.len(whole);
     Ok(Some(buf.declare(whole, Kind::Function, before + 1)))
+}
+
+/// The expansion of a pack, `...` at the end of the text of the type. What it declares and the
+/// flags stay, and but for a function the last own name.
+///
+/// An error comes where memory is refused, and then only `clear` of the buffer is promised.
+pub fn expand(buf: &mut Buffer, inner: Piece) -> Result<Piece, AllocError>
+    requires inner { IsLiving buf.old inner }
+    ensures shape { IfOk result (λ p. Lives buf.new p (expansion_shape (shape buf.old inner))) }
+    ensures edit { OnOk result (IsEdit buf.old buf.new) }
+{
+    buf.append(inner, b"...")
 }

@@ -1,4 +1,4 @@
-//! Qualifiers, references and pointers, as a symbol has them (Itanium C++ ABI 5.1.5.3).
+//! Qualifiers, references and pointers, as a symbol has them (Itanium C++ ABI 5.1.5).
 #![tactic(auto)]
 
 mod quals;

@@ -1,5 +1,5 @@
 use Rattle.demangle_text.proofs.Laws.{Opens-edit}
-use Rattle.demangle_edit.proofs.Listed.{part_more}
+use Rattle.demangle_edit.proofs.Glued.{part_more}
 use Rattle.demangle_edit.proofs.lists.glue.Goals as goal
 
 pub loop-part-preserved : goal.loop-part-preserved

@@ -1,7 +1,7 @@
 use Rattle.std.proofs.Common.{List, ℕ, ◌++◌, codes, ap, ◌∙◌, subst, IfOk}
 use Rattle.demangle_text.specs.Shape.{Shape, inserted}
 use Rattle.demangle_text.specs.State.{shape, Lives}
-use Rattle.demangle_edit.proofs.Appends.{inserted_thrice}
+use Rattle.demangle_edit.proofs.Insertions.{inserted_thrice}
 use Rattle.demangle_edit.proofs.types.insert_dimension.Goals as goal
 
 pub returns-clause-shape : goal.returns-clause-shape

@@ -1,12 +1,11 @@
 -- One insertion after another.
-use Rattle.std.proofs.Common.{◌≡◌, ℕ, ◌+◌, ◌-◌, List, [], ◌++◌, length, ap, ◌∙◌, refl, arith, append_assoc, Bool, true, None, Some}
+use Rattle.std.proofs.Common.{◌≡◌, ℕ, ◌+◌, ◌-◌, List, [], ◌++◌, length, ap, ◌∙◌, refl, arith, append_assoc, Bool, None, Some}
 use Rattle.std.proofs.lemmas.Bool.Decides.{nat_tests}
 use Rattle.std.proofs.lemmas.List.{length-append}
 use Rattle.demangle_text.specs.declared.shape.Kind.TheVariants.{Array, Function}
 use Rattle.demangle_text.specs.declared.shape.Place.{Place}
 use Rattle.demangle_text.specs.declared.shape.Place.TheVariants.{Start, Close, Suffix, End}
 use Rattle.demangle_text.specs.Shape.{Shape, Form, Plain, Declared, form_text, form_with, moved, grouped, appended, inserted, flattened, flagged, joined, with_own, text, text_len, CanInsert}
-use Rattle.demangle_edit.specs.Names.{angle_gap, attached}
 
 -- the last own name, when bytes are inserted at a place and then more of them after these
 moved_twice : (at next n m all : ℕ) (own : ℕ × ℕ) → next ≡ at + n → all ≡ n + m → moved next m (moved at n own) ≡ moved at all own
@@ -16,6 +15,7 @@ module _ (a b : List ℕ) (own : ℕ × ℕ) (templ ctor : Bool) where
   abbrev of : Form → Shape
   of f = record { form = f; own = own; templ = templ; ctor = ctor }
 
+  -- two insertions at a place, by the parts of the shape
   twice : (place : Place) (f : Form) → (place ≡ Start → ⊥) → CanInsert place f → inserted place b (inserted place a (of f)) ≡ inserted place (a ++ b) (of f)
   twice Start f follows fits = absurd (follows refl)
   twice End (Plain t) follows fits =
@@ -59,36 +59,27 @@ can_again Suffix bytes (Plain t) fits = fits
 can_again Suffix bytes (Declared k before None after) fits = tt
 can_again Suffix bytes (Declared k before (Some group) after) fits = fits
 
+-- the same of three
 pub inserted_thrice : (place : Place) (a b c : List ℕ) (s : Shape) → (place ≡ Start → ⊥) → CanInsert place s.form
     → inserted place c (inserted place b (inserted place a s)) ≡ inserted place (a ++ (b ++ c)) s
 inserted_thrice place a b c s follows fits =
     inserted_twice place b c (inserted place a s) follows (can_again place a s.form fits) ∙ inserted_twice place a (b ++ c) s follows fits
 
-pub ruleset appends = (inserted_thrice, can_again)
+pub ruleset insertions = (inserted_twice, inserted_thrice, can_again)
 
--- a plain text that begins with that of a name, and has the name's last own name
-after_shape : (name whole named : Shape) (added : List ℕ) (before len : ℕ) (old own : ℕ × ℕ) (templ ctor : Bool)
-    → whole.form ≡ Plain (text name ++ added) → before ≡ text_len name → len ≡ text_len whole → old ≡ name.own
-    → own ≡ moved before (len - before) old → named ≡ with_own own.0 own.1 whole
-    → flagged templ ctor named ≡ flagged templ ctor (appended added (flattened name))
-after_shape name whole named added before len old own templ ctor form_is by_before by_len by_old by_own by_named =
-    let whole_len : text_len whole ≡ text_len name + length added =
-    ap (λ (f : Form). length (form_text f)) form_is ∙ length-append (text name) added in
+-- a text after a plain text, whose last own name and flags stay
+pub piece_after : (first second whole named : Shape) (between : List ℕ) (before len : ℕ) (old own : ℕ × ℕ) (templ ctor : Bool)
+    → whole ≡ joined first between second → before ≡ text_len first → len ≡ text_len whole → old ≡ first.own
+    → own ≡ moved before (len - before) old → templ ≡ first.templ → ctor ≡ first.ctor → named ≡ with_own own.0 own.1 whole
+    → flagged templ ctor named ≡ appended (between ++ text second) (flattened first)
+piece_after first second whole named between before len old own templ ctor by_whole by_before by_len by_old by_own by_templ by_ctor by_named =
+    let added = between ++ text second in
+    let form_is : whole.form ≡ Plain (text first ++ added) =
+    ap (λ (s : Shape). s.form) by_whole ∙ ap Plain (append_assoc (text first) between (text second)) in
+    let whole_len : text_len whole ≡ text_len first + length added =
+    ap (λ (f : Form). length (form_text f)) form_is ∙ length-append (text first) added in
     let added_is : len - before ≡ length added = omega arith in
-    let own_is : own ≡ moved (text_len name) (length added) name.own =
-    by_own ∙ ap (λ (k : ℕ). moved k (len - before) old) by_before ∙ ap (λ (k : ℕ). moved (text_len name) k old) added_is
-    ∙ ap (moved (text_len name) (length added)) by_old in
-    ap (flagged templ ctor) by_named ∙ (λ j. record { form = form_is j; own = own_is j; templ = templ; ctor = ctor })
-
--- a name with a list after it
-pub attached_shape : (name list whole named : Shape) (gap : List ℕ) (before len : ℕ) (old own : ℕ × ℕ) (ctor : Bool)
-    → whole ≡ joined name gap list → gap ≡ angle_gap (text name) → before ≡ text_len name → len ≡ text_len whole → old ≡ name.own
-    → own ≡ moved before (len - before) old → ctor ≡ name.ctor → named ≡ with_own own.0 own.1 whole
-    → flagged true ctor named ≡ attached name list
-attached_shape name list whole named gap before len old own ctor by_whole by_gap by_before by_len by_old by_own by_ctor by_named =
-    let t = text name in
-    let u = text list in
-    let form_is : whole.form ≡ Plain (t ++ (angle_gap t ++ u)) =
-    ap (λ (s : Shape). s.form) by_whole ∙ ap Plain (append_assoc t gap u) ∙ ap (λ (g : List ℕ). Plain (t ++ (g ++ u))) by_gap in
-    after_shape name whole named (angle_gap t ++ u) before len old own true ctor form_is by_before by_len by_old by_own by_named
-    ∙ ap (λ (b : Bool). flagged true b (appended (angle_gap t ++ u) (flattened name))) by_ctor
+    let own_is : own ≡ moved (text_len first) (length added) first.own =
+    by_own ∙ ap (λ (k : ℕ). moved k (len - before) old) by_before ∙ ap (λ (k : ℕ). moved (text_len first) k old) added_is
+    ∙ ap (moved (text_len first) (length added)) by_old in
+    ap (flagged templ ctor) by_named ∙ (λ j. record { form = form_is j; own = own_is j; templ = by_templ j; ctor = by_ctor j })

@@ -1,0 +1,18 @@
+use Rattle.std.proofs.Common.{ℕ, List, ◌++◌, codes, ap, ◌∙◌, subst, IfOk}
+use Rattle.demangle_quals.specs.Quals.{words_text}
+use Rattle.demangle_text.specs.declared.shape.Place.TheVariants.{End}
+use Rattle.demangle_text.specs.Shape.{Shape, appended}
+use Rattle.demangle_text.specs.State.{shape, Lives}
+use Rattle.demangle_edit.proofs.Insertions.{inserted_thrice}
+use Rattle.demangle_edit.proofs.lists.close_params.Goals as goal
+
+pub returns-clause-shape : goal.returns-clause-shape
+returns-clause-shape c =
+    let s = shape c.args.buf.now c.args.list in
+    let words = c.words.result.now in
+    let reference = c.reference_bytes.result.now in
+    let is = ap (appended reference) (c.in_ok-worded.ensures.shape.shape_is ∙ ap (appended words) c.in_ok-closed.ensures.shape.shape_is)
+    ∙ inserted_thrice End (codes ")") words reference s (λ e. cc) tt
+    ∙ ap (λ (w : List ℕ). appended (codes ")" ++ (w ++ reference)) s) c.words.ensures.value
+    ∙ ap (λ (r : List ℕ). appended (codes ")" ++ (words_text c.args.quals ++ r)) s) c.reference_bytes.ensures.value in
+    subst (λ (t : Shape). IfOk c.append-3.result (λ p. Lives c.append-3.new.self p t)) is c.append-3.ensures.shape

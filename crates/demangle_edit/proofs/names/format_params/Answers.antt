@@ -1,0 +1,27 @@
+use Rattle.std.proofs.Common.{true, List, map, ap, ◌∙◌, refl, subst, IfOk}
+use Rattle.std.proofs.lemmas.List.{take_all}
+use Rattle.demangle_text.specs.declared.shape.Piece.{Piece}
+use Rattle.demangle_text.specs.Shape.{Shape}
+use Rattle.demangle_text.specs.State.{shape, Lives}
+use Rattle.demangle_text.proofs.Laws.{Opens-edit}
+use Rattle.demangle_edit.specs.Built.{listed_each, params_opened, params_closed}
+use Rattle.demangle_edit.proofs.Built.{piece_more, params_built}
+use Rattle.demangle_edit.proofs.names.format_params.Goals as goal
+
+pub loop-i-preserved : goal.loop-i-preserved
+loop-i-preserved c = record {
+  run = Opens-edit _ _ _ _ c.loop-i.invariant.run c.in_ok-list-2.ensures.edit;
+  list = piece_more _ _ _ _ _ _ _ _ _ _ _ c.loop-i.invariant.run c.requires.params c.loop-i-test.true c.loop-i.invariant.list c.in_ok-list-2.ensures.shape refl;
+}
+
+-- at the end all parameters are there
+pub returns-clause-shape : goal.returns-clause-shape
+returns-clause-shape c =
+    let old = c.args.buf.now in
+    let quals = c.args.quals in
+    let name = shape old c.args.name in
+    let all = take_all c.loop-i.i c.args.params.now c.loop-i-test.false in
+    let is = c.in_ok-whole.ensures.shape.shape_is ∙ ap (params_closed quals) c.loop-i.invariant.list.shape_is
+    ∙ ap (λ (ps : List Piece). params_closed quals (listed_each true (params_opened name) (map (shape old) ps))) all
+    ∙ params_built name (map (shape old) c.args.params.now) quals in
+    subst (λ (s : Shape). IfOk c.close.result (λ p. Lives c.close.new.self p s)) is c.close.ensures.shape

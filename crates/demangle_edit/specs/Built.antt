@@ -1,0 +1,67 @@
+-- Lists that are built as they are read: what opens them, what each text adds, and what closes them.
+use Rattle.std.specs.Prelude.{ℕ, List, [], ◌∷◌, ◌++◌, map, codes, decimal, Bool, true, false, if◌then◌else◌, nat_eq}
+use Rattle.std.specs.List.{ends_with}
+use Rattle.demangle_quals.specs.declared.quals.Quals.{Quals}
+use Rattle.demangle_quals.specs.Quals.{quals_text}
+use Rattle.demangle_text.specs.Shape.{Shape, text, plain_shape, whole_shape, appended, flattened, flagged}
+use Rattle.demangle_edit.specs.Lists.{listed}
+use Rattle.demangle_edit.specs.Names.{angle_gap}
+
+-- what stands in front of a text of a list: nothing in front of the first
+abbrev pub separator : Bool → List ℕ
+separator first = if first then [] else codes ", "
+
+-- whether the next text of a list is its first
+abbrev pub is_first : List Shape → Bool
+is_first [] = true
+is_first (s ∷ rest) = false
+
+-- a list as a plain text, with what stands in front of its next text
+abbrev pub separated : Bool → Shape → Shape
+separated first list = appended (separator first) (flattened list)
+
+-- a list as a plain text, with a text at its end
+abbrev pub followed : Shape → Shape → Shape
+followed list next = appended (text next) (flattened list)
+
+-- a list with one text more
+abbrev pub listed_more : Bool → Shape → Shape → Shape
+listed_more first list next = followed (separated first list) next
+
+-- a list with each of these texts more
+abbrev pub listed_each : Bool → Shape → List Shape → Shape
+listed_each first list [] = list
+listed_each first list (next ∷ rest) = listed_each false (listed_more first list next) rest
+
+-- a name that its template arguments follow
+abbrev pub arguments_opened : Shape → Shape
+arguments_opened name = flagged true name.ctor (appended (angle_gap (text name) ++ codes "<") (flattened name))
+
+-- the end of a list of template arguments, with a space after `>`
+abbrev pub arguments_closed : Shape → Shape
+arguments_closed list = appended (if ends_with nat_eq (text list) (codes ">") then codes " >" else codes ">") list
+
+-- a list of template arguments by itself
+abbrev pub arguments_shape : List Shape → Shape
+arguments_shape args = whole_shape (arguments_closed (plain_shape (codes "<" ++ listed (map text args))))
+
+-- a name that its parameters follow
+abbrev pub params_opened : Shape → Shape
+params_opened name = flagged false name.ctor (appended (codes "(") (flattened name))
+
+-- the end of a name's parameters, with the qualifiers of the function
+abbrev pub params_closed : Quals → Shape → Shape
+params_closed quals list = appended (codes ")" ++ quals_text quals) list
+
+-- a pack of arguments
+abbrev pub pack_shape : List Shape → Shape
+pack_shape args = plain_shape (listed (map text args))
+
+-- the end of a lambda's parameters, with its number
+abbrev pub lambda_closed : ℕ → Shape → Shape
+lambda_closed number list = whole_shape (appended (codes ")#" ++ (decimal number ++ codes "}")) list)
+
+-- a lambda
+abbrev pub lambda_shape : List Shape → ℕ → Shape
+lambda_shape params number =
+    plain_shape (codes "{lambda(" ++ (listed (map text params) ++ (codes ")#" ++ (decimal number ++ codes "}"))))

@@ -1,0 +1,212 @@
+//! Edits that make literals and operands of expressions (Itanium C++ ABI 5.1, "Expressions").
+ghost use Rattle.std.specs.Prelude.{◌≡◌, IfOk, OnOk};
+ghost use Rattle.demangle_text.specs.Shape.{text, plain_shape, appended, whole_shape};
+ghost use Rattle.demangle_text.specs.State.{IsLiving, shape, Lives, IsEdit, KeepsAll};
+ghost use Rattle.demangle_edit.specs.Answers.{Answers, OnNone};
+ghost use Rattle.demangle_edit.specs.Expressions as spec;
+
+use demangle_text::{Buffer, Piece, Place};
+use std::alloc::AllocError;
+
+/// How a literal is printed.
+#[derive(Clone, Copy)]
+pub enum LiteralForm {
+    /// `false` or `true`
+    Boolean,
+    /// `nullptr`, whatever the value
+    Null,
+    /// the digits
+    Integer,
+    /// the digits in square brackets
+    Float,
+    /// the type in parentheses, and then the digits
+    Cast,
+}
+
+// Whether a literal's value has a minus.
+fn is_minus(value: &[u8]) -> bool
+    ensures value { result ≡ spec.is_minus value.now }
+{
+    value.starts_with(b"n")
+}
+
+// How a literal of a type with this text is printed, with a minus or without one.
+fn literal_form(ty: &[u8], minus: bool) -> LiteralForm
+    ensures value { result ≡ spec.literal_form ty.now minus }
+{
+    if ty == b"bool".as_slice() && !minus {
+        return LiteralForm::Boolean;
+    }
+    if ty == b"std::nullptr_t".as_slice() {
+        return LiteralForm::Null;
+    }
+    if ty == b"int".as_slice() {
+        return LiteralForm::Integer;
+    }
+    if ty == b"float".as_slice() || ty == b"double".as_slice() || ty == b"long double".as_slice() {
+        return LiteralForm::Float;
+    }
+    LiteralForm::Cast
+}
+
+// Whether a literal of this form has this value.
+fn has_value(form: LiteralForm, value: &[u8]) -> bool
+    ensures value { result ≡ spec.has_value form value.now }
+{
+    match form {
+        LiteralForm::Boolean => value == b"0".as_slice() || value == b"1".as_slice(),
+        LiteralForm::Null => true,
+        LiteralForm::Integer => true,
+        LiteralForm::Float => true,
+        LiteralForm::Cast => true,
+    }
+}
+
+// The word of a boolean value.
+fn boolean_bytes(value: &[u8]) -> &'static [u8]
+    ensures value { result.now ≡ spec.boolean_text value.now }
+{
+    if value == b"0".as_slice() {
+        b"false"
+    } else {
+        b"true"
+    }
+}
+
+// The sign of a value, `-` or nothing.
+fn sign_bytes(value: &[u8]) -> &'static [u8]
+    ensures value { result.now ≡ spec.sign_text value.now }
+{
+    if is_minus(value) { b"-" } else { b"" }
+}
+
+// The digits of a value: all of it but the `n` of a minus.
+fn digit_bytes(value: &[u8]) -> &[u8]
+    ensures value { result.now ≡ spec.digits_text value.now }
+{
+    if is_minus(value) { &value[1..] } else { value }
+}
+
+// The text of the piece in parentheses, as a plain piece whose last own name is the whole, with no
+// flag set.
+#[tactic(auto, using(demangle_text::proofs::Laws::laws))]
+fn parenthesize(buf: &mut Buffer, piece: Piece) -> Result<Piece, AllocError>
+    requires piece { IsLiving buf.old piece }
+    ensures shape { IfOk result (λ p. Lives buf.new p (spec.parenthesized (shape buf.old piece))) }
+    ensures edit { OnOk result (IsEdit buf.old buf.new) }
+{
+    let plain = buf.plain(piece);
+    let opened = buf.insert(plain, Place::Start, b"(")?;
+    let closed = buf.append(opened, b")")?;
+    let whole = buf.whole(closed);
+    Ok(buf.with_flags(whole, false, false))
+}
+
+// The piece with a value after its text. Its last own name is the whole text then.
+#[tactic(auto, using(demangle_text::proofs::Laws::laws, crate::proofs::Insertions::insertions))]
+fn append_value(buf: &mut Buffer, piece: Piece, value: &[u8]) -> Result<Piece, AllocError>
+    requires piece { IsLiving buf.old piece }
+    ensures shape { IfOk result (λ p. Lives buf.new p
+        (whole_shape (appended (spec.value_text value.now) (shape buf.old piece)))) }
+    ensures edit { OnOk result (IsEdit buf.old buf.new) }
+{
+    let signed = buf.append(piece, sign_bytes(value))?;
+    let all = buf.append(signed, digit_bytes(value))?;
+    Ok(buf.whole(all))
+}
+
+// A value in square brackets, its sign in front of them.
+#[tactic(auto, using(demangle_text::proofs::Laws::laws))]
+fn push_float(buf: &mut Buffer, value: &[u8]) -> Result<Piece, AllocError>
+    ensures shape { IfOk result (λ p. Lives buf.new p (plain_shape (spec.float_text value.now))) }
+    ensures edit { OnOk result (IsEdit buf.old buf.new) }
+{
+    let signed = buf.push(sign_bytes(value))?;
+    let opened = buf.append(signed, b"[")?;
+    let filled = buf.append(opened, digit_bytes(value))?;
+    let closed = buf.append(filled, b"]")?;
+    Ok(buf.whole(closed))
+}
+
+// A literal of this form.
+#[tactic(auto, using(demangle_text::proofs::Laws::laws))]
+fn print_literal(
+    buf: &mut Buffer,
+    ty: Piece,
+    form: LiteralForm,
+    value: &[u8],
+) -> Result<Piece, AllocError>
+    requires ty { IsLiving buf.old ty }
+    ensures shape { IfOk result (λ p. Lives buf.new p
+        (plain_shape (spec.literal_text form (text (shape buf.old ty)) value.now))) }
+    ensures edit { OnOk result (IsEdit buf.old buf.new) }
+{
+    match form {
+        LiteralForm::Boolean => buf.push(boolean_bytes(value)),
+        LiteralForm::Null => buf.push(b"nullptr"),
+        LiteralForm::Integer => {
+            let empty = buf.push(b"")?;
+            append_value(buf, empty, value)
+        }
+        LiteralForm::Float => push_float(buf, value),
+        LiteralForm::Cast => {
+            let cast = parenthesize(buf, ty)?;
+            append_value(buf, cast, value)
+        }
+    }
+}
+
+/// The literal of a type with this value, in which one leading `n` is the minus and the rest are the
+/// digits, printed as they stand. By the text of the type: of `bool` without minus `false` for `0`
+/// and `true` for `1`; of `std::nullptr_t` `nullptr`, whatever the value; of `int` the digits; of
+/// `float`, `double` and `long double` the digits in square brackets; of all others the type in
+/// parentheses and then the digits. `-` stands in front of the digits, or of their brackets. A plain
+/// piece whose last own name is the whole, with no flag set.
+///
+/// `None`, and all stays, for a `bool` without minus whose value is neither `0` nor `1`. An error
+/// comes where memory is refused, and then only `clear` of the buffer is promised.
+#[tactic(auto, using(demangle_text::proofs::Laws::laws))]
+pub fn write_literal(buf: &mut Buffer, ty: Piece, value: &str) -> Result<Option<Piece>, AllocError>
+    requires ty { IsLiving buf.old ty }
+    ensures shape { Answers result buf.new (spec.literal_step (shape buf.old ty) value.now) }
+    ensures edit { OnOk result (IsEdit buf.old buf.new) }
+    ensures none { OnNone result (KeepsAll buf.old buf.new) }
+{
+    let bytes = value.as_bytes();
+    let form = literal_form(buf.bytes(ty), is_minus(bytes));
+    if !has_value(form, bytes) {
+        return Ok(None);
+    }
+    let literal = print_literal(buf, ty, form, bytes)?;
+    Ok(Some(literal))
+}
+
+/// An operand of an expression: where `paren` holds its text in parentheses, as a plain piece whose
+/// last own name is the whole, with no flag set; else the piece itself.
+///
+/// An error comes where memory is refused, and then only `clear` of the buffer is promised.
+#[tactic(auto, using(demangle_text::proofs::Laws::laws))]
+pub fn subexpr(buf: &mut Buffer, piece: Piece, paren: bool) -> Result<Piece, AllocError>
+    requires piece { IsLiving buf.old piece }
+    ensures shape { IfOk result (λ p. Lives buf.new p
+        (spec.operand_shape paren (shape buf.old piece))) }
+    ensures edit { OnOk result (IsEdit buf.old buf.new) }
+{
+    if !paren {
+        return Ok(piece);
+    }
+    parenthesize(buf, piece)
+}
+
+/// The address of what the piece names, `&` in front of its text. What it declares and the flags
+/// stay, and its last own name moves on; of a function it is the whole text.
+///
+/// An error comes where memory is refused, and then only `clear` of the buffer is promised.
+#[tactic(auto, using(demangle_text::proofs::Laws::laws))]
+pub fn address(buf: &mut Buffer, piece: Piece) -> Result<Piece, AllocError>
+    requires piece { IsLiving buf.old piece }
+    ensures shape { IfOk result (λ p. Lives buf.new p (spec.address_shape (shape buf.old piece))) }
+    ensures edit { OnOk result (IsEdit buf.old buf.new) }
+{
+    buf.insert(piece, Place::Start, b"&")
+}
