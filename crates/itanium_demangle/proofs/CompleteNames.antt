@@ -1,19 +1,23 @@
 -- Of names: what the grammar reads, the parser reads.
-use Rattle.std.proofs.Common.{◌≡◌, ◌<◌, ◌≤◌, ℕ, zero, suc, ◌+◌, max, Bool, true, false, map, length, refl, ◌∙◌, sym, arith, Option, Some, ap}
+use Rattle.std.proofs.Common.{◌≡◌, ◌<◌, ◌≤◌, ℕ, zero, suc, ◌+◌, max, Bool, true, false, List, ◌++◌, drop, map, length, refl, ◌∙◌, sym, arith, Option, Some, ap}
 use Rattle.std.proofs.lemmas.List.{length-map}
 use Rattle.std.specs.Prelude.{codes, option_map}
 use Rattle.std.proofs.lemmas.Option.{slice_get-map}
+use Rattle.demangle_text.specs.Shape.{plain_shape}
+use Rattle.demangle_edit.proofs.Built.{lambda_built}
 use Rattle.itanium_syntax.specs.declared.context.Context.{Context}
-use Rattle.itanium_syntax.specs.Names.{source_text, name_quals}
-use Rattle.itanium_syntax.proofs.Fronts.{initializer_after, after-le}
-use Rattle.itanium_grammar.specs.Tree.{Tree, with_args, trees, shape_of}
-use Rattle.itanium_grammar.specs.Grammar.{Position, Cost, past_initializer, last_of, SubstitutionAs, Substitution, ParameterAs, Parameter, TaggedAs, UnqualifiedAs, Unqualified, FirstAs, NameAs, UnscopedAs, AttachedAs, Nested, Components, ComponentsAs, abbreviation_substitution, component_substitution, substitution, auto_parameter, scope_parameter, parameter, no_tag, source_component, constructor_component, destructor_component, unqualified, parameter_first, std_first, substitution_first, name_first, name, nested_name, unscoped_name, std_name, substitution_name, global_name, none_attached, args_attached, nested, components, end_of_components, args_component, name_component}
+use Rattle.itanium_syntax.specs.Names.{source_text, name_quals, tag_case}
+use Rattle.itanium_syntax.specs.Context.{inside_lambda}
+use Rattle.itanium_syntax.proofs.Fronts.{initializer_after, after_drop, source_takes, after-le}
+use Rattle.itanium_grammar.specs.Tree.{Tree, plain_text, with_args, lambda_of, trees, unnamed_text, literal_operator_text, shape_of}
+use Rattle.itanium_grammar.specs.Grammar.{Position, Cost, past_initializer, last_of, SubstitutionAs, Substitution, ParameterAs, Parameter, TaggedAs, UnqualifiedAs, Unqualified, FirstAs, NameAs, UnscopedAs, AttachedAs, Nested, Components, ComponentsAs, abbreviation_substitution, component_substitution, substitution, auto_parameter, scope_parameter, parameter, no_tag, next_tag, FreeAs, source_free, unnamed_type_free, lambda_free, conversion_free, literal_operator_free, operator_free, constructor_component, destructor_component, free_component, unqualified, parameter_first, std_first, substitution_first, name_first, name, nested_name, unscoped_name, std_name, substitution_name, global_name, none_attached, args_attached, nested, components, end_of_components, args_component, name_component}
 use Rattle.itanium_grammar.proofs.Progress.{unqualified_takes, args_takes}
-use Rattle.itanium_demangle.specs.Cases.{SubstitutionCase, TagCase, UnqualifiedCase, FirstCase, NameCase, UnscopedCase, AttachedCase, ComponentCase}
-use Rattle.itanium_demangle.specs.Parser.{after_turn, loop, ◌>>=◌, substitution_as, parse_substitution, parameter_as, parse_parameter, tagged_as, unqualified_as, parse_unqualified, first_as, attached_as, unscoped_as, component_as, component_turn, parse_nested, name_as, parse_name, parse_args}
+use Rattle.itanium_demangle.specs.Cases.{SubstitutionCase, TagCase, UnqualifiedCase, FreeCase, FirstCase, NameCase, UnscopedCase, AttachedCase, ComponentCase}
+use Rattle.itanium_demangle.specs.Parser.{ParserState, Turn, after_turn, loop, ◌>>=◌, tag_as, tag_turn, parse_tags, free_as, parse_type, substitution_as, parse_substitution, parameter_as, parse_parameter, unqualified_as, parse_unqualified, first_as, attached_as, unscoped_as, component_as, component_turn, parse_nested, name_as, parse_name, parse_args}
 use Rattle.itanium_demangle.specs.Outcome.{state_at}
-use Rattle.itanium_demangle.proofs.Shapes.{same_read, one_more, taken-map, some-map, last-map, shape-plain_text, shape-abbreviation, shape-ctor_dtor_of, shape-with_args, shape-in_scope, shape-nested_of}
-use Rattle.itanium_demangle.proofs.Readings.{given, ArgsComplete, NamesComplete}
+use Rattle.itanium_demangle.proofs.Shapes.{same_read, one_more, taken-map, some-map, last-map, shape-plain_text, shape-abbreviation, shape-ctor_dtor_of, shape-tagged_with, shape-lambda_of, shape-conversion_to, shape-with_args, shape-in_scope, shape-nested_of}
+use Rattle.itanium_demangle.proofs.CompleteLists.{typed_params_complete}
+use Rattle.itanium_demangle.proofs.Readings.{given, ArgsComplete, TypesComplete, NamesComplete}
 
 -- without a counted production the depth is no matter
 substitution_as_complete : {case : SubstitutionCase} {p q : Position} {t : Tree} → SubstitutionAs case p t q → (e m : ℕ)
@@ -33,35 +37,65 @@ pub parameter_complete : {x : Context} {p q : Position} {t : Tree} → Parameter
 unfolding parse_parameter
 parameter_complete (parameter found a) e m = rw (found, parameter_as_complete a e m) refl
 
-tagged_complete : {case : TagCase} {t u : Tree} {p q : Position} → TaggedAs case t p u q → (e m : ℕ)
-    → tagged_as case (shape_of t) (state_at p e m) ≡ Some (shape_of u, state_at q e m)
-tagged_complete no_tag e m = refl
+-- tags up to their end, in n turns
+abbrev TagsComplete : ℕ → Type 0
+TagsComplete n = (t u : Tree) (p q : Position) → TaggedAs (tag_case p.rest) t p u q → (e m : ℕ) → length p.rest < n
+    → loop tag_turn n (shape_of t) (state_at p e m) ≡ Some (shape_of u, state_at q e m)
 
-unqualified_as_complete : {case : UnqualifiedCase} {x : Context} {scope : Option Tree} {p q : Position} {t : Tree} {c : Cost} → UnqualifiedAs case x scope p t q c → (e m : ℕ)
-    → unqualified_as case (option_map shape_of scope) (state_at p e m) ≡ given shape_of t q c e m
-unqualified_as_complete (source_component {scope = scope} {t = t} {bytes = b} found tags) e m =
-    rw (found, ← shape-plain_text (source_text b), tagged_complete tags e m, ← shape-in_scope scope t)
-    (same_read refl refl refl (omega arith) (omega arith))
-unqualified_as_complete (constructor_component {scope = scope} tags) e m =
-    rw (← shape-ctor_dtor_of scope false, tagged_complete tags e m) (same_read refl refl refl (omega arith) (omega arith))
-unqualified_as_complete (destructor_component {scope = scope} tags) e m =
-    rw (← shape-ctor_dtor_of scope true, tagged_complete tags e m) (same_read refl refl refl (omega arith) (omega arith))
+tag_as_complete : (n : ℕ) → TagsComplete n → {case : TagCase} {t u : Tree} {p q : Position} → TaggedAs case t p u q → (e m : ℕ) → length p.rest < suc n
+    → (tag_as case (shape_of t) (state_at p e m) >>= λ r. after_turn r.0 (loop tag_turn n) r.1) ≡ Some (shape_of u, state_at q e m)
+tag_as_complete n again no_tag e m room = refl
+tag_as_complete n again (next_tag {t = t} {p = p} {bytes = b} {rest = r} found tags) e m room =
+    let shorter = (source_takes (drop 1 p.rest) (b, r) found).shorter in
+    let within = after-le (after_drop 1 p.rest) in
+    rw (found, ← shape-tagged_with t (source_text b)) (again _ _ _ _ tags e m (omega arith))
 
-pub unqualified_complete : {x : Context} {scope : Option Tree} {p q : Position} {t : Tree} {c : Cost} → Unqualified x scope p t q c → (e m : ℕ)
-    → parse_unqualified (option_map shape_of scope) (state_at p e m) ≡ given shape_of t q c e m
-unfolding parse_unqualified
-unqualified_complete (unqualified {scope = scope} a) e m = rw (some-map scope) (unqualified_as_complete a e m)
+pub tags_complete : (n : ℕ) → TagsComplete n
+unfolding loop tag_turn
+tags_complete zero t u p q a e m room = absurd (omega arith)
+tags_complete (suc n) t u p q a e m room = tag_as_complete n (tags_complete n) a e m room
 
-pub first_complete : {case : FirstCase} {x : Context} {p q : Position} {t : Tree} {c : Cost} → FirstAs case x p t q c → (e m : ℕ)
-    → first_as case x (state_at p e m) ≡ given shape_of t q c e m
-first_complete (parameter_first {q = q} {t = t} a) e m =
-    rw (parameter_complete a e m) (same_read refl (one_more q.saved t) refl (omega arith) (omega (arith, length-map q.saved shape_of)))
-first_complete std_first e m = same_read (sym (shape-plain_text (codes "std"))) refl refl (omega arith) (omega arith)
-first_complete (substitution_first a) e m = substitution_complete a e m ∙ same_read refl refl refl (omega arith) (omega arith)
-first_complete (name_first {q = q} {t = t} a) e m =
-    rw (unqualified_complete a e m) (same_read refl (one_more q.saved t) refl (omega arith) (omega (arith, length-map q.saved shape_of)))
+-- tags up to their end
+pub parse_tags_complete : {t u : Tree} {p q : Position} → TaggedAs (tag_case p.rest) t p u q → (e m : ℕ) → parse_tags (shape_of t) (state_at p e m) ≡ Some (shape_of u, state_at q e m)
+parse_tags_complete {p = p} a e m = tags_complete (length p.rest + 1) _ _ _ _ a e m (omega arith)
 
-module _ (d : ℕ) (lists : ArgsComplete d) where
+module _ (d : ℕ) (lists : ArgsComplete d) (kinds : TypesComplete d) where
+  pub free_complete : {case : FreeCase} {x : Context} {p q : Position} {t : Tree} {c : Cost} → FreeAs case x p t q c → c.depth ≤ d → (e m : ℕ)
+      → free_as case (parse_type d x) (parse_type d (inside_lambda x)) (state_at p e m) ≡ given shape_of t q c e m
+  free_complete (source_free {bytes = b} found) deep e m = rw (found, ← shape-plain_text (source_text b)) (same_read refl refl refl (omega arith) (omega arith))
+  free_complete (unnamed_type_free {k = k} found) deep e m = rw (found, ← shape-plain_text (unnamed_text k)) (same_read refl refl refl (omega arith) (omega arith))
+  free_complete (lambda_free {ts = ts} {k = k} params found) deep e m =
+      rw (typed_params_complete d kinds params deep e m (plain_shape (codes "{lambda(")), found)
+      (same_read (lambda_built (map shape_of ts) k ∙ sym (shape-lambda_of ts k)) refl refl refl refl)
+  free_complete (conversion_free {t = t} a) deep e m = rw (kinds _ _ _ _ _ a deep e m, ← shape-conversion_to t) refl
+  free_complete (literal_operator_free {bytes = b} found) deep e m =
+      rw (found, ← shape-plain_text (literal_operator_text b)) (same_read refl refl refl (omega arith) (omega arith))
+  free_complete (operator_free {text = o} found) deep e m =
+      rw (found, ← shape-plain_text (codes "operator" ++ o)) (same_read refl refl refl (omega arith) (omega arith))
+
+  unqualified_as_complete : {case : UnqualifiedCase} {x : Context} {scope : Option Tree} {p q : Position} {t : Tree} {c : Cost} → UnqualifiedAs case x scope p t q c → c.depth ≤ d → (e m : ℕ)
+      → unqualified_as case (parse_type d x) (parse_type d (inside_lambda x)) (option_map shape_of scope) (state_at p e m) ≡ given shape_of t q c e m
+  unqualified_as_complete (constructor_component {scope = scope} tags) deep e m =
+      rw (← shape-ctor_dtor_of scope false, parse_tags_complete tags e m) (same_read refl refl refl (omega arith) (omega arith))
+  unqualified_as_complete (destructor_component {scope = scope} tags) deep e m =
+      rw (← shape-ctor_dtor_of scope true, parse_tags_complete tags e m) (same_read refl refl refl (omega arith) (omega arith))
+  unqualified_as_complete (free_component {scope = scope} {u = u} {c = c} a tags) deep e m =
+      rw (free_complete a deep e m, parse_tags_complete tags (e + c.count) (max m c.peak), ← shape-in_scope scope u) refl
+
+  pub unqualified_complete : {x : Context} {scope : Option Tree} {p q : Position} {t : Tree} {c : Cost} → Unqualified x scope p t q c → c.depth ≤ d → (e m : ℕ)
+      → parse_unqualified (parse_type d x) (parse_type d (inside_lambda x)) (option_map shape_of scope) (state_at p e m) ≡ given shape_of t q c e m
+  unfolding parse_unqualified
+  unqualified_complete (unqualified {scope = scope} a) deep e m = rw (some-map scope) (unqualified_as_complete a deep e m)
+
+  pub first_complete : {case : FirstCase} {x : Context} {p q : Position} {t : Tree} {c : Cost} → FirstAs case x p t q c → c.depth ≤ d → (e m : ℕ)
+      → first_as case (parse_unqualified (parse_type d x) (parse_type d (inside_lambda x))) x (state_at p e m) ≡ given shape_of t q c e m
+  first_complete (parameter_first {q = q} {t = t} a) deep e m =
+      rw (parameter_complete a e m) (same_read refl (one_more q.saved t) refl (omega arith) (omega (arith, length-map q.saved shape_of)))
+  first_complete std_first deep e m = same_read (sym (shape-plain_text (codes "std"))) refl refl (omega arith) (omega arith)
+  first_complete (substitution_first a) deep e m = substitution_complete a e m ∙ same_read refl refl refl (omega arith) (omega arith)
+  first_complete (name_first {q = q} {t = t} a) deep e m =
+      rw (unqualified_complete a (omega arith) e m) (same_read refl (one_more q.saved t) refl (omega arith) (omega (arith, length-map q.saved shape_of)))
+
   attached_complete : {case : AttachedCase} {x : Context} {t u : Tree} {p q : Position} {c : Cost} → AttachedAs case x t p u q c → c.depth ≤ d → (e m : ℕ)
       → attached_as case (parse_args d x true) (shape_of t) (state_at p e m) ≡ given shape_of u q c e m
   attached_complete none_attached deep e m = same_read refl refl refl (omega arith) (omega arith)
@@ -70,25 +104,25 @@ module _ (d : ℕ) (lists : ArgsComplete d) where
       (same_read refl refl refl (omega arith) (omega (arith, length-map p.saved shape_of)))
 
   unscoped_complete : {case : UnscopedCase} {x : Context} {p q : Position} {t : Tree} {c : Cost} → UnscopedAs case x p t q c → c.depth ≤ d → (e m : ℕ)
-      → unscoped_as case (parse_args d x true) (state_at p e m) ≡ given shape_of t q c e m
+      → unscoped_as case (parse_unqualified (parse_type d x) (parse_type d (inside_lambda x))) (parse_args d x true) (state_at p e m) ≡ given shape_of t q c e m
   unscoped_complete (std_name {c = c} a b) deep e m =
-      rw (← shape-plain_text (codes "std"), unqualified_complete a e m, attached_complete b (omega arith) (e + c.count) (max m c.peak))
+      rw (← shape-plain_text (codes "std"), unqualified_complete a (omega arith) e m, attached_complete b (omega arith) (e + c.count) (max m c.peak))
       (same_read refl refl refl (omega arith) (omega arith))
   unscoped_complete (substitution_name {t = t} {list = ts} a case b) deep e m =
       rw (substitution_complete a e m, case, lists _ _ _ _ _ _ b deep e m, ← shape-with_args t ts) refl
   unscoped_complete (global_name {c = c} a b) deep e m =
-      rw (unqualified_complete a e m, attached_complete b (omega arith) (e + c.count) (max m c.peak)) (same_read refl refl refl (omega arith) (omega arith))
+      rw (unqualified_complete a (omega arith) e m, attached_complete b (omega arith) (e + c.count) (max m c.peak)) (same_read refl refl refl (omega arith) (omega arith))
 
   mutual
     unfolding loop component_turn
 
     pub components_complete : {x : Context} {takes : Bool} {t u : Tree} {p q : Position} {c : Cost} → Components x takes t p u q c → c.depth ≤ d → (e m n : ℕ) → length p.rest < n
-        → loop (component_turn (parse_args d x true)) n (takes, shape_of t) (state_at p e m) ≡ given shape_of u q c e m
+        → loop (component_turn (parse_unqualified (parse_type d x) (parse_type d (inside_lambda x))) (parse_args d x true)) n (takes, shape_of t) (state_at p e m) ≡ given shape_of u q c e m
     components_complete (components a) deep e m zero room = absurd (omega arith)
     components_complete (components a) deep e m (suc n) room = component_complete a deep e m n room
 
     component_complete : {case : ComponentCase} {x : Context} {takes : Bool} {t u : Tree} {p q : Position} {c : Cost} → ComponentsAs case x takes t p u q c → c.depth ≤ d → (e m n : ℕ) → length p.rest < suc n
-        → (component_as case (parse_args d x true) (takes, shape_of t) (state_at p e m) >>= λ r. after_turn r.0 (loop (component_turn (parse_args d x true)) n) r.1) ≡ given shape_of u q c e m
+        → (component_as case (parse_unqualified (parse_type d x) (parse_type d (inside_lambda x))) (parse_args d x true) (takes, shape_of t) (state_at p e m) >>= λ r. after_turn r.0 (loop (component_turn (parse_unqualified (parse_type d x) (parse_type d (inside_lambda x))) (parse_args d x true)) n) r.1) ≡ given shape_of u q c e m
     component_complete (end_of_components {takes = takes} {p = p}) deep e m n room = same_read refl (taken-map takes p.saved) refl (omega arith) (omega arith)
     component_complete (args_component {q = q} {t = t} {list = ts} {c = c} a b) deep e m n room =
         let shorter = (args_takes a).shorter in
@@ -104,24 +138,24 @@ module _ (d : ℕ) (lists : ArgsComplete d) where
         let shorter = (unqualified_takes a).shorter in
         let within = after-le (initializer_after q.rest) in
         rw (
-          unqualified_complete a e m,
+          unqualified_complete a (omega arith) e m,
           one_more q.saved u,
           components_complete b (omega arith) (e + c.count) (max (max m c.peak) (length (map shape_of q.saved) + 1)) n (omega arith),
         )
         (same_read refl refl refl (omega arith) (omega (arith, length-map q.saved shape_of)))
 
   nested_complete : {x : Context} {p q : Position} {t : Tree} {c : Cost} → Nested x p t q c → c.depth ≤ d → (e m : ℕ)
-      → parse_nested (parse_args d x true) x (state_at p e m) ≡ given shape_of t q c e m
+      → parse_nested (parse_unqualified (parse_type d x) (parse_type d (inside_lambda x))) (parse_args d x true) x (state_at p e m) ≡ given shape_of t q c e m
   unfolding parse_nested
   nested_complete (nested {x = x} {p = p} {q = q} {u = u} {c = c} a b) deep e m =
-      rw (first_complete a e m, components_complete b (omega arith) (e + c.count) (max m c.peak) (length (past_initializer q).rest + 1) (omega arith), ← shape-nested_of u (name_quals p.rest) x.shown)
+      rw (first_complete a (omega arith) e m, components_complete b (omega arith) (e + c.count) (max m c.peak) (length (past_initializer q).rest + 1) (omega arith), ← shape-nested_of u (name_quals p.rest) x.shown)
       (same_read refl refl refl (omega arith) (omega arith))
 
   name_as_complete : {case : NameCase} {x : Context} {p q : Position} {t : Tree} {c : Cost} → NameAs case x p t q c → c.depth ≤ d → (e m : ℕ)
-      → name_as case (parse_args d x true) x (state_at p e m) ≡ given shape_of t q c e m
+      → name_as case (parse_unqualified (parse_type d x) (parse_type d (inside_lambda x))) (parse_args d x true) x (state_at p e m) ≡ given shape_of t q c e m
   name_as_complete (nested_name a) deep e m = nested_complete a deep e m
   name_as_complete (unscoped_name a) deep e m = unscoped_complete a deep e m
 
-pub names_complete : (d : ℕ) → ArgsComplete d → NamesComplete (suc d)
+pub names_complete : (d : ℕ) → ArgsComplete d → TypesComplete d → NamesComplete (suc d)
 unfolding parse_name
-names_complete d lists x p q t c (name a) deep e m = name_as_complete d lists a (omega arith) (e + 1) m ∙ same_read refl refl refl (omega arith) refl
+names_complete d lists kinds x p q t c (name a) deep e m = name_as_complete d lists kinds a (omega arith) (e + 1) m ∙ same_read refl refl refl (omega arith) refl

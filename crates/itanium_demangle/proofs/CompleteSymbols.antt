@@ -2,13 +2,13 @@
 use Rattle.std.proofs.Common.{◌≡◌, ◌≤◌, ℕ, zero, suc, arith}
 use Rattle.itanium_syntax.specs.declared.context.Context.{Context}
 use Rattle.itanium_grammar.specs.Tree.{Tree, shape_of}
-use Rattle.itanium_grammar.specs.Grammar.{Position, Cost, SymbolAs, Symbol, name, args, type, name_symbol, symbol}
+use Rattle.itanium_grammar.specs.Grammar.{Position, Cost, Name, Args, Pack, TypeOf, SymbolAs, Symbol, name, args, pack, type, name_symbol, symbol}
 use Rattle.itanium_demangle.specs.Cases.{SymbolCase}
 use Rattle.itanium_demangle.specs.Parser.{symbol_as, parse_symbol}
 use Rattle.itanium_demangle.specs.Outcome.{state_at}
-use Rattle.itanium_demangle.proofs.Readings.{given, NamesComplete, ArgsComplete, TypesComplete}
+use Rattle.itanium_demangle.proofs.Readings.{given, NamesComplete, ArgsComplete, PacksComplete, TypesComplete}
 use Rattle.itanium_demangle.proofs.CompleteNames.{names_complete}
-use Rattle.itanium_demangle.proofs.CompleteArgs.{args_complete}
+use Rattle.itanium_demangle.proofs.CompleteArgs.{args_complete, packs_complete}
 use Rattle.itanium_demangle.proofs.CompleteTypes.{types_complete_at}
 
 -- each counted production has a depth
@@ -18,12 +18,17 @@ no_names x p q t c (name a) deep e m = absurd (omega arith)
 no_lists : ArgsComplete 0
 no_lists x of_name p q t c (args a) deep e m = absurd (omega arith)
 
+no_packs : PacksComplete 0
+no_packs x p q t c (pack a) deep e m = absurd (omega arith)
+
 no_kinds : TypesComplete 0
 no_kinds x p q t c (type a) deep e m = absurd (omega arith)
 
-pub all_complete : (d : ℕ) → NamesComplete d × ArgsComplete d × TypesComplete d
-all_complete zero = (no_names, no_lists, no_kinds)
-all_complete (suc d) = let (names, lists, kinds) = all_complete d in (names_complete d lists, args_complete d kinds, types_complete_at d kinds names lists)
+pub all_complete : (d : ℕ) → NamesComplete d × ArgsComplete d × PacksComplete d × TypesComplete d
+all_complete zero = (no_names, no_lists, no_packs, no_kinds)
+all_complete (suc d) =
+    let (names, lists, packs, kinds) = all_complete d in
+    (names_complete d lists kinds, args_complete d packs kinds, packs_complete d packs kinds, types_complete_at d kinds names lists)
 
 symbol_as_complete : {case : SymbolCase} {x : Context} {p q : Position} {t : Tree} {c : Cost} → SymbolAs case x p t q c → (d : ℕ) → c.depth ≤ d → (e m : ℕ)
     → symbol_as case d x (state_at p e m) ≡ given shape_of t q c e m

@@ -1,43 +1,47 @@
 -- Of types: what the grammar reads, the parser reads.
-use Rattle.std.proofs.Common.{◌≡◌, ◌<◌, ◌≤◌, ℕ, zero, suc, ◌+◌, max, false, List, [], ◌∷◌, ◌++◌, map, length, refl, ◌∙◌, sym, arith, Some, append_assoc}
+use Rattle.std.proofs.Common.{◌≡◌, ◌<◌, ◌≤◌, ℕ, zero, suc, ◌+◌, max, Bool, true, false, List, [], ◌∷◌, ◌++◌, map, length, refl, ◌∙◌, sym, arith, Option, Some, append_assoc}
 use Rattle.std.proofs.lemmas.List.{length-map, append-nil}
 use Rattle.demangle_text.specs.Shape.{Shape}
 use Rattle.demangle_quals.specs.declared.quals.Quals.{Quals}
 use Rattle.itanium_syntax.specs.declared.context.Context.{Context}
 use Rattle.itanium_syntax.specs.Names.{source_text}
-use Rattle.itanium_syntax.specs.Types.{builtin_text, elaborated_text, with_reference}
-use Rattle.itanium_grammar.specs.Tree.{Tree, plain_text, with_args, pointer_to, array_of, member_of, elaborated, trees, shape_of}
-use Rattle.itanium_grammar.specs.Grammar.{Position, Cost, TypeAs, CvAs, Function, ParamsAs, Types, TypesAs, TypeAttachedAs, type, builtin_type, vendor_type, array_type, function_type, member_type, pointer_type, cv_type, elaborated_type, parameter_type, substitution_type, name_type, cv_function, cv_other, function, no_params, some_params, types, end_of_types, one_more_type, none_attached_to_type, args_attached_to_type}
+use Rattle.itanium_syntax.specs.Types.{builtin_text, elaborated_text, with_reference, types_case}
+use Rattle.itanium_grammar.specs.Tree.{Tree, plain_text, with_args, pointer_to, array_of, member_of, elaborated, expanded, trees, shape_of}
+use Rattle.itanium_grammar.specs.Grammar.{Position, Cost, TypeAs, CvAs, Function, ParamsAs, TypesAs, TypeAttachedAs, type, builtin_type, expansion_type, vendor_type, array_type, function_type, member_type, pointer_type, cv_type, elaborated_type, parameter_type, substitution_type, name_type, cv_function, cv_other, function, no_params, some_params, end_of_types, one_more_type, none_attached_to_type, args_attached_to_type}
 use Rattle.itanium_grammar.proofs.Progress.{type_takes}
 use Rattle.itanium_demangle.specs.Cases.{TypeCase, CvCase, ParamsCase, TypesCase, AttachedCase}
 use Rattle.itanium_demangle.specs.Parser.{after_turn, loop, ◌>>=◌, types_as, types_turn, params_as, parse_function, cv_as, type_attached_as, type_as, parse_name, parse_args, parse_type}
 use Rattle.itanium_demangle.specs.Outcome.{state_at}
-use Rattle.itanium_demangle.proofs.Shapes.{same_read, one_more, shape-plain_text, shape-with_args, shape-pointer_to, shape-cv_of, shape-array_of, shape-member_of, shape-function_to, shape-elaborated}
+use Rattle.itanium_demangle.proofs.Shapes.{same_read, one_more, shape-plain_text, shape-with_args, shape-pointer_to, shape-cv_of, shape-array_of, shape-member_of, shape-function_to, shape-elaborated, shape-expanded}
 use Rattle.itanium_demangle.proofs.CompleteNames.{substitution_complete, parameter_complete}
 use Rattle.itanium_demangle.proofs.Readings.{given, NamesComplete, ArgsComplete, TypesComplete}
 
+-- types after those that stand in front, in n turns
+abbrev SomeTypesComplete : ℕ → ℕ → Type 0
+SomeTypesComplete d n = (x : Context) (p q : Position) (ts : List Tree) (c : Cost) → TypesAs (types_case true p.rest) true x p ts q c → c.depth ≤ d
+    → (e m : ℕ) (front : List Shape) → length p.rest < n
+    → loop (types_turn (parse_type d x)) n front (state_at p e m) ≡ Some (front ++ map shape_of ts, state_at q (e + c.count) (max m c.peak))
+
 module _ (d : ℕ) (kinds : TypesComplete d) where
-  mutual
-    unfolding loop types_turn
+  types_as_complete : (n : ℕ) → SomeTypesComplete d n → {case : TypesCase} {x : Context} {p q : Position} {ts : List Tree} {c : Cost} → TypesAs case true x p ts q c → c.depth ≤ d
+      → (e m : ℕ) (front : List Shape) → length p.rest < suc n
+      → (types_as case (parse_type d x) front (state_at p e m) >>= λ r. after_turn r.0 (loop (types_turn (parse_type d x)) n) r.1)
+      ≡ Some (front ++ map shape_of ts, state_at q (e + c.count) (max m c.peak))
+  types_as_complete n again end_of_types deep e m front room = same_read (sym (append-nil front)) refl refl (omega arith) (omega arith)
+  types_as_complete n again (one_more_type {t = t} {ts = ts} {c = c} a others) deep e m front room =
+      let shorter = (type_takes a).shorter in
+      rw (kinds _ _ _ _ _ a (omega arith) e m, again _ _ _ _ _ others (omega arith) (e + c.count) (max m c.peak) (front ++ shape_of t ∷ []) (omega arith))
+      (same_read (append_assoc front (shape_of t ∷ []) (map shape_of ts)) refl refl (omega arith) (omega arith))
 
-    types_complete : {x : Context} {p q : Position} {ts : List Tree} {c : Cost} → Types x p ts q c → c.depth ≤ d → (e m n : ℕ) (front : List Shape) → length p.rest < n
-        → loop (types_turn (parse_type d x)) n front (state_at p e m) ≡ Some (front ++ map shape_of ts, state_at q (e + c.count) (max m c.peak))
-    types_complete (types a) deep e m zero front room = absurd (omega arith)
-    types_complete (types a) deep e m (suc n) front room = types_as_complete a deep e m n front room
+  types_complete : (n : ℕ) → SomeTypesComplete d n
+  unfolding loop types_turn
+  types_complete zero x p q ts c a deep e m front room = absurd (omega arith)
+  types_complete (suc n) x p q ts c a deep e m front room = types_as_complete n (types_complete n) a deep e m front room
 
-    types_as_complete : {case : TypesCase} {x : Context} {p q : Position} {ts : List Tree} {c : Cost} → TypesAs case x p ts q c → c.depth ≤ d → (e m n : ℕ) (front : List Shape) → length p.rest < suc n
-        → (types_as case (parse_type d x) front (state_at p e m) >>= λ r. after_turn r.0 (loop (types_turn (parse_type d x)) n) r.1)
-        ≡ Some (front ++ map shape_of ts, state_at q (e + c.count) (max m c.peak))
-    types_as_complete end_of_types deep e m n front room = same_read (sym (append-nil front)) refl refl (omega arith) (omega arith)
-    types_as_complete (one_more_type {t = t} {ts = ts} {c = c} a others) deep e m n front room =
-        let shorter = (type_takes a).shorter in
-        rw (kinds _ _ _ _ _ a (omega arith) e m, types_complete others (omega arith) (e + c.count) (max m c.peak) n (front ++ shape_of t ∷ []) (omega arith))
-        (same_read (append_assoc front (shape_of t ∷ []) (map shape_of ts)) refl refl (omega arith) (omega arith))
-
-  pub params_complete : {case : ParamsCase} {x : Context} {p q : Position} {ts : List Tree} {c : Cost} → ParamsAs case x p ts q c → c.depth ≤ d → (e m : ℕ)
+  pub params_complete : {case : ParamsCase} {x : Context} {p q : Position} {ts : List Tree} {c : Cost} → ParamsAs case true x p ts q c → c.depth ≤ d → (e m : ℕ)
       → params_as case (parse_type d x) (state_at p e m) ≡ given (map shape_of) ts q c e m
   params_complete no_params deep e m = same_read refl refl refl (omega arith) (omega arith)
-  params_complete (some_params {p = p} a) deep e m = types_complete a deep e m (length p.rest + 1) [] (omega arith)
+  params_complete (some_params {p = p} a) deep e m = types_complete (length p.rest + 1) _ _ _ _ _ a deep e m [] (omega arith)
 
   function_complete : {x : Context} {quals : Quals} {p q : Position} {t : Tree} {c : Cost} → Function x quals p t q c → c.depth ≤ d → (e m : ℕ)
       → parse_function (parse_type d x) quals (state_at p e m) ≡ given shape_of t q c e m
@@ -66,6 +70,9 @@ type_attached_complete d lists (args_attached_to_type {t = t} {q = q} {list = ts
 type_as_complete : (d : ℕ) → TypesComplete d → NamesComplete d → ArgsComplete d → {case : TypeCase} {x : Context} {p q : Position} {t : Tree} {c : Cost} → TypeAs case x p t q c → c.depth ≤ d → (e m : ℕ)
     → type_as case (parse_type d x) (parse_name d x) (parse_args d x false) x (state_at p e m) ≡ given shape_of t q c e m
 type_as_complete d kinds names lists (builtin_type {p = p}) deep e m = same_read (sym (shape-plain_text (builtin_text p.rest))) refl refl (omega arith) (omega arith)
+type_as_complete d kinds names lists (expansion_type {x = x} {q = q} {t = t} a) deep e m =
+    rw (kinds _ _ _ _ _ a (omega arith) e m, ← shape-expanded x.pack t)
+    (same_read refl (one_more q.saved (expanded x.pack t)) refl (omega arith) (omega (arith, length-map q.saved shape_of)))
 type_as_complete d kinds names lists (vendor_type {p = p} {bytes = b} found none) deep e m =
     rw (found, none, ← shape-plain_text (source_text b)) (same_read refl (one_more p.saved (plain_text (source_text b))) refl (omega arith) (omega (arith, length-map p.saved shape_of)))
 type_as_complete d kinds names lists (array_type {q = q} {t = t} {dimension = n} found a there) deep e m =

@@ -6,9 +6,9 @@ use Rattle.std.proofs.lemmas.Str.{IsUtf8-from_is_utf8, is_utf8-from_IsUtf8}
 use Rattle.std.specs.Prelude.{option_map}
 use Rattle.std.proofs.lemmas.Option.{some_pair_parts}
 use Rattle.demangle_text.specs.Shape.{Shape, text}
-use Rattle.itanium_syntax.specs.Scalars.{front_digits, weighted, number, index_of, dimension_of, source_name}
+use Rattle.itanium_syntax.specs.Scalars.{front_digits, weighted, number, index_of, unnamed_type_number, lambda_number, dimension_of, source_name}
 use Rattle.itanium_grammar.specs.Answer.{after_prefix, start, outside, suffix, max_depth, IsAnswer}
-use Rattle.itanium_demangle.specs.Parser.{ParserState, begun, loop, component_turn, arguments_turn, types_turn, parse_unqualified, parse_substitution, parse_parameter, parse_nested, parse_name, parse_symbol}
+use Rattle.itanium_demangle.specs.Parser.{ParserState, begun, loop, component_turn, tag_turn, list_turn, typed_turn, types_turn, parse_unqualified, parse_substitution, parse_parameter, parse_nested, parse_name, parse_symbol}
 use Rattle.itanium_demangle.specs.Examples.{WorkedSymbols, e_acute}
 use Rattle.itanium_demangle.proofs.Symbols.{found_reading, found_none, no_prefix, not_read, printed}
 
@@ -42,7 +42,7 @@ not_text symbol inside answer prefix is = go (parse_symbol max_depth outside (be
         printed symbol inside 0 0 s after None prefix (found_reading max_depth outside (start inside) 0 0 s after e) (λ u. let yes = is_utf8-from_IsUtf8 (text s) u in cc)
 
 pub worked_symbols : WorkedSymbols
-unfolding parse_symbol parse_name parse_nested loop component_turn arguments_turn types_turn parse_unqualified parse_substitution parse_parameter source_name number index_of dimension_of front_digits weighted digits is_utf8 chars lib.Utf8.encode
+unfolding parse_symbol parse_name parse_nested loop component_turn tag_turn list_turn typed_turn types_turn parse_unqualified parse_substitution parse_parameter source_name number index_of unnamed_type_number lambda_number dimension_of front_digits weighted digits is_utf8 chars lib.Utf8.encode
 worked_symbols = record {
   nested = some_answer (codes "_ZN3Foo3barEv") (codes "N3Foo3barEv") (codes "Foo::bar") refl refl;
   reference_qualified = some_answer (codes "_ZNO3Foo3barEv") (codes "NO3Foo3barEv") (codes "Foo::bar &&") refl refl;
@@ -69,4 +69,15 @@ worked_symbols = record {
   no_array_of_functions = no_reading (codes "_Z1fIA3_FvvEEvv") (codes "1fIA3_FvvEEvv") refl refl;
   member_function = some_answer (codes "_Z1fIM1AFvvREEvv") (codes "1fIM1AFvvREEvv") (codes "f<void (A::*)(void) &>") refl refl;
   no_scope_of_a_type = some_answer (codes "_Z1fI1AIiET_Evv") (codes "1fI1AIiET_Evv") (codes "f<A<int>, A<int> >") refl refl;
+  operator = some_answer (codes "_ZN1AlsIiEEvv") (codes "N1AlsIiEEvv") (codes "A::operator<< <int>") refl refl;
+  second_lambda = some_answer (codes "_ZN1AUlvE0_E") (codes "N1AUlvE0_E") (codes "A::{lambda()#2}") refl refl;
+  tagged_twice = some_answer (codes "_ZN1A12_GLOBAL__N_1B12_GLOBAL__N_1E") (codes "N1A12_GLOBAL__N_1B12_GLOBAL__N_1E") (codes "A::(anonymous namespace)[abi:(anonymous namespace)]") refl refl;
+  lambda_parameter = some_answer (codes "_Z1fIN1A1BENS1_UlP1CE_ES2_Ev") (codes "1fIN1A1BENS1_UlP1CE_ES2_Ev") (codes "f<A::B, A::B::{lambda(C*)#1}, C>") refl refl;
+  conversion = some_answer (codes "_ZN3FoocvM1AiEv") (codes "N3FoocvM1AiEv") (codes "Foo::operator int A::*") refl refl;
+  empty_pack = some_answer (codes "_Z1fIiJEEvv") (codes "1fIiJEEvv") (codes "f<int, >") refl refl;
+  expansion_in_a_pack = some_answer (codes "_Z1fIJDpiEEvv") (codes "1fIJDpiEEvv") (codes "f<int>") refl refl;
+  expansion = some_answer (codes "_Z1fIDpiEvv") (codes "1fIDpiEvv") (codes "f<int...>") refl refl;
+  literal_operator = some_answer (codes "_Zli4_fooe") (codes "li4_fooe") (codes "operator\"\" _foo") refl refl;
+  unnamed_type = some_answer (codes "_ZN3FooUt_3barEv") (codes "N3FooUt_3barEv") (codes "Foo::{unnamed type#1}::bar") refl refl;
+  tag_of_a_destructor = some_answer (codes "_ZN3FooD0B8nn180100Ev") (codes "N3FooD0B8nn180100Ev") (codes "Foo::~Foo[abi:nn180100]") refl refl;
 }

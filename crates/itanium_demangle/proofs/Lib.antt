@@ -2,10 +2,12 @@ pub mod Loops
 pub mod Unfold
 pub mod Shapes
 pub mod Readings
+pub mod CompleteLists
 pub mod CompleteNames
 pub mod CompleteArgs
 pub mod CompleteTypes
 pub mod CompleteSymbols
+pub mod SoundLists
 pub mod SoundNames
 pub mod SoundArgs
 pub mod SoundTypes

@@ -1,10 +1,11 @@
 -- How the parser and the grammar are compared: what is read within a depth.
 use Rattle.std.proofs.Common.{◌≡◌, ◌≤◌, ℕ, ◌+◌, max, Bool, List, map, Option, Some}
 use Rattle.demangle_text.specs.Shape.{Shape}
+use Rattle.demangle_edit.specs.Built.{arguments_shape}
 use Rattle.itanium_syntax.specs.declared.context.Context.{Context}
-use Rattle.itanium_grammar.specs.Tree.{Tree, shape_of, list_shape}
-use Rattle.itanium_grammar.specs.Grammar.{Position, Cost, Name, Args, TypeOf}
-use Rattle.itanium_demangle.specs.Parser.{ParserState, Parses, parse_name, parse_args, parse_type}
+use Rattle.itanium_grammar.specs.Tree.{Tree, shape_of}
+use Rattle.itanium_grammar.specs.Grammar.{Position, Cost, Name, Args, Pack, TypeOf}
+use Rattle.itanium_demangle.specs.Parser.{ParserState, Parses, parse_name, parse_args, parse_pack, parse_type}
 use Rattle.itanium_demangle.specs.Outcome.{state_at}
 
 -- what a reading of cost c gives, from so many entered and saved
@@ -34,13 +35,16 @@ IsSound {T} {A} R show d parse = (p : Position) (e m : ℕ) (y : A × ParserStat
 
 -- the shape that a list of arguments prints
 abbrev pub shape_of_args : List Tree → Shape
-shape_of_args ts = list_shape (map shape_of ts)
+shape_of_args ts = arguments_shape (map shape_of ts)
 
 abbrev pub NamesComplete : ℕ → Type 0
 NamesComplete d = (x : Context) → IsComplete (Name x) shape_of d (parse_name d x)
 
 abbrev pub ArgsComplete : ℕ → Type 0
 ArgsComplete d = (x : Context) (of_name : Bool) → IsComplete (Args x of_name) shape_of_args d (parse_args d x of_name)
+
+abbrev pub PacksComplete : ℕ → Type 0
+PacksComplete d = (x : Context) → IsComplete (Pack x) shape_of d (parse_pack d x)
 
 abbrev pub TypesComplete : ℕ → Type 0
 TypesComplete d = (x : Context) → IsComplete (TypeOf x) shape_of d (parse_type d x)
@@ -50,6 +54,9 @@ NamesSound d = (x : Context) → IsSound (Name x) shape_of d (parse_name d x)
 
 abbrev pub ArgsSound : ℕ → Type 0
 ArgsSound d = (x : Context) (of_name : Bool) → IsSound (Args x of_name) shape_of_args d (parse_args d x of_name)
+
+abbrev pub PacksSound : ℕ → Type 0
+PacksSound d = (x : Context) → IsSound (Pack x) shape_of d (parse_pack d x)
 
 abbrev pub TypesSound : ℕ → Type 0
 TypesSound d = (x : Context) → IsSound (TypeOf x) shape_of d (parse_type d x)

@@ -1,9 +1,10 @@
 -- What the check may use: for the readers the laws of the buffer and what unfolds each, for an answer the theorems over
 -- the grammar.
 use Rattle.demangle_text.proofs.Laws.{laws, runs}
-use Rattle.itanium_syntax.proofs.Fronts.{cases}
+use Rattle.itanium_syntax.proofs.Fronts.{cases, names_some}
 use Rattle.itanium_grammar.proofs.Agreement.{one_reading}
-use Rattle.itanium_demangle.proofs.Unfold.{name_opens, no_name, args_opens, no_args, type_opens, no_type, substitution_opens, parameter_opens, unqualified_opens, symbol_opens, nested_opens, kept_scope, some_scope}
+use Rattle.itanium_demangle.proofs.Unfold.{name_opens, no_name, args_opens, no_args, pack_opens, no_pack, type_opens, no_type, substitution_opens, parameter_opens, unqualified_opens, symbol_opens, nested_opens, kept_scope, some_scope}
+use Rattle.itanium_demangle.proofs.Loops.{loop_start}
 use Rattle.itanium_demangle.proofs.Symbols.{reads_as, stands_at_start, no_prefix, not_read}
 
 pub ruleset buffers = (laws, runs)
@@ -14,7 +15,9 @@ pub ruleset substitutions = (buffers, substitution_opens)
 
 pub ruleset parameters = (buffers, parameter_opens)
 
-pub ruleset components = (buffers, kept_scope)
+pub ruleset tags = (buffers, loop_start)
+
+pub ruleset free_names = (fronts, names_some)
 
 pub ruleset unqualified_names = (fronts, unqualified_opens, kept_scope, some_scope)
 
@@ -25,6 +28,10 @@ pub ruleset names = (fronts, name_opens, no_name)
 pub ruleset symbols = (buffers, symbol_opens, reads_as)
 
 pub ruleset argument_lists = (buffers, args_opens, no_args)
+
+pub ruleset packs = (buffers, pack_opens, no_pack)
+
+pub ruleset typed_lists = (fronts)
 
 pub ruleset types = (fronts, type_opens, no_type)
 

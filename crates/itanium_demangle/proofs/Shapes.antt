@@ -7,10 +7,11 @@ use Rattle.demangle_text.specs.Shape.{Shape, plain_shape}
 use Rattle.demangle_text.specs.State.{with_arg, last_args}
 use Rattle.demangle_quals.specs.declared.quals.Quals.{Quals}
 use Rattle.demangle_quals.specs.declared.quals.Pointer.{Pointer}
-use Rattle.demangle_edit.specs.Types.{pointer_shape, cv_shape, array_shape, member_pointer_shape, function_shape}
-use Rattle.demangle_edit.specs.Names.{qualified, qualified_ctor, attached, with_name_qualifiers}
+use Rattle.demangle_edit.specs.Types.{pointer_shape, cv_shape, array_shape, member_pointer_shape, function_shape, expansion_shape}
+use Rattle.demangle_edit.specs.Built.{arguments_shape, pack_shape, lambda_shape}
+use Rattle.demangle_edit.specs.Names.{qualified, qualified_ctor, attached, tagged, with_name_qualifiers}
 use Rattle.itanium_syntax.specs.declared.abbreviations.Abbreviation.{Abbreviation}
-use Rattle.itanium_grammar.specs.Tree.{Tree, plain_text, abbreviation, name_in, ctor_dtor_of, with_args, nested_of, pointer_to, cv_of, array_of, member_of, function_to, elaborated, elaborated_shape, abbreviation_shape, trees, shape_of, shape_each, list_shape, in_scope}
+use Rattle.itanium_grammar.specs.Tree.{Tree, plain_text, abbreviation, name_in, ctor_dtor_of, with_args, nested_of, pointer_to, cv_of, array_of, member_of, function_to, elaborated, elaborated_shape, abbreviation_shape, trees, shape_of, shape_each, in_scope, tagged_with, lambda_of, conversion_to, conversion_shape, pack_of, expansion_of, expanded}
 use Rattle.itanium_grammar.specs.Grammar.{last_of, with_last}
 use Rattle.itanium_demangle.specs.Parser as parser
 use Rattle.itanium_demangle.specs.Parser.{ParserState}
@@ -36,9 +37,9 @@ unfolding shape_of
 shape_each-trees [] = refl
 shape_each-trees (t ∷ ts) = ap (λ us. shape_of t ∷ us) (shape_each-trees ts)
 
-pub shape-with_args : (name : Tree) (list : List Tree) → shape_of (with_args name (trees list)) ≡ attached (shape_of name) (list_shape (map shape_of list))
+pub shape-with_args : (name : Tree) (list : List Tree) → shape_of (with_args name (trees list)) ≡ attached (shape_of name) (arguments_shape (map shape_of list))
 unfolding shape_of
-shape-with_args name list = ap (λ us. attached (shape_of name) (list_shape us)) (shape_each-trees list)
+shape-with_args name list = ap (λ us. attached (shape_of name) (arguments_shape us)) (shape_each-trees list)
 
 pub shape-pointer_to : (kind : Pointer) (t : Tree) → shape_of (pointer_to kind t) ≡ pointer_shape kind (shape_of t)
 unfolding shape_of
@@ -63,6 +64,30 @@ shape-function_to ret params quals = ap (λ us. function_shape (shape_of ret) us
 pub shape-elaborated : (word : List ℕ) (t : Tree) → shape_of (elaborated word t) ≡ elaborated_shape word (shape_of t)
 unfolding shape_of
 shape-elaborated word t = refl
+
+pub shape-tagged_with : (name : Tree) (tag : List ℕ) → shape_of (tagged_with name tag) ≡ tagged (shape_of name) tag
+unfolding shape_of
+shape-tagged_with name tag = refl
+
+pub shape-lambda_of : (params : List Tree) (number : ℕ) → shape_of (lambda_of (trees params) number) ≡ lambda_shape (map shape_of params) number
+unfolding shape_of
+shape-lambda_of params number = ap (λ us. lambda_shape us number) (shape_each-trees params)
+
+pub shape-conversion_to : (t : Tree) → shape_of (conversion_to t) ≡ conversion_shape (shape_of t)
+unfolding shape_of
+shape-conversion_to t = refl
+
+pub shape-pack_of : (list : List Tree) → shape_of (pack_of (trees list)) ≡ pack_shape (map shape_of list)
+unfolding shape_of
+shape-pack_of list = ap pack_shape (shape_each-trees list)
+
+shape-expansion_of : (t : Tree) → shape_of (expansion_of t) ≡ expansion_shape (shape_of t)
+unfolding shape_of
+shape-expansion_of t = refl
+
+pub shape-expanded : (in_pack : Bool) (t : Tree) → shape_of (expanded in_pack t) ≡ (if in_pack then shape_of t else expansion_shape (shape_of t))
+shape-expanded true t = refl
+shape-expanded false t = shape-expansion_of t
 
 pub shape-nested_of : (name : Tree) (quals : Quals) (shown : Bool) → shape_of (nested_of name quals shown) ≡ with_name_qualifiers (shape_of name) quals shown
 unfolding shape_of

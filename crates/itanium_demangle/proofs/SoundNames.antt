@@ -1,24 +1,28 @@
 -- Of names: what the parser reads, the grammar reads.
-use Rattle.std.proofs.Common.{◌≡◌, ◌<◌, ℕ, zero, suc, ◌+◌, max, Bool, true, false, List, map, length, drop, refl, ap, ◌∙◌, sym, arith, Option, Some, None, codes}
+use Rattle.std.proofs.Common.{◌≡◌, ◌<◌, ◌≤◌, ℕ, zero, suc, ◌+◌, max, Bool, true, false, List, map, length, drop, refl, ap, ◌∙◌, sym, arith, Option, Some, None, codes}
 use Rattle.std.proofs.lemmas.Option.{same_Some, option_and_then_some, slice_get-map}
 use Rattle.std.specs.Prelude.{option_map, slice_get, is_some}
 use Rattle.demangle_text.specs.Shape.{Shape, plain_shape}
 use Rattle.itanium_syntax.specs.declared.context.Context.{Context}
 use Rattle.itanium_syntax.specs.declared.numerals.Radix.TheVariants.{Decimal, Base36}
-use Rattle.itanium_syntax.specs.Scalars.{source_name, index_of}
+use Rattle.itanium_syntax.specs.Scalars.{source_name, index_of, unnamed_type_number, lambda_number}
 use Rattle.itanium_syntax.specs.Abbreviations.{abbreviation_of}
-use Rattle.itanium_syntax.specs.Names.{source_text, name_case, unscoped_case, first_case, component_case, unqualified_case, tag_case, substitution_case, past_internal, past_name_quals, saves_first}
+use Rattle.itanium_syntax.specs.Names.{source_text, name_case, unscoped_case, first_case, component_case, unqualified_case, free_case, tag_case, substitution_case, past_internal, past_name_quals, saves_first}
 use Rattle.itanium_syntax.specs.Args.{attached_case}
-use Rattle.itanium_syntax.proofs.Fronts.{initializer_after, after-le}
-use Rattle.itanium_grammar.specs.Tree.{Tree, plain_text, abbreviation, ctor_dtor_of, with_args, trees, shape_of}
-use Rattle.itanium_grammar.specs.Grammar.{Position, Cost, at, skip, save, last_of, past_initializer, both, saving, SubstitutionAs, Substitution, ParameterAs, Parameter, TaggedAs, UnqualifiedAs, Unqualified, FirstAs, NameAs, Name, UnscopedAs, AttachedAs, Nested, Components, ComponentsAs, Args, abbreviation_substitution, component_substitution, substitution, auto_parameter, scope_parameter, parameter, no_tag, source_component, constructor_component, destructor_component, unqualified, parameter_first, std_first, substitution_first, name_first, name, nested_name, unscoped_name, std_name, substitution_name, global_name, none_attached, args_attached, nested, components, end_of_components, args_component, name_component}
+use Rattle.itanium_syntax.proofs.Fronts.{initializer_after, after_drop, source_takes, after-le}
+use Rattle.itanium_grammar.specs.Tree.{Tree, plain_text, abbreviation, ctor_dtor_of, tagged_with, with_args, trees, shape_of}
+use Rattle.itanium_grammar.specs.Grammar.{Position, Cost, at, skip, save, last_of, past_initializer, both, saving, SubstitutionAs, Substitution, ParameterAs, Parameter, TaggedAs, FreeAs, UnqualifiedAs, Unqualified, FirstAs, NameAs, Name, UnscopedAs, AttachedAs, Nested, Components, ComponentsAs, Args, abbreviation_substitution, component_substitution, substitution, auto_parameter, scope_parameter, parameter, no_tag, next_tag, source_free, unnamed_type_free, lambda_free, conversion_free, literal_operator_free, operator_free, constructor_component, destructor_component, free_component, unqualified, parameter_first, std_first, substitution_first, name_first, name, nested_name, unscoped_name, std_name, substitution_name, global_name, none_attached, args_attached, nested, components, end_of_components, args_component, name_component}
 use Rattle.itanium_grammar.proofs.Progress.{unqualified_takes, args_takes}
-use Rattle.itanium_demangle.specs.Cases.{SubstitutionCase, AbbreviationSubstitution, ComponentSubstitution, TagCase, NoTag, NextTag, UnqualifiedCase, SourceName, ConstructorName, DestructorName, OtherName, FirstCase, ParameterFirst, StdFirst, SubstitutionFirst, NameFirst, NameCase, NestedName, LocalName, UnscopedName, UnscopedCase, StdName, SubstitutionName, PlainName, AttachedCase, NoneAttached, ArgsAttached, ComponentCase, EndOfComponents, ArgsComponent, NameComponent}
-use Rattle.itanium_demangle.specs.Parser.{ParserState, after_turn, loop, ◌>>=◌, next_component, parse_source, substitution_as, parse_substitution, parameter_as, parse_parameter, tagged_as, ctor_dtor_as, unqualified_as, parse_unqualified, first_as, attached_by, attached_as, template_as, unscoped_as, component_as, component_turn, parse_components, parse_nested, name_as, parse_name, parse_args}
+use Rattle.itanium_demangle.specs.Cases.{SubstitutionCase, AbbreviationSubstitution, ComponentSubstitution, TagCase, NoTag, NextTag, UnqualifiedCase, ConstructorName, DestructorName, FreeName, FreeCase, SourceName, UnnamedTypeName, LambdaName, ConversionName, LiteralOperatorName, OperatorName, NoName, FirstCase, ParameterFirst, StdFirst, SubstitutionFirst, NameFirst, NameCase, NestedName, LocalName, UnscopedName, UnscopedCase, StdName, SubstitutionName, PlainName, AttachedCase, NoneAttached, ArgsAttached, ComponentCase, EndOfComponents, ArgsComponent, NameComponent}
+use Rattle.itanium_demangle.specs.Parser.{ParserState, Turn, after_turn, loop, ◌>>=◌, next_component, substitution_as, parse_substitution, parameter_as, parse_parameter, tag_as, tag_turn, parse_tags, typed_params_as, free_as, parse_free, ctor_dtor_as, unqualified_as, parse_unqualified, first_as, attached_by, attached_as, template_as, unscoped_as, component_as, component_turn, parse_components, parse_nested, name_as, parse_name, parse_args, parse_type}
 use Rattle.itanium_demangle.specs.Outcome.{state_at}
-use Rattle.itanium_demangle.proofs.Shapes.{one_more, some-map, last-map, shape-plain_text, shape-ctor_dtor_of, shape-with_args}
-use Rattle.itanium_demangle.proofs.Readings.{Within, Found, given, ArgsSound, ArgsComplete, NamesSound}
-use Rattle.itanium_demangle.proofs.CompleteNames.{substitution_complete, parameter_complete, unqualified_complete, first_complete, components_complete, names_complete}
+use Rattle.itanium_demangle.proofs.Shapes.{one_more, some-map, last-map, shape-plain_text, shape-ctor_dtor_of, shape-tagged_with, shape-with_args}
+use Rattle.itanium_demangle.proofs.Readings.{Within, Found, given, ArgsSound, ArgsComplete, TypesSound, TypesComplete, NamesSound}
+use Rattle.itanium_demangle.proofs.CompleteNames.{substitution_complete, parameter_complete, free_complete, unqualified_complete, first_complete, components_complete, names_complete}
+use Rattle.itanium_syntax.specs.Types.{params_case}
+use Rattle.itanium_syntax.specs.Operators.{operator_here}
+use Rattle.itanium_syntax.specs.Context.{inside_lambda}
+use Rattle.itanium_demangle.proofs.SoundLists.{typed_params_sound}
 
 -- a reading that isn't counted, and the answer y is what it gives
 pub record Free (R : Tree → Position → Type 0) (e m : ℕ) (y : Shape × ParserState) : Type 0 where
@@ -80,14 +84,35 @@ parameter_sound x p e m y is =
     whole : {t : Tree} {q : Position} → Parameter x p t q → parse_parameter x (state_at p e m) ≡ Some (shape_of t, state_at q e m)
     whole r = parameter_complete r e m
 
+-- tags up to their end, in n turns
 record Tagged (case : TagCase) (t : Tree) (p : Position) : Type 0 where
   tree : Tree
   next : Position
   reading : TaggedAs case t p tree next
 
-tagged_sound : (case : TagCase) (t : Tree) (p : Position) (e m : ℕ) (y : Shape × ParserState) → tagged_as case (shape_of t) (state_at p e m) ≡ Some y → Tagged case t p
-tagged_sound NoTag t p e m y is = record { tree = t; next = p; reading = no_tag }
-tagged_sound NextTag t p e m y is = cc
+abbrev TagsSound : ℕ → Type 0
+TagsSound n = (t : Tree) (p : Position) (e m : ℕ) (y : Shape × ParserState) → length p.rest < n → loop tag_turn n (shape_of t) (state_at p e m) ≡ Some y → Tagged (tag_case p.rest) t p
+
+tag_as_sound : (n : ℕ) → TagsSound n → (case : TagCase) (t : Tree) (p : Position) (e m : ℕ) (y : Shape × ParserState) → length p.rest < suc n
+    → (tag_as case (shape_of t) (state_at p e m) >>= λ r. after_turn r.0 (loop tag_turn n) r.1) ≡ Some y → Tagged case t p
+tag_as_sound n again NoTag t p e m y room is = record { tree = t; next = p; reading = no_tag }
+tag_as_sound n again NextTag t p e m y room is =
+    option_and_then_some _ (tag_as NextTag (shape_of t) (state_at p e m)) y is (λ v turned rest.
+    option_and_then_some _ (source_name (drop 1 p.rest)) v turned (λ b found made.
+    let shorter = (source_takes (drop 1 p.rest) b found).shorter in
+    let within = after-le (after_drop 1 p.rest) in
+    let there = rw (← same_Some _ _ made, ← shape-tagged_with t (source_text b.0)) at rest in
+    let i = again (tagged_with t (source_text b.0)) (at b.1 p) e m y (omega arith) there in
+    record { tree = i.tree; next = i.next; reading = next_tag found i.reading }))
+
+tags_sound : (n : ℕ) → TagsSound n
+unfolding loop tag_turn
+tags_sound zero t p e m y room is = cc
+tags_sound (suc n) t p e m y room is = tag_as_sound n (tags_sound n) (tag_case p.rest) t p e m y room is
+
+-- a name with its tags
+parse_tags_sound : (t : Tree) (p : Position) (e m : ℕ) (y : Shape × ParserState) → parse_tags (shape_of t) (state_at p e m) ≡ Some y → Tagged (tag_case p.rest) t p
+parse_tags_sound t p e m y is = tags_sound (length p.rest + 1) t p e m y (omega arith) is
 
 -- the source name that a reading begins with
 pub source_is : (p : Position) (e m : ℕ) (x : Shape × ParserState) (b : List ℕ × List ℕ) → ◌≡◌ {A = Option (Shape × ParserState)} (Some (plain_shape (source_text b.0), state_at (at b.1 p) e m)) (Some x)
@@ -96,47 +121,80 @@ source_is p e m x b made = sym (same_Some _ _ made) ∙ ap (λ v. (v, state_at (
 
 ctor_dtor_sound : (destructor : Bool) (scope : Tree) (p : Position) (e m : ℕ) (y : Shape × ParserState) → ctor_dtor_as destructor (Some (shape_of scope)) (state_at p e m) ≡ Some y
     → Tagged (tag_case (drop 2 p.rest)) (ctor_dtor_of scope destructor) (skip 2 p)
-ctor_dtor_sound destructor scope p e m y is =
-    tagged_sound (tag_case (drop 2 p.rest)) (ctor_dtor_of scope destructor) (skip 2 p) e m y (rw (shape-ctor_dtor_of scope destructor) is)
+ctor_dtor_sound destructor scope p e m y is = parse_tags_sound (ctor_dtor_of scope destructor) (skip 2 p) e m y (rw (shape-ctor_dtor_of scope destructor) is)
 
-unqualified_as_sound : (d : ℕ) (case : UnqualifiedCase) (x : Context) (scope : Option Tree) (p : Position) (e m : ℕ) (y : Shape × ParserState)
-    → unqualified_as case (option_map shape_of scope) (state_at p e m) ≡ Some y → Within (UnqualifiedAs case x scope p) d
-unqualified_as_sound d OtherName x scope p e m y is = cc
-unqualified_as_sound d ConstructorName x None p e m y is = cc
-unqualified_as_sound d ConstructorName x (Some scope) p e m y is =
-    let t = ctor_dtor_sound false scope p e m y is in record { tree = _; next = _; cost = _; reading = constructor_component t.reading; deep = omega arith }
-unqualified_as_sound d DestructorName x None p e m y is = cc
-unqualified_as_sound d DestructorName x (Some scope) p e m y is =
-    let t = ctor_dtor_sound true scope p e m y is in record { tree = _; next = _; cost = _; reading = destructor_component t.reading; deep = omega arith }
-unqualified_as_sound d SourceName x scope p e m y is =
-    option_and_then_some _ (parse_source (state_at p e m)) y is (λ source first more.
-    option_and_then_some _ (source_name p.rest) source first (λ b found made.
-    let there = rw (source_is p e m source b made) at more in
-    option_and_then_some _ (tagged_as (tag_case b.1) (shape_of (plain_text (source_text b.0))) (state_at (at b.1 p) e m)) y there (λ z tags _.
-    let t = tagged_sound (tag_case b.1) (plain_text (source_text b.0)) (at b.1 p) e m z tags in
-    record { tree = _; next = _; cost = _; reading = source_component found t.reading; deep = omega arith })))
+module _ (d : ℕ) (complete : TypesComplete d) (lists_are : ArgsComplete d) (kinds : TypesSound d) where
+  free_sound : (case : FreeCase) (x : Context) (p : Position) (e m : ℕ) (y : Shape × ParserState)
+      → free_as case (parse_type d x) (parse_type d (inside_lambda x)) (state_at p e m) ≡ Some y → Found (FreeAs case x p) shape_of d e m y
+  free_sound NoName x p e m y is = cc
+  free_sound SourceName x p e m y is =
+      option_and_then_some _ (source_name p.rest) y is (λ b found _.
+      let w : Within (FreeAs SourceName x p) d = record { tree = _; next = _; cost = _; reading = source_free found; deep = omega arith } in
+      record { within = w; is = same_Some _ _ (sym is ∙ free_complete d lists_are complete w.reading w.deep e m) })
+  free_sound UnnamedTypeName x p e m y is =
+      option_and_then_some _ (unnamed_type_number (drop 2 p.rest)) y is (λ b found _.
+      let w : Within (FreeAs UnnamedTypeName x p) d = record { tree = _; next = _; cost = _; reading = unnamed_type_free found; deep = omega arith } in
+      record { within = w; is = same_Some _ _ (sym is ∙ free_complete d lists_are complete w.reading w.deep e m) })
+  free_sound LambdaName x p e m y is =
+      option_and_then_some _ (typed_params_as (params_case (drop 2 p.rest)) (parse_type d (inside_lambda x)) (plain_shape (codes "{lambda(")) (state_at (skip 2 p) e m)) y is (λ z params ends.
+      let listed = typed_params_sound d complete kinds (params_case (drop 2 p.rest)) (inside_lambda x) (plain_shape (codes "{lambda(")) (skip 2 p) e m z params in
+      let o = listed.within in
+      let there = rw listed.is at ends in
+      option_and_then_some _ (lambda_number (drop 1 o.next.rest)) y there (λ b found _.
+      let w : Within (FreeAs LambdaName x p) d = record { tree = _; next = _; cost = _; reading = lambda_free o.reading found; deep = omega (arith, o.deep) } in
+      record { within = w; is = same_Some _ _ (sym is ∙ free_complete d lists_are complete w.reading w.deep e m) }))
+  free_sound ConversionName x p e m y is =
+      option_and_then_some _ (parse_type d x (state_at (skip 2 p) e m)) y is (λ z inner _.
+      let i = (kinds x (skip 2 p) e m z inner).within in
+      let w : Within (FreeAs ConversionName x p) d = record { tree = _; next = _; cost = _; reading = conversion_free i.reading; deep = omega (arith, i.deep) } in
+      record { within = w; is = same_Some _ _ (sym is ∙ free_complete d lists_are complete w.reading w.deep e m) })
+  free_sound LiteralOperatorName x p e m y is =
+      option_and_then_some _ (source_name (drop 2 p.rest)) y is (λ b found _.
+      let w : Within (FreeAs LiteralOperatorName x p) d = record { tree = _; next = _; cost = _; reading = literal_operator_free found; deep = omega arith } in
+      record { within = w; is = same_Some _ _ (sym is ∙ free_complete d lists_are complete w.reading w.deep e m) })
+  free_sound OperatorName x p e m y is =
+      option_and_then_some _ (operator_here p.rest) y is (λ b found _.
+      let w : Within (FreeAs OperatorName x p) d = record { tree = _; next = _; cost = _; reading = operator_free found; deep = omega arith } in
+      record { within = w; is = same_Some _ _ (sym is ∙ free_complete d lists_are complete w.reading w.deep e m) })
 
-pub unqualified_sound : (d : ℕ) (x : Context) (scope : Option Tree) (p : Position) (e m : ℕ) (y : Shape × ParserState)
-    → parse_unqualified (option_map shape_of scope) (state_at p e m) ≡ Some y → Found (Unqualified x scope p) shape_of d e m y
-unfolding parse_unqualified
-unqualified_sound d x scope p e m y is =
-    let r = unqualified_as_sound d (unqualified_case (is_some scope) (past_internal p.rest)) x scope (at (past_internal p.rest) p) e m y (rw (some-map scope) at is) in
-    let w : Within (Unqualified x scope p) d = record { tree = _; next = _; cost = _; reading = unqualified r.reading; deep = r.deep } in
-    record { within = w; is = same_Some _ _ (sym is ∙ whole w.reading) }
-  where
-    whole : {t : Tree} {q : Position} {c : Cost} → Unqualified x scope p t q c → parse_unqualified (option_map shape_of scope) (state_at p e m) ≡ given shape_of t q c e m
-    whole a = unqualified_complete a e m
+  unqualified_as_sound : (case : UnqualifiedCase) (x : Context) (scope : Option Tree) (p : Position) (e m : ℕ) (y : Shape × ParserState)
+      → unqualified_as case (parse_type d x) (parse_type d (inside_lambda x)) (option_map shape_of scope) (state_at p e m) ≡ Some y → Within (UnqualifiedAs case x scope p) d
+  unqualified_as_sound ConstructorName x None p e m y is = cc
+  unqualified_as_sound ConstructorName x (Some scope) p e m y is =
+      let t = ctor_dtor_sound false scope p e m y is in record { tree = _; next = _; cost = _; reading = constructor_component t.reading; deep = omega arith }
+  unqualified_as_sound DestructorName x None p e m y is = cc
+  unqualified_as_sound DestructorName x (Some scope) p e m y is =
+      let t = ctor_dtor_sound true scope p e m y is in record { tree = _; next = _; cost = _; reading = destructor_component t.reading; deep = omega arith }
+  unqualified_as_sound FreeName x scope p e m y is =
+      option_and_then_some _ (parse_free (parse_type d x) (parse_type d (inside_lambda x)) (state_at p e m)) y is (λ v named _.
+      option_and_then_some _ (free_as (free_case p.rest) (parse_type d x) (parse_type d (inside_lambda x)) (state_at p e m)) v named (λ z first tags.
+      let found = free_sound (free_case p.rest) x p e m z first in
+      let i = found.within in
+      let t = parse_tags_sound i.tree i.next (e + i.cost.count) (max m i.cost.peak) v (rw found.is at tags) in
+      record { tree = _; next = _; cost = _; reading = free_component i.reading t.reading; deep = omega (arith, i.deep) }))
 
-first_sound : (d : ℕ) (case : FirstCase) (x : Context) (p : Position) (e m : ℕ) (y : Shape × ParserState) → first_as case x (state_at p e m) ≡ Some y → Within (FirstAs case x p) d
-first_sound d ParameterFirst x p e m y is =
-    option_and_then_some _ (parse_parameter x (state_at p e m)) y is (λ z found _.
-    let i = parameter_sound x p e m z found in record { tree = _; next = _; cost = _; reading = parameter_first i.reading; deep = omega arith })
-first_sound d SubstitutionFirst x p e m y is =
-    let i = substitution_sound p e m y is in record { tree = _; next = _; cost = _; reading = substitution_first i.reading; deep = omega arith }
-first_sound d StdFirst x p e m y is = record { tree = _; next = _; cost = _; reading = std_first; deep = omega arith }
-first_sound d NameFirst x p e m y is =
-    option_and_then_some _ (parse_unqualified None (state_at p e m)) y is (λ z named _.
-    let i = (unqualified_sound d x None p e m z named).within in record { tree = _; next = _; cost = _; reading = name_first i.reading; deep = omega (arith, i.deep) })
+  pub unqualified_sound : (x : Context) (scope : Option Tree) (p : Position) (e m : ℕ) (y : Shape × ParserState)
+      → parse_unqualified (parse_type d x) (parse_type d (inside_lambda x)) (option_map shape_of scope) (state_at p e m) ≡ Some y → Found (Unqualified x scope p) shape_of d e m y
+  unfolding parse_unqualified
+  unqualified_sound x scope p e m y is =
+      let r = unqualified_as_sound (unqualified_case (is_some scope) (past_internal p.rest)) x scope (at (past_internal p.rest) p) e m y (rw (some-map scope) at is) in
+      let w : Within (Unqualified x scope p) d = record { tree = _; next = _; cost = _; reading = unqualified r.reading; deep = r.deep } in
+      record { within = w; is = same_Some _ _ (sym is ∙ whole w.reading w.deep) }
+    where
+      whole : {t : Tree} {q : Position} {c : Cost} → Unqualified x scope p t q c → c.depth ≤ d
+          → parse_unqualified (parse_type d x) (parse_type d (inside_lambda x)) (option_map shape_of scope) (state_at p e m) ≡ given shape_of t q c e m
+      whole a deep = unqualified_complete d lists_are complete a deep e m
+
+  first_sound : (case : FirstCase) (x : Context) (p : Position) (e m : ℕ) (y : Shape × ParserState) → first_as case (parse_unqualified (parse_type d x) (parse_type d (inside_lambda x))) x (state_at p e m) ≡ Some y → Within (FirstAs case x p) d
+  first_sound ParameterFirst x p e m y is =
+      option_and_then_some _ (parse_parameter x (state_at p e m)) y is (λ z found _.
+      let i = parameter_sound x p e m z found in record { tree = _; next = _; cost = _; reading = parameter_first i.reading; deep = omega arith })
+  first_sound SubstitutionFirst x p e m y is =
+      let i = substitution_sound p e m y is in record { tree = _; next = _; cost = _; reading = substitution_first i.reading; deep = omega arith }
+  first_sound StdFirst x p e m y is = record { tree = _; next = _; cost = _; reading = std_first; deep = omega arith }
+  first_sound NameFirst x p e m y is =
+      option_and_then_some _ (parse_unqualified (parse_type d x) (parse_type d (inside_lambda x)) None (state_at p e m)) y is (λ z named _.
+      let i = (unqualified_sound x None p e m z named).within in record { tree = _; next = _; cost = _; reading = name_first i.reading; deep = omega (arith, i.deep) })
 
 -- a list of arguments after a tree, and the answer y is what the tree with them gives
 pub record Attached (x : Context) (of_name : Bool) (name : Tree) (p : Position) (d e m : ℕ) (y : Shape × ParserState) : Type 0 where
@@ -156,7 +214,7 @@ record Templated (case : AttachedCase) (x : Context) (t : Tree) (p : Position) (
   case_is : case ≡ ArgsAttached
   within : Within (Args x true p) d
 
-module _ (d : ℕ) (lists : ArgsSound d) where
+module _ (d : ℕ) (complete : TypesComplete d) (lists_are : ArgsComplete d) (kinds : TypesSound d) (lists : ArgsSound d) where
   attached_as_sound : (case : AttachedCase) (x : Context) (t : Tree) (p : Position) (e m : ℕ) (y : Shape × ParserState)
       → attached_as case (parse_args d x true) (shape_of t) (state_at p e m) ≡ Some y → Within (AttachedAs case x t p) d
   attached_as_sound NoneAttached x t p e m y is = record { tree = _; next = _; cost = _; reading = none_attached; deep = omega arith }
@@ -170,21 +228,21 @@ module _ (d : ℕ) (lists : ArgsSound d) where
   template_sound ArgsAttached x t p e m y is = record { case_is = refl; within = (attached_sound d lists x true t p e m y is).within }
 
   unscoped_sound : (case : UnscopedCase) (x : Context) (p : Position) (e m : ℕ) (y : Shape × ParserState)
-      → unscoped_as case (parse_args d x true) (state_at p e m) ≡ Some y → Within (UnscopedAs case x p) d
+      → unscoped_as case (parse_unqualified (parse_type d x) (parse_type d (inside_lambda x))) (parse_args d x true) (state_at p e m) ≡ Some y → Within (UnscopedAs case x p) d
   unscoped_sound SubstitutionName x p e m y is =
       option_and_then_some _ (parse_substitution (state_at p e m)) y is (λ z first more.
       let i = substitution_sound p e m z first in
       let l = template_sound (attached_case i.next.rest) x i.tree i.next e m y (rw i.is at more) in
       record { tree = _; next = _; cost = _; reading = substitution_name i.reading l.case_is l.within.reading; deep = l.within.deep })
   unscoped_sound StdName x p e m y is =
-      option_and_then_some _ (parse_unqualified (Some (plain_shape (codes "std"))) (state_at (skip 2 p) e m)) y is (λ z first more.
-      let found = unqualified_sound d x (Some (plain_text (codes "std"))) (skip 2 p) e m z (rw (shape-plain_text (codes "std")) first) in
+      option_and_then_some _ (parse_unqualified (parse_type d x) (parse_type d (inside_lambda x)) (Some (plain_shape (codes "std"))) (state_at (skip 2 p) e m)) y is (λ z first more.
+      let found = unqualified_sound d complete lists_are kinds x (Some (plain_text (codes "std"))) (skip 2 p) e m z (rw (shape-plain_text (codes "std")) first) in
       let i = found.within in
       let l = attached_as_sound (attached_case i.next.rest) x i.tree i.next (e + i.cost.count) (max m i.cost.peak) y (rw found.is at more) in
       record { tree = _; next = _; cost = _; reading = std_name i.reading l.reading; deep = omega (arith, i.deep, l.deep) })
   unscoped_sound PlainName x p e m y is =
-      option_and_then_some _ (parse_unqualified None (state_at p e m)) y is (λ z first more.
-      let found = unqualified_sound d x None p e m z first in
+      option_and_then_some _ (parse_unqualified (parse_type d x) (parse_type d (inside_lambda x)) None (state_at p e m)) y is (λ z first more.
+      let found = unqualified_sound d complete lists_are kinds x None p e m z first in
       let i = found.within in
       let l = attached_as_sound (attached_case i.next.rest) x i.tree i.next (e + i.cost.count) (max m i.cost.peak) y (rw found.is at more) in
       record { tree = _; next = _; cost = _; reading = global_name i.reading l.reading; deep = omega (arith, i.deep, l.deep) })
@@ -192,11 +250,11 @@ module _ (d : ℕ) (lists : ArgsSound d) where
 -- the components after what stands, in n turns
 abbrev ComponentsSound : ℕ → ℕ → Type 0
 ComponentsSound d n = (x : Context) (takes : Bool) (t : Tree) (p : Position) (e m : ℕ) (y : Shape × ParserState) → length p.rest < n
-    → loop (component_turn (parse_args d x true)) n (takes, shape_of t) (state_at p e m) ≡ Some y → Found (Components x takes t p) shape_of d e m y
+    → loop (component_turn (parse_unqualified (parse_type d x) (parse_type d (inside_lambda x))) (parse_args d x true)) n (takes, shape_of t) (state_at p e m) ≡ Some y → Found (Components x takes t p) shape_of d e m y
 
-module _ (d : ℕ) (complete : ArgsComplete d) (lists : ArgsSound d) where
+module _ (d : ℕ) (complete : TypesComplete d) (lists_are : ArgsComplete d) (kinds : TypesSound d) (lists : ArgsSound d) where
   component_sound : (n : ℕ) → ComponentsSound d n → (case : ComponentCase) (x : Context) (takes : Bool) (t : Tree) (p : Position) (e m : ℕ) (y : Shape × ParserState) → length p.rest < suc n
-      → (component_as case (parse_args d x true) (takes, shape_of t) (state_at p e m) >>= λ r. after_turn r.0 (loop (component_turn (parse_args d x true)) n) r.1) ≡ Some y
+      → (component_as case (parse_unqualified (parse_type d x) (parse_type d (inside_lambda x))) (parse_args d x true) (takes, shape_of t) (state_at p e m) >>= λ r. after_turn r.0 (loop (component_turn (parse_unqualified (parse_type d x) (parse_type d (inside_lambda x))) (parse_args d x true)) n) r.1) ≡ Some y
       → Within (ComponentsAs case x takes t p) d
   component_sound n again EndOfComponents x takes t p e m y room is = record { tree = _; next = _; cost = _; reading = end_of_components; deep = omega arith }
   component_sound n again ArgsComponent x takes t p e m y room is =
@@ -211,9 +269,9 @@ module _ (d : ℕ) (complete : ArgsComplete d) (lists : ArgsSound d) where
       let o = (again x true whole (past_initializer (save whole i.next)) (e + i.cost.count) (max (max m i.cost.peak) (length (map shape_of i.next.saved) + 1)) y (omega arith) there).within in
       record { tree = o.tree; next = o.next; cost = both i.cost (both (saving i.next) o.cost); reading = args_component {r = o.next} {v = o.tree} {d = o.cost} i.reading o.reading; deep = omega (arith, i.deep, o.deep) }))
   component_sound n again NameComponent x takes t p e m y room is =
-      option_and_then_some _ (parse_unqualified (Some (shape_of t)) (state_at p e m) >>= next_component) y is (λ v turned rest.
-      option_and_then_some _ (parse_unqualified (Some (shape_of t)) (state_at p e m)) v turned (λ z named made.
-      let found = unqualified_sound d x (Some t) p e m z named in
+      option_and_then_some _ (parse_unqualified (parse_type d x) (parse_type d (inside_lambda x)) (Some (shape_of t)) (state_at p e m) >>= next_component) y is (λ v turned rest.
+      option_and_then_some _ (parse_unqualified (parse_type d x) (parse_type d (inside_lambda x)) (Some (shape_of t)) (state_at p e m)) v turned (λ z named made.
+      let found = unqualified_sound d complete lists_are kinds x (Some t) p e m z named in
       let i = found.within in
       let shorter = (unqualified_takes i.reading).shorter in
       let within = after-le (initializer_after i.next.rest) in
@@ -227,32 +285,32 @@ module _ (d : ℕ) (complete : ArgsComplete d) (lists : ArgsSound d) where
   components_sound (suc n) x takes t p e m y room is =
       let r = component_sound n (components_sound n) (component_case p.rest) x takes t p e m y room is in
       let w : Within (Components x takes t p) d = record { tree = _; next = _; cost = _; reading = components r.reading; deep = r.deep } in
-      record { within = w; is = same_Some _ _ (sym is ∙ components_complete d complete w.reading w.deep e m (suc n) room) }
+      record { within = w; is = same_Some _ _ (sym is ∙ components_complete d lists_are complete w.reading w.deep e m (suc n) room) }
 
-  nested_sound : (x : Context) (p : Position) (e m : ℕ) (y : Shape × ParserState) → parse_nested (parse_args d x true) x (state_at p e m) ≡ Some y → Within (Nested x p) d
+  nested_sound : (x : Context) (p : Position) (e m : ℕ) (y : Shape × ParserState) → parse_nested (parse_unqualified (parse_type d x) (parse_type d (inside_lambda x))) (parse_args d x true) x (state_at p e m) ≡ Some y → Within (Nested x p) d
   unfolding parse_nested
   nested_sound x p e m y is =
       let begun = at (past_name_quals p.rest) p in
       let case = first_case (past_name_quals p.rest) in
-      option_and_then_some _ (first_as case x (state_at begun e m)) y is (λ z first more.
-      let i = first_sound d case x begun e m z first in
-      let is_z : z ≡ (shape_of i.tree, state_at i.next (e + i.cost.count) (max m i.cost.peak)) = same_Some _ _ (sym first ∙ first_complete i.reading e m) in
+      option_and_then_some _ (first_as case (parse_unqualified (parse_type d x) (parse_type d (inside_lambda x))) x (state_at begun e m)) y is (λ z first more.
+      let i = first_sound d complete lists_are kinds case x begun e m z first in
+      let is_z : z ≡ (shape_of i.tree, state_at i.next (e + i.cost.count) (max m i.cost.peak)) = same_Some _ _ (sym first ∙ first_complete d lists_are complete i.reading i.deep e m) in
       let there = rw is_z at more in
-      option_and_then_some _ (parse_components (parse_args d x true) (saves_first case) (shape_of i.tree) (state_at (past_initializer i.next) (e + i.cost.count) (max m i.cost.peak))) y there (λ v rest _.
+      option_and_then_some _ (parse_components (parse_unqualified (parse_type d x) (parse_type d (inside_lambda x))) (parse_args d x true) (saves_first case) (shape_of i.tree) (state_at (past_initializer i.next) (e + i.cost.count) (max m i.cost.peak))) y there (λ v rest _.
       let o = (components_sound (length (past_initializer i.next).rest + 1) x (saves_first case) i.tree (past_initializer i.next) (e + i.cost.count) (max m i.cost.peak) v (omega arith) rest).within in
       record { tree = _; next = o.next; cost = _; reading = nested i.reading o.reading; deep = omega (arith, i.deep, o.deep) }))
 
   name_as_sound : (case : NameCase) (x : Context) (p : Position) (e m : ℕ) (y : Shape × ParserState)
-      → name_as case (parse_args d x true) x (state_at p e m) ≡ Some y → Within (NameAs case x p) d
+      → name_as case (parse_unqualified (parse_type d x) (parse_type d (inside_lambda x))) (parse_args d x true) x (state_at p e m) ≡ Some y → Within (NameAs case x p) d
   name_as_sound NestedName x p e m y is =
       let i = nested_sound x (skip 1 p) e m y is in record { tree = _; next = _; cost = _; reading = nested_name i.reading; deep = i.deep }
   name_as_sound LocalName x p e m y is = cc
   name_as_sound UnscopedName x p e m y is =
-      let i = unscoped_sound d lists (unscoped_case p.rest) x p e m y is in record { tree = _; next = _; cost = _; reading = unscoped_name i.reading; deep = i.deep }
+      let i = unscoped_sound d complete lists_are kinds lists (unscoped_case p.rest) x p e m y is in record { tree = _; next = _; cost = _; reading = unscoped_name i.reading; deep = i.deep }
 
-pub names_sound : (d : ℕ) → ArgsComplete d → ArgsSound d → NamesSound (suc d)
+pub names_sound : (d : ℕ) → ArgsComplete d → TypesComplete d → ArgsSound d → TypesSound d → NamesSound (suc d)
 unfolding parse_name
-names_sound d complete lists x p e m y is =
-    let r = name_as_sound d complete lists (name_case p.rest) x p (e + 1) m y is in
+names_sound d lists_are complete lists kinds x p e m y is =
+    let r = name_as_sound d complete lists_are kinds lists (name_case p.rest) x p (e + 1) m y is in
     let w : Within (Name x p) (suc d) = record { tree = _; next = _; cost = _; reading = name r.reading; deep = omega (arith, r.deep) } in
-    record { within = w; is = same_Some _ _ (sym is ∙ names_complete d complete x _ _ _ _ w.reading w.deep e m) }
+    record { within = w; is = same_Some _ _ (sym is ∙ names_complete d lists_are complete x _ _ _ _ w.reading w.deep e m) }

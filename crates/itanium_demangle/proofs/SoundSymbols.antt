@@ -9,19 +9,24 @@ use Rattle.itanium_grammar.specs.Grammar.{Position, SymbolAs, Symbol, name_symbo
 use Rattle.itanium_demangle.specs.Cases.{SymbolCase, SpecialSymbol, NameSymbol}
 use Rattle.itanium_demangle.specs.Parser.{ParserState, parse_name, symbol_as, parse_symbol}
 use Rattle.itanium_demangle.specs.Outcome.{state_at}
-use Rattle.itanium_demangle.proofs.Readings.{Within, Found, NamesSound, ArgsSound, TypesSound}
+use Rattle.itanium_demangle.proofs.Readings.{Within, Found, NamesSound, ArgsSound, PacksSound, TypesSound}
 use Rattle.itanium_demangle.proofs.CompleteSymbols.{all_complete, symbol_complete}
 use Rattle.itanium_demangle.proofs.SoundNames.{names_sound}
-use Rattle.itanium_demangle.proofs.SoundArgs.{args_sound}
+use Rattle.itanium_demangle.proofs.SoundArgs.{args_sound, packs_sound}
 use Rattle.itanium_demangle.proofs.SoundTypes.{types_sound_at}
 
-all_sound : (d : ℕ) → NamesSound d × ArgsSound d × TypesSound d
+all_sound : (d : ℕ) → NamesSound d × ArgsSound d × PacksSound d × TypesSound d
 unfolding parse_name
-all_sound zero = (λ x p e m y is. cc, λ x of_name p e m y is. cc, λ x p e m y is. cc)
+all_sound zero = (λ x p e m y is. cc, λ x of_name p e m y is. cc, λ x p e m y is. cc, λ x p e m y is. cc)
 all_sound (suc d) =
-    let (names_are, lists_are, kinds_are) = all_complete d in
-    let (names, lists, kinds) = all_sound d in
-    (names_sound d lists_are lists, args_sound d kinds_are kinds, types_sound_at d kinds_are names_are lists_are kinds names lists)
+    let (names_are, lists_are, packs_are, kinds_are) = all_complete d in
+    let (names, lists, packs, kinds) = all_sound d in
+    (
+      names_sound d lists_are kinds_are lists kinds,
+      args_sound d packs_are kinds_are packs kinds,
+      packs_sound d packs_are kinds_are packs kinds,
+      types_sound_at d kinds_are names_are lists_are kinds names lists,
+    )
 
 symbol_as_sound : (d : ℕ) (case : SymbolCase) (x : Context) (p : Position) (e m : ℕ) (y : Shape × ParserState) → symbol_as case d x (state_at p e m) ≡ Some y → Within (SymbolAs case x p) d
 symbol_as_sound d SpecialSymbol x p e m y is = cc

@@ -12,7 +12,7 @@ use Rattle.itanium_syntax.specs.Names.{source_text}
 use Rattle.itanium_syntax.specs.Args.{attached_case}
 use Rattle.itanium_syntax.specs.Types.{type_case, cv_case, function_case, params_case, types_case, cv_quals, past_cv, with_reference}
 use Rattle.itanium_grammar.specs.Tree.{Tree, plain_text, shape_of}
-use Rattle.itanium_grammar.specs.Grammar.{Position, at, skip, save, TypeOf, TypeAs, CvAs, Function, ParamsAs, Types, TypesAs, TypeAttachedAs, type, builtin_type, vendor_type, array_type, function_type, member_type, pointer_type, cv_type, elaborated_type, parameter_type, substitution_type, name_type, cv_function, cv_other, function, no_params, some_params, types, end_of_types, one_more_type, none_attached_to_type, args_attached_to_type}
+use Rattle.itanium_grammar.specs.Grammar.{Position, at, skip, save, TypeOf, TypeAs, CvAs, Function, ParamsAs, TypesAs, TypeAttachedAs, type, builtin_type, expansion_type, vendor_type, array_type, function_type, member_type, pointer_type, cv_type, elaborated_type, parameter_type, substitution_type, name_type, cv_function, cv_other, function, no_params, some_params, end_of_types, one_more_type, none_attached_to_type, args_attached_to_type}
 use Rattle.itanium_grammar.proofs.Progress.{type_takes}
 use Rattle.itanium_demangle.specs.Cases.{TypeCase, BuiltinType, ExpansionType, VendorType, ArrayType, FunctionType, MemberType, PointerType, CvType, ElaboratedType, ParameterType, SubstitutionType, UnreadType, NameType, CvCase, CvFunction, CvOther, FunctionCase, ExternFunction, PlainFunction, ParamsCase, NoParams, SomeParams, TypesCase, EndOfTypes, NextType, AttachedCase, NoneAttached, ArgsAttached}
 use Rattle.itanium_demangle.specs.Parser.{ParserState, after_turn, loop, ◌>>=◌, parse_source, parse_parameter, saved_parameter, parse_substitution, attached_by, type_attached_as, types_as, types_turn, params_as, function_as, parse_function, cv_as, vendor_as, type_as, parse_name, parse_args, parse_type}
@@ -33,7 +33,7 @@ type_attached_sound d lists ArgsAttached x t p e m y is =
 -- types up to their end, after those that stand in front, in n turns
 abbrev SomeTypesSound : ℕ → ℕ → Type 0
 SomeTypesSound d n = (x : Context) (front : List Shape) (p : Position) (e m : ℕ) (y : List Shape × ParserState) → length p.rest < n
-    → loop (types_turn (parse_type d x)) n front (state_at p e m) ≡ Some y → Within (Types x p) d
+    → loop (types_turn (parse_type d x)) n front (state_at p e m) ≡ Some y → Within (TypesAs (types_case true p.rest) true x p) d
 
 -- a step that may not exist, exists where it has an answer
 plain_sound : (ret : Shape) (params : List Shape) (quals : Quals) (v : Shape) → function_step ret params quals ≡ Some v → is_plain ret.form ≡ true
@@ -51,7 +51,7 @@ vendor_sound ArgsAttached t s y is = cc
 
 module _ (d : ℕ) (complete : TypesComplete d) (kinds : TypesSound d) where
   types_as_sound : (n : ℕ) → SomeTypesSound d n → (case : TypesCase) (x : Context) (front : List Shape) (p : Position) (e m : ℕ) (y : List Shape × ParserState) → length p.rest < suc n
-      → (types_as case (parse_type d x) front (state_at p e m) >>= λ r. after_turn r.0 (loop (types_turn (parse_type d x)) n) r.1) ≡ Some y → Within (TypesAs case x p) d
+      → (types_as case (parse_type d x) front (state_at p e m) >>= λ r. after_turn r.0 (loop (types_turn (parse_type d x)) n) r.1) ≡ Some y → Within (TypesAs case true x p) d
   types_as_sound n again EndOfTypes x front p e m y room is = record { tree = _; next = _; cost = _; reading = end_of_types; deep = omega arith }
   types_as_sound n again NextType x front p e m y room is =
       option_and_then_some _ (types_as NextType (parse_type d x) front (state_at p e m)) y is (λ v turned rest.
@@ -66,18 +66,16 @@ module _ (d : ℕ) (complete : TypesComplete d) (kinds : TypesSound d) where
   types_sound : (n : ℕ) → SomeTypesSound d n
   unfolding loop types_turn
   types_sound zero x front p e m y room is = cc
-  types_sound (suc n) x front p e m y room is =
-      let r = types_as_sound n (types_sound n) (types_case p.rest) x front p e m y room is in
-      record { tree = _; next = _; cost = _; reading = types r.reading; deep = r.deep }
+  types_sound (suc n) x front p e m y room is = types_as_sound n (types_sound n) (types_case true p.rest) x front p e m y room is
 
   params_sound : (case : ParamsCase) (x : Context) (p : Position) (e m : ℕ) (y : List Shape × ParserState)
-      → params_as case (parse_type d x) (state_at p e m) ≡ Some y → Found (ParamsAs case x p) (map shape_of) d e m y
+      → params_as case (parse_type d x) (state_at p e m) ≡ Some y → Found (ParamsAs case true x p) (map shape_of) d e m y
   params_sound NoParams x p e m y is =
-      let w : Within (ParamsAs NoParams x p) d = record { tree = _; next = _; cost = _; reading = no_params; deep = omega arith } in
+      let w : Within (ParamsAs NoParams true x p) d = record { tree = _; next = _; cost = _; reading = no_params; deep = omega arith } in
       record { within = w; is = same_Some _ _ (sym is ∙ params_complete d complete w.reading w.deep e m) }
   params_sound SomeParams x p e m y is =
       let i = types_sound (length p.rest + 1) x [] p e m y (omega arith) is in
-      let w : Within (ParamsAs SomeParams x p) d = record { tree = i.tree; next = i.next; cost = i.cost; reading = some_params i.reading; deep = i.deep } in
+      let w : Within (ParamsAs SomeParams true x p) d = record { tree = i.tree; next = i.next; cost = i.cost; reading = some_params i.reading; deep = i.deep } in
       record { within = w; is = same_Some _ _ (sym is ∙ params_complete d complete w.reading w.deep e m) }
 
   function_as_sound : (case : FunctionCase) (x : Context) (quals : Quals) (p : Position) (e m : ℕ) (y : Shape × ParserState) → function_case p.rest ≡ case
@@ -111,7 +109,9 @@ module _ (d : ℕ) (complete : TypesComplete d) (kinds : TypesSound d) where
 type_as_sound : (d : ℕ) → TypesComplete d → TypesSound d → NamesSound d → ArgsSound d → (case : TypeCase) (x : Context) (p : Position) (e m : ℕ) (y : Shape × ParserState)
     → type_as case (parse_type d x) (parse_name d x) (parse_args d x false) x (state_at p e m) ≡ Some y → Within (TypeAs case x p) d
 type_as_sound d complete kinds names lists BuiltinType x p e m y is = record { tree = _; next = _; cost = _; reading = builtin_type; deep = omega arith }
-type_as_sound d complete kinds names lists ExpansionType x p e m y is = cc
+type_as_sound d complete kinds names lists ExpansionType x p e m y is =
+    option_and_then_some _ (parse_type d x (state_at (skip 2 p) e m)) y is (λ z inner _.
+    let i = (kinds x (skip 2 p) e m z inner).within in record { tree = _; next = _; cost = _; reading = expansion_type i.reading; deep = omega (arith, i.deep) })
 type_as_sound d complete kinds names lists VendorType x p e m y is =
     option_and_then_some _ (parse_source (state_at (skip 1 p) e m)) y is (λ z first more.
     option_and_then_some _ (source_name (drop 1 p.rest)) z first (λ b found made.

@@ -1,5 +1,5 @@
 -- What a reader says of a call.
-use Rattle.std.specs.Prelude.{◌≡◌, ◌≤◌, ℕ, ◌+◌, ◌*◌, ◌^◌, ◌<◌, max, min, List, length, map, All, Vec, Option, Some, None, Result, Ok, Err}
+use Rattle.std.specs.Prelude.{◌≡◌, ◌≤◌, ℕ, ◌+◌, ◌*◌, ◌^◌, ◌<◌, ◌-◌, max, List, length, map, All, Vec, Option, Some, None, Result, Ok, Err}
 use Rattle.std.specs.Global.{Global}
 use Rattle.demangle_text.specs.declared.shape.Piece.{Piece}
 use Rattle.demangle_text.specs.Shape.{Shape}
@@ -123,8 +123,7 @@ ListBounds (Ok a) before after = OptionallyTaken before after
 ListBounds (Err Unread) before after = after.entered ≤ before.entered + 2 * length before.rest + 2
 ListBounds (Err Memory) before after = Unit {0}
 
--- at no moment are more shapes saved than were there before, with one for each byte that was left; one fewer where
--- there is some slack
+-- at no moment are more shapes saved than were there before, with one for each byte that was left, less the slack
 abbrev pub MostSaved : ℕ → ParserState → ParserState → Type 0
 MostSaved slack before after =
     after.most_saved + slack ≤ max (before.most_saved + slack) (length before.saved + length before.rest)
@@ -134,8 +133,8 @@ MostSaved slack before after =
 abbrev pub SavedBounds : {A : Type 0} → ℕ → Result A Stop → ParserState → ParserState → Type 0
 SavedBounds slack (Ok a) before after =
     (length after.saved + length after.rest + slack ≤ length before.saved + length before.rest)
-    × MostSaved (min 1 slack) before after
-SavedBounds slack (Err Unread) before after = MostSaved (min 1 slack) before after
+    × MostSaved (slack - 1) before after
+SavedBounds slack (Err Unread) before after = MostSaved (slack - 1) before after
 SavedBounds slack (Err Memory) before after = Unit {0}
 
 -- one shape more is saved, or none

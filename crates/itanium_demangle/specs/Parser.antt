@@ -1,23 +1,25 @@
 -- A bridge between the readers and the grammar, and no definition: what the readers do, as functions over shapes. The
 -- grammar is what is promised; theorems over it say that these functions read what it reads, and nothing else.
 use Rattle.std.specs.Prelude.{ℕ, zero, suc, ◌+◌, ◌-◌, max, Bool, true, false, if◌then◌else◌, is_some, slice_get, List, [], ◌∷◌, ◌++◌, Option, Some, None, option_and_then, take, drop, length, codes}
-use Rattle.demangle_text.specs.Shape.{Shape, plain_shape, appended, joined}
+use Rattle.demangle_text.specs.Shape.{Shape, plain_shape, whole_shape}
 use Rattle.demangle_text.specs.State.{last_args, with_arg}
 use Rattle.demangle_quals.specs.declared.quals.Quals.{Quals}
 use Rattle.demangle_quals.specs.declared.quals.Pointer.{Pointer}
 use Rattle.demangle_quals.specs.Quals.{no_quals}
-use Rattle.demangle_edit.specs.Names.{qualified, qualified_ctor, attached, with_name_qualifiers}
-use Rattle.demangle_edit.specs.Types.{pointer_shape, cv_shape, array_step, member_pointer_step, function_step}
+use Rattle.demangle_edit.specs.Names.{qualified, qualified_ctor, attached, tagged, with_name_qualifiers}
+use Rattle.demangle_edit.specs.Types.{pointer_shape, cv_shape, array_step, member_pointer_step, function_step, expansion_shape}
+use Rattle.demangle_edit.specs.Built.{listed_more, arguments_closed, lambda_closed}
 use Rattle.itanium_syntax.specs.declared.context.Context.{Context}
 use Rattle.itanium_syntax.specs.declared.numerals.Radix.TheVariants.{Decimal, Base36}
-use Rattle.itanium_syntax.specs.Scalars.{source_name, index_of, dimension_of}
+use Rattle.itanium_syntax.specs.Scalars.{source_name, index_of, unnamed_type_number, lambda_number, dimension_of}
+use Rattle.itanium_syntax.specs.Operators.{operator_here}
 use Rattle.itanium_syntax.specs.Abbreviations.{abbreviation_of}
-use Rattle.itanium_syntax.specs.Context.{opens_scope, inside_type}
-use Rattle.itanium_syntax.specs.Names.{symbol_case, name_case, unscoped_case, first_case, component_case, unqualified_case, tag_case, past_internal, past_initializer_letter, source_text, name_quals, past_name_quals, saves_first, substitution_case}
+use Rattle.itanium_syntax.specs.Context.{opens_scope, inside_type, inside_pack, inside_lambda}
+use Rattle.itanium_syntax.specs.Names.{symbol_case, name_case, unscoped_case, first_case, component_case, unqualified_case, free_case, tag_case, past_internal, past_initializer_letter, source_text, name_quals, past_name_quals, saves_first, substitution_case}
 use Rattle.itanium_syntax.specs.Args.{attached_case, args_case, argument_case}
 use Rattle.itanium_syntax.specs.Types.{type_case, builtin_text, past_builtin, cv_quals, past_cv, with_reference, past_reference, cv_case, function_case, params_case, types_case, elaborated_text}
-use Rattle.itanium_grammar.specs.Tree.{abbreviation_shape, closed, elaborated_shape}
-use Rattle.itanium_demangle.specs.Cases.{SymbolCase, SpecialSymbol, NameSymbol, NameCase, NestedName, LocalName, UnscopedName, UnscopedCase, StdName, SubstitutionName, PlainName, AttachedCase, NoneAttached, ArgsAttached, FirstCase, ParameterFirst, StdFirst, SubstitutionFirst, NameFirst, ComponentCase, EndOfComponents, ArgsComponent, NameComponent, UnqualifiedCase, SourceName, ConstructorName, DestructorName, OtherName, TagCase, NoTag, NextTag, SubstitutionCase, AbbreviationSubstitution, ComponentSubstitution, ArgsCase, EndOfArguments, NextArgument, ArgumentCase, ExpressionArgument, PackArgument, LiteralArgument, ConstraintArgument, TypeArgument, TypeCase, BuiltinType, ExpansionType, VendorType, ArrayType, FunctionType, MemberType, PointerType, CvType, ElaboratedType, ParameterType, SubstitutionType, UnreadType, NameType, CvCase, CvFunction, CvOther, FunctionCase, ExternFunction, PlainFunction, ParamsCase, NoParams, SomeParams, TypesCase, EndOfTypes, NextType}
+use Rattle.itanium_grammar.specs.Tree.{abbreviation_shape, conversion_shape, elaborated_shape, unnamed_text, literal_operator_text}
+use Rattle.itanium_demangle.specs.Cases.{SymbolCase, SpecialSymbol, NameSymbol, NameCase, NestedName, LocalName, UnscopedName, UnscopedCase, StdName, SubstitutionName, PlainName, AttachedCase, NoneAttached, ArgsAttached, FirstCase, ParameterFirst, StdFirst, SubstitutionFirst, NameFirst, ComponentCase, EndOfComponents, ArgsComponent, NameComponent, UnqualifiedCase, ConstructorName, DestructorName, FreeName, FreeCase, SourceName, UnnamedTypeName, LambdaName, ConversionName, LiteralOperatorName, OperatorName, NoName, TagCase, NoTag, NextTag, SubstitutionCase, AbbreviationSubstitution, ComponentSubstitution, ArgsCase, EndOfArguments, NextArgument, ArgumentCase, ExpressionArgument, PackArgument, LiteralArgument, ConstraintArgument, TypeArgument, TypeCase, BuiltinType, ExpansionType, VendorType, ArrayType, FunctionType, MemberType, PointerType, CvType, ElaboratedType, ParameterType, SubstitutionType, UnreadType, NameType, CvCase, CvFunction, CvOther, FunctionCase, ExternFunction, PlainFunction, ParamsCase, NoParams, SomeParams, TypesCase, EndOfTypes, NextType}
 
 infixl 10 ◌>>=◌
 abbrev pub ◌>>=◌ : {A B : Type 0} → Option A → (A → Option B) → Option B
@@ -94,10 +96,6 @@ in_scope (Some scope) leaf = qualified scope leaf
 abbrev pub parse_source : Parses Shape
 parse_source s = source_name s.rest >>= λ found. Some (plain_shape (source_text found.0), at found.1 s)
 
--- a list with what stands in front of its next argument
-abbrev pub separated : Bool → Shape → Shape
-separated first list = if first then list else appended (codes ", ") list
-
 -- a list begins: it may open a scope
 abbrev pub begin : Bool → ParserState → ParserState
 begin opens s = record s { scopes = if opens then s.scopes ++ [] ∷ [] else s.scopes }
@@ -131,34 +129,117 @@ parse_parameter x s =
 abbrev pub saved_parameter : Context → Parses Shape
 saved_parameter x s = parse_parameter x s >>= λ found. Some (found.0, save found.0 found.1)
 
--- <abi-tags> after a name
-abbrev pub tagged_as : TagCase → Shape → Parses Shape
-tagged_as NoTag name s = Some (name, s)
-tagged_as NextTag name s = None
+-- one more <abi-tag> of a name, or none
+abbrev pub tag_as : TagCase → Shape → Parses (Turn Shape Shape)
+tag_as NoTag name s = Some (ends name, s)
+tag_as NextTag name s =
+    source_name (drop 1 s.rest) >>= λ found. Some (goes_on (tagged name (source_text found.0)), at found.1 s)
 
--- a constructor or a destructor of the scope
+-- the same, by what comes next
+unfoldable pub tag_turn : Shape → Parses (Turn Shape Shape)
+tag_turn name s = tag_as (tag_case s.rest) name s
+
+-- <abi-tags> after a name
+abbrev pub parse_tags : Shape → Parses Shape
+parse_tags name s = parse_loop tag_turn name s
+
+-- one more item of a list, with what stands in front of it, or the list's E
+abbrev pub list_as : ArgsCase → (Shape → ParserState → ParserState) → Parses Shape → Bool × Shape
+    → Parses (Turn (Bool × Shape) Shape)
+list_as EndOfArguments put item so_far s = Some (ends so_far.1, skip 1 s)
+list_as NextArgument put item so_far s =
+    item s >>= λ next. Some (goes_on (false, listed_more so_far.0 so_far.1 next.0), put next.0 next.1)
+
+-- the same, by what comes next
+unfoldable pub list_turn : (Shape → ParserState → ParserState) → Parses Shape → Bool × Shape
+    → Parses (Turn (Bool × Shape) Shape)
+list_turn put item so_far s = list_as (args_case s.rest) put item so_far s
+
+-- an item that goes nowhere but into its list
+abbrev pub put_nowhere : Shape → ParserState → ParserState
+put_nowhere item s = s
+
+-- one more type of a list, with what stands in front of it, or its end, which isn't taken
+abbrev pub typed_as : TypesCase → Parses Shape → Bool × Shape → Parses (Turn (Bool × Shape) Shape)
+typed_as EndOfTypes type so_far s = Some (ends so_far.1, s)
+typed_as NextType type so_far s =
+    type s >>= λ next. Some (goes_on (false, listed_more so_far.0 so_far.1 next.0), next.1)
+
+-- the same, by what comes next
+unfoldable pub typed_turn : Parses Shape → Bool × Shape → Parses (Turn (Bool × Shape) Shape)
+typed_turn type so_far s = typed_as (types_case false s.rest) type so_far s
+
+-- types up to E, put onto a list
+abbrev pub parse_typed : Parses Shape → Shape → Parses Shape
+parse_typed type list s = parse_loop (typed_turn type) (true, list) s
+
+-- parameters up to E, put onto a list: v right before the E stands for none
+abbrev pub typed_params_as : ParamsCase → Parses Shape → Shape → Parses Shape
+typed_params_as NoParams type list s = Some (list, skip 1 s)
+typed_params_as SomeParams type list s = parse_typed type list s
+
+-- what is after the parameters of a lambda
+abbrev pub lambda_end : Shape → Parses Shape
+lambda_end list s = lambda_number (drop 1 s.rest) >>= λ found. Some (lambda_closed found.0 list, at found.1 s)
+
+-- <closure-type-name> after its Ul
+abbrev pub parse_lambda : Parses Shape → Parses Shape
+parse_lambda type s =
+    typed_params_as (params_case s.rest) type (plain_shape (codes "{lambda(")) s >>= λ list. lambda_end list.0 list.1
+
+-- <unnamed-type-name> after its Ut
+abbrev pub parse_unnamed_type : Parses Shape
+parse_unnamed_type s =
+    unnamed_type_number s.rest >>= λ found. Some (plain_shape (unnamed_text found.0), at found.1 s)
+
+-- a conversion after its cv
+abbrev pub parse_conversion : Parses Shape → Parses Shape
+parse_conversion type s = type s >>= λ found. Some (conversion_shape found.0, found.1)
+
+-- a literal operator after its li
+abbrev pub parse_literal_operator : Parses Shape
+parse_literal_operator s =
+    source_name s.rest >>= λ found. Some (plain_shape (literal_operator_text found.0), at found.1 s)
+
+-- an operator
+abbrev pub parse_operator : Parses Shape
+parse_operator s = operator_here s.rest >>= λ text. Some (plain_shape (codes "operator" ++ text), skip 2 s)
+
+-- <unqualified-name> that asks for no scope, without its tags: types by the first parser, in a lambda by the second
+abbrev pub free_as : FreeCase → Parses Shape → Parses Shape → Parses Shape
+free_as SourceName type param s = parse_source s
+free_as UnnamedTypeName type param s = parse_unnamed_type (skip 2 s)
+free_as LambdaName type param s = parse_lambda param (skip 2 s)
+free_as ConversionName type param s = parse_conversion type (skip 2 s)
+free_as LiteralOperatorName type param s = parse_literal_operator (skip 2 s)
+free_as OperatorName type param s = parse_operator s
+free_as NoName type param s = None
+
+-- the same with its tags
+abbrev pub parse_free : Parses Shape → Parses Shape → Parses Shape
+parse_free type param s = free_as (free_case s.rest) type param s >>= λ name. parse_tags name.0 name.1
+
+-- a constructor or a destructor of the scope, and its tags
 abbrev pub ctor_dtor_as : Bool → Option Shape → Parses Shape
 ctor_dtor_as destructor None s = None
-ctor_dtor_as destructor (Some scope) s =
-    tagged_as (tag_case (drop 2 s.rest)) (qualified_ctor scope destructor) (skip 2 s)
-
--- <source-name> [<abi-tags>]
-abbrev pub source_as : Option Shape → Parses Shape
-source_as scope s =
-    parse_source s >>= λ source. tagged_as (tag_case source.1.rest) source.0 source.1 >>= λ name.
-    Some (in_scope scope name.0, name.1)
+ctor_dtor_as destructor (Some scope) s = parse_tags (qualified_ctor scope destructor) (skip 2 s)
 
 -- <unqualified-name>
-abbrev pub unqualified_as : UnqualifiedCase → Option Shape → Parses Shape
-unqualified_as SourceName scope s = source_as scope s
-unqualified_as ConstructorName scope s = ctor_dtor_as false scope s
-unqualified_as DestructorName scope s = ctor_dtor_as true scope s
-unqualified_as OtherName scope s = None
+abbrev pub unqualified_as : UnqualifiedCase → Parses Shape → Parses Shape → Option Shape → Parses Shape
+unqualified_as ConstructorName type param scope s = ctor_dtor_as false scope s
+unqualified_as DestructorName type param scope s = ctor_dtor_as true scope s
+unqualified_as FreeName type param scope s =
+    parse_free type param s >>= λ name. Some (in_scope scope name.0, name.1)
 
 -- [L] <unqualified-name>
-unfoldable pub parse_unqualified : Option Shape → Parses Shape
-parse_unqualified scope s =
-    unqualified_as (unqualified_case (is_some scope) (past_internal s.rest)) scope (at (past_internal s.rest) s)
+unfoldable pub parse_unqualified : Parses Shape → Parses Shape → Option Shape → Parses Shape
+parse_unqualified type param scope s =
+    unqualified_as (unqualified_case (is_some scope) (past_internal s.rest)) type param scope
+        (at (past_internal s.rest) s)
+
+-- a parser of unqualified names, in the scope that stands in front of them
+abbrev pub ParsesName : Type 0
+ParsesName = Option Shape → Parses Shape
 
 -- a list after what stands
 abbrev pub attached_by : Parses Shape → Shape → Parses Shape
@@ -175,76 +256,72 @@ template_as NoneAttached args name s = None
 template_as ArgsAttached args name s = attached_by args name s
 
 -- <unscoped-name> [<template-args>]
-abbrev pub unscoped_as : UnscopedCase → Parses Shape → Parses Shape
-unscoped_as StdName args s =
-    parse_unqualified (Some (plain_shape (codes "std"))) (skip 2 s) >>= λ name.
+abbrev pub unscoped_as : UnscopedCase → ParsesName → Parses Shape → Parses Shape
+unscoped_as StdName unqualified args s =
+    unqualified (Some (plain_shape (codes "std"))) (skip 2 s) >>= λ name.
     attached_as (attached_case name.1.rest) args name.0 name.1
-unscoped_as SubstitutionName args s =
+unscoped_as SubstitutionName unqualified args s =
     parse_substitution s >>= λ name. template_as (attached_case name.1.rest) args name.0 name.1
-unscoped_as PlainName args s =
-    parse_unqualified None s >>= λ name. attached_as (attached_case name.1.rest) args name.0 name.1
+unscoped_as PlainName unqualified args s =
+    unqualified None s >>= λ name. attached_as (attached_case name.1.rest) args name.0 name.1
 
 -- the first component of a <nested-name>
-abbrev pub first_as : FirstCase → Context → Parses Shape
-first_as ParameterFirst x s = saved_parameter x s
-first_as StdFirst x s = Some (plain_shape (codes "std"), skip 2 s)
-first_as SubstitutionFirst x s = parse_substitution s
-first_as NameFirst x s = parse_unqualified None s >>= λ name. Some (name.0, save name.0 name.1)
+abbrev pub first_as : FirstCase → ParsesName → Context → Parses Shape
+first_as ParameterFirst unqualified x s = saved_parameter x s
+first_as StdFirst unqualified x s = Some (plain_shape (codes "std"), skip 2 s)
+first_as SubstitutionFirst unqualified x s = parse_substitution s
+first_as NameFirst unqualified x s = unqualified None s >>= λ name. Some (name.0, save name.0 name.1)
 
 -- what stands of a <nested-name> so far is saved, and the last saved shape is to be taken back at its end
 abbrev pub next_component : Shape × ParserState → Option (Turn (Bool × Shape) Shape × ParserState)
 next_component next = Some (goes_on (true, next.0), past_initializer (save next.0 next.1))
 
 -- one more component of a <nested-name>, or its E
-abbrev pub component_as : ComponentCase → Parses Shape → Bool × Shape → Parses (Turn (Bool × Shape) Shape)
-component_as EndOfComponents args so_far s = Some (ends so_far.1, taken_back so_far.0 (skip 1 s))
-component_as ArgsComponent args so_far s = attached_by args so_far.1 s >>= next_component
-component_as NameComponent args so_far s = parse_unqualified (Some so_far.1) s >>= next_component
+abbrev pub component_as : ComponentCase → ParsesName → Parses Shape → Bool × Shape
+    → Parses (Turn (Bool × Shape) Shape)
+component_as EndOfComponents unqualified args so_far s = Some (ends so_far.1, taken_back so_far.0 (skip 1 s))
+component_as ArgsComponent unqualified args so_far s = attached_by args so_far.1 s >>= next_component
+component_as NameComponent unqualified args so_far s = unqualified (Some so_far.1) s >>= next_component
 
 -- the same, by what comes next
-unfoldable pub component_turn : Parses Shape → Bool × Shape → Parses (Turn (Bool × Shape) Shape)
-component_turn args so_far s = component_as (component_case s.rest) args so_far s
+unfoldable pub component_turn : ParsesName → Parses Shape → Bool × Shape → Parses (Turn (Bool × Shape) Shape)
+component_turn unqualified args so_far s = component_as (component_case s.rest) unqualified args so_far s
 
 -- the later components of a <nested-name>, up to its E
-abbrev pub parse_components : Parses Shape → Bool → Shape → Parses Shape
-parse_components args takes name s = parse_loop (component_turn args) (takes, name) s
+abbrev pub parse_components : ParsesName → Parses Shape → Bool → Shape → Parses Shape
+parse_components unqualified args takes name s = parse_loop (component_turn unqualified args) (takes, name) s
 
 -- what is after the N of a <nested-name>
-unfoldable pub parse_nested : Parses Shape → Context → Parses Shape
-parse_nested args x s =
-    first_as (first_case (past_name_quals s.rest)) x (at (past_name_quals s.rest) s) >>= λ first.
-    parse_components args (saves_first (first_case (past_name_quals s.rest))) first.0
-    (past_initializer first.1) >>= λ name.
+unfoldable pub parse_nested : ParsesName → Parses Shape → Context → Parses Shape
+parse_nested unqualified args x s =
+    first_as (first_case (past_name_quals s.rest)) unqualified x (at (past_name_quals s.rest) s) >>= λ first.
+    parse_components unqualified args (saves_first (first_case (past_name_quals s.rest))) first.0
+        (past_initializer first.1) >>= λ name.
     Some (with_name_qualifiers name.0 (name_quals s.rest) x.shown, name.1)
 
 -- <name>, by what it begins with
-abbrev pub name_as : NameCase → Parses Shape → Context → Parses Shape
-name_as NestedName args x s = parse_nested args x (skip 1 s)
-name_as LocalName args x s = None
-name_as UnscopedName args x s = unscoped_as (unscoped_case s.rest) args s
+abbrev pub name_as : NameCase → ParsesName → Parses Shape → Context → Parses Shape
+name_as NestedName unqualified args x s = parse_nested unqualified args x (skip 1 s)
+name_as LocalName unqualified args x s = None
+name_as UnscopedName unqualified args x s = unscoped_as (unscoped_case s.rest) unqualified args s
 
--- <template-arg>, by what it begins with
-abbrev pub argument_as : ArgumentCase → Parses Shape → Parses Shape
-argument_as ExpressionArgument type s = None
-argument_as PackArgument type s = None
-argument_as LiteralArgument type s = None
-argument_as ConstraintArgument type s = None
-argument_as TypeArgument type s = type s
+-- <template-arg>, by what it begins with: a pack by the first parser, a type by the second
+abbrev pub argument_as : ArgumentCase → Parses Shape → Parses Shape → Parses Shape
+argument_as ExpressionArgument pack type s = None
+argument_as PackArgument pack type s = pack s
+argument_as LiteralArgument pack type s = None
+argument_as ConstraintArgument pack type s = None
+argument_as TypeArgument pack type s = type s
 
 -- <template-arg>
-abbrev pub argument_by : Parses Shape → Parses Shape
-argument_by type s = argument_as (argument_case s.rest) type s
+abbrev pub argument_by : Parses Shape → Parses Shape → Parses Shape
+argument_by pack type s = argument_as (argument_case s.rest) pack type s
 
--- one more argument of a list, with what stands in front of it, or the list's E
-abbrev pub arguments_as : ArgsCase → Bool → ℕ → Parses Shape → Bool × Shape → Parses (Turn (Bool × Shape) Shape)
-arguments_as EndOfArguments opens n argument so_far s = Some (ends (closed so_far.1), skip 1 s)
-arguments_as NextArgument opens n argument so_far s =
-    argument s >>= λ arg.
-    Some (goes_on (false, joined (separated so_far.0 so_far.1) [] arg.0), put opens n arg.0 arg.1)
-
--- the same, by what comes next
-unfoldable pub arguments_turn : Bool → ℕ → Parses Shape → Bool × Shape → Parses (Turn (Bool × Shape) Shape)
-arguments_turn opens n argument so_far s = arguments_as (args_case s.rest) opens n argument so_far s
+-- a pack from its J to its E
+abbrev pub parse_packed : Parses Shape → Parses Shape
+parse_packed argument s =
+    parse_loop (list_turn put_nowhere argument) (true, plain_shape []) (skip 1 s) >>= λ list.
+    Some (whole_shape list.0, list.1)
 
 -- how many scopes there are once a list has begun
 abbrev pub scopes_in : Bool → ParserState → ℕ
@@ -253,8 +330,9 @@ scopes_in opens s = length (begin opens s).scopes
 -- a list from its I to its E
 abbrev pub parse_list : Parses Shape → Bool → Parses Shape
 parse_list argument opens s =
-    parse_loop (arguments_turn opens (scopes_in opens s) argument) (true, plain_shape (codes "<"))
-    (begin opens (skip 1 s))
+    parse_loop (list_turn (put opens (scopes_in opens s)) argument) (true, plain_shape (codes "<"))
+        (begin opens (skip 1 s)) >>= λ list.
+    Some (whole_shape (arguments_closed list.0), list.1)
 
 -- <template-args> after a type, which is saved with them
 abbrev pub type_attached_as : AttachedCase → Parses Shape → Shape → Parses Shape
@@ -268,7 +346,7 @@ types_as NextType type so_far s = type s >>= λ next. Some (goes_on (so_far ++ n
 
 -- the same, by what comes next
 unfoldable pub types_turn : Parses Shape → List Shape → Parses (Turn (List Shape) (List Shape))
-types_turn type so_far s = types_as (types_case s.rest) type so_far s
+types_turn type so_far s = types_as (types_case true s.rest) type so_far s
 
 -- types up to their end
 abbrev pub parse_types : Parses Shape → Parses (List Shape)
@@ -358,10 +436,15 @@ abbrev pub substitution_type : Parses Shape → Parses Shape
 substitution_type args s =
     parse_substitution s >>= λ found. type_attached_as (attached_case found.1.rest) args found.0 found.1
 
+-- Dp <type>
+abbrev pub parse_expansion : Parses Shape → Bool → Parses Shape
+parse_expansion type in_pack s =
+    type (skip 2 s) >>= λ found. saved_as (if in_pack then found.0 else expansion_shape found.0) found.1
+
 -- <type>, by what it begins with
 abbrev pub type_as : TypeCase → Parses Shape → Parses Shape → Parses Shape → Context → Parses Shape
 type_as BuiltinType type name args x s = Some (plain_shape (builtin_text s.rest), at (past_builtin s.rest) s)
-type_as ExpansionType type name args x s = None
+type_as ExpansionType type name args x s = parse_expansion type x.pack s
 type_as VendorType type name args x s = parse_vendor s
 type_as ArrayType type name args x s = parse_array type s
 type_as FunctionType type name args x s = saved_by (parse_function type no_quals) s
@@ -379,12 +462,21 @@ unfoldable mutual
   -- <name>
   pub parse_name : ℕ → Context → Parses Shape
   parse_name zero x s = None
-  parse_name (suc d) x s = name_as (name_case s.rest) (parse_args d x true) x (enter s)
+  parse_name (suc d) x s =
+      name_as (name_case s.rest) (parse_unqualified (parse_type d x) (parse_type d (inside_lambda x)))
+          (parse_args d x true) x (enter s)
 
   -- <template-args>
   pub parse_args : ℕ → Context → Bool → Parses Shape
   parse_args zero x of_name s = None
-  parse_args (suc d) x of_name s = parse_list (argument_by (parse_type d x)) (opens_scope of_name x) (enter s)
+  parse_args (suc d) x of_name s =
+      parse_list (argument_by (parse_pack d x) (parse_type d x)) (opens_scope of_name x) (enter s)
+
+  -- J <template-arg>* E
+  pub parse_pack : ℕ → Context → Parses Shape
+  parse_pack zero x s = None
+  parse_pack (suc d) x s =
+      parse_packed (argument_by (parse_pack d (inside_pack x)) (parse_type d (inside_pack x))) (enter s)
 
   -- <type>
   pub parse_type : ℕ → Context → Parses Shape

@@ -4,9 +4,9 @@ ghost use Rattle.demangle_text.specs.State.{IsLiving, shape, IsRun, SameFrame};
 ghost use Rattle.itanium_demangle.specs.Parser as spec;
 ghost use Rattle.itanium_demangle.specs.Outcome.{state, Gives, HasRoom, Bounds, SavedBounds};
 
-use crate::reader::{Reader, close_list, separate};
+use crate::reader::Reader;
 use crate::stop::Stop;
-use demangle_edit::attach_template_args;
+use demangle_edit::{attach_template_args, close_arguments, list_next, separate};
 use demangle_text::Piece;
 use itanium_syntax::args::{ArgsCase, ArgumentCase, args_case, argument_case};
 use itanium_syntax::context::Context;
@@ -38,15 +38,16 @@ impl<'a> Reader<'a> {
             match args_case(self.rest) {
                 ArgsCase::EndOfArguments => {
                     self.skip(1);
-                    self.found = close_list(&mut self.buffer, list)?;
+                    let closed = close_arguments(&mut self.buffer, list)?;
+                    self.found = self.buffer.whole(closed);
                     return Ok(());
                 }
                 ArgsCase::NextArgument => {
-                    list = separate(&mut self.buffer, first, list)?;
+                    list = separate(&mut self.buffer, list, first)?;
                     self.framed_argument(depth - 1, context)?;
                     let argument = self.found;
                     self.put(opens, scopes, argument)?;
-                    list = self.buffer.join(list, b"", argument)?;
+                    list = list_next(&mut self.buffer, list, argument)?;
                     first = false;
                 }
             }
@@ -92,18 +93,57 @@ impl<'a> Reader<'a> {
         Ok(())
     }
 
-    /// `<template-arg> ::= <type>`
+    /// `<template-arg> ::= J <template-arg>* E`, within `depth` open productions: no scope is dropped between its
+    /// arguments.
+    #[tactic(auto, using(crate::proofs::Rules::packs))]
+    #[cycle(reader)]
+    fn read_pack(&mut self, depth: usize, context: Context) -> Result<(), Stop>
+        requires room { HasRoom 1 (state self.old) }
+        requires some { 0 < length self.old.rest.now }
+        ensures reads { Gives result self.new (spec.parse_pack depth context (state self.old)) }
+        ensures run { OnOk result (IsRun self.old.buffer self.new.buffer) }
+        ensures bounds { Bounds 1 result (state self.old) (state self.new) }
+        ensures saved { SavedBounds 1 result (state self.old) (state self.new) }
+    {
+        if depth == 0 {
+            return Err(Stop::Unread);
+        }
+        self.entered += 1;
+        self.skip(1);
+        let inside = context.inside_pack();
+        let mut list = self.buffer.push(b"")?;
+        let mut first = true;
+        loop {
+            match args_case(self.rest) {
+                ArgsCase::EndOfArguments => {
+                    self.skip(1);
+                    self.found = self.buffer.whole(list);
+                    return Ok(());
+                }
+                ArgsCase::NextArgument => {
+                    list = separate(&mut self.buffer, list, first)?;
+                    self.framed_argument(depth - 1, inside)?;
+                    list = list_next(&mut self.buffer, list, self.found)?;
+                    first = false;
+                }
+            }
+        }
+    }
+
+    /// `<template-arg> ::= <type> | J <template-arg>* E`
+    #[tactic(auto, using(crate::proofs::Rules::fronts))]
     #[cycle(reader)]
     fn read_argument(&mut self, depth: usize, context: Context) -> Result<(), Stop>
         requires room { HasRoom 2 (state self.old) }
-        ensures reads { Gives result self.new (spec.argument_by (spec.parse_type depth context) (state self.old)) }
+        ensures reads { Gives result self.new
+            (spec.argument_by (spec.parse_pack depth context) (spec.parse_type depth context) (state self.old)) }
         ensures run { OnOk result (IsRun self.old.buffer self.new.buffer) }
         ensures bounds { Bounds 0 result (state self.old) (state self.new) }
         ensures saved { SavedBounds 0 result (state self.old) (state self.new) }
     {
         match argument_case(self.rest) {
+            ArgumentCase::PackArgument => self.read_pack(depth, context),
             ArgumentCase::ExpressionArgument
-            | ArgumentCase::PackArgument
             | ArgumentCase::LiteralArgument
             | ArgumentCase::ConstraintArgument => Err(Stop::Unread),
             ArgumentCase::TypeArgument => self.read_type(depth, context),
@@ -114,7 +154,8 @@ impl<'a> Reader<'a> {
     #[cycle(reader)]
     fn framed_argument(&mut self, depth: usize, context: Context) -> Result<(), Stop>
         requires room { HasRoom 2 (state self.old) }
-        ensures reads { Gives result self.new (spec.argument_by (spec.parse_type depth context) (state self.old)) }
+        ensures reads { Gives result self.new
+            (spec.argument_by (spec.parse_pack depth context) (spec.parse_type depth context) (state self.old)) }
         ensures kept { OnOk result (SameFrame self.old.buffer self.new.buffer) }
         ensures bounds { Bounds 0 result (state self.old) (state self.new) }
         ensures saved { SavedBounds 0 result (state self.old) (state self.new) }

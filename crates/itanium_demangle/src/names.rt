@@ -1,22 +1,29 @@
 //! Names (Itanium C++ ABI 5.1.2).
 ghost use Rattle.std.specs.Prelude.{◌≡◌, ◌<◌, length, option_map, IfSome, OnOk, true};
 ghost use Rattle.demangle_text.specs.State.{IsLiving, shape, Lives, IsEdit, IsRun, SameFrame, saved};
-ghost use Rattle.itanium_syntax.specs.Names.{tag_case, first_case, unscoped_case, saves_first};
+ghost use Rattle.itanium_syntax.specs.Names.{free_case, first_case, unscoped_case, saves_first};
+ghost use Rattle.itanium_syntax.specs.Context.{inside_lambda};
+ghost use Rattle.itanium_grammar.specs.Tree.{conversion_shape};
 ghost use Rattle.itanium_syntax.specs.Args.{attached_case};
 ghost use Rattle.itanium_demangle.specs.Parser as spec;
 ghost use Rattle.itanium_demangle.specs.Outcome.{state, Gives, ReadsAs, HasRoom, Bounds, OptionalBounds, SavedBounds};
 
 use crate::reader::Reader;
 use crate::stop::Stop;
-use demangle_edit::{apply_name_qualifiers, qualify, qualify_ctor};
-use demangle_text::Piece;
+use demangle_edit::{
+    append_number, apply_name_qualifiers, close_lambda, qualify, qualify_ctor, tag,
+};
+use demangle_text::{Piece, Place};
 use itanium_syntax::args::{AttachedCase, attached_case};
 use itanium_syntax::context::Context;
 use itanium_syntax::names::{
-    ComponentCase, FirstCase, NameCase, SymbolCase, TagCase, UnqualifiedCase, UnscopedCase,
-    component_case, first_case, name_case, name_quals, past_internal, saves_first, symbol_case,
-    tag_case, unqualified_case, unscoped_case,
+    ComponentCase, FirstCase, FreeCase, NameCase, SymbolCase, TagCase, UnqualifiedCase,
+    UnscopedCase, component_case, first_case, free_case, name_case, name_quals, past_internal,
+    saves_first, source_text, symbol_case, tag_case, unqualified_case, unscoped_case,
 };
+use itanium_syntax::numerals::{lambda_number, unnamed_type_number};
+use itanium_syntax::operators::operator_here;
+use itanium_syntax::scalar::source_name;
 use std::alloc::AllocError;
 
 #[tactic(auto, using(crate::proofs::Rules::buffers))]
@@ -37,21 +44,32 @@ impl<'a> Reader<'a> {
         Ok(())
     }
 
-    /// `<abi-tags>` after a name, or none.
+    /// `<abi-tags> ::= (B <source-name>)*` after a name.
+    #[tactic(auto, using(crate::proofs::Rules::tags))]
     fn read_tags(&mut self, name: Piece) -> Result<(), Stop>
         requires living { IsLiving self.old.buffer name }
-        ensures reads { Gives result self.new
-            (spec.tagged_as (tag_case self.old.rest.now) (shape self.old.buffer name) (state self.old)) }
-        ensures kept { OnOk result (SameFrame self.old.buffer self.new.buffer) }
+        ensures reads { Gives result self.new (spec.parse_tags (shape self.old.buffer name) (state self.old)) }
+        ensures run { OnOk result (IsRun self.old.buffer self.new.buffer) }
         ensures bounds { OptionalBounds result (state self.old) (state self.new) }
         ensures saved { SavedBounds 0 result (state self.old) (state self.new) }
     {
-        match tag_case(self.rest) {
-            TagCase::NoTag => {
-                self.found = name;
-                Ok(())
+        let mut name = name;
+        loop {
+            match tag_case(self.rest) {
+                TagCase::NoTag => {
+                    self.found = name;
+                    return Ok(());
+                }
+                TagCase::NextTag => {
+                    self.skip(1);
+                    let Some((from, to)) = source_name(self.rest, 0) else {
+                        return Err(Stop::Unread);
+                    };
+                    let text = source_text(&self.rest[from..to]);
+                    name = tag(&mut self.buffer, name, text)?;
+                    self.rest = &self.rest[to..];
+                }
             }
-            TagCase::NextTag => Err(Stop::Unread),
         }
     }
 
@@ -72,52 +90,201 @@ impl<'a> Reader<'a> {
         self.read_tags(self.found)
     }
 
-    /// `<source-name> [<abi-tags>]`
-    #[tactic(auto, using(crate::proofs::Rules::components))]
-    fn read_source_component(&mut self, scope: Option<Piece>) -> Result<(), Stop>
-        requires scope { IfSome scope (IsLiving self.old.buffer) }
-        ensures reads { Gives result self.new
-            (spec.source_as (option_map (shape self.old.buffer) scope) (state self.old)) }
+    /// `<unnamed-type-name> ::= Ut [<nonnegative number>] _`, after its `Ut`.
+    fn read_unnamed_type(&mut self) -> Result<(), Stop>
+        ensures reads { Gives result self.new (spec.parse_unnamed_type (state self.old)) }
         ensures run { OnOk result (IsRun self.old.buffer self.new.buffer) }
         ensures bounds { Bounds 2 result (state self.old) (state self.new) }
-        ensures saved { SavedBounds 2 result (state self.old) (state self.new) }
+        ensures saved { SavedBounds 1 result (state self.old) (state self.new) }
     {
-        self.read_source()?;
-        self.read_tags(self.found)?;
-        self.enclose(scope, self.found)?;
+        let Some((number, rest)) = unnamed_type_number(self.rest) else {
+            return Err(Stop::Unread);
+        };
+        self.rest = rest;
+        let opened = self.buffer.push(b"{unnamed type#")?;
+        let numbered = append_number(&mut self.buffer, opened, number)?;
+        let closed = self.buffer.append(numbered, b"}")?;
+        self.found = self.buffer.whole(closed);
         Ok(())
     }
 
-    /// `<unqualified-name> ::= [L] <source-name> [<abi-tags>] | <ctor-dtor-name> [<abi-tags>]`, in the scope that
-    /// stands in front of it, if one does.
-    #[tactic(auto, using(crate::proofs::Rules::unqualified_names))]
-    fn read_unqualified(&mut self, scope: Option<Piece>) -> Result<(), Stop>
-        requires scope { IfSome scope (IsLiving self.old.buffer) }
-        ensures reads { Gives result self.new
-            (spec.parse_unqualified (option_map (shape self.old.buffer) scope) (state self.old)) }
+    /// `<operator-name> ::= li <source-name>`, after its `li`.
+    fn read_literal_operator(&mut self) -> Result<(), Stop>
+        ensures reads { Gives result self.new (spec.parse_literal_operator (state self.old)) }
         ensures run { OnOk result (IsRun self.old.buffer self.new.buffer) }
         ensures bounds { Bounds 2 result (state self.old) (state self.new) }
         ensures saved { SavedBounds 2 result (state self.old) (state self.new) }
     {
+        let Some((from, to)) = source_name(self.rest, 0) else {
+            return Err(Stop::Unread);
+        };
+        let text = source_text(&self.rest[from..to]);
+        let opened = self.buffer.push(b"operator\"\" ")?;
+        let named = self.buffer.append(opened, text)?;
+        self.found = self.buffer.whole(named);
+        self.rest = &self.rest[to..];
+        Ok(())
+    }
+
+    /// `<operator-name>`, a code of two letters.
+    fn read_operator(&mut self) -> Result<(), Stop>
+        ensures reads { Gives result self.new (spec.parse_operator (state self.old)) }
+        ensures run { OnOk result (IsRun self.old.buffer self.new.buffer) }
+        ensures bounds { Bounds 2 result (state self.old) (state self.new) }
+        ensures saved { SavedBounds 2 result (state self.old) (state self.new) }
+    {
+        let Some(text) = operator_here(self.rest) else {
+            return Err(Stop::Unread);
+        };
+        let opened = self.buffer.push(b"operator")?;
+        let named = self.buffer.append(opened, text.as_bytes())?;
+        self.found = self.buffer.whole(named);
+        self.skip(2);
+        Ok(())
+    }
+
+    /// The end of a lambda's parameters, `E [<nonnegative number>] _`.
+    fn end_lambda(&mut self, list: Piece) -> Result<(), Stop>
+        requires living { IsLiving self.old.buffer list }
+        ensures reads { Gives result self.new (spec.lambda_end (shape self.old.buffer list) (state self.old)) }
+        ensures run { OnOk result (IsRun self.old.buffer self.new.buffer) }
+        ensures bounds { Bounds 2 result (state self.old) (state self.new) }
+        ensures saved { SavedBounds 1 result (state self.old) (state self.new) }
+    {
+        self.skip(1);
+        let Some((number, rest)) = lambda_number(self.rest) else {
+            return Err(Stop::Unread);
+        };
+        self.rest = rest;
+        self.found = close_lambda(&mut self.buffer, list, number)?;
+        Ok(())
+    }
+
+    /// The conversion to the type that was found.
+    fn convert_found(&mut self) -> Result<(), AllocError>
+        requires living { IsLiving self.old.buffer self.old.found }
+        ensures shape { OnOk result (Lives self.new.buffer self.new.found
+            (conversion_shape (shape self.old.buffer self.old.found))) }
+        ensures state { OnOk result (state self.new ≡ state self.old) }
+        ensures run { OnOk result (IsRun self.old.buffer self.new.buffer) }
+    {
+        let plain = self.buffer.plain(self.found);
+        let named = self.buffer.insert(plain, Place::Start, b"operator ")?;
+        let whole = self.buffer.whole(named);
+        self.found = self.buffer.with_flags(whole, false, true);
+        Ok(())
+    }
+
+    /// `<closure-type-name> ::= Ul <lambda-sig> E [<nonnegative number>] _`, after its `Ul`.
+    #[cycle(reader)]
+    fn read_lambda(&mut self, depth: usize, context: Context) -> Result<(), Stop>
+        requires room { HasRoom 2 (state self.old) }
+        ensures reads { Gives result self.new (spec.parse_lambda (spec.parse_type depth context) (state self.old)) }
+        ensures run { OnOk result (IsRun self.old.buffer self.new.buffer) }
+        ensures bounds { Bounds 0 result (state self.old) (state self.new) }
+        ensures saved { SavedBounds 1 result (state self.old) (state self.new) }
+    {
+        let list = self.buffer.push(b"{lambda(")?;
+        self.read_typed_params(depth, context, list)?;
+        self.end_lambda(self.found)
+    }
+
+    /// `<unqualified-name>` that asks for no scope, without its tags.
+    #[tactic(auto, using(crate::proofs::Rules::free_names))]
+    #[cycle(reader)]
+    fn read_free_name(&mut self, depth: usize, context: Context) -> Result<(), Stop>
+        requires room { HasRoom 0 (state self.old) }
+        ensures reads { Gives result self.new (spec.free_as (free_case self.old.rest.now) (spec.parse_type depth context)
+            (spec.parse_type depth (inside_lambda context)) (state self.old)) }
+        ensures run { OnOk result (IsRun self.old.buffer self.new.buffer) }
+        ensures bounds { Bounds 2 result (state self.old) (state self.new) }
+        ensures saved { SavedBounds 1 result (state self.old) (state self.new) }
+    {
+        match free_case(self.rest) {
+            FreeCase::SourceName => self.read_source(),
+            FreeCase::UnnamedTypeName => {
+                self.skip(2);
+                self.read_unnamed_type()
+            }
+            FreeCase::LambdaName => {
+                self.skip(2);
+                self.read_lambda(depth, context.inside_lambda())
+            }
+            FreeCase::ConversionName => {
+                self.skip(2);
+                self.read_type(depth, context)?;
+                self.convert_found()?;
+                Ok(())
+            }
+            FreeCase::LiteralOperatorName => {
+                self.skip(2);
+                self.read_literal_operator()
+            }
+            FreeCase::OperatorName => self.read_operator(),
+            FreeCase::NoName => Err(Stop::Unread),
+        }
+    }
+
+    /// `<unqualified-name>` that asks for no scope, and its tags, in a frame of their own: what lived keeps its shape.
+    #[cycle(reader)]
+    fn framed_free_name(&mut self, depth: usize, context: Context) -> Result<(), Stop>
+        requires room { HasRoom 0 (state self.old) }
+        ensures reads { Gives result self.new (spec.parse_free (spec.parse_type depth context)
+            (spec.parse_type depth (inside_lambda context)) (state self.old)) }
+        ensures kept { OnOk result (SameFrame self.old.buffer self.new.buffer) }
+        ensures bounds { Bounds 2 result (state self.old) (state self.new) }
+        ensures saved { SavedBounds 1 result (state self.old) (state self.new) }
+    {
+        let mark = self.buffer.open();
+        self.read_free_name(depth, context)?;
+        self.read_tags(self.found)?;
+        self.found = self.buffer.close(mark, self.found)?;
+        Ok(())
+    }
+
+    /// `<unqualified-name>`, in the scope that stands in front of it, if one does.
+    #[tactic(auto, using(crate::proofs::Rules::unqualified_names))]
+    #[cycle(reader)]
+    fn read_unqualified(
+        &mut self,
+        depth: usize,
+        context: Context,
+        scope: Option<Piece>,
+    ) -> Result<(), Stop>
+        requires room { HasRoom 0 (state self.old) }
+        requires scope { IfSome scope (IsLiving self.old.buffer) }
+        ensures reads { Gives result self.new
+            (spec.parse_unqualified (spec.parse_type depth context) (spec.parse_type depth (inside_lambda context))
+            (option_map (shape self.old.buffer) scope) (state self.old)) }
+        ensures run { OnOk result (IsRun self.old.buffer self.new.buffer) }
+        ensures bounds { Bounds 2 result (state self.old) (state self.new) }
+        ensures saved { SavedBounds 1 result (state self.old) (state self.new) }
+    {
         self.rest = past_internal(self.rest);
         match unqualified_case(scope.is_some(), self.rest) {
-            UnqualifiedCase::SourceName => self.read_source_component(scope),
             UnqualifiedCase::ConstructorName => self.read_ctor_dtor(false, scope),
             UnqualifiedCase::DestructorName => self.read_ctor_dtor(true, scope),
-            UnqualifiedCase::OtherName => Err(Stop::Unread),
+            UnqualifiedCase::FreeName => {
+                self.framed_free_name(depth, context)?;
+                self.enclose(scope, self.found)?;
+                Ok(())
+            }
         }
     }
 
     /// The first component of a `<nested-name>`.
     #[tactic(auto, using(crate::proofs::Rules::fronts))]
-    fn read_first(&mut self, context: Context) -> Result<(), Stop>
-        ensures reads { Gives result self.new
-            (spec.first_as (first_case self.old.rest.now) context (state self.old)) }
+    #[cycle(reader)]
+    fn read_first(&mut self, depth: usize, context: Context) -> Result<(), Stop>
+        requires room { HasRoom 2 (state self.old) }
+        ensures reads { Gives result self.new (spec.first_as (first_case self.old.rest.now)
+            (spec.parse_unqualified (spec.parse_type depth context)
+            (spec.parse_type depth (inside_lambda context))) context (state self.old)) }
         ensures run { OnOk result (IsRun self.old.buffer self.new.buffer) }
         ensures first_saved { OnOk result (saves_first (first_case self.old.rest.now) ≡ true
             → 0 < length (saved self.new.buffer)) }
         ensures bounds { Bounds 2 result (state self.old) (state self.new) }
-        ensures saved { SavedBounds 1 result (state self.old) (state self.new) }
+        ensures saved { SavedBounds 0 result (state self.old) (state self.new) }
     {
         match first_case(self.rest) {
             FirstCase::ParameterFirst => self.read_saved_parameter(context),
@@ -128,7 +295,7 @@ impl<'a> Reader<'a> {
             }
             FirstCase::SubstitutionFirst => self.read_substitution(),
             FirstCase::NameFirst => {
-                self.read_unqualified(None)?;
+                self.read_unqualified(depth, context, None)?;
                 self.save_found()?;
                 Ok(())
             }
@@ -141,6 +308,8 @@ impl<'a> Reader<'a> {
     fn read_nested(&mut self, depth: usize, context: Context) -> Result<(), Stop>
         requires room { HasRoom 2 (state self.old) }
         ensures reads { Gives result self.new (spec.parse_nested
+            (spec.parse_unqualified (spec.parse_type depth context)
+            (spec.parse_type depth (inside_lambda context)))
             (spec.parse_args depth context true) context (state self.old)) }
         ensures run { OnOk result (IsRun self.old.buffer self.new.buffer) }
         ensures bounds { Bounds 1 result (state self.old) (state self.new) }
@@ -149,7 +318,7 @@ impl<'a> Reader<'a> {
         let (quals, rest) = name_quals(self.rest);
         self.rest = rest;
         let takes = saves_first(first_case(self.rest));
-        self.read_first(context)?;
+        self.read_first(depth, context)?;
         let first = self.found;
         self.skip_initializer();
         self.read_components(depth, context, takes, first)?;
@@ -170,8 +339,9 @@ impl<'a> Reader<'a> {
         requires living { IsLiving self.old.buffer first }
         requires saved { takes ≡ true → 0 < length (saved self.old.buffer) }
         ensures reads { Gives result self.new
-            (spec.parse_components (spec.parse_args depth context true) takes (shape self.old.buffer first)
-            (state self.old)) }
+            (spec.parse_components (spec.parse_unqualified (spec.parse_type depth context)
+            (spec.parse_type depth (inside_lambda context)))
+            (spec.parse_args depth context true) takes (shape self.old.buffer first) (state self.old)) }
         ensures run { OnOk result (IsRun self.old.buffer self.new.buffer) }
         ensures bounds { Bounds 1 result (state self.old) (state self.new) }
         ensures saved { SavedBounds 1 result (state self.old) (state self.new) }
@@ -194,7 +364,7 @@ impl<'a> Reader<'a> {
                     takes = true;
                 }
                 ComponentCase::NameComponent => {
-                    self.read_unqualified(Some(name))?;
+                    self.read_unqualified(depth, context, Some(name))?;
                     name = self.found;
                     self.save(name)?;
                     self.skip_initializer();
@@ -241,7 +411,10 @@ impl<'a> Reader<'a> {
     fn read_unscoped(&mut self, depth: usize, context: Context) -> Result<(), Stop>
         requires room { HasRoom 0 (state self.old) }
         ensures reads { Gives result self.new
-            (spec.unscoped_as (unscoped_case self.old.rest.now) (spec.parse_args depth context true) (state self.old)) }
+            (spec.unscoped_as (unscoped_case self.old.rest.now)
+            (spec.parse_unqualified (spec.parse_type depth context)
+            (spec.parse_type depth (inside_lambda context)))
+            (spec.parse_args depth context true) (state self.old)) }
         ensures run { OnOk result (IsRun self.old.buffer self.new.buffer) }
         ensures bounds { Bounds 2 result (state self.old) (state self.new) }
         ensures saved { SavedBounds 1 result (state self.old) (state self.new) }
@@ -250,7 +423,7 @@ impl<'a> Reader<'a> {
             UnscopedCase::StdName => {
                 self.skip(2);
                 let scope = self.buffer.push(b"std")?;
-                self.read_unqualified(Some(scope))?;
+                self.read_unqualified(depth, context, Some(scope))?;
                 self.read_attached_args(depth, context, self.found)
             }
             UnscopedCase::SubstitutionName => {
@@ -263,7 +436,7 @@ impl<'a> Reader<'a> {
                 }
             }
             UnscopedCase::PlainName => {
-                self.read_unqualified(None)?;
+                self.read_unqualified(depth, context, None)?;
                 self.read_attached_args(depth, context, self.found)
             }
         }

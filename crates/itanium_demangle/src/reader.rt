@@ -1,9 +1,9 @@
 //! What the readers share: the bytes that are left, the buffer with what was saved, and the piece that was found.
 ghost use Rattle.std.specs.Prelude.{◌≡◌, ◌<◌, ◌≤◌, ◌+◌, IfOk, OnOk, length, max, true};
-ghost use Rattle.demangle_text.specs.Shape.{joined, plain_shape};
-ghost use Rattle.demangle_text.specs.State.{IsLiving, Lives, shape, SameFrame, IsEdit, saved, scopes};
+ghost use Rattle.demangle_text.specs.Shape.{plain_shape};
+ghost use Rattle.demangle_text.specs.State.{IsLiving, Lives, shape, SameFrame, saved, scopes};
 ghost use Rattle.itanium_syntax.specs.Types.{builtin_text, past_builtin};
-ghost use Rattle.itanium_grammar.specs.Tree.{abbreviation_shape, closed};
+ghost use Rattle.itanium_grammar.specs.Tree.{abbreviation_shape};
 ghost use Rattle.itanium_demangle.specs.Parser as spec;
 ghost use Rattle.itanium_demangle.specs.Outcome.{state, Gives, Bounds, SavedBounds};
 
@@ -253,33 +253,5 @@ impl<'a> Reader<'a> {
             self.buffer.push_arg(piece)?;
         }
         Ok(())
-    }
-}
-
-/// The list with what stands in front of its next argument: a comma and a space, or nothing in front of the first.
-#[tactic(auto, using(demangle_text::proofs::Laws::laws))]
-pub fn separate(buf: &mut Buffer, first: bool, list: Piece) -> Result<Piece, AllocError>
-    requires list { IsLiving buf.old list }
-    ensures shape { IfOk result (λ p. Lives buf.new p (spec.separated first (shape buf.old list))) }
-    ensures edit { OnOk result (IsEdit buf.old buf.new) }
-{
-    if first {
-        Ok(list)
-    } else {
-        buf.append(list, b", ")
-    }
-}
-
-/// The list with its end, and a space after `>`.
-#[tactic(auto, using(demangle_text::proofs::Laws::laws))]
-pub fn close_list(buf: &mut Buffer, list: Piece) -> Result<Piece, AllocError>
-    requires list { IsLiving buf.old list }
-    ensures shape { IfOk result (λ p. Lives buf.new p (closed (shape buf.old list))) }
-    ensures edit { OnOk result (IsEdit buf.old buf.new) }
-{
-    if buf.bytes(list).ends_with(b">") {
-        buf.append(list, b" >")
-    } else {
-        buf.append(list, b">")
     }
 }

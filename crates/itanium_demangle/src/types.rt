@@ -9,7 +9,7 @@ ghost use Rattle.itanium_demangle.specs.Outcome.{state, Gives, HasRoom, Bounds, 
 
 use crate::reader::Reader;
 use crate::stop::Stop;
-use demangle_edit::{Pointer, Quals};
+use demangle_edit::{Pointer, Quals, expand, list_next, separate};
 use demangle_text::Piece;
 use itanium_syntax::args::{AttachedCase, attached_case};
 use itanium_syntax::context::Context;
@@ -71,7 +71,8 @@ impl<'a> Reader<'a> {
                 self.read_builtin()?;
                 Ok(())
             }
-            TypeCase::ExpansionType | TypeCase::UnreadType => Err(Stop::Unread),
+            TypeCase::UnreadType => Err(Stop::Unread),
+            TypeCase::ExpansionType => self.read_expansion(depth - 1, inside),
             TypeCase::VendorType => self.read_vendor(),
             TypeCase::ArrayType => self.read_array(depth - 1, inside),
             TypeCase::FunctionType => self.read_function_type(depth - 1, inside),
@@ -83,6 +84,26 @@ impl<'a> Reader<'a> {
             TypeCase::SubstitutionType => self.read_substitution_type(depth - 1, inside),
             TypeCase::NameType => self.read_name_type(depth - 1, inside),
         }
+    }
+
+    /// `Dp <type>`: its dots are printed where no pack is around it.
+    #[cycle(reader)]
+    fn read_expansion(&mut self, depth: usize, context: Context) -> Result<(), Stop>
+        requires room { HasRoom 1 (state self.old) }
+        requires some { 0 < length self.old.rest.now }
+        ensures reads { Gives result self.new
+            (spec.parse_expansion (spec.parse_type depth context) context.pack (state self.old)) }
+        ensures run { OnOk result (IsRun self.old.buffer self.new.buffer) }
+        ensures bounds { Bounds 2 result (state self.old) (state self.new) }
+        ensures saved { SavedBounds 0 result (state self.old) (state self.new) }
+    {
+        self.skip(2);
+        self.read_type(depth, context)?;
+        if !context.pack {
+            self.found = expand(&mut self.buffer, self.found)?;
+        }
+        self.save_found()?;
+        Ok(())
     }
 
     /// `<array-type> ::= A [<number>] _ <type>`
@@ -319,13 +340,70 @@ impl<'a> Reader<'a> {
     {
         let mut list = Vec::new(self.alloc);
         loop {
-            match types_case(self.rest) {
+            match types_case(true, self.rest) {
                 TypesCase::EndOfTypes => return Ok(list),
                 TypesCase::NextType => {
                     self.framed_type(depth, context)?;
                     list.push(self.found)?;
                 }
             }
+        }
+    }
+
+    /// Types up to `E`, put onto a list as they are read.
+    #[tactic(auto, using(crate::proofs::Rules::typed_lists))]
+    #[cycle(reader)]
+    fn read_typed(&mut self, depth: usize, context: Context, list: Piece) -> Result<(), Stop>
+        requires room { HasRoom 2 (state self.old) }
+        requires living { IsLiving self.old.buffer list }
+        ensures reads { Gives result self.new
+            (spec.parse_typed (spec.parse_type depth context) (shape self.old.buffer list) (state self.old)) }
+        ensures run { OnOk result (IsRun self.old.buffer self.new.buffer) }
+        ensures bounds { ListBounds result (state self.old) (state self.new) }
+        ensures saved { SavedBounds 0 result (state self.old) (state self.new) }
+    {
+        let mut list = list;
+        let mut first = true;
+        loop {
+            match types_case(false, self.rest) {
+                TypesCase::EndOfTypes => {
+                    self.found = list;
+                    return Ok(());
+                }
+                TypesCase::NextType => {
+                    list = separate(&mut self.buffer, list, first)?;
+                    self.framed_type(depth, context)?;
+                    list = list_next(&mut self.buffer, list, self.found)?;
+                    first = false;
+                }
+            }
+        }
+    }
+
+    /// Parameters up to `E`, put onto a list as they are read: `v` right in front of the `E` stands for none.
+    #[tactic(auto, using(crate::proofs::Rules::fronts))]
+    #[cycle(reader)]
+    pub fn read_typed_params(
+        &mut self,
+        depth: usize,
+        context: Context,
+        list: Piece,
+    ) -> Result<(), Stop>
+        requires room { HasRoom 2 (state self.old) }
+        requires living { IsLiving self.old.buffer list }
+        ensures reads { Gives result self.new (spec.typed_params_as (params_case self.old.rest.now)
+            (spec.parse_type depth context) (shape self.old.buffer list) (state self.old)) }
+        ensures run { OnOk result (IsRun self.old.buffer self.new.buffer) }
+        ensures bounds { ListBounds result (state self.old) (state self.new) }
+        ensures saved { SavedBounds 0 result (state self.old) (state self.new) }
+    {
+        match params_case(self.rest) {
+            ParamsCase::NoParams => {
+                self.skip(1);
+                self.found = list;
+                Ok(())
+            }
+            ParamsCase::SomeParams => self.read_typed(depth, context, list),
         }
     }
 }

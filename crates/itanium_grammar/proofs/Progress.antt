@@ -3,13 +3,13 @@ use Rattle.std.proofs.Common.{◌≡◌, ◌<◌, ℕ, Bool, List, Option, lengt
 use Rattle.demangle_quals.specs.declared.quals.Quals.{Quals}
 use Rattle.itanium_syntax.specs.declared.context.Context.{Context}
 use Rattle.itanium_syntax.specs.declared.numerals.Radix.TheVariants.{Decimal, Base36}
-use Rattle.itanium_grammar.specs.Cases.{SymbolCase, NameCase, UnscopedCase, AttachedCase, FirstCase, ComponentCase, UnqualifiedCase, TagCase, SubstitutionCase, ArgsCase, ArgumentCase, TypeCase, CvCase, ParamsCase, TypesCase}
+use Rattle.itanium_grammar.specs.Cases.{SymbolCase, NameCase, UnscopedCase, AttachedCase, FirstCase, ComponentCase, UnqualifiedCase, FreeCase, TagCase, SubstitutionCase, ArgsCase, ArgumentCase, TypeCase, CvCase, ParamsCase, TypesCase}
 use Rattle.itanium_syntax.specs.Names.{first_case, component_case, unqualified_case}
 use Rattle.itanium_syntax.specs.Args.{args_case}
 use Rattle.itanium_syntax.specs.Types.{type_case, types_case, past_reference}
-use Rattle.itanium_syntax.proofs.Fronts.{IsAfter, Takes, after_none, after_drop, after_then, takes_then, after_takes, takes_takes, takes_drop, internal_after, initializer_after, cv_after, quals_after, reference_after, builtin_after, builtin_shorter, abbreviation_takes, index_takes, source_takes, dimension_takes, constructor_some, destructor_some, std_shorter, components_end_shorter, arguments_end_shorter, types_end_some}
+use Rattle.itanium_syntax.proofs.Fronts.{IsAfter, Takes, after_none, after_drop, after_then, takes_then, after_takes, takes_takes, takes_drop, internal_after, initializer_after, cv_after, quals_after, reference_after, builtin_after, builtin_shorter, abbreviation_takes, index_takes, source_takes, dimension_takes, constructor_some, destructor_some, std_shorter, components_end_shorter, arguments_end_shorter, unnamed_type_takes, lambda_takes, operator_takes}
 use Rattle.itanium_grammar.specs.Tree.{Tree}
-use Rattle.itanium_grammar.specs.Grammar.{Position, Cost, SubstitutionAs, Substitution, Parameter, TaggedAs, UnqualifiedAs, Unqualified, FirstAs, Name, NameAs, UnscopedAs, AttachedAs, Nested, Components, ComponentsAs, Args, Arguments, ArgumentsAs, ArgumentAs, TypeOf, TypeAs, CvAs, Function, ParamsAs, Types, TypesAs, TypeAttachedAs, SymbolAs, Symbol, abbreviation_substitution, component_substitution, substitution, parameter, no_tag, source_component, constructor_component, destructor_component, unqualified, parameter_first, std_first, substitution_first, name_first, name, nested_name, unscoped_name, std_name, substitution_name, global_name, none_attached, args_attached, nested, components, end_of_components, args_component, name_component, args, arguments, end_of_arguments, one_more_argument, type_argument, type, builtin_type, vendor_type, array_type, function_type, member_type, pointer_type, cv_type, elaborated_type, parameter_type, substitution_type, name_type, cv_function, cv_other, function, no_params, some_params, types, end_of_types, one_more_type, none_attached_to_type, args_attached_to_type, name_symbol, symbol}
+use Rattle.itanium_grammar.specs.Grammar.{Position, Cost, SubstitutionAs, Substitution, Parameter, TaggedAs, UnqualifiedAs, Unqualified, FirstAs, Name, NameAs, UnscopedAs, AttachedAs, Nested, Components, ComponentsAs, Args, Arguments, ArgumentsAs, ArgumentAs, TypeOf, TypeAs, CvAs, Function, ParamsAs, TypesAs, TypeAttachedAs, SymbolAs, Symbol, abbreviation_substitution, component_substitution, substitution, parameter, no_tag, next_tag, source_free, unnamed_type_free, lambda_free, conversion_free, literal_operator_free, operator_free, FreeAs, free_component, constructor_component, destructor_component, unqualified, parameter_first, std_first, substitution_first, name_first, name, nested_name, unscoped_name, std_name, substitution_name, global_name, none_attached, args_attached, nested, components, end_of_components, args_component, name_component, args, arguments, end_of_arguments, one_more_argument, pack_argument, type_argument, Pack, PackedAs, pack, end_of_pack, one_more_packed, expansion_type, type, builtin_type, vendor_type, array_type, function_type, member_type, pointer_type, cv_type, elaborated_type, parameter_type, substitution_type, name_type, cv_function, cv_other, function, no_params, some_params, end_of_types, one_more_type, none_attached_to_type, args_attached_to_type, name_symbol, symbol}
 
 substitution_as_takes : {case : SubstitutionCase} {p q : Position} {t : Tree} → SubstitutionAs case p t q → Takes q.rest p.rest
 substitution_as_takes (abbreviation_substitution {p = p} known) = abbreviation_takes p.rest _ known
@@ -23,20 +23,8 @@ parameter_takes (parameter {p = p} {i = i} {rest = r} found there) = after_takes
 
 pub tagged_after : {case : TagCase} {t u : Tree} {p q : Position} → TaggedAs case t p u q → IsAfter q.rest p.rest
 tagged_after (no_tag {p = p}) = after_none p.rest
-
-pub unqualified_as_takes : {case : UnqualifiedCase} {x : Context} {scope : Option Tree} {p q : Position} {t : Tree} {c : Cost} → unqualified_case (is_some scope) p.rest ≡ case → UnqualifiedAs case x scope p t q c → Takes q.rest p.rest
-unqualified_as_takes form (source_component {p = p} {bytes = b} {rest = r} found tags) = takes_then (source_takes p.rest (b, r) found) (tagged_after tags)
-unqualified_as_takes form (constructor_component {p = p} tags) = takes_then (takes_drop 2 p.rest (omega arith) (constructor_some p.rest form)) (tagged_after tags)
-unqualified_as_takes form (destructor_component {p = p} tags) = takes_then (takes_drop 2 p.rest (omega arith) (destructor_some p.rest form)) (tagged_after tags)
-
-pub unqualified_takes : {x : Context} {scope : Option Tree} {p q : Position} {t : Tree} {c : Cost} → Unqualified x scope p t q c → Takes q.rest p.rest
-unqualified_takes (unqualified {p = p} a) = after_takes (internal_after p.rest) (unqualified_as_takes refl a)
-
-pub first_takes : {case : FirstCase} {x : Context} {p q : Position} {t : Tree} {c : Cost} → first_case p.rest ≡ case → FirstAs case x p t q c → Takes q.rest p.rest
-first_takes form (parameter_first a) = parameter_takes a
-first_takes form (std_first {p = p}) = record { after = after_drop 2 p.rest; shorter = std_shorter p.rest form }
-first_takes form (substitution_first a) = substitution_takes a
-first_takes form (name_first a) = unqualified_takes a
+tagged_after (next_tag {p = p} {bytes = b} {rest = r} found tags) =
+    after_then (after_then (after_drop 1 p.rest) (source_takes (drop 1 p.rest) (b, r) found).after) (tagged_after tags)
 
 mutual
   pub name_takes : {x : Context} {p q : Position} {t : Tree} {c : Cost} → Name x p t q c → Takes q.rest p.rest
@@ -54,6 +42,31 @@ mutual
   attached_after : {case : AttachedCase} {x : Context} {t u : Tree} {p q : Position} {c : Cost} → AttachedAs case x t p u q c → IsAfter q.rest p.rest
   attached_after (none_attached {p = p}) = after_none p.rest
   attached_after (args_attached a) = args_after a
+
+  free_takes : {case : FreeCase} {x : Context} {p q : Position} {t : Tree} {c : Cost} → FreeAs case x p t q c → Takes q.rest p.rest
+  free_takes (source_free {p = p} {bytes = b} {rest = r} found) = source_takes p.rest (b, r) found
+  free_takes (unnamed_type_free {p = p} {k = k} {rest = r} found) = after_takes (after_drop 2 p.rest) (unnamed_type_takes (drop 2 p.rest) (k, r) found)
+  free_takes (lambda_free {p = p} {q = q} {k = k} {rest = r} params found) =
+      let front = after_then (after_then (after_drop 2 p.rest) (params_after params)) (after_drop 1 q.rest) in
+      after_takes front (lambda_takes (drop 1 q.rest) (k, r) found)
+  free_takes (conversion_free {p = p} a) = after_takes (after_drop 2 p.rest) (type_takes a)
+  free_takes (literal_operator_free {p = p} {bytes = b} {rest = r} found) = after_takes (after_drop 2 p.rest) (source_takes (drop 2 p.rest) (b, r) found)
+  free_takes (operator_free {p = p} {text = o} found) = operator_takes p.rest o found
+
+  pub unqualified_as_takes : {case : UnqualifiedCase} {x : Context} {scope : Option Tree} {p q : Position} {t : Tree} {c : Cost} → unqualified_case (is_some scope) p.rest ≡ case
+      → UnqualifiedAs case x scope p t q c → Takes q.rest p.rest
+  unqualified_as_takes case (constructor_component {p = p} tags) = takes_then (takes_drop 2 p.rest (omega arith) (constructor_some p.rest case)) (tagged_after tags)
+  unqualified_as_takes case (destructor_component {p = p} tags) = takes_then (takes_drop 2 p.rest (omega arith) (destructor_some p.rest case)) (tagged_after tags)
+  unqualified_as_takes case (free_component a tags) = takes_then (free_takes a) (tagged_after tags)
+
+  pub unqualified_takes : {x : Context} {scope : Option Tree} {p q : Position} {t : Tree} {c : Cost} → Unqualified x scope p t q c → Takes q.rest p.rest
+  unqualified_takes (unqualified {p = p} a) = after_takes (internal_after p.rest) (unqualified_as_takes refl a)
+
+  pub first_takes : {case : FirstCase} {x : Context} {p q : Position} {t : Tree} {c : Cost} → first_case p.rest ≡ case → FirstAs case x p t q c → Takes q.rest p.rest
+  first_takes form (parameter_first a) = parameter_takes a
+  first_takes form (std_first {p = p}) = record { after = after_drop 2 p.rest; shorter = std_shorter p.rest form }
+  first_takes form (substitution_first a) = substitution_takes a
+  first_takes form (name_first a) = unqualified_takes a
 
   nested_takes : {x : Context} {p q : Position} {t : Tree} {c : Cost} → Nested x p t q c → Takes q.rest p.rest
   nested_takes (nested {p = p} {q = q} a b) =
@@ -81,13 +94,22 @@ mutual
   arguments_as_takes form (one_more_argument a b) = takes_takes (argument_takes a) (arguments_takes b)
 
   pub argument_takes : {case : ArgumentCase} {x : Context} {p q : Position} {t : Tree} {c : Cost} → ArgumentAs case x p t q c → Takes q.rest p.rest
+  argument_takes (pack_argument a) = pack_takes a
   argument_takes (type_argument a) = type_takes a
+
+  pub pack_takes : {x : Context} {p q : Position} {t : Tree} {c : Cost} → Pack x p t q c → Takes q.rest p.rest
+  pack_takes (pack {p = p} a) = after_takes (after_drop 1 p.rest) (packed_takes refl a)
+
+  pub packed_takes : {case : ArgsCase} {x : Context} {p q : Position} {list : List Tree} {c : Cost} → args_case p.rest ≡ case → PackedAs case x p list q c → Takes q.rest p.rest
+  packed_takes form (end_of_pack {p = p}) = record { after = after_drop 1 p.rest; shorter = arguments_end_shorter p.rest form }
+  packed_takes form (one_more_packed a b) = takes_takes (argument_takes a) (packed_takes refl b)
 
   pub type_takes : {x : Context} {p q : Position} {t : Tree} {c : Cost} → TypeOf x p t q c → Takes q.rest p.rest
   type_takes (type a) = type_as_takes refl a
 
   type_as_takes : {case : TypeCase} {x : Context} {p q : Position} {t : Tree} {c : Cost} → type_case p.rest ≡ case → TypeAs case x p t q c → Takes q.rest p.rest
   type_as_takes form (builtin_type {p = p}) = record { after = builtin_after p.rest; shorter = builtin_shorter p.rest form }
+  type_as_takes form (expansion_type {p = p} a) = after_takes (after_drop 2 p.rest) (type_takes a)
   type_as_takes form (vendor_type {p = p} {bytes = b} {rest = r} found list) = after_takes (after_drop 1 p.rest) (source_takes (drop 1 p.rest) (b, r) found)
   type_as_takes form (array_type {p = p} {dimension = n} {rest = r} found a there) =
       after_takes (after_drop 1 p.rest) (takes_takes (dimension_takes (drop 1 p.rest) (n, r) found) (type_takes a))
@@ -108,28 +130,17 @@ mutual
   function_takes (function {p = p} {r = r} plain a b there) =
       after_takes (after_drop 1 p.rest) (takes_then (type_takes a) (after_then (params_after b) (after_then (reference_after r.rest) (after_drop 1 (past_reference r.rest)))))
 
-  params_after : {case : ParamsCase} {x : Context} {p q : Position} {ts : List Tree} {c : Cost} → ParamsAs case x p ts q c → IsAfter q.rest p.rest
+  params_after : {case : ParamsCase} {of_function : Bool} {x : Context} {p q : Position} {ts : List Tree} {c : Cost} → ParamsAs case of_function x p ts q c → IsAfter q.rest p.rest
   params_after (no_params {p = p}) = after_drop 1 p.rest
   params_after (some_params a) = types_after a
 
-  pub types_after : {x : Context} {p q : Position} {ts : List Tree} {c : Cost} → Types x p ts q c → IsAfter q.rest p.rest
-  types_after (types a) = types_as_after a
-
-  types_as_after : {case : TypesCase} {x : Context} {p q : Position} {ts : List Tree} {c : Cost} → TypesAs case x p ts q c → IsAfter q.rest p.rest
-  types_as_after (end_of_types {p = p}) = after_none p.rest
-  types_as_after (one_more_type a b) = after_then (type_takes a).after (types_after b)
+  pub types_after : {case : TypesCase} {of_function : Bool} {x : Context} {p q : Position} {ts : List Tree} {c : Cost} → TypesAs case of_function x p ts q c → IsAfter q.rest p.rest
+  types_after (end_of_types {p = p}) = after_none p.rest
+  types_after (one_more_type a b) = after_then (type_takes a).after (types_after b)
 
   type_attached_after : {case : AttachedCase} {x : Context} {t u : Tree} {p q : Position} {c : Cost} → TypeAttachedAs case x t p u q c → IsAfter q.rest p.rest
   type_attached_after (none_attached_to_type {p = p}) = after_none p.rest
   type_attached_after (args_attached_to_type a) = args_after a
-
-types_as_some : {case : TypesCase} {x : Context} {p q : Position} {ts : List Tree} {c : Cost} → types_case p.rest ≡ case → TypesAs case x p ts q c → 0 < length p.rest
-types_as_some form (end_of_types {p = p}) = types_end_some p.rest form
-types_as_some form (one_more_type a b) = let shorter = (type_takes a).shorter in omega arith
-
--- types have an end, or a type
-pub types_some : {x : Context} {p q : Position} {ts : List Tree} {c : Cost} → Types x p ts q c → 0 < length p.rest
-types_some (types a) = types_as_some refl a
 
 symbol_as_takes : {case : SymbolCase} {x : Context} {p q : Position} {t : Tree} {c : Cost} → SymbolAs case x p t q c → Takes q.rest p.rest
 symbol_as_takes (name_symbol a) = name_takes a

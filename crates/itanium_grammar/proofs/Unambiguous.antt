@@ -1,14 +1,15 @@
 -- Of one position there is at most one reading.
-use Rattle.std.proofs.Common.{◌≡◌, ℕ, Bool, true, ◌∷◌, List, Option, length, refl, sym, subst, ap, ap₂, ◌∙◌}
+use Rattle.std.proofs.Common.{◌≡◌, ℕ, Bool, true, ◌∷◌, List, Option, length, refl, sym, subst, ap, ap₂, ◌∙◌, ◌++◌, drop, codes}
 use Rattle.std.proofs.lemmas.Option.{some_pair_parts, same_Some}
 use Rattle.demangle_quals.specs.declared.quals.Quals.{Quals}
 use Rattle.itanium_syntax.specs.declared.context.Context.{Context}
-use Rattle.itanium_grammar.specs.Cases.{SymbolCase, NameCase, UnscopedCase, AttachedCase, FirstCase, ComponentCase, UnqualifiedCase, TagCase, SubstitutionCase, ArgsCase, ArgumentCase, TypeCase, CvCase, ParamsCase, TypesCase}
+use Rattle.itanium_grammar.specs.Cases.{SymbolCase, NameCase, UnscopedCase, AttachedCase, FirstCase, ComponentCase, UnqualifiedCase, FreeCase, TagCase, SubstitutionCase, ArgsCase, ArgumentCase, TypeCase, CvCase, ParamsCase, TypesCase}
 use Rattle.itanium_syntax.specs.Names.{source_text, tag_case, past_name_quals, name_quals, saves_first, first_case}
-use Rattle.itanium_syntax.specs.Args.{attached_case}
-use Rattle.itanium_syntax.specs.Types.{params_case, elaborated_text, with_reference, past_reference}
-use Rattle.itanium_grammar.specs.Tree.{Tree, plain_text, abbreviation, with_args, nested_of, pointer_to, cv_of, array_of, member_of, function_to, elaborated, trees, in_scope, printing, list_printing}
-use Rattle.itanium_grammar.specs.Grammar.{Position, Cost, at, skip, counted, saving, save, put, past_initializer, both, SubstitutionAs, Substitution, ParameterAs, Parameter, TaggedAs, UnqualifiedAs, Unqualified, FirstAs, Name, NameAs, UnscopedAs, AttachedAs, Nested, Components, ComponentsAs, Args, Arguments, ArgumentsAs, ArgumentAs, TypeOf, TypeAs, CvAs, Function, ParamsAs, Types, TypesAs, TypeAttachedAs, SymbolAs, Symbol, abbreviation_substitution, component_substitution, substitution, auto_parameter, scope_parameter, parameter, no_tag, source_component, constructor_component, destructor_component, unqualified, parameter_first, std_first, substitution_first, name_first, name, nested_name, unscoped_name, std_name, substitution_name, global_name, none_attached, args_attached, nested, components, end_of_components, args_component, name_component, args, arguments, end_of_arguments, one_more_argument, type_argument, type, builtin_type, vendor_type, array_type, function_type, member_type, pointer_type, cv_type, elaborated_type, parameter_type, substitution_type, name_type, cv_function, cv_other, function, no_params, some_params, types, end_of_types, one_more_type, none_attached_to_type, args_attached_to_type, name_symbol, symbol}
+use Rattle.itanium_syntax.specs.Scalars.{lambda_number}
+use Rattle.itanium_syntax.specs.Args.{attached_case, args_case}
+use Rattle.itanium_syntax.specs.Types.{params_case, types_case, elaborated_text, with_reference, past_reference}
+use Rattle.itanium_grammar.specs.Tree.{Tree, tagged_with, lambda_of, conversion_to, pack_of, unnamed_text, literal_operator_text, expanded, plain_text, abbreviation, with_args, nested_of, pointer_to, cv_of, array_of, member_of, function_to, elaborated, trees, in_scope, printing, list_printing}
+use Rattle.itanium_grammar.specs.Grammar.{Position, Cost, at, skip, counted, saving, save, put, past_initializer, both, SubstitutionAs, Substitution, ParameterAs, Parameter, TaggedAs, UnqualifiedAs, Unqualified, FirstAs, Name, NameAs, UnscopedAs, AttachedAs, Nested, Components, ComponentsAs, Args, Arguments, ArgumentsAs, ArgumentAs, TypeOf, TypeAs, CvAs, Function, ParamsAs, TypesAs, TypeAttachedAs, SymbolAs, Symbol, abbreviation_substitution, component_substitution, substitution, auto_parameter, scope_parameter, parameter, no_tag, next_tag, source_free, unnamed_type_free, lambda_free, conversion_free, literal_operator_free, operator_free, FreeAs, free_component, nothing, constructor_component, destructor_component, unqualified, parameter_first, std_first, substitution_first, name_first, name, nested_name, unscoped_name, std_name, substitution_name, global_name, none_attached, args_attached, nested, components, end_of_components, args_component, name_component, args, arguments, end_of_arguments, one_more_argument, pack_argument, type_argument, Pack, PackedAs, pack, end_of_pack, one_more_packed, expansion_type, type, builtin_type, vendor_type, array_type, function_type, member_type, pointer_type, cv_type, elaborated_type, parameter_type, substitution_type, name_type, cv_function, cv_other, function, no_params, some_params, end_of_types, one_more_type, none_attached_to_type, args_attached_to_type, name_symbol, symbol}
 
 -- two readings have the same tree, the same position after them and the same cost
 pub record Same {T : Type 0} (t u : T) (q r : Position) (c d : Cost) : Type 0 where
@@ -59,29 +60,13 @@ one_parameter (parameter {x = x} {p = p} e a) (parameter {t = u} g b) =
 
 one_tagged : {case : TagCase} {t u v : Tree} {p q r : Position} → TaggedAs case t p u q → TaggedAs case t p v r → (u ≡ v) × (q ≡ r)
 one_tagged no_tag no_tag = (refl, refl)
-
-one_unqualified_as : {case : UnqualifiedCase} {x : Context} {scope : Option Tree} {p q r : Position} {t u : Tree} {c d : Cost}
-    → UnqualifiedAs case x scope p t q c → UnqualifiedAs case x scope p u r d → Same t u q r c d
-one_unqualified_as (source_component {scope = scope} {p = p} e a) (source_component {q = r} {t = u} g b) =
+one_tagged (next_tag {t = t} {p = p} e a) (next_tag {u = u} {q = r} g b) =
     let found = some_pair_parts _ _ _ _ (sym g ∙ e) in
-    let same = one_tagged a (along (λ s v. TaggedAs (tag_case v) (plain_text (source_text s)) (at v p) u r) found.0 found.1 b) in
-    record { tree = ap (in_scope scope) same.0; next = same.1; cost = refl }
-one_unqualified_as (constructor_component a) (constructor_component b) =
-    let same = one_tagged a b in record { tree = same.0; next = same.1; cost = refl }
-one_unqualified_as (destructor_component a) (destructor_component b) =
-    let same = one_tagged a b in record { tree = same.0; next = same.1; cost = refl }
+    one_tagged a (along (λ s v. TaggedAs (tag_case v) (tagged_with t (source_text s)) (at v p) u r) found.0 found.1 b)
 
-pub one_unqualified : {x : Context} {scope : Option Tree} {p q r : Position} {t u : Tree} {c d : Cost}
-    → Unqualified x scope p t q c → Unqualified x scope p u r d → Same t u q r c d
-one_unqualified (unqualified a) (unqualified b) = one_unqualified_as a b
-
-one_first : {case : FirstCase} {x : Context} {p q r : Position} {t u : Tree} {c d : Cost} → FirstAs case x p t q c → FirstAs case x p u r d
-    → Same t u q r c d
-one_first (parameter_first a) (parameter_first b) =
-    let same = one_parameter a b in record { tree = same.0; next = ap₂ save same.0 same.1; cost = ap saving same.1 }
-one_first std_first std_first = record { tree = refl; next = refl; cost = refl }
-one_first (substitution_first a) (substitution_first b) = let same = one_substitution a b in record { tree = same.0; next = same.1; cost = refl }
-one_first (name_first a) (name_first b) = same_saved (one_unqualified a b)
+-- a text with a front of the bytes taken, and nothing read inside
+same_text : {A : Type 0} (f : A → List ℕ) (p : Position) {a b : A} {v w : List ℕ} → (a ≡ b) × (v ≡ w) → Same (plain_text (f a)) (plain_text (f b)) (at v p) (at w p) nothing nothing
+same_text f p same = record { tree = ap (λ a. plain_text (f a)) same.0; next = ap (λ v. at v p) same.1; cost = refl }
 
 mutual
   pub one_name : {x : Context} {p q r : Position} {t u : Tree} {c d : Cost} → Name x p t q c → Name x p u r d → Same t u q r c d
@@ -113,6 +98,45 @@ mutual
   one_attached (args_attached {t = t} {p = p} a) (args_attached b) =
       let same = one_args a b in
       record { tree = ap (λ ts. with_args t (trees ts)) same.tree; next = same.next; cost = ap (both (saving p)) same.cost }
+
+  one_free : {case : FreeCase} {x : Context} {p q r : Position} {t u : Tree} {c d : Cost} → FreeAs case x p t q c → FreeAs case x p u r d → Same t u q r c d
+  one_free (source_free {p = p} e) (source_free g) = same_text source_text p (some_pair_parts _ _ _ _ (sym e ∙ g))
+  one_free (unnamed_type_free {p = p} e) (unnamed_type_free g) = same_text unnamed_text p (some_pair_parts _ _ _ _ (sym e ∙ g))
+  one_free (lambda_free a e) (lambda_free b g) =
+      let params = one_params a b in
+      let found = some_pair_parts _ _ _ _ (sym e ∙ ap (λ o. lambda_number (drop 1 o.rest)) params.next ∙ g) in
+      record {
+        tree = λ j. lambda_of (trees (params.tree j)) (found.0 j);
+        next = λ j. at (found.1 j) (params.next j);
+        cost = params.cost;
+      }
+  one_free (conversion_free a) (conversion_free b) = same_made conversion_to (one_type a b)
+  one_free (literal_operator_free {p = p} e) (literal_operator_free g) = same_text literal_operator_text p (some_pair_parts _ _ _ _ (sym e ∙ g))
+  one_free (operator_free e) (operator_free g) =
+      record { tree = ap (λ s. plain_text (codes "operator" ++ s)) (same_Some _ _ (sym e ∙ g)); next = refl; cost = refl }
+
+  one_unqualified_as : {case : UnqualifiedCase} {x : Context} {scope : Option Tree} {p q r : Position} {t u : Tree} {c d : Cost}
+      → UnqualifiedAs case x scope p t q c → UnqualifiedAs case x scope p u r d → Same t u q r c d
+  one_unqualified_as (constructor_component a) (constructor_component b) =
+      let same = one_tagged a b in record { tree = same.0; next = same.1; cost = refl }
+  one_unqualified_as (destructor_component a) (destructor_component b) =
+      let same = one_tagged a b in record { tree = same.0; next = same.1; cost = refl }
+  one_unqualified_as (free_component {scope = scope} a tags) (free_component {r = r} {u = u} b others) =
+      let first = one_free a b in
+      let same = one_tagged tags (along (λ s o. TaggedAs (tag_case o.rest) s o u r) (sym first.tree) (sym first.next) others) in
+      record { tree = ap (in_scope scope) same.0; next = same.1; cost = first.cost }
+
+  pub one_unqualified : {x : Context} {scope : Option Tree} {p q r : Position} {t u : Tree} {c d : Cost}
+      → Unqualified x scope p t q c → Unqualified x scope p u r d → Same t u q r c d
+  one_unqualified (unqualified a) (unqualified b) = one_unqualified_as a b
+
+  one_first : {case : FirstCase} {x : Context} {p q r : Position} {t u : Tree} {c d : Cost} → FirstAs case x p t q c → FirstAs case x p u r d
+      → Same t u q r c d
+  one_first (parameter_first a) (parameter_first b) =
+      let same = one_parameter a b in record { tree = same.0; next = ap₂ save same.0 same.1; cost = ap saving same.1 }
+  one_first std_first std_first = record { tree = refl; next = refl; cost = refl }
+  one_first (substitution_first a) (substitution_first b) = let same = one_substitution a b in record { tree = same.0; next = same.1; cost = refl }
+  one_first (name_first a) (name_first b) = same_saved (one_unqualified a b)
 
   one_nested : {x : Context} {p q r : Position} {t u : Tree} {c d : Cost} → Nested x p t q c → Nested x p u r d → Same t u q r c d
   one_nested (nested {x = x} {p = p} a b) (nested {r = r} {u = v} {d = d} g h) =
@@ -160,7 +184,21 @@ mutual
 
   one_argument : {case : ArgumentCase} {x : Context} {p q r : Position} {t u : Tree} {c d : Cost}
       → ArgumentAs case x p t q c → ArgumentAs case x p u r d → Same t u q r c d
+  one_argument (pack_argument a) (pack_argument b) = one_pack a b
   one_argument (type_argument a) (type_argument b) = one_type a b
+
+  one_pack : {x : Context} {p q r : Position} {t u : Tree} {c d : Cost} → Pack x p t q c → Pack x p u r d → Same t u q r c d
+  one_pack (pack a) (pack b) =
+      let same = one_packed a b in
+      same_counted (record { tree = ap (λ ts. pack_of (trees ts)) same.tree; next = same.next; cost = same.cost })
+
+  one_packed : {case : ArgsCase} {x : Context} {p q r : Position} {ts us : List Tree} {c d : Cost}
+      → PackedAs case x p ts q c → PackedAs case x p us r d → Same ts us q r c d
+  one_packed end_of_pack end_of_pack = record { tree = refl; next = refl; cost = refl }
+  one_packed (one_more_packed {x = x} a b) (one_more_packed {r = r} {ts = us} {d = d} g h) =
+      let first = one_argument a g in
+      let same = one_packed b (subst (λ v. PackedAs (args_case v.rest) x v us r d) (sym first.next) h) in
+      record { tree = ap₂ (λ t ts. t ∷ ts) first.tree same.tree; next = same.next; cost = ap₂ both first.cost same.cost }
 
   pub one_type : {x : Context} {p q r : Position} {t u : Tree} {c d : Cost} → TypeOf x p t q c → TypeOf x p u r d → Same t u q r c d
   one_type (type a) (type b) = same_counted (one_type_as a b)
@@ -168,6 +206,7 @@ mutual
   one_type_as : {case : TypeCase} {x : Context} {p q r : Position} {t u : Tree} {c d : Cost} → TypeAs case x p t q c → TypeAs case x p u r d
       → Same t u q r c d
   one_type_as builtin_type builtin_type = record { tree = refl; next = refl; cost = refl }
+  one_type_as (expansion_type {x = x} a) (expansion_type b) = same_saved (same_made (expanded x.pack) (one_type a b))
   one_type_as (vendor_type {p = p} e f) (vendor_type g h) =
       let found = some_pair_parts _ _ _ _ (sym e ∙ g) in
       let source = ap (λ v. plain_text (source_text v)) found.0 in
@@ -207,7 +246,7 @@ mutual
       → Function x quals p t q c → Function x quals p u r d → Same t u q r c d
   one_function (function {x = x} {quals = quals} plain a b there) (function {r = r} {ts = us} {d = d} other f h here) =
       let ret = one_type a f in
-      let params = one_params b (subst (λ o. ParamsAs (params_case o.rest) x o us r d) (sym ret.next) h) in
+      let params = one_params b (subst (λ o. ParamsAs (params_case o.rest) true x o us r d) (sym ret.next) h) in
       let quals_same = ap (λ o. with_reference quals o.rest) params.next in
       record {
         tree = λ j. function_to (ret.tree j) (trees (params.tree j)) (quals_same j);
@@ -215,20 +254,17 @@ mutual
         cost = ap₂ both ret.cost params.cost;
       }
 
-  one_params : {case : ParamsCase} {x : Context} {p q r : Position} {ts us : List Tree} {c d : Cost}
-      → ParamsAs case x p ts q c → ParamsAs case x p us r d → Same ts us q r c d
+  one_params : {case : ParamsCase} {of_function : Bool} {x : Context} {p q r : Position} {ts us : List Tree} {c d : Cost}
+      → ParamsAs case of_function x p ts q c → ParamsAs case of_function x p us r d → Same ts us q r c d
   one_params no_params no_params = record { tree = refl; next = refl; cost = refl }
   one_params (some_params a) (some_params b) = one_types a b
 
-  one_types : {x : Context} {p q r : Position} {ts us : List Tree} {c d : Cost} → Types x p ts q c → Types x p us r d → Same ts us q r c d
-  one_types (types a) (types b) = one_types_as a b
-
-  one_types_as : {case : TypesCase} {x : Context} {p q r : Position} {ts us : List Tree} {c d : Cost}
-      → TypesAs case x p ts q c → TypesAs case x p us r d → Same ts us q r c d
-  one_types_as end_of_types end_of_types = record { tree = refl; next = refl; cost = refl }
-  one_types_as (one_more_type {x = x} a b) (one_more_type {r = r} {ts = us} {d = d} e f) =
+  one_types : {case : TypesCase} {of_function : Bool} {x : Context} {p q r : Position} {ts us : List Tree} {c d : Cost}
+      → TypesAs case of_function x p ts q c → TypesAs case of_function x p us r d → Same ts us q r c d
+  one_types end_of_types end_of_types = record { tree = refl; next = refl; cost = refl }
+  one_types (one_more_type {of_function = f} {x = x} a b) (one_more_type {r = r} {ts = us} {d = d} e g) =
       let first = one_type a e in
-      let others = one_types b (subst (λ o. Types x o us r d) (sym first.next) f) in
+      let others = one_types b (subst (λ o. TypesAs (types_case f o.rest) f x o us r d) (sym first.next) g) in
       record { tree = ap₂ (λ t ts. t ∷ ts) first.tree others.tree; next = others.next; cost = ap₂ both first.cost others.cost }
 
   one_type_attached : {case : AttachedCase} {x : Context} {t u v : Tree} {p q r : Position} {c d : Cost}

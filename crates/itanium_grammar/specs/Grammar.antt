@@ -9,14 +9,15 @@ use Rattle.demangle_edit.specs.Types.{has_array, has_member_pointer}
 use Rattle.itanium_syntax.specs.declared.abbreviations.Abbreviation.{Abbreviation}
 use Rattle.itanium_syntax.specs.declared.context.Context.{Context}
 use Rattle.itanium_syntax.specs.declared.numerals.Radix.TheVariants.{Decimal, Base36}
-use Rattle.itanium_grammar.specs.Cases.{SymbolCase, NameSymbol, NameCase, NestedName, UnscopedName, UnscopedCase, StdName, SubstitutionName, PlainName, AttachedCase, NoneAttached, ArgsAttached, FirstCase, ParameterFirst, StdFirst, SubstitutionFirst, NameFirst, ComponentCase, EndOfComponents, ArgsComponent, NameComponent, UnqualifiedCase, SourceName, ConstructorName, DestructorName, TagCase, NoTag, SubstitutionCase, AbbreviationSubstitution, ComponentSubstitution, ArgsCase, EndOfArguments, NextArgument, ArgumentCase, TypeArgument, TypeCase, BuiltinType, VendorType, ArrayType, FunctionType, MemberType, PointerType, CvType, ElaboratedType, ParameterType, SubstitutionType, NameType, CvCase, CvFunction, CvOther, PlainFunction, ParamsCase, NoParams, SomeParams, TypesCase, EndOfTypes, NextType}
-use Rattle.itanium_syntax.specs.Scalars.{source_name, index_of, dimension_of}
+use Rattle.itanium_grammar.specs.Cases.{SymbolCase, NameSymbol, NameCase, NestedName, UnscopedName, UnscopedCase, StdName, SubstitutionName, PlainName, AttachedCase, NoneAttached, ArgsAttached, FirstCase, ParameterFirst, StdFirst, SubstitutionFirst, NameFirst, ComponentCase, EndOfComponents, ArgsComponent, NameComponent, UnqualifiedCase, ConstructorName, DestructorName, FreeName, FreeCase, SourceName, UnnamedTypeName, LambdaName, ConversionName, LiteralOperatorName, OperatorName, TagCase, NoTag, NextTag, SubstitutionCase, AbbreviationSubstitution, ComponentSubstitution, ArgsCase, EndOfArguments, NextArgument, ArgumentCase, PackArgument, TypeArgument, TypeCase, BuiltinType, ExpansionType, VendorType, ArrayType, FunctionType, MemberType, PointerType, CvType, ElaboratedType, ParameterType, SubstitutionType, NameType, CvCase, CvFunction, CvOther, PlainFunction, ParamsCase, NoParams, SomeParams, TypesCase, EndOfTypes, NextType}
+use Rattle.itanium_syntax.specs.Scalars.{source_name, index_of, unnamed_type_number, lambda_number, dimension_of}
+use Rattle.itanium_syntax.specs.Operators.{operator_here}
 use Rattle.itanium_syntax.specs.Abbreviations.{abbreviation_of}
-use Rattle.itanium_syntax.specs.Context.{opens_scope, inside_type}
-use Rattle.itanium_syntax.specs.Names.{symbol_case, name_case, unscoped_case, first_case, component_case, unqualified_case, tag_case, past_internal, past_initializer_letter, source_text, name_quals, past_name_quals, saves_first, substitution_case}
+use Rattle.itanium_syntax.specs.Context.{opens_scope, inside_type, inside_pack, inside_lambda}
+use Rattle.itanium_syntax.specs.Names.{symbol_case, name_case, unscoped_case, first_case, component_case, unqualified_case, free_case, tag_case, past_internal, past_initializer_letter, source_text, name_quals, past_name_quals, saves_first, substitution_case}
 use Rattle.itanium_syntax.specs.Args.{attached_case, args_case, argument_case}
 use Rattle.itanium_syntax.specs.Types.{type_case, builtin_text, past_builtin, cv_quals, past_cv, with_reference, past_reference, cv_case, function_case, params_case, types_case, elaborated_text}
-use Rattle.itanium_grammar.specs.Tree.{Tree, plain_text, abbreviation, ctor_dtor_of, with_args, nested_of, pointer_to, cv_of, array_of, member_of, function_to, elaborated, trees, in_scope, shape_of, printing, list_printing}
+use Rattle.itanium_grammar.specs.Tree.{Tree, plain_text, abbreviation, ctor_dtor_of, tagged_with, with_args, lambda_of, conversion_to, nested_of, pointer_to, cv_of, array_of, member_of, function_to, elaborated, pack_of, trees, in_scope, unnamed_text, literal_operator_text, expanded, shape_of, printing, list_printing}
 
 -- where a reading stands: the bytes that are left, the trees saved so far, and the scopes with their arguments
 pub record Position : Type 0 where
@@ -134,60 +135,18 @@ pub data Parameter : Context → Position → Tree → Position → Type 0 where
       → ParameterAs x.lambda i p t
       → Parameter x p t (at rest p)
 
--- <abi-tags> after a name
+-- <abi-tags> ::= (B <source-name>)* after a name
 pub data TaggedAs : TagCase → Tree → Position → Tree → Position → Type 0 where
+  -- no tag
   no_tag :
       {t : Tree} {p : Position}
       → TaggedAs NoTag t p t p
-
--- <unqualified-name>, in the scope that stands in front of it, if one does
-pub data UnqualifiedAs : UnqualifiedCase → Context → Option Tree → Position → Tree → Position → Cost → Type 0 where
-  -- <source-name> [<abi-tags>]
-  source_component :
-      {x : Context} {scope : Option Tree} {p q : Position} {t : Tree} {bytes rest : List ℕ}
-      → source_name p.rest ≡ Some (bytes, rest)
-      → TaggedAs (tag_case rest) (plain_text (source_text bytes)) (at rest p) t q
-      → UnqualifiedAs SourceName x scope p (in_scope scope t) q nothing
-  -- <ctor-dtor-name> ::= C1 | .. | C5
-  constructor_component :
-      {x : Context} {scope : Tree} {p q : Position} {t : Tree}
-      → TaggedAs (tag_case (drop 2 p.rest)) (ctor_dtor_of scope false) (skip 2 p) t q
-      → UnqualifiedAs ConstructorName x (Some scope) p t q nothing
-  -- <ctor-dtor-name> ::= D0 | D1 | D2 | D4 | D5
-  destructor_component :
-      {x : Context} {scope : Tree} {p q : Position} {t : Tree}
-      → TaggedAs (tag_case (drop 2 p.rest)) (ctor_dtor_of scope true) (skip 2 p) t q
-      → UnqualifiedAs DestructorName x (Some scope) p t q nothing
-
--- [L] and an <unqualified-name>
-pub data Unqualified : Context → Option Tree → Position → Tree → Position → Cost → Type 0 where
-  unqualified :
-      {x : Context} {scope : Option Tree} {p q : Position} {t : Tree} {c : Cost}
-      → UnqualifiedAs (unqualified_case (is_some scope) (past_internal p.rest)) x scope
-      (at (past_internal p.rest) p) t q c
-      → Unqualified x scope p t q c
-
--- the first component of a <nested-name>
-pub data FirstAs : FirstCase → Context → Position → Tree → Position → Cost → Type 0 where
-  -- <template-param>, which is saved
-  parameter_first :
-      {x : Context} {p q : Position} {t : Tree}
-      → Parameter x p t q
-      → FirstAs ParameterFirst x p t (save t q) (saving q)
-  -- St
-  std_first :
-      {x : Context} {p : Position}
-      → FirstAs StdFirst x p (plain_text (codes "std")) (skip 2 p) nothing
-  -- <substitution>, which isn't saved again
-  substitution_first :
-      {x : Context} {p q : Position} {t : Tree}
-      → Substitution p t q
-      → FirstAs SubstitutionFirst x p t q nothing
-  -- <unqualified-name>, which is saved
-  name_first :
-      {x : Context} {p q : Position} {t : Tree} {c : Cost}
-      → Unqualified x None p t q c
-      → FirstAs NameFirst x p t (save t q) (both c (saving q))
+  -- B <source-name>, and further tags
+  next_tag :
+      {t u : Tree} {p q : Position} {bytes rest : List ℕ}
+      → source_name (drop 1 p.rest) ≡ Some (bytes, rest)
+      → TaggedAs (tag_case rest) (tagged_with t (source_text bytes)) (at rest p) u q
+      → TaggedAs NextTag t p u q
 
 mutual
   -- <name> ::= <nested-name> | <unscoped-name> | <unscoped-template-name> <template-args>: counted
@@ -243,6 +202,89 @@ mutual
         {x : Context} {t : Tree} {p q : Position} {list : List Tree} {c : Cost}
         → Args x true (save t p) list q c
         → AttachedAs ArgsAttached x t p (with_args t (trees list)) q (both (saving p) c)
+
+  -- <unqualified-name> that asks for no scope, without its tags
+  pub data FreeAs : FreeCase → Context → Position → Tree → Position → Cost → Type 0 where
+    -- <source-name>
+    source_free :
+        {x : Context} {p : Position} {bytes rest : List ℕ}
+        → source_name p.rest ≡ Some (bytes, rest)
+        → FreeAs SourceName x p (plain_text (source_text bytes)) (at rest p) nothing
+    -- <unnamed-type-name> ::= Ut [<nonnegative number>] _
+    unnamed_type_free :
+        {x : Context} {p : Position} {k : ℕ} {rest : List ℕ}
+        → unnamed_type_number (drop 2 p.rest) ≡ Some (k, rest)
+        → FreeAs UnnamedTypeName x p (plain_text (unnamed_text k)) (at rest p) nothing
+    -- <closure-type-name> ::= Ul <lambda-sig> E [<nonnegative number>] _
+    lambda_free :
+        {x : Context} {p q : Position} {ts : List Tree} {c : Cost} {k : ℕ} {rest : List ℕ}
+        → ParamsAs (params_case (drop 2 p.rest)) false (inside_lambda x) (skip 2 p) ts q c
+        → lambda_number (drop 1 q.rest) ≡ Some (k, rest)
+        → FreeAs LambdaName x p (lambda_of (trees ts) k) (at rest q) c
+    -- <operator-name> ::= cv <type>
+    conversion_free :
+        {x : Context} {p q : Position} {t : Tree} {c : Cost}
+        → TypeOf x (skip 2 p) t q c
+        → FreeAs ConversionName x p (conversion_to t) q c
+    -- <operator-name> ::= li <source-name>
+    literal_operator_free :
+        {x : Context} {p : Position} {bytes rest : List ℕ}
+        → source_name (drop 2 p.rest) ≡ Some (bytes, rest)
+        → FreeAs LiteralOperatorName x p (plain_text (literal_operator_text bytes)) (at rest p) nothing
+    -- <operator-name>, a code of two letters
+    operator_free :
+        {x : Context} {p : Position} {text : List ℕ}
+        → operator_here p.rest ≡ Some text
+        → FreeAs OperatorName x p (plain_text (codes "operator" ++ text)) (skip 2 p) nothing
+
+  -- <unqualified-name>, in the scope that stands in front of it, if one does
+  pub data UnqualifiedAs : UnqualifiedCase → Context → Option Tree → Position → Tree → Position → Cost → Type 0 where
+    -- <ctor-dtor-name> ::= C1 | .. | C5, and then [<abi-tags>]
+    constructor_component :
+        {x : Context} {scope : Tree} {p q : Position} {t : Tree}
+        → TaggedAs (tag_case (drop 2 p.rest)) (ctor_dtor_of scope false) (skip 2 p) t q
+        → UnqualifiedAs ConstructorName x (Some scope) p t q nothing
+    -- <ctor-dtor-name> ::= D0 | D1 | D2 | D4 | D5, and then [<abi-tags>]
+    destructor_component :
+        {x : Context} {scope : Tree} {p q : Position} {t : Tree}
+        → TaggedAs (tag_case (drop 2 p.rest)) (ctor_dtor_of scope true) (skip 2 p) t q
+        → UnqualifiedAs DestructorName x (Some scope) p t q nothing
+    -- another name and [<abi-tags>], and then in its scope
+    free_component :
+        {x : Context} {scope : Option Tree} {p q r : Position} {t u : Tree} {c : Cost}
+        → FreeAs (free_case p.rest) x p t q c
+        → TaggedAs (tag_case q.rest) t q u r
+        → UnqualifiedAs FreeName x scope p (in_scope scope u) r c
+
+  -- [L] and an <unqualified-name>
+  pub data Unqualified : Context → Option Tree → Position → Tree → Position → Cost → Type 0 where
+    unqualified :
+        {x : Context} {scope : Option Tree} {p q : Position} {t : Tree} {c : Cost}
+        → UnqualifiedAs (unqualified_case (is_some scope) (past_internal p.rest)) x scope
+            (at (past_internal p.rest) p) t q c
+        → Unqualified x scope p t q c
+
+  -- the first component of a <nested-name>
+  pub data FirstAs : FirstCase → Context → Position → Tree → Position → Cost → Type 0 where
+    -- <template-param>, which is saved
+    parameter_first :
+        {x : Context} {p q : Position} {t : Tree}
+        → Parameter x p t q
+        → FirstAs ParameterFirst x p t (save t q) (saving q)
+    -- St
+    std_first :
+        {x : Context} {p : Position}
+        → FirstAs StdFirst x p (plain_text (codes "std")) (skip 2 p) nothing
+    -- <substitution>, which isn't saved again
+    substitution_first :
+        {x : Context} {p q : Position} {t : Tree}
+        → Substitution p t q
+        → FirstAs SubstitutionFirst x p t q nothing
+    -- <unqualified-name>, which is saved
+    name_first :
+        {x : Context} {p q : Position} {t : Tree} {c : Cost}
+        → Unqualified x None p t q c
+        → FirstAs NameFirst x p t (save t q) (both c (saving q))
 
   -- <nested-name> ::= N [<CV-qualifiers>] [<ref-qualifier>] <prefix> E | N H <prefix> E, after its N: one component
   -- or more
@@ -307,8 +349,33 @@ mutual
         → Arguments x opens n (put opens n t q) ts r d
         → ArgumentsAs NextArgument x opens n p (t ∷ ts) r (both c d)
 
+  -- <template-arg> ::= J <template-arg>* E: counted, with the context of a pack inside
+  pub data Pack : Context → Position → Tree → Position → Cost → Type 0 where
+    pack :
+        {x : Context} {p q : Position} {list : List Tree} {c : Cost}
+        → PackedAs (args_case (drop 1 p.rest)) (inside_pack x) (skip 1 p) list q c
+        → Pack x p (pack_of (trees list)) q (counted (length (printing (pack_of (trees list)))) c)
+
+  -- one more <template-arg> of a pack, or the E after them; no scope is dropped between them
+  pub data PackedAs : ArgsCase → Context → Position → List Tree → Position → Cost → Type 0 where
+    -- E
+    end_of_pack :
+        {x : Context} {p : Position}
+        → PackedAs EndOfArguments x p [] (skip 1 p) nothing
+    -- <template-arg>
+    one_more_packed :
+        {x : Context} {p q r : Position} {t : Tree} {ts : List Tree} {c d : Cost}
+        → ArgumentAs (argument_case p.rest) x p t q c
+        → PackedAs (args_case q.rest) x q ts r d
+        → PackedAs NextArgument x p (t ∷ ts) r (both c d)
+
   -- <template-arg>
   pub data ArgumentAs : ArgumentCase → Context → Position → Tree → Position → Cost → Type 0 where
+    -- J <template-arg>* E
+    pack_argument :
+        {x : Context} {p q : Position} {t : Tree} {c : Cost}
+        → Pack x p t q c
+        → ArgumentAs PackArgument x p t q c
     -- <type>
     type_argument :
         {x : Context} {p q : Position} {t : Tree} {c : Cost}
@@ -328,6 +395,11 @@ mutual
     builtin_type :
         {x : Context} {p : Position}
         → TypeAs BuiltinType x p (plain_text (builtin_text p.rest)) (at (past_builtin p.rest) p) nothing
+    -- Dp <type>: saved also in a pack, where no dots are printed
+    expansion_type :
+        {x : Context} {p q : Position} {t : Tree} {c : Cost}
+        → TypeOf x (skip 2 p) t q c
+        → TypeAs ExpansionType x p (expanded x.pack t) (save (expanded x.pack t) q) (both c (saving q))
     -- u <source-name>, without <template-args>
     vendor_type :
         {x : Context} {p : Position} {bytes rest : List ℕ}
@@ -407,42 +479,35 @@ mutual
         {x : Context} {quals : Quals} {p q r : Position} {t : Tree} {ts : List Tree} {c d : Cost}
         → function_case p.rest ≡ PlainFunction
         → TypeOf x (skip 1 p) t q c
-        → ParamsAs (params_case q.rest) x q ts r d
+        → ParamsAs (params_case q.rest) true x q ts r d
         → is_plain (shape_of t).form ≡ true
         → Function x quals p (function_to t (trees ts) (with_reference quals r.rest))
         (skip 1 (at (past_reference r.rest) r)) (both c d)
 
-  -- the parameters: none, or types
-  pub data ParamsAs : ParamsCase → Context → Position → List Tree → Position → Cost → Type 0 where
+  -- the parameters of a <function-type>, or else of a lambda: none, or types
+  pub data ParamsAs : ParamsCase → Bool → Context → Position → List Tree → Position → Cost → Type 0 where
     -- v, right before the E
     no_params :
-        {x : Context} {p : Position}
-        → ParamsAs NoParams x p [] (skip 1 p) nothing
-    -- <type>+
+        {of_function : Bool} {x : Context} {p : Position}
+        → ParamsAs NoParams of_function x p [] (skip 1 p) nothing
+    -- <type>*
     some_params :
-        {x : Context} {p q : Position} {ts : List Tree} {c : Cost}
-        → Types x p ts q c
-        → ParamsAs SomeParams x p ts q c
-
-  -- types up to the E, or to a <ref-qualifier> in front of it
-  pub data Types : Context → Position → List Tree → Position → Cost → Type 0 where
-    types :
-        {x : Context} {p q : Position} {ts : List Tree} {c : Cost}
-        → TypesAs (types_case p.rest) x p ts q c
-        → Types x p ts q c
+        {of_function : Bool} {x : Context} {p q : Position} {ts : List Tree} {c : Cost}
+        → TypesAs (types_case of_function p.rest) of_function x p ts q c
+        → ParamsAs SomeParams of_function x p ts q c
 
   -- one more type of a <bare-function-type>, or its end
-  pub data TypesAs : TypesCase → Context → Position → List Tree → Position → Cost → Type 0 where
+  pub data TypesAs : TypesCase → Bool → Context → Position → List Tree → Position → Cost → Type 0 where
     -- the end, which isn't taken
     end_of_types :
-        {x : Context} {p : Position}
-        → TypesAs EndOfTypes x p [] p nothing
+        {of_function : Bool} {x : Context} {p : Position}
+        → TypesAs EndOfTypes of_function x p [] p nothing
     -- <type>
     one_more_type :
-        {x : Context} {p q r : Position} {t : Tree} {ts : List Tree} {c d : Cost}
+        {of_function : Bool} {x : Context} {p q r : Position} {t : Tree} {ts : List Tree} {c d : Cost}
         → TypeOf x p t q c
-        → Types x q ts r d
-        → TypesAs NextType x p (t ∷ ts) r (both c d)
+        → TypesAs (types_case of_function q.rest) of_function x q ts r d
+        → TypesAs NextType of_function x p (t ∷ ts) r (both c d)
 
   -- <template-args> after a type, or none
   pub data TypeAttachedAs : AttachedCase → Context → Tree → Position → Tree → Position → Cost → Type 0 where

@@ -10,11 +10,12 @@ use Rattle.itanium_syntax.specs.declared.numerals.Radix.{Radix}
 use Rattle.itanium_syntax.specs.declared.numerals.Radix.TheVariants.{Decimal}
 use Rattle.itanium_syntax.specs.Abbreviations.{abbreviation_of}
 use Rattle.itanium_syntax.specs.Bytes.{begins, begins_one_of, past_letter}
-use Rattle.itanium_syntax.specs.Cases.{StdFirst, EndOfComponents, ArgsComponent, ConstructorName, DestructorName, ArgsAttached, EndOfArguments, BuiltinType, ArrayType, FunctionType, MemberType, PointerType, CvFunction, NoParams, EndOfTypes}
-use Rattle.itanium_syntax.specs.Names.{first_case, component_case, unqualified_case, past_internal, past_initializer_letter, past_name_quals}
-use Rattle.itanium_syntax.specs.Args.{attached_case, args_case}
+use Rattle.itanium_syntax.specs.Cases.{ExpansionType, LambdaName, ConversionName, UnnamedTypeName, LiteralOperatorName, OperatorName, PackArgument, StdFirst, EndOfComponents, ArgsComponent, ConstructorName, DestructorName, ArgsAttached, EndOfArguments, BuiltinType, ArrayType, FunctionType, MemberType, PointerType, CvFunction, NoParams, EndOfTypes}
+use Rattle.itanium_syntax.specs.Names.{first_case, component_case, unqualified_case, free_case, past_internal, past_initializer_letter, past_name_quals}
+use Rattle.itanium_syntax.specs.Args.{attached_case, args_case, argument_case}
 use Rattle.itanium_syntax.specs.Types.{type_case, types_case, cv_case, params_case, past_builtin, past_cv, past_reference}
-use Rattle.itanium_syntax.specs.Scalars.{front_digits, digit_then, digit_of, weighted, base, numeral, number, source_name, past_underscore, next_number, index_by, index_of, dimension_by, dimension_of}
+use Rattle.itanium_syntax.specs.Operators.{operator_here}
+use Rattle.itanium_syntax.specs.Scalars.{front_digits, digit_then, digit_of, weighted, base, numeral, number, source_name, past_underscore, next_number, index_by, index_of, unnamed_by, unnamed_type_number, lambda_number, dimension_by, dimension_of}
 
 -- the rest lies after a front of the bytes
 pub record IsAfter (rest bytes : List ℕ) : Type 0 where
@@ -157,9 +158,10 @@ pub destructor_some : (bytes : List ℕ) → unqualified_case true bytes ≡ Des
 destructor_some [] e = cc
 destructor_some (b ∷ bytes) e = omega arith
 
-pub types_end_some : (bytes : List ℕ) → types_case bytes ≡ EndOfTypes → 0 < length bytes
-types_end_some [] e = cc
-types_end_some (b ∷ bytes) e = omega arith
+pub types_end_some : (of_function : Bool) (bytes : List ℕ) → types_case of_function bytes ≡ EndOfTypes → 0 < length bytes
+types_end_some true [] e = cc
+types_end_some false [] e = cc
+types_end_some of_function (b ∷ bytes) e = omega arith
 
 -- these types have a letter of their own
 pub array_some : (bytes : List ℕ) → type_case bytes ≡ ArrayType → 0 < length bytes
@@ -202,7 +204,38 @@ cv_shorter (b ∷ bytes) e = go (b == 114) (b == 86) (b == 75) refl refl refl e
     go false false true er ev ek h = rw (er, ev, ek) (omega arith)
     go false false false er ev ek h = cc
 
-pub ruleset cases = (types_end_some, array_some, member_some, function_some, pointer_some, cv_function_some, no_params_some, std_shorter, components_end_shorter, arguments_end_shorter, attached_some, component_args_some, builtin_shorter)
+-- these names have a letter
+pub lambda_some : (bytes : List ℕ) → free_case bytes ≡ LambdaName → 0 < length bytes
+lambda_some [] e = cc
+lambda_some (b ∷ bytes) e = omega arith
+
+pub conversion_some : (bytes : List ℕ) → free_case bytes ≡ ConversionName → 0 < length bytes
+conversion_some [] e = cc
+conversion_some (b ∷ bytes) e = omega arith
+
+pub unnamed_type_some : (bytes : List ℕ) → free_case bytes ≡ UnnamedTypeName → 0 < length bytes
+unnamed_type_some [] e = cc
+unnamed_type_some (b ∷ bytes) e = omega arith
+
+pub literal_operator_some : (bytes : List ℕ) → free_case bytes ≡ LiteralOperatorName → 0 < length bytes
+literal_operator_some [] e = cc
+literal_operator_some (b ∷ bytes) e = omega arith
+
+pub operator_some : (bytes : List ℕ) → free_case bytes ≡ OperatorName → 0 < length bytes
+operator_some [] e = cc
+operator_some (b ∷ bytes) e = omega arith
+
+pub pack_some : (bytes : List ℕ) → argument_case bytes ≡ PackArgument → 0 < length bytes
+pack_some [] e = cc
+pack_some (b ∷ bytes) e = omega arith
+
+pub expansion_some : (bytes : List ℕ) → type_case bytes ≡ ExpansionType → 0 < length bytes
+expansion_some [] e = cc
+expansion_some (b ∷ bytes) e = omega arith
+
+pub ruleset names_some = (lambda_some, conversion_some, unnamed_type_some, literal_operator_some, operator_some)
+
+pub ruleset cases = (types_end_some, pack_some, expansion_some, array_some, member_some, function_some, pointer_some, cv_function_some, no_params_some, std_shorter, components_end_shorter, arguments_end_shorter, attached_some, component_args_some, builtin_shorter)
 
 take_none : (b : ℕ) (bytes : List ℕ) (found : List ℕ) → past_underscore (b ∷ bytes) ≡ Some found → found ≡ bytes
 take_none b bytes found e = sym ((cond_some (b == 95) bytes found e).1)
@@ -226,6 +259,28 @@ index_takes r bytes found e = go (past_underscore bytes) refl e
     go None f g = option_and_then_some _ (numeral r bytes) found g (λ n read more.
         option_and_then_some _ (next_number n.0) found more (λ i next there.
         takes_takes (numeral_takes r bytes n read) (after_number n i (past_underscore n.1) refl there)))
+
+pub unnamed_type_takes : (bytes : List ℕ) (found : ℕ × List ℕ) → unnamed_type_number bytes ≡ Some found → Takes found.1 bytes
+unfolding unnamed_type_number
+unnamed_type_takes bytes found e = go (past_underscore bytes) refl e
+  where
+    go : (o : Option (List ℕ)) → past_underscore bytes ≡ o → unnamed_by bytes o ≡ Some found → Takes found.1 bytes
+    go (Some rest) f g = let is : rest ≡ found.1 = (some_pair_parts 1 found.0 rest found.1 g).1 in rw (← is) (underscore_takes bytes rest f)
+    go None f g = index_takes Decimal bytes found g
+
+pub lambda_takes : (bytes : List ℕ) (found : ℕ × List ℕ) → lambda_number bytes ≡ Some found → Takes found.1 bytes
+unfolding lambda_number
+lambda_takes bytes found e = option_and_then_some _ (index_of Decimal bytes) found e (λ n read made. go n read (next_number n.0) made)
+  where
+    go : (n : ℕ × List ℕ) → index_of Decimal bytes ≡ Some n → (o : Option ℕ) → option_map (λ k. (k, n.1)) o ≡ Some found → Takes found.1 bytes
+    go n read None g = cc
+    go n read (Some k) g = let is : n.1 ≡ found.1 = (some_pair_parts k found.0 n.1 found.1 g).1 in rw (← is) (index_takes Decimal bytes n read)
+
+-- a code of an operator is two bytes
+pub operator_takes : (bytes text : List ℕ) → operator_here bytes ≡ Some text → Takes (drop 2 bytes) bytes
+operator_takes [] text e = cc
+operator_takes (a ∷ []) text e = cc
+operator_takes (a ∷ b ∷ bytes) text e = takes_drop 2 (a ∷ b ∷ bytes) (omega arith) (omega arith)
 
 pub dimension_takes : (bytes : List ℕ) (found : Option ℕ × List ℕ) → dimension_of bytes ≡ Some found → Takes found.1 bytes
 unfolding dimension_of

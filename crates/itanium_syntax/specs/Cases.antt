@@ -10,7 +10,9 @@ pub use Rattle.itanium_syntax.specs.declared.names.FirstCase.TheVariants.{Parame
 pub use Rattle.itanium_syntax.specs.declared.names.ComponentCase.{ComponentCase}
 pub use Rattle.itanium_syntax.specs.declared.names.ComponentCase.TheVariants.{EndOfComponents, ArgsComponent, NameComponent}
 pub use Rattle.itanium_syntax.specs.declared.names.UnqualifiedCase.{UnqualifiedCase}
-pub use Rattle.itanium_syntax.specs.declared.names.UnqualifiedCase.TheVariants.{SourceName, ConstructorName, DestructorName, OtherName}
+pub use Rattle.itanium_syntax.specs.declared.names.UnqualifiedCase.TheVariants.{ConstructorName, DestructorName, FreeName}
+pub use Rattle.itanium_syntax.specs.declared.names.FreeCase.{FreeCase}
+pub use Rattle.itanium_syntax.specs.declared.names.FreeCase.TheVariants.{SourceName, UnnamedTypeName, LambdaName, ConversionName, LiteralOperatorName, OperatorName, NoName}
 pub use Rattle.itanium_syntax.specs.declared.names.TagCase.{TagCase}
 pub use Rattle.itanium_syntax.specs.declared.names.TagCase.TheVariants.{NoTag, NextTag}
 pub use Rattle.itanium_syntax.specs.declared.names.SubstitutionCase.{SubstitutionCase}

@@ -9,3 +9,11 @@ opens_scope of_name x = of_name && not x.in_type
 -- the same, inside a type
 abbrev pub inside_type : Context → Context
 inside_type x = record x { in_type = true }
+
+-- the same, inside an argument pack
+abbrev pub inside_pack : Context → Context
+inside_pack x = record x { pack = true }
+
+-- the same, inside a lambda's signature
+abbrev pub inside_lambda : Context → Context
+inside_lambda x = record x { lambda = true }

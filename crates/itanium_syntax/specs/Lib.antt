@@ -3,6 +3,7 @@ pub mod Cases
 pub mod Types
 pub mod Names
 pub mod Args
+pub mod Operators
 pub mod Scalars
 pub mod Abbreviations
 pub mod Context

@@ -1,9 +1,10 @@
 -- The cases of names. Of several cases the first one that fits holds.
-use Rattle.std.specs.Prelude.{ℕ, List, Bool, true, false, ◌&&◌, ◌||◌, drop, codes, if◌then◌else◌}
+use Rattle.std.specs.Prelude.{ℕ, List, Bool, true, false, ◌&&◌, ◌||◌, drop, codes, if◌then◌else◌, is_some}
 use Rattle.demangle_quals.specs.declared.quals.Quals.{Quals}
 use Rattle.demangle_quals.specs.Quals.{no_quals}
 use Rattle.itanium_syntax.specs.Bytes.{begins, begins_between, begins_digit, past_letter}
-use Rattle.itanium_syntax.specs.Cases.{SymbolCase, SpecialSymbol, NameSymbol, NameCase, NestedName, LocalName, UnscopedName, UnscopedCase, StdName, SubstitutionName, PlainName, FirstCase, ParameterFirst, StdFirst, SubstitutionFirst, NameFirst, ComponentCase, EndOfComponents, ArgsComponent, NameComponent, UnqualifiedCase, SourceName, ConstructorName, DestructorName, OtherName, TagCase, NoTag, NextTag, SubstitutionCase, AbbreviationSubstitution, ComponentSubstitution}
+use Rattle.itanium_syntax.specs.Operators.{operator_here}
+use Rattle.itanium_syntax.specs.Cases.{SymbolCase, SpecialSymbol, NameSymbol, NameCase, NestedName, LocalName, UnscopedName, UnscopedCase, StdName, SubstitutionName, PlainName, FirstCase, ParameterFirst, StdFirst, SubstitutionFirst, NameFirst, ComponentCase, EndOfComponents, ArgsComponent, NameComponent, UnqualifiedCase, ConstructorName, DestructorName, FreeName, FreeCase, SourceName, UnnamedTypeName, LambdaName, ConversionName, LiteralOperatorName, OperatorName, NoName, TagCase, NoTag, NextTag, SubstitutionCase, AbbreviationSubstitution, ComponentSubstitution}
 use Rattle.itanium_syntax.specs.Types.{cv_quals, past_cv, reference_of, past_reference}
 
 -- what follows _Z
@@ -51,12 +52,26 @@ abbrev pub begins_destructor : List ℕ → Bool
 begins_destructor bytes =
     begins (codes "D") bytes && (begins_between 48 50 (drop 1 bytes) || begins_between 52 53 (drop 1 bytes))
 
+-- an <operator-name>, or no name
+abbrev pub operator_case : List ℕ → FreeCase
+operator_case bytes = if is_some (operator_here bytes) then OperatorName else NoName
+
+-- an <unqualified-name> that asks for no scope: it is no <ctor-dtor-name>
+abbrev pub free_case : List ℕ → FreeCase
+free_case bytes =
+    if begins_between 49 57 bytes then SourceName else
+    if begins (codes "Ut") bytes then UnnamedTypeName else
+    if begins (codes "Ul") bytes then LambdaName else
+    if begins (codes "cv") bytes then ConversionName else
+    if begins (codes "li") bytes then LiteralOperatorName else
+    operator_case bytes
+
 -- <unqualified-name>: constructors and destructors have a scope
 abbrev pub unqualified_case : Bool → List ℕ → UnqualifiedCase
 unqualified_case in_scope bytes =
-    if begins_between 49 57 bytes then SourceName else
     if in_scope && begins_constructor bytes then ConstructorName else
-    if in_scope && begins_destructor bytes then DestructorName else OtherName
+    if in_scope && begins_destructor bytes then DestructorName else
+    FreeName
 
 -- an <abi-tag> or none
 abbrev pub tag_case : List ℕ → TagCase

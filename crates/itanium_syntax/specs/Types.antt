@@ -126,11 +126,11 @@ function_case bytes = if begins (codes "FY") bytes then ExternFunction else Plai
 abbrev pub params_case : List ℕ → ParamsCase
 params_case bytes = if begins (codes "vE") bytes then NoParams else SomeParams
 
--- the parameters end at E, or at a <ref-qualifier> in front of it
-abbrev pub types_case : List ℕ → TypesCase
-types_case bytes =
-    if begins (codes "E") bytes || (begins (codes "RE") bytes || begins (codes "OE") bytes)
-    then EndOfTypes else NextType
+-- types end at E, those of a <function-type> also at a <ref-qualifier> in front of it
+abbrev pub types_case : Bool → List ℕ → TypesCase
+types_case of_function bytes =
+    if begins (codes "E") bytes then EndOfTypes else
+    if of_function && (begins (codes "RE") bytes || begins (codes "OE") bytes) then EndOfTypes else NextType
 
 -- the word in front of an elaborated type's name, and a space
 abbrev pub elaborated_text : List ℕ → List ℕ

@@ -34,6 +34,23 @@ impl Context {
         }
     }
 
+    /// The context inside an argument pack.
+    pub fn inside_pack(self) -> Context
+        ensures context { result ≡ spec.inside_pack self }
+    {
+        Context { pack: true, ..self }
+    }
+
+    /// The context inside a lambda's signature.
+    pub fn inside_lambda(self) -> Context
+        ensures context { result ≡ spec.inside_lambda self }
+    {
+        Context {
+            lambda: true,
+            ..self
+        }
+    }
+
     /// Whether an argument list opens a scope: a name's does, where no type is around it.
     pub fn opens_scope(self, of_name: bool) -> bool
         ensures value { result ≡ spec.opens_scope of_name self }

@@ -7,5 +7,6 @@ pub mod args;
 pub mod context;
 pub mod names;
 pub mod numerals;
+pub mod operators;
 pub mod scalar;
 pub mod types;

@@ -2,6 +2,7 @@
 ghost use Rattle.std.specs.Prelude.{◌≡◌, ◌≤◌, length};
 ghost use Rattle.itanium_syntax.specs.Names as spec;
 
+use crate::operators::operator_here;
 use crate::types::{cv_quals, ref_qualifier};
 use demangle_quals::Quals;
 
@@ -48,10 +49,21 @@ pub enum ComponentCase {
 /// `<unqualified-name>`
 #[derive(Clone, Copy)]
 pub enum UnqualifiedCase {
-    SourceName,
     ConstructorName,
     DestructorName,
-    OtherName,
+    FreeName,
+}
+
+/// An `<unqualified-name>` that asks for no scope: it is no `<ctor-dtor-name>`.
+#[derive(Clone, Copy)]
+pub enum FreeCase {
+    SourceName,
+    UnnamedTypeName,
+    LambdaName,
+    ConversionName,
+    LiteralOperatorName,
+    OperatorName,
+    NoName,
 }
 
 /// Whether an `<abi-tag>` follows.
@@ -135,10 +147,33 @@ pub fn unqualified_case(in_scope: bool, bytes: &[u8]) -> UnqualifiedCase
     ensures case { result ≡ spec.unqualified_case in_scope bytes.now }
 {
     match bytes {
-        [b'1'..=b'9', ..] => UnqualifiedCase::SourceName,
         [b'C', b'1'..=b'5', ..] if in_scope => UnqualifiedCase::ConstructorName,
         [b'D', b'0'..=b'2' | b'4' | b'5', ..] if in_scope => UnqualifiedCase::DestructorName,
-        _ => UnqualifiedCase::OtherName,
+        _ => UnqualifiedCase::FreeName,
+    }
+}
+
+/// Which `<unqualified-name>` that asks for no scope stands there.
+pub fn free_case(bytes: &[u8]) -> FreeCase
+    ensures case { result ≡ spec.free_case bytes.now }
+{
+    match bytes {
+        [b'1'..=b'9', ..] => FreeCase::SourceName,
+        [b'U', b't', ..] => FreeCase::UnnamedTypeName,
+        [b'U', b'l', ..] => FreeCase::LambdaName,
+        [b'c', b'v', ..] => FreeCase::ConversionName,
+        [b'l', b'i', ..] => FreeCase::LiteralOperatorName,
+        _ => operator_case(bytes),
+    }
+}
+
+// An `<operator-name>`, or no name.
+fn operator_case(bytes: &[u8]) -> FreeCase
+    ensures case { result ≡ spec.operator_case bytes.now }
+{
+    match operator_here(bytes) {
+        Some(_) => FreeCase::OperatorName,
+        None => FreeCase::NoName,
     }
 }
 

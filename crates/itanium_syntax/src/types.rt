@@ -109,12 +109,14 @@ pub fn params_case(bytes: &[u8]) -> ParamsCase
     }
 }
 
-/// Whether one more type of a `<bare-function-type>` stands there, or its end.
-pub fn types_case(bytes: &[u8]) -> TypesCase
-    ensures case { result ≡ spec.types_case bytes.now }
+/// Whether one more type of a `<bare-function-type>` stands there, or its end: `E`, or in a `<function-type>` a
+/// `<ref-qualifier>` in front of it.
+pub fn types_case(of_function: bool, bytes: &[u8]) -> TypesCase
+    ensures case { result ≡ spec.types_case of_function bytes.now }
 {
     match bytes {
-        [b'E', ..] | [b'R', b'E', ..] | [b'O', b'E', ..] => TypesCase::EndOfTypes,
+        [b'E', ..] => TypesCase::EndOfTypes,
+        [b'R' | b'O', b'E', ..] if of_function => TypesCase::EndOfTypes,
         _ => TypesCase::NextType,
     }
 }

@@ -1,0 +1,130 @@
+//! Operators (Itanium C++ ABI 5.1.4, "Operator Encodings"): what follows `operator` in a name, and how many operands an
+//! expression of the code has.
+ghost use Rattle.std.specs.Prelude.{◌≡◌, option_map};
+ghost use Rattle.itanium_syntax.specs.Operators as spec;
+
+/// What follows `operator` in the name of a code's operator, or `None` where the code is none of `<operator-name>`
+/// (Itanium C++ ABI 5.1.4, "Operator Encodings").
+pub fn operator_text(first: u8, second: u8) -> Option<&'static str>
+    ensures value { option_map (λ text. text.now) result ≡ spec.operator_text first second }
+{
+    match (first, second) {
+        (b'n', b'w') => Some(" new"),
+        (b'n', b'a') => Some(" new[]"),
+        (b'd', b'l') => Some(" delete"),
+        (b'd', b'a') => Some(" delete[]"),
+        (b'p', b's') => Some("+"),
+        (b'n', b'g') => Some("-"),
+        (b'a', b'd') => Some("&"),
+        (b'd', b'e') => Some("*"),
+        (b'c', b'o') => Some("~"),
+        (b'p', b'l') => Some("+"),
+        (b'm', b'i') => Some("-"),
+        (b'm', b'l') => Some("*"),
+        (b'd', b'v') => Some("/"),
+        (b'r', b'm') => Some("%"),
+        (b'a', b'n') => Some("&"),
+        (b'o', b'r') => Some("|"),
+        (b'e', b'o') => Some("^"),
+        (b'a', b'S') => Some("="),
+        (b'p', b'L') => Some("+="),
+        (b'm', b'I') => Some("-="),
+        (b'm', b'L') => Some("*="),
+        (b'd', b'V') => Some("/="),
+        (b'r', b'M') => Some("%="),
+        (b'a', b'N') => Some("&="),
+        (b'o', b'R') => Some("|="),
+        (b'e', b'O') => Some("^="),
+        (b'l', b's') => Some("<<"),
+        (b'r', b's') => Some(">>"),
+        (b'l', b'S') => Some("<<="),
+        (b'r', b'S') => Some(">>="),
+        (b'e', b'q') => Some("=="),
+        (b'n', b'e') => Some("!="),
+        (b'l', b't') => Some("<"),
+        (b'g', b't') => Some(">"),
+        (b'l', b'e') => Some("<="),
+        (b'g', b'e') => Some(">="),
+        (b'n', b't') => Some("!"),
+        (b'a', b'a') => Some("&&"),
+        (b'o', b'o') => Some("||"),
+        (b'p', b'p') => Some("++"),
+        (b'm', b'm') => Some("--"),
+        (b'c', b'm') => Some(","),
+        (b'p', b'm') => Some("->*"),
+        (b'p', b't') => Some("->"),
+        (b'c', b'l') => Some("()"),
+        (b'i', b'x') => Some("[]"),
+        (b'q', b'u') => Some("?:"),
+        (b's', b's') => Some("<=>"),
+        _ => None,
+    }
+}
+
+/// How many operands an expression of an operator's code has, or `None` where the code is none of `<operator-name>`
+/// (Itanium C++ ABI 5.1.4, "Operator Encodings").
+pub fn operator_arity(first: u8, second: u8) -> Option<u8>
+    ensures value { result ≡ spec.operator_arity first second }
+{
+    match (first, second) {
+        (b'n', b'w') => Some(2),
+        (b'n', b'a') => Some(2),
+        (b'd', b'l') => Some(1),
+        (b'd', b'a') => Some(1),
+        (b'p', b's') => Some(1),
+        (b'n', b'g') => Some(1),
+        (b'a', b'd') => Some(1),
+        (b'd', b'e') => Some(1),
+        (b'c', b'o') => Some(1),
+        (b'p', b'l') => Some(2),
+        (b'm', b'i') => Some(2),
+        (b'm', b'l') => Some(2),
+        (b'd', b'v') => Some(2),
+        (b'r', b'm') => Some(2),
+        (b'a', b'n') => Some(2),
+        (b'o', b'r') => Some(2),
+        (b'e', b'o') => Some(2),
+        (b'a', b'S') => Some(2),
+        (b'p', b'L') => Some(2),
+        (b'm', b'I') => Some(2),
+        (b'm', b'L') => Some(2),
+        (b'd', b'V') => Some(2),
+        (b'r', b'M') => Some(2),
+        (b'a', b'N') => Some(2),
+        (b'o', b'R') => Some(2),
+        (b'e', b'O') => Some(2),
+        (b'l', b's') => Some(2),
+        (b'r', b's') => Some(2),
+        (b'l', b'S') => Some(2),
+        (b'r', b'S') => Some(2),
+        (b'e', b'q') => Some(2),
+        (b'n', b'e') => Some(2),
+        (b'l', b't') => Some(2),
+        (b'g', b't') => Some(2),
+        (b'l', b'e') => Some(2),
+        (b'g', b'e') => Some(2),
+        (b'n', b't') => Some(1),
+        (b'a', b'a') => Some(2),
+        (b'o', b'o') => Some(2),
+        (b'p', b'p') => Some(1),
+        (b'm', b'm') => Some(1),
+        (b'c', b'm') => Some(2),
+        (b'p', b'm') => Some(2),
+        (b'p', b't') => Some(2),
+        (b'c', b'l') => Some(2),
+        (b'i', b'x') => Some(2),
+        (b'q', b'u') => Some(3),
+        (b's', b's') => Some(2),
+        _ => None,
+    }
+}
+
+/// What follows `operator` in the name of the operator whose code is next, or `None` where none is.
+pub fn operator_here(bytes: &[u8]) -> Option<&'static str>
+    ensures value { option_map (λ text. text.now) result ≡ spec.operator_here bytes.now }
+{
+    match bytes {
+        [first, second, ..] => operator_text(*first, *second),
+        _ => None,
+    }
+}
