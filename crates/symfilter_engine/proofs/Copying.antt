@@ -71,11 +71,6 @@ end_copied kept end old new s s' s'' t t' so_far more inside same =
       filtered = so_far.filtered;
     })
 
--- a beginning of what was read was written
-copied_text : (line : List ℕ) (s s' t t' : Option (List ℕ)) (so_far : HasCopied line s s' t t') → WritesBeginning so_far.read t t'
-copied_text line s s' t t' so_far =
-    subst (λ l. WritesBeginning l t t') (append-nil so_far.read) (filtered_begins so_far.read line [] t t' so_far.filtered)
-
 -- the reader failed, and gave nothing
 pub read_fault : (line : List ℕ) (s s' s'' t t' : Option (List ℕ))
     → HasCopied line s s' t t' → Keeps s' s'' → FiltersFront s s'' t t'
@@ -83,7 +78,7 @@ read_fault line s s' s'' t t' so_far keeps =
     record {
       read = so_far.read;
       consumed = Consumes-kept s s' s'' so_far.read so_far.consumed keeps;
-      begins = copied_text line s s' t t' so_far;
+      begins = filtered_begins so_far.read line t t' so_far.filtered;
     }
 
 -- a reader at its end has no byte left

@@ -10,7 +10,7 @@ use Rattle.itanium_demangle.proofs.Answered.{each_answered}
 use Rattle.std.proofs.KnownBytes.{Appends-nil, Appends-trans}
 use Rattle.std.specs.Io.KnownBytes.{Appends}
 use Rattle.symfilter_engine.specs.Filtered.{line_feed, HasNoLineFeed, AreLinesFiltered, no_line, one_more, IsFiltered, ended, unended, IsFront, IsBeginning, IsLineAnswer, answered, unanswered, not_utf8, WritesFiltered, WritesBeginning}
-use Rattle.symfilter_engine.specs.Progress.{WritesFront, WritesLinesFront, HasFiltered}
+use Rattle.symfilter_engine.specs.Progress.{WritesFront, WritesLines, WritesLinesFront, HasFiltered}
 
 -- lines after lines
 pub AreLinesFiltered-append : {lines text lines' text' : List ℕ} → AreLinesFiltered lines text → AreLinesFiltered lines' text' → AreLinesFiltered (lines ++ lines') (text ++ text')
@@ -113,10 +113,9 @@ pub none_filtered : (given : List ℕ) (at : Option (List ℕ)) → HasFiltered 
 none_filtered given at = record { lines = []; text = []; given_is = refl; filtered = no_line; written = Appends-nil at }
 
 -- lines of what was left were written too
-pub lines_filtered : (given rest text : List ℕ) (n : ℕ) (before mid after : Option (List ℕ))
-    → HasFiltered given rest before mid → AreLinesFiltered (take n rest) text → Appends mid after text
-    → HasFiltered given (drop n rest) before after
-lines_filtered given rest text n before mid after so_far filtered writes =
+pub lines_filtered : (given rest : List ℕ) (n : ℕ) (before mid after : Option (List ℕ))
+    → HasFiltered given rest before mid → WritesLines (take n rest) mid after → HasFiltered given (drop n rest) before after
+lines_filtered given rest n before mid after so_far (text, filtered, writes) =
     record {
       lines = so_far.lines ++ take n rest;
       text = so_far.text ++ text;
@@ -125,36 +124,25 @@ lines_filtered given rest text n before mid after so_far filtered writes =
       written = Appends-trans before mid after so_far.text text so_far.written writes;
     }
 
--- what is written stays a beginning, whatever follows
-pub filtered_begins : (given left more : List ℕ) (before after : Option (List ℕ)) → HasFiltered given left before after → WritesBeginning (given ++ more) before after
-filtered_begins given left more before after so_far = (
-  so_far.text,
-  of_lines (given ++ more) (left ++ more) so_far.text
-      (ap (λ l. l ++ more) so_far.given_is ∙ append_assoc so_far.lines left more)
-      so_far.filtered ([], sym (append-nil so_far.text)),
-  so_far.written,
+-- what is written stays a beginning
+pub filtered_begins : (given left : List ℕ) (before after : Option (List ℕ)) → HasFiltered given left before after → WritesBeginning given before after
+filtered_begins given left before after so_far =
+    (so_far.text, of_lines given left so_far.text so_far.given_is so_far.filtered ([], sym (append-nil so_far.text)), so_far.written)
+
+-- nothing of lines was written
+pub lines_unwritten : (lines : List ℕ) (at : Option (List ℕ)) → WritesLinesFront lines at at
+lines_unwritten lines at rest = last_unwritten (lines ++ rest) at
+
+-- a front of the text of the first lines was written
+pub lines_begin : (lines text : List ℕ) (n : ℕ) (before after : Option (List ℕ)) → AreLinesFiltered (take n lines) text → WritesFront text before after
+    → WritesLinesFront lines before after
+lines_begin lines text n before after filtered (left, writes) rest = (
+  writes.front,
+  of_lines (lines ++ rest) (drop n lines ++ rest) writes.front
+      (ap (λ l. l ++ rest) (sym (take-append-drop n lines)) ∙ append_assoc (take n lines) (drop n lines) rest)
+      filtered (left, writes.bytes_are),
+  writes.written,
 )
-
-pub filtered_front : (given left : List ℕ) (before after : Option (List ℕ)) → HasFiltered given left before after → WritesLinesFront given before after
-filtered_front given left before after so_far more = filtered_begins given left more before after so_far
-
--- a front of the text of more lines was written
-lines_begin : (given rest text more : List ℕ) (n : ℕ) (before mid after : Option (List ℕ))
-    → HasFiltered given rest before mid → AreLinesFiltered (take n rest) text → WritesFront text mid after
-    → WritesBeginning (given ++ more) before after
-lines_begin given rest text more n before mid after so_far filtered (left, writes) = (
-  so_far.text ++ writes.front,
-  of_lines (given ++ more) (drop n rest ++ more) (so_far.text ++ writes.front)
-      (ap (λ l. l ++ more) (so_far.given_is ∙ ap (λ l. so_far.lines ++ l) (sym (take-append-drop n rest)) ∙ sym (append_assoc so_far.lines (take n rest) (drop n rest))) ∙ append_assoc (so_far.lines ++ take n rest) (drop n rest) more)
-      (AreLinesFiltered-append so_far.filtered filtered)
-      (IsFront-append so_far.text writes.front text (left, writes.bytes_are)),
-  Appends-trans before mid after so_far.text writes.front so_far.written writes.written,
-)
-
-pub lines_front : (given rest text : List ℕ) (n : ℕ) (before mid after : Option (List ℕ))
-    → HasFiltered given rest before mid → AreLinesFiltered (take n rest) text → WritesFront text mid after → WritesLinesFront given before after
-lines_front given rest text n before mid after so_far filtered writes more =
-    lines_begin given rest text more n before mid after so_far filtered writes
 
 -- the lines of the next piece
 pub piece_filtered : (given piece left left' : List ℕ) (before mid after : Option (List ℕ))
@@ -200,6 +188,19 @@ WritesBeginning-append given left before mid after so_far (written, begins, writ
   subst (λ l. IsBeginning l (so_far.text ++ written)) (sym so_far.given_is) (IsBeginning-append left written so_far.filtered begins),
   Appends-trans before mid after so_far.text written so_far.written writes,
 )
+
+-- a beginning of more lines
+pub WritesLinesFront-append : (given left : List ℕ) (before mid after : Option (List ℕ)) → HasFiltered given left before mid → WritesLinesFront left mid after → WritesLinesFront given before after
+WritesLinesFront-append given left before mid after so_far begins rest =
+    WritesBeginning-append (given ++ rest) (left ++ rest) before mid after
+    (record {
+      lines = so_far.lines;
+      text = so_far.text;
+      given_is = ap (λ l. l ++ rest) so_far.given_is ∙ append_assoc so_far.lines left rest;
+      filtered = so_far.filtered;
+      written = so_far.written;
+    })
+    (begins rest)
 
 -- what holds after a fault
 pub at_fault : {T E P : Type 0} (r : Result T E) → P → OnErr r P

@@ -41,6 +41,10 @@ pub record HasFiltered (given left : List ℕ) (before after : Option (List ℕ)
   pub filtered : AreLinesFiltered lines text
   pub written : Appends before after text
 
+-- the filtered text of these lines was written
+abbrev pub WritesLines : List ℕ → Option (List ℕ) → Option (List ℕ) → Type 0
+WritesLines lines before after = (text : List ℕ) × AreLinesFiltered lines text × Appends before after text
+
 -- whatever follows these lines, a beginning of the filtered text of all was written
 abbrev pub WritesLinesFront : List ℕ → Option (List ℕ) → Option (List ℕ) → Type 0
 WritesLinesFront lines before after = (rest : List ℕ) → WritesBeginning (lines ++ rest) before after

@@ -4,7 +4,7 @@ ghost use Rattle.std.specs.Simd.Lanes.{chunk};
 ghost use Rattle.std.specs.List.{prefix_len};
 ghost use Rattle.symfilter_engine.specs.Fault.{IsWriteOutcome};
 ghost use Rattle.symfilter_engine.specs.Filtered.{line_feed, HasNoLineFeed, IsLineAnswer, AreLinesFiltered, WritesFiltered, WritesBeginning};
-ghost use Rattle.symfilter_engine.specs.Progress.{EndsAt, EndsInLineFeed, AppendsLine, AppendsLines, HasFiltered, WritesLinesFront};
+ghost use Rattle.symfilter_engine.specs.Progress.{EndsAt, EndsInLineFeed, AppendsLine, AppendsLines, HasFiltered, WritesLines, WritesLinesFront};
 
 use super::ends::Sink;
 use super::fault::FilterFault;
@@ -16,6 +16,9 @@ use std::str;
 
 /// So many bytes of output are put without waiting for more.
 const OUTPUT_LEN: usize = 131072;
+
+/// So many bytes of lines that stand for themselves are put without a copy.
+const LONG_LEN: usize = 16384;
 
 const LINE_FEED: u8 = b'\n';
 
@@ -231,6 +234,38 @@ fn gather_lines(
     Ok(taken)
 }
 
+/// Writes what is written for the first of these lines, and answers how many bytes they have: a long run that are no
+/// symbols by their first byte is put as it stands, other lines are gathered in the output.
+fn write_next<W: Sink>(
+    alloc: Global,
+    demangler: &mut Demangler,
+    lines: &[u8],
+    known: bool,
+    output: &mut Vec<u8>,
+    writer: &mut W,
+) -> Result<usize, FilterFault>
+    requires not_failed { W.failed writer.old ≡ false }
+    requires some { 0 < length lines.now }
+    requires ended { EndsInLineFeed lines.now }
+    requires known { IsTrue known → IsUtf8 lines.now }
+    ensures outcome { IsWriteOutcome result (W.failed writer.new) }
+    ensures some { IfOk result (λ len. 0 < len) }
+    ensures bound { IfOk result (λ len. len ≤ length lines.now) }
+    ensures ok { IfOk result (λ len. WritesLines (take len lines.now)
+        (W.taken writer.old) (W.taken writer.new)) }
+    ensures err { OnErr result (WritesLinesFront lines.now (W.taken writer.old) (W.taken writer.new)) }
+{
+    let plain = plain_len(lines);
+    if plain >= LONG_LEN {
+        put_all(writer, &lines[..plain])?;
+        return Ok(plain);
+    }
+    output.clear();
+    let len = gather_lines(alloc, demangler, lines, known, output)?;
+    put_all(writer, output)?;
+    Ok(len)
+}
+
 /// Writes what is written for these lines, each with its line feed.
 pub(crate) fn write_lines<W: Sink>(
     alloc: Global,
@@ -248,10 +283,8 @@ pub(crate) fn write_lines<W: Sink>(
     let known = str::from_utf8(lines).is_ok();
     let mut rest = lines;
     while !rest.is_empty() {
-        output.clear();
-        let taken = gather_lines(alloc, demangler, rest, known, output)?;
-        put_all(writer, output)?;
-        rest = &rest[taken..];
+        let len = write_next(alloc, demangler, rest, known, output, writer)?;
+        rest = &rest[len..];
     }
     Ok(())
 }
