@@ -28,7 +28,7 @@ pub read_inside : (kept count len : ℕ) (now into post rest : List ℕ) → kep
 read_inside kept count len now into post rest inside small fits =
     let whole : List ℕ = take kept now ++ (into ++ (post ++ rest)) in
     let long : length whole ≡ length (take kept now) + (length into + length (post ++ rest)) =
-        length-append (take kept now) (into ++ (post ++ rest)) ∙ ap (λ n. length (take kept now) + n) (length-append into (post ++ rest)) in
+    length-append (take kept now) (into ++ (post ++ rest)) ∙ ap (λ n. length (take kept now) + n) (length-append into (post ++ rest)) in
     subst (λ l. kept + count ≤ length (take len l)) (sym (given_back kept now into post rest))
     (omega (arith, length-take len whole, long, length-take-le kept now inside))
 

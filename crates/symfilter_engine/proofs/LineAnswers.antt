@@ -25,17 +25,17 @@ line_with text_of line symbol text found answer symbol_is is_utf8 is_answer foun
 
 -- a symbol begins with an underscore
 no_prefix : (line : List ℕ) → get_or line 0 0 ≢ 95 → after_prefix line ≡ None
-no_prefix [] plain = refl
-no_prefix (byte ∷ bytes) plain = rw (ne_eqb byte 95 plain) refl
+no_prefix [] ordinary = refl
+no_prefix (byte ∷ bytes) ordinary = rw (ne_eqb byte 95 ordinary) refl
 
 -- no reading without a prefix
 not_read : (line : List ℕ) → after_prefix line ≡ None → IsAnswer line None
 not_read line prefix = λ tree next cost reading deep utf8. let e = sym prefix ∙ reading.prefix in cc
 
--- a line that is no symbol by its first byte stands for itself, whether it is UTF-8 or not
+-- a line that is ordinary stands for itself, whether it is UTF-8 or not
 by_utf8 : (line : List ℕ) → IsAnswer line None → (b : Bool) → is_utf8 line ≡ b → IsLineAnswer line line
 by_utf8 line none false bad = not_utf8 (λ good. false≢true (sym bad ∙ is_utf8-from_IsUtf8 line good))
 by_utf8 line none true good = unanswered (IsUtf8-from_is_utf8 line good) none
 
 pub other_line : (line : List ℕ) → get_or line 0 0 ≢ 95 → IsLineAnswer line line
-other_line line plain = by_utf8 line (not_read line (no_prefix line plain)) (is_utf8 line) refl
+other_line line ordinary = by_utf8 line (not_read line (no_prefix line ordinary)) (is_utf8 line) refl

@@ -74,19 +74,19 @@ first_line lines answer end ends is_answer =
 
 -- the first byte of a line
 front_byte : (lines : List ℕ) (end : ℕ) → get_or lines 0 0 ≢ 95 → get_or (take end lines) 0 0 ≢ 95
-front_byte lines zero plain = λ e. absurd (omega (arith, e))
-front_byte lines (suc end) plain = subst (λ byte. byte ≢ 95) (sym (get_or-take (suc end) lines 0 0 (omega arith))) plain
+front_byte lines zero ordinary = λ e. absurd (omega (arith, e))
+front_byte lines (suc end) ordinary = subst (λ byte. byte ≢ 95) (sym (get_or-take (suc end) lines 0 0 (omega arith))) ordinary
 
--- the first line, where it is no symbol by its first byte
-pub plain_line : (lines : List ℕ) (end : ℕ) → EndsAt lines end → get_or lines 0 0 ≢ 95 → AreLinesFiltered (take (end + 1) lines) (take (end + 1) lines)
-plain_line lines end ends plain =
+-- the first line, where it is ordinary
+pub ordinary_line : (lines : List ℕ) (end : ℕ) → EndsAt lines end → get_or lines 0 0 ≢ 95 → AreLinesFiltered (take (end + 1) lines) (take (end + 1) lines)
+ordinary_line lines end ends ordinary =
     subst (AreLinesFiltered (take (end + 1) lines)) (sym (with_feed lines end ends))
-    (first_line lines (take end lines) end ends (other_line (take end lines) (front_byte lines end plain)))
+    (first_line lines (take end lines) end ends (other_line (take end lines) (front_byte lines end ordinary)))
 
 -- such lines, and more of them
-pub more_plain : (lines : List ℕ) (n m : ℕ) → AreLinesFiltered (take n lines) (take n lines) → AreLinesFiltered (take m (drop n lines)) (take m (drop n lines))
+pub more_ordinary : (lines : List ℕ) (n m : ℕ) → AreLinesFiltered (take n lines) (take n lines) → AreLinesFiltered (take m (drop n lines)) (take m (drop n lines))
     → AreLinesFiltered (take (n + m) lines) (take (n + m) lines)
-more_plain lines n m first more = subst (λ l. AreLinesFiltered l l) (sym (take-add n m lines)) (AreLinesFiltered-append first more)
+more_ordinary lines n m first more = subst (λ l. AreLinesFiltered l l) (sym (take-add n m lines)) (AreLinesFiltered-append first more)
 
 -- one line was appended
 pub line_appended : (lines before after : List ℕ) (end : ℕ) → EndsAt lines end → AppendsLine (take end lines) before after → AppendsLines (take (end + 1) lines) before after
@@ -112,7 +112,7 @@ after_feed front rest utf8 =
     let long : length lines ≡ length front + 1 = length_push front line_feed in
     let all : length (lines ++ rest) ≡ length lines + length rest = length-append lines rest in
     let feed : get_or (lines ++ rest) (length front) 0 ≡ line_feed =
-        get_or_append_left lines rest 0 (length front) (omega (arith, long)) ∙ get_or_push front line_feed 0 (length front) refl in
+    get_or_append_left lines rest 0 (length front) (omega (arith, long)) ∙ get_or_push front line_feed 0 (length front) refl in
     subst IsUtf8 (drop_at lines rest (length front + 1) long)
     (IsUtf8-drop (lines ++ rest) (length front + 1) utf8
     (IsCharBoundary-after_ascii (lines ++ rest) (length front) utf8 (omega (arith, long, all)) (omega (arith, feed))))

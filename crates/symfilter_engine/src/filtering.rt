@@ -7,20 +7,21 @@ ghost use Rattle.symfilter_engine.specs.Progress.{HasCopied, ReadsMore};
 
 use super::ends::{Failed, Sink, Source};
 use super::fault::FilterFault;
-use super::lines::{ended_len, write_last, write_lines};
+use super::line_feeds::ended_len;
+use super::lines::{write_last, write_lines};
 use itanium_demangle::Demangler;
 use std::alloc::{AllocError, Global};
 
 /// How many bytes a read asks for, where no line is unended.
 const CHUNK_LEN: usize = 131072;
 
-/// Reads to the end, and writes for each line its answer by `Demangler::demangle`, or the line's own
-/// bytes where it has none or isn't UTF-8. A line goes up to the next line feed or the end; the line
-/// feed is written where there was one.
+/// Reads to the end, and writes for each line its answer by `Demangler::demangle`, or the line's own bytes where it has
+/// none or isn't UTF-8. A line goes up to the next line feed or the end; the line feed is written where there was one.
+/// Whenever it reads, all whole lines that were read before are written.
 ///
-/// It ends at the first fault and calls neither end after it: `Read` where the reader failed,
-/// `Write` where the writer did, `Memory` where memory ran out. What was written then is a
-/// beginning of what would have been.
+/// It ends at the first fault and calls neither end after it: `Read` where the reader failed, `Write` where the writer
+/// did, `Memory` where memory ran out. What was written then is a beginning of what would have been: all lines before
+/// the fault, unless the writer failed.
 pub fn filter<R: Source, W: Sink>(
     alloc: Global,
     reader: &mut R,
@@ -31,7 +32,7 @@ pub fn filter<R: Source, W: Sink>(
     ensures read { IsErrOf result FilterFault.Read ↔ IsTrue (R.failed reader.new) }
     ensures write { IsErrOf result FilterFault.Write ↔ IsTrue (W.failed writer.new) }
 
-    // What follows is said of a reader that tells its bytes, and a writer that does.
+    // What follows holds where the bytes of the reader are known, and the writer's.
     ensures used_up { OnOk result (IfSome (R.remaining reader.old) (λ _.
         R.remaining reader.new ≡ Some [])) }
     ensures ok { OnOk result (IfSome (R.remaining reader.old) (λ given.
@@ -44,7 +45,7 @@ pub fn filter<R: Source, W: Sink>(
     filter_by_chunks(alloc, reader, writer, &mut chunk)
 }
 
-/// Reads into the chunk to the end, and writes each line.
+/// Reads into the chunk to the end, and writes each line. The chunk holds what is left of a line that isn't whole yet.
 fn filter_by_chunks<R: Source, W: Sink>(
     alloc: Global,
     reader: &mut R,
@@ -115,8 +116,8 @@ fn make_room(chunk: &mut Vec<u8>, kept: usize) -> Result<(), AllocError>
     Ok(())
 }
 
-/// Reads after the first `kept` bytes of the chunk, which grows where it is full, and answers how many bytes stand there
-/// then: no more than before at the end alone.
+/// Reads after the first `kept` bytes of the chunk, which grows where it is full, and answers how many bytes stand
+/// there then: no more than before at the end alone.
 fn read_more<R: Source>(
     reader: &mut R,
     chunk: &mut Vec<u8>,

@@ -8,7 +8,7 @@ invariant-loop-rest g l =
     record {
       not_failed : g.W.Sink.failed l.writer ≡ false;
       ended : EndsInLineFeed l.rest;
-      known : IsTrue l.known → IsUtf8 l.rest;
+      known : IsTrue l.known_utf8 → IsUtf8 l.rest;
       so_far : HasFiltered l.lines l.rest (g.W.Sink.taken l.fn.writer) (g.W.Sink.taken l.writer);
     }
 

@@ -5,7 +5,7 @@ use Rattle.symfilter_engine.proofs.lines.write_next.Goals as goal
 
 pub returns-in_err-put_all-clause-err : goal.returns-in_err-put_all-clause-err
 returns-in_err-put_all-clause-err g c =
-    at_fault _ (lines_begin c.args.lines.now _ c.plain_len-plain.result _ _ c.plain_len-plain.ensures.plain c.in_err-put_all.ensures.err)
+    at_fault _ (lines_begin c.args.lines.now _ c.ordinary_len-ordinary.result _ _ c.ordinary_len-ordinary.ensures.ordinary c.in_err-put_all.ensures.err)
 
 pub returns-in_err-len-clause-err : goal.returns-in_err-len-clause-err
 returns-in_err-len-clause-err g c = at_fault _ (lines_unwritten c.args.lines.now _)

@@ -3,7 +3,7 @@ use lib.Count.{count_trailing_zeros}
 use Rattle.std.specs.Simd.Lanes.{chunk}
 use Rattle.std.proofs.lemmas.Simd.{length-chunk, bitmask_splat, leading_from_mask_l, trailing_mask_l}
 use Rattle.symfilter_engine.specs.Filtered.{line_feed}
-use Rattle.symfilter_engine.proofs.lines.before_line_feed.Goals as goal
+use Rattle.symfilter_engine.proofs.line_feeds.before_line_feed.Goals as goal
 
 pub returns-then-found-eq0 : goal.returns-then-found-eq0
 returns-then-found-eq0 c =

@@ -1,6 +1,6 @@
 use Rattle.std.proofs.Common.{arith}
 use Rattle.symfilter_engine.proofs.LineEnds.{lanes_passed, lanes_end}
-use Rattle.symfilter_engine.proofs.lines.line_end.Goals as goal
+use Rattle.symfilter_engine.proofs.line_feeds.line_end.Goals as goal
 
 pub returns-then-count-lt-LANES-clause-found : goal.returns-then-count-lt-LANES-clause-found
 returns-then-count-lt-LANES-clause-found c =

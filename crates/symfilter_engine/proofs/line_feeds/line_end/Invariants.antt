@@ -1,6 +1,6 @@
 use Rattle.std.proofs.Common.{◌-◌, ◌≤◌, length, take}
 use Rattle.symfilter_engine.specs.Filtered.{HasNoLineFeed}
-use Rattle.symfilter_engine.proofs.lines.line_end.Given as goal
+use Rattle.symfilter_engine.proofs.line_feeds.line_end.Given as goal
 
 abbrev pub invariant-loop-at : goal.invariant-loop-at
 invariant-loop-at l =
