@@ -58,10 +58,6 @@ ended_after lines n ended some =
     ∙ ap (λ k. get_or lines k 0) (omega (arith, left))
     ∙ ended (omega (arith, left))
 
--- whole lines have a line feed
-pub has_line_feed : (lines : List ℕ) → 0 < length lines → EndsInLineFeed lines → HasNoLineFeed lines → ⊥
-has_line_feed lines some ended none = All-get_or is_other lines (length lines - 1) 0 (omega arith) none (ended some)
-
 -- the first line with its line feed
 pub with_feed : (lines : List ℕ) (end : ℕ) → EndsAt lines end → take (end + 1) lines ≡ take end lines ++ line_feed ∷ []
 with_feed lines end ends = take_more lines end 0 ends.inside ∙ ap (λ byte. take end lines ++ byte ∷ []) ends.feed

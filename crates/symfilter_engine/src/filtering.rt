@@ -2,7 +2,7 @@
 ghost use Rattle.std.specs.Prelude.{◌≡◌, ◌≤◌, ◌↔◌, ◌<◌, ◌-◌, false, [], length, take, drop, IsTrue, IsErrOf, IfOk, IfSome, Some, OnOk, OnErr};
 ghost use Rattle.std.specs.Io.KnownBytes.{IsAtEnd, Keeps};
 ghost use Rattle.symfilter_engine.specs.Fault.{IsRunOutcome, IsReadOutcome};
-ghost use Rattle.symfilter_engine.specs.Filtered.{HasNoLineFeed, FiltersFront, WritesFiltered};
+ghost use Rattle.symfilter_engine.specs.Filtered.{HasNoLineFeed, FiltersFront, FiltersLines, WritesFiltered};
 ghost use Rattle.symfilter_engine.specs.Progress.{HasCopied, ReadsMore};
 
 use super::ends::{Failed, Sink, Source};
@@ -40,6 +40,11 @@ pub fn filter<R: Source, W: Sink>(
     ensures err { OnErr result (FiltersFront
         (R.remaining reader.old) (R.remaining reader.new)
         (W.taken writer.old) (W.taken writer.new)) }
+
+    // Any call of the reader may fail. So whenever it is asked, all whole lines that it gave are written.
+    ensures put { IsErrOf result FilterFault.Read → FiltersLines
+        (R.remaining reader.old) (R.remaining reader.new)
+        (W.taken writer.old) (W.taken writer.new) }
 {
     let mut chunk = vec![in alloc; 0u8; CHUNK_LEN]?;
     filter_by_chunks(alloc, reader, writer, &mut chunk)
@@ -62,6 +67,9 @@ fn filter_by_chunks<R: Source, W: Sink>(
     ensures err { OnErr result (FiltersFront
         (R.remaining reader.old) (R.remaining reader.new)
         (W.taken writer.old) (W.taken writer.new)) }
+    ensures put { IsErrOf result FilterFault.Read → FiltersLines
+        (R.remaining reader.old) (R.remaining reader.new)
+        (W.taken writer.old) (W.taken writer.new) }
 {
     let mut demangler = Demangler::new();
     let kept = copy_lines(alloc, &mut demangler, chunk, reader, writer)?;
@@ -89,6 +97,9 @@ fn copy_lines<R: Source, W: Sink>(
     ensures err { OnErr result (FiltersFront
         (R.remaining reader.old) (R.remaining reader.new)
         (W.taken writer.old) (W.taken writer.new)) }
+    ensures put { IsErrOf result FilterFault.Read → FiltersLines
+        (R.remaining reader.old) (R.remaining reader.new)
+        (W.taken writer.old) (W.taken writer.new) }
 {
     let mut output = Vec::new(alloc);
     let mut kept = 0;
