@@ -103,7 +103,7 @@ fn copy_lines<R: Source, W: Sink>(
 {
     let mut output = Vec::new(alloc);
     let mut kept = 0;
-    loop {
+    'turns: loop {
         let end = read_more(reader, chunk, kept)?;
         if end == kept {
             return Ok(kept);

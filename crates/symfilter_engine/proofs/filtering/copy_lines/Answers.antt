@@ -6,8 +6,8 @@ use Rattle.symfilter_engine.proofs.LineEnds.{is_other}
 use Rattle.symfilter_engine.proofs.Copying.{none_copied, turn_copied, turn_fault, end_copied, read_fault}
 use Rattle.symfilter_engine.proofs.filtering.copy_lines.Goals as goal
 
-pub loop-output-init : goal.loop-output-init
-loop-output-init g c = record {
+pub turns-init : goal.turns-init
+turns-init g c = record {
   reader_not_failed = c.requires.reader_not_failed;
   writer_not_failed = c.requires.writer_not_failed;
   inside = search rules;
@@ -16,11 +16,11 @@ loop-output-init g c = record {
 }
 
 pub returns-in_err-end-clause-err : goal.returns-in_err-end-clause-err
-returns-in_err-end-clause-err g c = at_fault _ (read_fault _ _ _ _ _ _ c.loop-output.invariant.so_far c.in_err-end.ensures.err)
+returns-in_err-end-clause-err g c = at_fault _ (read_fault _ _ _ _ _ _ c.turns.invariant.so_far c.in_err-end.ensures.err)
 
 pub returns-then-end-kept-clause-ok : goal.returns-then-end-kept-clause-ok
 returns-then-end-kept-clause-ok g c =
-    end_copied _ _ _ _ _ _ _ _ _ c.loop-output.invariant.so_far c.in_ok-end.ensures.ok c.loop-output.invariant.inside c.if-end-kept.true
+    end_copied _ _ _ _ _ _ _ _ _ c.turns.invariant.so_far c.in_ok-end.ensures.ok c.turns.invariant.inside c.if-end-kept.true
 
 pub returns-in_err-write_lines-clause-err : goal.returns-in_err-write_lines-clause-err
 returns-in_err-write_lines-clause-err g c =
@@ -28,11 +28,11 @@ returns-in_err-write_lines-clause-err g c =
     let end = c.in_ok-end.end in
     let all = c.read_more.new.chunk.items in
     let within : ended ≤ end = omega (arith, c.ended_len-ended.ensures.bound, length-take end c.deref.result.now) in
-    at_fault _ (turn_fault _ _ ended _ all _ _ _ _ _ _ _ c.loop-output.invariant.so_far c.in_ok-end.ensures.ok c.in_err-write_lines.ensures.err
-    (ap (take ended) c.deref-in-loop-output.ensures.value ∙ sym (take-take ended end all within)))
+    at_fault _ (turn_fault _ _ ended _ all _ _ _ _ _ _ _ c.turns.invariant.so_far c.in_ok-end.ensures.ok c.in_err-write_lines.ensures.err
+    (ap (take ended) c.deref-in-turns.ensures.value ∙ sym (take-take ended end all within)))
 
-pub loop-output-preserved : goal.loop-output-preserved
-loop-output-preserved g c =
+pub turns-preserved : goal.turns-preserved
+turns-preserved g c =
     let ended = c.ended_len-ended.result in
     let end = c.in_ok-end.end in
     let all = c.read_more.new.chunk.items in
@@ -43,6 +43,6 @@ loop-output-preserved g c =
       writer_not_failed = c.in_ok-write_lines.ensures.outcome;
       inside = omega (arith, inside, c.move_rest.ensures.len);
       unended = All-same is_other _ _ (c.move_rest.ensures.moved ∙ ap (λ l. drop ended (take end l)) (sym c.deref.ensures.value)) c.ended_len-ended.ensures.unended;
-      so_far = turn_copied _ end ended _ all _ _ _ _ _ _ _ _ c.loop-output.invariant.so_far c.in_ok-end.ensures.ok c.in_ok-write_lines.ensures.ok
-          (ap (take ended) c.deref-in-loop-output.ensures.value ∙ sym (take-take ended end all within)) c.move_rest.ensures.moved;
+      so_far = turn_copied _ end ended _ all _ _ _ _ _ _ _ _ c.turns.invariant.so_far c.in_ok-end.ensures.ok c.in_ok-write_lines.ensures.ok
+          (ap (take ended) c.deref-in-turns.ensures.value ∙ sym (take-take ended end all within)) c.move_rest.ensures.moved;
     }

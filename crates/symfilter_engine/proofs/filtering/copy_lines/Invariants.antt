@@ -3,8 +3,8 @@ use Rattle.symfilter_engine.specs.Filtered.{HasNoLineFeed}
 use Rattle.symfilter_engine.specs.Progress.{HasCopied}
 use Rattle.symfilter_engine.proofs.filtering.copy_lines.Given as goal
 
-abbrev pub invariant-loop-output : goal.invariant-loop-output
-invariant-loop-output g l =
+abbrev pub invariant-turns : goal.invariant-turns
+invariant-turns g l =
     record {
       reader_not_failed : g.R.Source.failed l.reader ≡ false;
       writer_not_failed : g.W.Sink.failed l.writer ≡ false;
@@ -13,5 +13,5 @@ invariant-loop-output g l =
       so_far : HasCopied (take l.kept l.chunk.items) (g.R.Source.remaining l.fn.reader) (g.R.Source.remaining l.reader) (g.W.Sink.taken l.fn.writer) (g.W.Sink.taken l.writer);
     }
 
-abbrev pub decreases-loop-output : goal.decreases-loop-output
-decreases-loop-output g l = g.R.Source.calls_left l.reader
+abbrev pub decreases-turns : goal.decreases-turns
+decreases-turns g l = g.R.Source.calls_left l.reader
