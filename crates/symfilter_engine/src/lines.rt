@@ -109,8 +109,8 @@ fn append_line(
     Ok(())
 }
 
-/// Appends what is written for the first of these lines, a run that are ordinary or one that may
-/// be, and answers how many bytes they have. After an error nothing is appended.
+/// Appends what is written for the first of these lines, a run of ordinary ones or one that isn't, and answers how many
+/// bytes they have. After an error nothing is appended.
 fn append_next(
     alloc: Global,
     demangler: &mut Demangler,
@@ -166,8 +166,8 @@ fn gather_lines(
     Ok(taken)
 }
 
-/// Writes what is written for the first of these lines, and answers how many bytes they have: a long run that are no
-/// symbols by their first byte is put as it stands, other lines are gathered in the output.
+/// Writes what is written for the first of these lines, and answers how many bytes they have: a long run of ordinary
+/// lines is put as it stands, and other lines are gathered in the output.
 fn write_next<W: Sink>(
     alloc: Global,
     demangler: &mut Demangler,
