@@ -1,14 +1,19 @@
 //! The filter over bytes in memory.
+ghost use Rattle.std.specs.Prelude.{◌<◌};
 
-use crate::memory::{MemorySink, MemorySource};
+use crate::memory::{CountingSink, MemorySink, MemorySource, WatchingSource};
 use std::alloc::Global;
+use std::cell::Cell;
 use std::process::Abort;
 use symfilter_engine::{FilterFault, Sink, Source, filter};
 
-/// The filtered text of some bytes is as expected, whether the ends give and take one byte a call,
-/// a few or all.
+/// How many bytes one read asks for, at least.
+const CHUNK_LEN: usize = 131072;
+
+/// The filtered text of some bytes is as expected, whether the ends give and take one byte a call, two, some or all.
+/// So lines are cut at each place.
 fn assert_filtered(rt: &impl Abort, alloc: Global, text: &[u8], expected: &[u8]) {
-    for most in [1, 3, 1000] {
+    for most in [1, 2, 3, 7, 1000] {
         let mut reader = MemorySource::new(text, most, 1000);
         let mut writer = MemorySink::new(alloc, most, 1000);
         assert_eq!(rt; filter(alloc, &mut reader, &mut writer), Ok(()));
@@ -44,9 +49,115 @@ fn lines_that_are_not_utf8(rt: HostRuntime) {
 
 #[test]
 fn lines_that_are_no_symbols(rt: HostRuntime) {
-    for text in [b"".as_slice(), b"\n", b"x\n", b"x\n\ny"] {
+    for text in [
+        b"".as_slice(),
+        b"\n",
+        b"\n\n",
+        b"x\n",
+        b"x\n\ny",
+        b"\r\n\0\n\xff\n",
+        b"_\n_Z\n__\n",
+    ] {
         assert_filtered(&rt, rt.alloc(), text, text);
     }
+}
+
+#[test]
+fn other_lines_among_symbols(rt: HostRuntime) {
+    assert_filtered(
+        &rt,
+        rt.alloc(),
+        b"a\n\n_Z3foov\n\0\n\n\xff\xc3\n_Z1\xff\n\r\nb\n__Z3bar\nx\n_Z3foo.\xff\n_Z3foo",
+        b"a\n\nfoo\n\0\n\n\xff\xc3\n_Z1\xff\n\r\nb\nbar\nx\n_Z3foo.\xff\nfoo",
+    );
+}
+
+/// The bytes so many times one after another.
+fn repeated(rt: &impl Abort, alloc: Global, bytes: &[u8], count: usize) -> Vec<u8> {
+    let mut all = Vec::new(alloc);
+    for _ in 0..count {
+        assert!(rt; all.extend_from_slice(bytes).is_ok());
+    }
+    all
+}
+
+/// The same where there are more bytes than a chunk holds, and the ends give and take many a call.
+fn assert_filtered_by_chunks(rt: &impl Abort, alloc: Global, text: &[u8], expected: &[u8]) {
+    for most in [9973, CHUNK_LEN - 1, CHUNK_LEN, 10 * CHUNK_LEN] {
+        let mut reader = MemorySource::new(text, most, 1000);
+        let mut writer = MemorySink::new(alloc, most, 1000);
+        assert_eq!(rt; filter(alloc, &mut reader, &mut writer), Ok(()));
+        assert!(rt; writer.bytes.as_slice() == expected);
+        assert!(rt; reader.rest.is_empty());
+    }
+}
+
+#[test]
+fn a_line_of_three_chunks(rt: HostRuntime) {
+    let mut text = repeated(&rt, rt.alloc(), b"x", 3 * CHUNK_LEN);
+    assert_filtered_by_chunks(&rt, rt.alloc(), &text, &text);
+    let mut expected = repeated(&rt, rt.alloc(), b"x", 3 * CHUNK_LEN);
+    assert!(rt; text.extend_from_slice(b"\n_Z3foo\n").is_ok());
+    assert!(rt; expected.extend_from_slice(b"\nfoo\n").is_ok());
+    assert_filtered_by_chunks(&rt, rt.alloc(), &text, &expected);
+}
+
+#[test]
+fn many_lines(rt: HostRuntime) {
+    // 162,000 bytes of symbols: lines are cut where a chunk ends, and their answers are longer than a chunk.
+    let symbols = b"_ZNSt6vectorIS_IiEE4sizeEv\n";
+    let answers = b"std::vector<std::vector<int> >::size\n";
+    let mut text = repeated(&rt, rt.alloc(), symbols, 6000);
+    let mut expected = repeated(&rt, rt.alloc(), answers, 6000);
+    assert_filtered_by_chunks(&rt, rt.alloc(), &text, &expected);
+    // Then a long run of other lines, and one that isn't UTF-8, among symbols.
+    for (given, written, count) in [
+        (b"malloc\n".as_slice(), b"malloc\n".as_slice(), 30000),
+        (b"_Z3foov\n", b"foo\n", 3),
+        (b"\xff\n", b"\xff\n", 1),
+        (b"_Z3barv\n", b"bar\n", 3),
+    ] {
+        assert!(rt;
+            text.extend_from_slice(&repeated(&rt, rt.alloc(), given, count))
+                .is_ok()
+        );
+        assert!(rt;
+            expected
+                .extend_from_slice(&repeated(&rt, rt.alloc(), written, count))
+                .is_ok()
+        );
+    }
+    assert_filtered_by_chunks(&rt, rt.alloc(), &text, &expected);
+}
+
+/// Whenever the source is asked, the sink has taken so many bytes.
+fn assert_put_before_asked(
+    rt: &impl Abort,
+    alloc: Global,
+    text: &[u8],
+    most: usize,
+    expected: &[usize],
+)
+    requires { 0 < most }
+{
+    for put in [1, 1000] {
+        let taken = Cell::new(0);
+        let mut reader = WatchingSource::new(text, most, &taken, expected);
+        let mut writer = CountingSink::new(&taken, put);
+        assert_eq!(rt; filter(alloc, &mut reader, &mut writer), Ok(()));
+        assert!(rt; reader.as_expected);
+        assert_eq!(rt; reader.calls, expected.len());
+    }
+}
+
+#[test]
+fn whole_lines_are_put_before_the_source_is_asked(rt: HostRuntime) {
+    // The lines end after 8, 9 and 12 bytes, and 4, 5 and 8 bytes are written for them.
+    let text = b"_Z3foov\n\nab\n_Z3bar";
+    let by_one = [0, 0, 0, 0, 0, 0, 0, 0, 4, 5, 5, 5, 8, 8, 8, 8, 8, 8, 8];
+    assert_put_before_asked(&rt, rt.alloc(), text, 1, &by_one);
+    assert_put_before_asked(&rt, rt.alloc(), text, 5, &[0, 0, 5, 8, 8]);
+    assert_put_before_asked(&rt, rt.alloc(), text, 100, &[0, 8]);
 }
 
 #[test]
@@ -55,6 +166,7 @@ fn a_reader_that_fails(rt: HostRuntime) {
     let mut writer = MemorySink::new(rt.alloc(), 100, 100);
     let outcome = filter(rt.alloc(), &mut reader, &mut writer);
     assert_eq!(rt; outcome, Err(FilterFault::Read));
+    // The line before the fault is written.
     assert_eq!(rt; writer.bytes.as_slice(), b"foo\n".as_slice());
     assert!(rt; reader.failed());
     assert!(rt; !writer.failed());

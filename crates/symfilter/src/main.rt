@@ -1,30 +1,14 @@
 //! Copies lines from standard input to standard output, with each mangled symbol demangled.
 #![tactic(auto)]
 
-use std::io::{BufReader, BufWriter, Write};
 use std::process::ExitCode;
-use symfilter_engine::{FilterFault, Tally, filter};
-
-/// How many bytes each buffer holds.
-const BUFFER_LEN: usize = 65536;
+use symfilter_engine::{Tally, filter};
 
 fn main(rt: HostRuntime) -> ExitCode {
-    let input = BufReader::with_capacity(rt.alloc(), BUFFER_LEN, rt.stdin());
-    let output = BufWriter::with_capacity(rt.alloc(), BUFFER_LEN, rt.stdout());
-    let mut outcome = Err(FilterFault::Memory);
-    if let (Ok(reader), Ok(mut writer)) = (input, output) {
-        outcome = filter(
-            rt.alloc(),
-            &mut Tally::new(reader),
-            &mut Tally::new(&mut writer),
-        );
-        // Lines that were put before a fault are written all the same.
-        let flushed = writer.flush();
-        if outcome.is_ok() && flushed.is_err() {
-            outcome = Err(FilterFault::Write);
-        }
-    }
-    match outcome {
+    // Neither end has a buffer of its own: the filter reads and writes whole chunks.
+    let mut reader = Tally::new(rt.stdin());
+    let mut writer = Tally::new(rt.stdout());
+    match filter(rt.alloc(), &mut reader, &mut writer) {
         Ok(()) => ExitCode::SUCCESS,
         Err(fault) => {
             let _ = eprintln!(rt; "{}", fault.line());

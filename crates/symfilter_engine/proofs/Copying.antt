@@ -1,15 +1,16 @@
 -- What was read and written, chunk by chunk.
-use Rattle.std.proofs.Common.{◌≡◌, ◌≢◌, ◌↔◌, ℕ, Bool, Result, Ok, Err, IsTrue, IsErrOf, List, [], ◌++◌, Option, Some, None, IfSome, refl, sym, ap, subst, ◌∙◌, append-nil}
+use Rattle.std.proofs.Common.{◌≡◌, ◌↔◌, ◌≤◌, ℕ, Bool, Result, Ok, Err, IsTrue, IsErrOf, List, [], ◌++◌, Option, Some, None, IfSome, length, take, drop, refl, sym, ap, subst, ◌∙◌, append-nil}
+use Rattle.std.proofs.lemmas.List.{take-append-drop}
 use Rattle.std.proofs.lemmas.Bool.{false≢true}
-use Rattle.std.proofs.lemmas.List.Elements.{All-nil}
 use Rattle.symfilter_engine.specs.declared.fault.FilterFault.{FilterFault}
 use Rattle.symfilter_engine.specs.declared.fault.FilterFault.TheVariants.{Read, Write, Memory}
 use Rattle.symfilter_engine.specs.Fault.{IsRunOutcome}
-use Rattle.std.proofs.KnownBytes.{Appends-trans, Consumes-nil, Consumes-trans, Consumes-kept, Keeps-refl}
-use Rattle.std.specs.Io.KnownBytes.{Appends, Consumes, IsAtEnd, Keeps}
-use Rattle.symfilter_engine.specs.Filtered.{line_feed, HasNoLineFeed, IsFiltered, ended, unended, WritesFiltered, WritesBeginning, FiltersFront}
-use Rattle.symfilter_engine.specs.Progress.{WritesLine, WritesLineFront, nothing, front, HasFiltered, HasCopied}
-use Rattle.symfilter_engine.proofs.FilteredText.{IsFront-append, none_filtered, filtered_begins, piece_filtered, piece_begins}
+use Rattle.std.proofs.KnownBytes.{Consumes-nil, Consumes-trans, Consumes-kept, Keeps-refl}
+use Rattle.std.specs.Io.KnownBytes.{Consumes, IsAtEnd, Keeps}
+use Rattle.symfilter_engine.specs.Filtered.{WritesFiltered, WritesBeginning, FiltersFront}
+use Rattle.symfilter_engine.specs.Progress.{WritesLinesFront, HasFiltered, HasCopied, ReadsMore}
+use Rattle.symfilter_engine.proofs.Chunks.{nothing_read}
+use Rattle.symfilter_engine.proofs.FilteredText.{none_filtered, filtered_begins, piece_filtered, piece_begins, WritesFiltered-append, WritesBeginning-append}
 
 -- nothing was read yet
 pub none_copied : (line : List ℕ) (source sink : Option (List ℕ)) → line ≡ [] → HasCopied line source source sink sink
@@ -20,27 +21,55 @@ none_copied line source sink line_is =
       filtered = subst (λ l. HasFiltered [] l sink sink) (sym line_is) (none_filtered [] sink);
     }
 
--- one more chunk was read, and its lines were written
-pub chunk_copied : (chunk line line' : List ℕ) (s s' s'' t t' t'' : Option (List ℕ))
-    → HasCopied line s s' t t' → Consumes s' s'' chunk → HasFiltered (line ++ chunk) line' t' t''
-    → HasCopied line' s s'' t t''
-chunk_copied chunk line line' s s' s'' t t' t'' so_far consumes more =
+-- the whole lines of these bytes were written, and what is left isn't one
+ended_filtered : (all lines rest : List ℕ) (n : ℕ) (t t' : Option (List ℕ)) → HasFiltered lines [] t t' → lines ≡ take n all → rest ≡ drop n all → HasFiltered all rest t t'
+ended_filtered all lines rest n t t' so_far lines_are rest_is =
     record {
-      read = so_far.read ++ chunk;
-      consumed = Consumes-trans s s' s'' so_far.read chunk so_far.consumed consumes;
-      filtered = piece_filtered so_far.read chunk line line' t t' t'' so_far.filtered more;
+      lines = so_far.lines;
+      text = so_far.text;
+      given_is = sym (take-append-drop n all) ∙ ap (λ l. l ++ drop n all) (sym lines_are ∙ so_far.given_is ∙ append-nil so_far.lines) ∙ ap (λ l. so_far.lines ++ l) (sym rest_is);
+      filtered = so_far.filtered;
+      written = so_far.written;
     }
 
--- a fault came while its lines were written
-pub chunk_fault : (chunk line : List ℕ) (s s' s'' t t' t'' : Option (List ℕ))
-    → HasCopied line s s' t t' → Consumes s' s'' chunk → WritesBeginning (line ++ chunk) t' t''
-    → FiltersFront s s'' t t''
-chunk_fault chunk line s s' s'' t t' t'' so_far consumes begins =
+-- more was read after the line that was left, and its whole lines were written
+pub turn_copied : (kept end n : ℕ) (old new lines rest : List ℕ) (s s' s'' t t' t'' : Option (List ℕ))
+    → HasCopied (take kept old) s s' t t' → ReadsMore kept end old new s' s'' → HasFiltered lines [] t' t'' → lines ≡ take n (take end new) → rest ≡ drop n (take end new)
+    → HasCopied rest s s'' t t''
+turn_copied kept end n old new lines rest s s' s'' t t' t'' so_far more filtered lines_are rest_is =
     record {
-      read = so_far.read ++ chunk;
-      consumed = Consumes-trans s s' s'' so_far.read chunk so_far.consumed consumes;
-      begins = piece_begins so_far.read chunk line t t' t'' so_far.filtered begins;
+      read = so_far.read ++ more.piece;
+      consumed = Consumes-trans s s' s'' so_far.read more.piece so_far.consumed more.consumed;
+      filtered = piece_filtered so_far.read more.piece (take kept old) rest t t' t'' so_far.filtered
+          (subst (λ l. HasFiltered l rest t' t'') more.held (ended_filtered (take end new) lines rest n t' t'' filtered lines_are rest_is));
     }
+
+-- a fault came while they were written
+pub turn_fault : (kept end n : ℕ) (old new lines : List ℕ) (s s' s'' t t' t'' : Option (List ℕ))
+    → HasCopied (take kept old) s s' t t' → ReadsMore kept end old new s' s'' → WritesLinesFront lines t' t'' → lines ≡ take n (take end new)
+    → FiltersFront s s'' t t''
+turn_fault kept end n old new lines s s' s'' t t' t'' so_far more begins lines_are =
+    let all : List ℕ = take end new in
+    record {
+      read = so_far.read ++ more.piece;
+      consumed = Consumes-trans s s' s'' so_far.read more.piece so_far.consumed more.consumed;
+      begins = piece_begins so_far.read more.piece (take kept old) t t' t'' so_far.filtered
+          (subst (λ l. WritesBeginning l t' t'') (ap (λ l. l ++ drop n all) lines_are ∙ take-append-drop n all ∙ more.held) (begins (drop n all)));
+    }
+
+-- nothing more was read
+pub end_copied : (kept end : ℕ) (old new : List ℕ) (s s' s'' t t' : Option (List ℕ))
+    → HasCopied (take kept old) s s' t t' → ReadsMore kept end old new s' s'' → kept ≤ length old → end ≡ kept → HasCopied (take kept new) s s'' t t'
+end_copied kept end old new s s' s'' t t' so_far more inside same =
+    let none = nothing_read kept end old new s' s'' more inside same in
+    let held : take kept new ≡ take kept old = ap (λ n. take n new) (sym same) ∙ more.held ∙ ap (λ l. take kept old ++ l) none ∙ append-nil (take kept old) in
+    subst (λ l. HasCopied l s s'' t t') (sym held)
+    (record {
+      read = so_far.read;
+      consumed = subst (Consumes s s'') (ap (λ l. so_far.read ++ l) none ∙ append-nil so_far.read)
+          (Consumes-trans s s' s'' so_far.read more.piece so_far.consumed more.consumed);
+      filtered = so_far.filtered;
+    })
 
 -- the reader failed, and gave nothing
 pub read_fault : (line : List ℕ) (s s' s'' t t' : Option (List ℕ))
@@ -66,57 +95,16 @@ all_read (Some given) None t t' read consumes ends writes = absurd consumes
 all_read (Some given) (Some rest) t t' read consumes ends writes =
     subst (λ l. WritesFiltered l t t') (sym (consumes ∙ ap (λ l. read ++ l) ends ∙ append-nil read)) writes
 
--- no line is left
-pub all_ended : (line : List ℕ) (s s' t t' : Option (List ℕ)) → HasCopied line s s' t t' → IsAtEnd s' → line ≡ []
-    → IfSome s (λ given. WritesFiltered given t t')
-all_ended line s s' t t' so_far ends line_is =
-    let is_lines : so_far.read ≡ so_far.filtered.lines = so_far.filtered.given_is ∙ ap (λ l. so_far.filtered.lines ++ l) line_is ∙ append-nil so_far.filtered.lines in
-    all_read s s' t t' so_far.read so_far.consumed ends
-    (so_far.filtered.text, subst (λ l. IsFiltered l so_far.filtered.text) (sym is_lines) (ended so_far.filtered.filtered), so_far.filtered.written)
-
--- a last line was written
-pub all_unended : (line : List ℕ) (s s' t t' t'' : Option (List ℕ)) → HasCopied line s s' t t' → IsAtEnd s' → HasNoLineFeed line → line ≢ []
-    → WritesLine line [] t' t'' → IfSome s (λ given. WritesFiltered given t t'')
-all_unended line s s' t t' t'' so_far ends unended_line some (answer, is_answer, writes) =
-    all_read s s' t t'' so_far.read so_far.consumed ends (
-      so_far.filtered.text ++ answer,
-      subst (λ l. IsFiltered l (so_far.filtered.text ++ answer)) (sym so_far.filtered.given_is) (unended so_far.filtered.filtered some unended_line is_answer),
-      Appends-trans t t' t'' so_far.filtered.text answer so_far.filtered.written (subst (Appends t' t'') (append-nil answer) writes),
-    )
+-- the last line was written too
+pub last_copied : (line : List ℕ) (s s' t t' t'' : Option (List ℕ)) → HasCopied line s s' t t' → IsAtEnd s' → WritesFiltered line t' t''
+    → IfSome s (λ given. WritesFiltered given t t'')
+last_copied line s s' t t' t'' so_far ends writes =
+    all_read s s' t t'' so_far.read so_far.consumed ends (WritesFiltered-append so_far.read line t t' t'' so_far.filtered writes)
 
 -- a fault came while it was written
-pub last_fault : (line : List ℕ) (s s' t t' t'' : Option (List ℕ)) → HasCopied line s s' t t' → HasNoLineFeed line → line ≢ []
-    → WritesLineFront line [] t' t'' → FiltersFront s s' t t''
-last_fault line s s' t t' t'' so_far unended_line some (nothing writes) =
-    record {
-      read = so_far.read;
-      consumed = so_far.consumed;
-      begins = filtered_begins so_far.read line t t'' (record {
-        lines = so_far.filtered.lines;
-        text = so_far.filtered.text;
-        given_is = so_far.filtered.given_is;
-        filtered = so_far.filtered.filtered;
-        written = subst (Appends t t'') (append-nil so_far.filtered.text) (Appends-trans t t' t'' so_far.filtered.text [] so_far.filtered.written writes);
-      });
-    }
-last_fault line s s' t t' t'' so_far unended_line some (front {answer} is_answer (rest, writes)) =
-    record {
-      read = so_far.read;
-      consumed = so_far.consumed;
-      begins = (
-        so_far.filtered.text ++ writes.front,
-        (
-          so_far.filtered.text ++ answer,
-          subst (λ l. IsFiltered l (so_far.filtered.text ++ answer)) (sym so_far.filtered.given_is) (unended so_far.filtered.filtered some unended_line is_answer),
-          IsFront-append so_far.filtered.text writes.front answer (rest, sym (append-nil answer) ∙ writes.bytes_are),
-        ),
-        Appends-trans t t' t'' so_far.filtered.text writes.front so_far.filtered.written writes.written,
-      );
-    }
-
--- no byte is a line feed where there is none
-pub no_line_feed : (line : List ℕ) → line ≡ [] → HasNoLineFeed line
-no_line_feed line line_is = subst HasNoLineFeed (sym line_is) (All-nil (λ byte. byte ≢ line_feed))
+pub last_fault : (line : List ℕ) (s s' t t' t'' : Option (List ℕ)) → HasCopied line s s' t t' → WritesBeginning line t' t'' → FiltersFront s s' t t''
+last_fault line s s' t t' t'' so_far begins =
+    record { read = so_far.read; consumed = so_far.consumed; begins = WritesBeginning-append so_far.read line t t' t'' so_far.filtered begins }
 
 -- the outcome, as the two faults' clauses say it
 pub read_outcome : {T : Type 0} (r : Result T FilterFault) (reader_failed writer_failed : Bool) → IsRunOutcome r reader_failed writer_failed → IsErrOf r Read ↔ IsTrue reader_failed

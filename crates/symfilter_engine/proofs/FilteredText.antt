@@ -1,15 +1,16 @@
 -- Filtered text, line by line and piece by piece.
-use Rattle.std.proofs.Common.{◌≡◌, ◌≢◌, ℕ, suc, ◌+◌, ◌<◌, Result, Ok, Err, OnErr, drop-cons, add-one, List, [], ◌∷◌, ◌++◌, Option, length, take, drop, refl, sym, ap, subst, ◌∙◌, append_assoc, append-nil, Bool, true, false, inl, inr, ◌⊎◌, Some, None}
+use Rattle.std.proofs.Common.{◌≡◌, ◌≢◌, ℕ, Result, Ok, Err, OnErr, List, [], ◌∷◌, ◌++◌, Option, take, drop, refl, sym, ap, subst, ◌∙◌, append_assoc, append-nil, Bool, true, false, inl, inr, ◌⊎◌, Some, None}
 use Rattle.std.proofs.lemmas.List.{take-append-drop}
-use Rattle.std.proofs.lemmas.List.Elements.{All-append, All-nil, All-push}
+use Rattle.std.proofs.lemmas.List.Elements.{All-nil, All-push}
 use Rattle.std.specs.Str.{is_utf8}
 use Rattle.std.proofs.lemmas.Str.{IsUtf8-from_is_utf8, is_utf8-from_IsUtf8}
 use Rattle.std.proofs.lemmas.Bool.{false≢true, cases_eq}
 use Rattle.itanium_grammar.specs.Answer.{IsAnswer}
 use Rattle.itanium_demangle.proofs.Answered.{each_answered}
 use Rattle.std.proofs.KnownBytes.{Appends-nil, Appends-trans}
-use Rattle.symfilter_engine.specs.Filtered.{line_feed, HasNoLineFeed, AreLinesFiltered, no_line, one_more, IsFiltered, ended, unended, IsFront, IsBeginning, IsLineAnswer, answered, unanswered, not_utf8, WritesBeginning}
-use Rattle.symfilter_engine.specs.Progress.{EndsAt, WritesLine, WritesLineFront, nothing, front, HasFiltered}
+use Rattle.std.specs.Io.KnownBytes.{Appends}
+use Rattle.symfilter_engine.specs.Filtered.{line_feed, HasNoLineFeed, AreLinesFiltered, no_line, one_more, IsFiltered, ended, unended, IsFront, IsBeginning, IsLineAnswer, answered, unanswered, not_utf8, WritesFiltered, WritesBeginning}
+use Rattle.symfilter_engine.specs.Progress.{WritesFront, WritesLines, WritesLinesFront, HasFiltered}
 
 -- lines after lines
 pub AreLinesFiltered-append : {lines text lines' text' : List ℕ} → AreLinesFiltered lines text → AreLinesFiltered lines' text' → AreLinesFiltered (lines ++ lines') (text ++ text')
@@ -87,21 +88,40 @@ of_lines {lines} {text} given rest written given_is filtered is_front =
       (is_front.0 ++ more.0, ap (λ l. l ++ more.0) is_front.1 ∙ append_assoc written is_front.0 more.0),
     )
 
+-- no last line was written
+pub no_last : (line : List ℕ) (at : Option (List ℕ)) → line ≡ [] → WritesFiltered line at at
+no_last line at line_is = subst (λ l. WritesFiltered l at at) (sym line_is) ([], ended no_line, Appends-nil at)
+
+-- a last line was written
+pub last_written : (line answer : List ℕ) (before after : Option (List ℕ)) → line ≢ [] → HasNoLineFeed line → IsLineAnswer line answer → Appends before after answer
+    → WritesFiltered line before after
+last_written line answer before after some unended_line is_answer writes = (answer, unended no_line some unended_line is_answer, writes)
+
+-- nothing of it was written
+pub last_unwritten : (line : List ℕ) (at : Option (List ℕ)) → WritesBeginning line at at
+last_unwritten line at =
+    let found = filtered_of line in ([], (found.0, found.1, (found.0, refl)), Appends-nil at)
+
+-- a front of it was written
+pub last_begins : (line answer : List ℕ) (before after : Option (List ℕ)) → line ≢ [] → HasNoLineFeed line → IsLineAnswer line answer → WritesFront answer before after
+    → WritesBeginning line before after
+last_begins line answer before after some unended_line is_answer (rest, writes) =
+    (writes.front, (answer, unended no_line some unended_line is_answer, (rest, writes.bytes_are)), writes.written)
+
 -- nothing was given yet
 pub none_filtered : (given : List ℕ) (at : Option (List ℕ)) → HasFiltered given given at at
 none_filtered given at = record { lines = []; text = []; given_is = refl; filtered = no_line; written = Appends-nil at }
 
--- one more line of what was left
-line_filtered : (given line left : List ℕ) (before mid after : Option (List ℕ))
-    → HasFiltered given (line ++ line_feed ∷ left) before mid → HasNoLineFeed line → WritesLine line (line_feed ∷ []) mid after
-    → HasFiltered given left before after
-line_filtered given line left before mid after so_far unended_line (answer, is_answer, writes) =
+-- lines of what was left were written too
+pub lines_filtered : (given rest : List ℕ) (n : ℕ) (before mid after : Option (List ℕ))
+    → HasFiltered given rest before mid → WritesLines (take n rest) mid after → HasFiltered given (drop n rest) before after
+lines_filtered given rest n before mid after so_far (text, filtered, writes) =
     record {
-      lines = so_far.lines ++ (line ++ line_feed ∷ []);
-      text = so_far.text ++ (answer ++ line_feed ∷ []);
-      given_is = so_far.given_is ∙ ap (λ l. so_far.lines ++ l) (sym (append_assoc line (line_feed ∷ []) left)) ∙ sym (append_assoc so_far.lines (line ++ line_feed ∷ []) left);
-      filtered = one_more so_far.filtered unended_line is_answer;
-      written = Appends-trans before mid after so_far.text (answer ++ line_feed ∷ []) so_far.written writes;
+      lines = so_far.lines ++ take n rest;
+      text = so_far.text ++ text;
+      given_is = so_far.given_is ∙ ap (λ l. so_far.lines ++ l) (sym (take-append-drop n rest)) ∙ sym (append_assoc so_far.lines (take n rest) (drop n rest));
+      filtered = AreLinesFiltered-append so_far.filtered filtered;
+      written = Appends-trans before mid after so_far.text text so_far.written writes;
     }
 
 -- what is written stays a beginning
@@ -109,19 +129,19 @@ pub filtered_begins : (given left : List ℕ) (before after : Option (List ℕ))
 filtered_begins given left before after so_far =
     (so_far.text, of_lines given left so_far.text so_far.given_is so_far.filtered ([], sym (append-nil so_far.text)), so_far.written)
 
--- a front of one more line
-line_begins : (given line left : List ℕ) (before mid after : Option (List ℕ))
-    → HasFiltered given (line ++ line_feed ∷ left) before mid → HasNoLineFeed line → WritesLineFront line (line_feed ∷ []) mid after
-    → WritesBeginning given before after
-line_begins given line left before mid after so_far unended_line (nothing keeps) =
-    (so_far.text ++ [], of_lines given (line ++ line_feed ∷ left) (so_far.text ++ []) so_far.given_is so_far.filtered ([], sym (append-nil (so_far.text ++ []) ∙ append-nil so_far.text)), Appends-trans before mid after so_far.text [] so_far.written keeps)
-line_begins given line left before mid after so_far unended_line (front {answer} is_answer (rest, writes)) = (
-  so_far.text ++ writes.front,
-  of_lines given left (so_far.text ++ writes.front)
-      (so_far.given_is ∙ ap (λ l. so_far.lines ++ l) (sym (append_assoc line (line_feed ∷ []) left)) ∙ sym (append_assoc so_far.lines (line ++ line_feed ∷ []) left))
-      (one_more so_far.filtered unended_line is_answer)
-      (IsFront-append so_far.text writes.front (answer ++ line_feed ∷ []) (rest, writes.bytes_are)),
-  Appends-trans before mid after so_far.text writes.front so_far.written writes.written,
+-- nothing of lines was written
+pub lines_unwritten : (lines : List ℕ) (at : Option (List ℕ)) → WritesLinesFront lines at at
+lines_unwritten lines at rest = last_unwritten (lines ++ rest) at
+
+-- a front of the text of the first lines was written
+pub lines_begin : (lines text : List ℕ) (n : ℕ) (before after : Option (List ℕ)) → AreLinesFiltered (take n lines) text → WritesFront text before after
+    → WritesLinesFront lines before after
+lines_begin lines text n before after filtered (left, writes) rest = (
+  writes.front,
+  of_lines (lines ++ rest) (drop n lines ++ rest) writes.front
+      (ap (λ l. l ++ rest) (sym (take-append-drop n lines)) ∙ append_assoc (take n lines) (drop n lines) rest)
+      filtered (left, writes.bytes_are),
+  writes.written,
 )
 
 -- the lines of the next piece
@@ -136,6 +156,14 @@ piece_filtered given piece left left' before mid after so_far more =
       filtered = AreLinesFiltered-append so_far.filtered more.filtered;
       written = Appends-trans before mid after so_far.text more.text so_far.written more.written;
     }
+
+-- lines, and a last one
+pub WritesFiltered-append : (given left : List ℕ) (before mid after : Option (List ℕ)) → HasFiltered given left before mid → WritesFiltered left mid after → WritesFiltered given before after
+WritesFiltered-append given left before mid after so_far (text, filtered, writes) = (
+  so_far.text ++ text,
+  subst (λ l. IsFiltered l (so_far.text ++ text)) (sym so_far.given_is) (IsFiltered-append so_far.filtered filtered),
+  Appends-trans before mid after so_far.text text so_far.written writes,
+)
 
 -- a beginning after lines
 IsBeginning-append : {lines text : List ℕ} (given written : List ℕ) → AreLinesFiltered lines text → IsBeginning given written → IsBeginning (lines ++ given) (text ++ written)
@@ -153,40 +181,26 @@ piece_begins given piece left before mid after so_far (written, begins, writes) 
   Appends-trans before mid after so_far.text written so_far.written writes,
 )
 
--- the bytes about their first line feed
-around_line_feed : (bytes : List ℕ) (end : ℕ) → EndsAt bytes end → bytes ≡ take end bytes ++ (line_feed ∷ drop (end + 1) bytes)
-around_line_feed bytes end ends =
-    let inside : end < length bytes = ends.inside in
-    sym (take-append-drop end bytes) ∙ ap (λ l. take end bytes ++ l) (drop-cons bytes end 0 inside ∙ ap (λ x. x ∷ drop (suc end) bytes) ends.feed ∙ ap (λ n. line_feed ∷ drop n bytes) (sym (add-one end)))
+-- a beginning of a last line
+pub WritesBeginning-append : (given left : List ℕ) (before mid after : Option (List ℕ)) → HasFiltered given left before mid → WritesBeginning left mid after → WritesBeginning given before after
+WritesBeginning-append given left before mid after so_far (written, begins, writes) = (
+  so_far.text ++ written,
+  subst (λ l. IsBeginning l (so_far.text ++ written)) (sym so_far.given_is) (IsBeginning-append left written so_far.filtered begins),
+  Appends-trans before mid after so_far.text written so_far.written writes,
+)
 
--- the line that ends there
-pub one_line : (line rest whole : List ℕ) (end : ℕ) → HasNoLineFeed line → EndsAt rest end → whole ≡ line ++ take end rest → HasNoLineFeed whole
-one_line line rest whole end unended_line ends whole_is =
-    subst HasNoLineFeed (sym whole_is) (All-append (λ byte. byte ≢ line_feed) line (take end rest) unended_line ends.before)
-
--- what was left, about the end of its first line
-left_is : (line rest whole : List ℕ) (end : ℕ) → EndsAt rest end → whole ≡ line ++ take end rest → line ++ rest ≡ whole ++ (line_feed ∷ drop (end + 1) rest)
-left_is line rest whole end ends whole_is =
-    ap (λ l. line ++ l) (around_line_feed rest end ends) ∙ sym (append_assoc line (take end rest) (line_feed ∷ drop (end + 1) rest)) ∙ ap (λ l. l ++ (line_feed ∷ drop (end + 1) rest)) (sym whole_is)
-
--- a line that ends in the rest was written
-pub turn_filtered : (given line rest whole left : List ℕ) (end : ℕ) (before mid after : Option (List ℕ))
-    → HasFiltered given (line ++ rest) before mid → HasNoLineFeed line → EndsAt rest end → whole ≡ line ++ take end rest
-    → WritesLine whole (line_feed ∷ []) mid after → left ≡ drop (end + 1) rest → HasFiltered given left before after
-turn_filtered given line rest whole left end before mid after so_far unended_line ends whole_is writes left_end =
-    subst (λ l. HasFiltered given l before after) (sym left_end)
-    (line_filtered given whole (drop (end + 1) rest) before mid after
-    (subst (λ l. HasFiltered given l before mid) (left_is line rest whole end ends whole_is) so_far)
-    (one_line line rest whole end unended_line ends whole_is) writes)
-
--- a front of it was written
-pub turn_begins : (given line rest whole : List ℕ) (end : ℕ) (before mid after : Option (List ℕ))
-    → HasFiltered given (line ++ rest) before mid → HasNoLineFeed line → EndsAt rest end → whole ≡ line ++ take end rest
-    → WritesLineFront whole (line_feed ∷ []) mid after → WritesBeginning given before after
-turn_begins given line rest whole end before mid after so_far unended_line ends whole_is writes =
-    line_begins given whole (drop (end + 1) rest) before mid after
-    (subst (λ l. HasFiltered given l before mid) (left_is line rest whole end ends whole_is) so_far)
-    (one_line line rest whole end unended_line ends whole_is) writes
+-- a beginning of more lines
+pub WritesLinesFront-append : (given left : List ℕ) (before mid after : Option (List ℕ)) → HasFiltered given left before mid → WritesLinesFront left mid after → WritesLinesFront given before after
+WritesLinesFront-append given left before mid after so_far begins rest =
+    WritesBeginning-append (given ++ rest) (left ++ rest) before mid after
+    (record {
+      lines = so_far.lines;
+      text = so_far.text;
+      given_is = ap (λ l. l ++ rest) so_far.given_is ∙ append_assoc so_far.lines left rest;
+      filtered = so_far.filtered;
+      written = so_far.written;
+    })
+    (begins rest)
 
 -- what holds after a fault
 pub at_fault : {T E P : Type 0} (r : Result T E) → P → OnErr r P

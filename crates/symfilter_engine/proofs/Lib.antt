@@ -1,4 +1,6 @@
 pub mod FilteredText
 pub mod Writing
 pub mod LineAnswers
+pub mod LineEnds
+pub mod Chunks
 pub mod Copying

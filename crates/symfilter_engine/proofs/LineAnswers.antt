@@ -1,15 +1,15 @@
--- Where a line ends, and what is written for it.
-use Rattle.std.proofs.Common.{◌≡◌, ℕ, List, ◌++◌, Option, Some, None, sym, ap, subst, ◌∙◌, append_assoc}
+-- What is written for a line.
+use Rattle.std.proofs.Common.{◌≡◌, ◌≢◌, ℕ, List, [], ◌∷◌, Bool, true, false, Option, Some, None, get_or, refl, sym, subst, ◌∙◌}
 use Rattle.std.specs.Prelude.{option_map, IsUtf8}
-use Rattle.std.proofs.KnownBytes.{Appends-trans}
-use Rattle.std.specs.Io.KnownBytes.{Appends}
-use Rattle.itanium_grammar.specs.Answer.{IsAnswer}
+use Rattle.std.specs.Str.{is_utf8}
+use Rattle.std.proofs.lemmas.Str.{IsUtf8-from_is_utf8, is_utf8-from_IsUtf8}
+use Rattle.std.proofs.lemmas.Bool.{false≢true, ne_eqb}
+use Rattle.itanium_grammar.specs.Answer.{after_prefix, IsAnswer}
 use Rattle.symfilter_engine.specs.Filtered.{IsLineAnswer, answered, unanswered, not_utf8}
-use Rattle.symfilter_engine.specs.Progress.{WritesFront, WritesLineFront, front}
 
 -- a line that isn't UTF-8
-pub plain_line : {line : List ℕ} → ¬ (IsUtf8 line) → IsLineAnswer line line
-plain_line no_text = not_utf8 no_text
+pub not_text : {line : List ℕ} → ¬ (IsUtf8 line) → IsLineAnswer line line
+not_text no_text = not_utf8 no_text
 
 -- a line without an answer
 pub line_without : {A : Type 0} (text_of : A → List ℕ) (line symbol : List ℕ) (found : Option A)
@@ -23,14 +23,19 @@ pub line_with : {A : Type 0} (text_of : A → List ℕ) (line symbol text : List
 line_with text_of line symbol text found answer symbol_is is_utf8 is_answer found_is text_is =
     answered is_utf8 (subst (λ t. IsAnswer line (Some t)) (sym text_is) (subst (λ s. IsAnswer s (Some (text_of answer))) symbol_is (subst (λ o. IsAnswer symbol (option_map text_of o)) found_is is_answer)))
 
--- a front of the answer
-pub front_of_answer : (line end answer : List ℕ) (before after : Option (List ℕ))
-    → IsLineAnswer line answer → WritesFront answer before after → WritesLineFront line end before after
-front_of_answer line end answer before after is_answer (rest, writes) =
-    front is_answer (rest ++ end, record { front = writes.front; bytes_are = ap (λ l. l ++ end) writes.bytes_are ∙ append_assoc writes.front rest end; written = writes.written })
+-- a symbol begins with an underscore
+no_prefix : (line : List ℕ) → get_or line 0 0 ≢ 95 → after_prefix line ≡ None
+no_prefix [] ordinary = refl
+no_prefix (byte ∷ bytes) ordinary = rw (ne_eqb byte 95 ordinary) refl
 
--- the answer, and a front of the end
-pub front_of_end : (line end answer : List ℕ) (before mid after : Option (List ℕ))
-    → IsLineAnswer line answer → Appends before mid answer → WritesFront end mid after → WritesLineFront line end before after
-front_of_end line end answer before mid after is_answer writes_answer (rest, writes) =
-    front is_answer (rest, record { front = answer ++ writes.front; bytes_are = ap (λ l. answer ++ l) writes.bytes_are ∙ sym (append_assoc answer writes.front rest); written = Appends-trans before mid after answer writes.front writes_answer writes.written })
+-- no reading without a prefix
+not_read : (line : List ℕ) → after_prefix line ≡ None → IsAnswer line None
+not_read line prefix = λ tree next cost reading deep utf8. let e = sym prefix ∙ reading.prefix in cc
+
+-- a line that is ordinary stands for itself, whether it is UTF-8 or not
+by_utf8 : (line : List ℕ) → IsAnswer line None → (b : Bool) → is_utf8 line ≡ b → IsLineAnswer line line
+by_utf8 line none false bad = not_utf8 (λ good. false≢true (sym bad ∙ is_utf8-from_IsUtf8 line good))
+by_utf8 line none true good = unanswered (IsUtf8-from_is_utf8 line good) none
+
+pub other_line : (line : List ℕ) → get_or line 0 0 ≢ 95 → IsLineAnswer line line
+other_line line ordinary = by_utf8 line (not_read line (no_prefix line ordinary)) (is_utf8 line) refl

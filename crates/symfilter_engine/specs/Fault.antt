@@ -9,6 +9,13 @@ words_of Read = codes "symfilter: read failed"
 words_of Write = codes "symfilter: write failed"
 words_of Memory = codes "symfilter: out of memory"
 
+-- what reading ends with: `Read` exactly where the reader has failed, and never `Write`
+abbrev pub IsReadOutcome : {T : Type 0} → Result T FilterFault → Bool → Type 0
+IsReadOutcome (Ok _) failed = failed ≡ false
+IsReadOutcome (Err Read) failed = failed ≡ true
+IsReadOutcome (Err Write) failed = ⊥
+IsReadOutcome (Err Memory) failed = failed ≡ false
+
 -- what writing ends with: `Write` exactly where the writer has failed, and never `Read`
 abbrev pub IsWriteOutcome : {T : Type 0} → Result T FilterFault → Bool → Type 0
 IsWriteOutcome (Ok _) failed = failed ≡ false

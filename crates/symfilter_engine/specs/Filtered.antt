@@ -46,18 +46,29 @@ IsFront written text = (rest : List ℕ) × (text ≡ written ++ rest)
 abbrev pub IsBeginning : List ℕ → List ℕ → Type 0
 IsBeginning given written = (text : List ℕ) × IsFiltered given text × IsFront written text
 
--- the writer got the filtered text of what was given and nothing else, where it tells its bytes
+-- the writer got the filtered text of what was given and nothing else, where its bytes are known
 abbrev pub WritesFiltered : List ℕ → Option (List ℕ) → Option (List ℕ) → Type 0
 WritesFiltered given before after =
     (text : List ℕ) × IsFiltered given text × Appends before after text
 
--- the writer got a beginning of the filtered text of what was given and nothing else, where it tells its bytes
+-- the writer got a beginning of the filtered text of what was given and nothing else, where its bytes are known
 abbrev pub WritesBeginning : List ℕ → Option (List ℕ) → Option (List ℕ) → Type 0
 WritesBeginning given before after =
     (written : List ℕ) × IsBeginning given written × Appends before after written
 
--- the reader gave a front of its bytes, where it tells them, and the writer got a beginning of the filtered text of that front
+-- the reader gave a front of its bytes, where they are known, and the writer got a beginning of its filtered text
 pub record FiltersFront (before after written_before written_after : Option (List ℕ)) : Type 0 where
   pub read : List ℕ
   pub consumed : Consumes before after read
   pub begins : WritesBeginning read written_before written_after
+
+-- the reader gave whole lines and a part of one more, where its bytes are known, and the writer got the filtered text
+-- of the whole lines and nothing else
+pub record FiltersLines (before after written_before written_after : Option (List ℕ)) : Type 0 where
+  pub lines : List ℕ
+  pub line : List ℕ
+  pub consumed : Consumes before after (lines ++ line)
+  pub unended : HasNoLineFeed line
+  pub text : List ℕ
+  pub filtered : AreLinesFiltered lines text
+  pub written : Appends written_before written_after text

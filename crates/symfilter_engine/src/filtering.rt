@@ -1,26 +1,27 @@
 //! The filter's loop.
-ghost use Rattle.std.specs.Prelude.{◌≡◌, ◌↔◌, ◌<◌, false, [], length, IsTrue, IsErrOf, IfSome, Some, OnOk, OnErr};
-ghost use Rattle.std.specs.Io.KnownBytes.{IsAtEnd};
-ghost use Rattle.symfilter_engine.specs.Fault.{IsRunOutcome};
-ghost use Rattle.symfilter_engine.specs.Filtered.{HasNoLineFeed, FiltersFront, WritesFiltered};
-ghost use Rattle.symfilter_engine.specs.Progress.{HasCopied};
+ghost use Rattle.std.specs.Prelude.{◌≡◌, ◌≤◌, ◌↔◌, ◌<◌, ◌-◌, false, [], length, take, drop, IsTrue, IsErrOf, IfOk, IfSome, Some, OnOk, OnErr};
+ghost use Rattle.std.specs.Io.KnownBytes.{IsAtEnd, Keeps};
+ghost use Rattle.symfilter_engine.specs.Fault.{IsRunOutcome, IsReadOutcome};
+ghost use Rattle.symfilter_engine.specs.Filtered.{HasNoLineFeed, FiltersFront, FiltersLines, WritesFiltered};
+ghost use Rattle.symfilter_engine.specs.Progress.{HasCopied, ReadsMore};
 
 use super::ends::{Failed, Sink, Source};
 use super::fault::FilterFault;
-use super::lines::{write_line, write_lines};
+use super::line_feeds::ended_len;
+use super::lines::{write_last, write_lines};
 use itanium_demangle::Demangler;
-use std::alloc::Global;
+use std::alloc::{AllocError, Global};
 
-/// How many bytes one read asks for.
-const CHUNK_LEN: usize = 65536;
+/// How many bytes a read asks for, where no line is unended.
+const CHUNK_LEN: usize = 131072;
 
-/// Reads to the end, and writes for each line its answer by `Demangler::demangle`, or the line's own
-/// bytes where it has none or isn't UTF-8. A line goes up to the next line feed or the end; the line
-/// feed is written where there was one.
+/// Reads to the end, and writes for each line its answer by `Demangler::demangle`, or the line's own bytes where it has
+/// none or isn't UTF-8. A line goes up to the next line feed or the end; the line feed is written where there was one.
+/// Whenever it reads, all whole lines that were read before are written.
 ///
-/// It ends at the first fault and calls neither end after it: `Read` where the reader failed,
-/// `Write` where the writer did, `Memory` where memory ran out. What was written then is a
-/// beginning of what would have been.
+/// It ends at the first fault and calls neither end after it: `Read` where the reader failed, `Write` where the writer
+/// did, `Memory` where memory ran out. What was written then is a beginning of what would have been: all lines before
+/// the fault, unless the writer failed.
 pub fn filter<R: Source, W: Sink>(
     alloc: Global,
     reader: &mut R,
@@ -31,7 +32,7 @@ pub fn filter<R: Source, W: Sink>(
     ensures read { IsErrOf result FilterFault.Read ↔ IsTrue (R.failed reader.new) }
     ensures write { IsErrOf result FilterFault.Write ↔ IsTrue (W.failed writer.new) }
 
-    // What follows is said of a reader that tells its bytes, and a writer that does.
+    // What follows holds where the bytes of the reader are known, and the writer's.
     ensures used_up { OnOk result (IfSome (R.remaining reader.old) (λ _.
         R.remaining reader.new ≡ Some [])) }
     ensures ok { OnOk result (IfSome (R.remaining reader.old) (λ given.
@@ -39,21 +40,25 @@ pub fn filter<R: Source, W: Sink>(
     ensures err { OnErr result (FiltersFront
         (R.remaining reader.old) (R.remaining reader.new)
         (W.taken writer.old) (W.taken writer.new)) }
+
+    // Any call of the reader may fail. So whenever it is asked, all whole lines that it gave are written.
+    ensures put { IsErrOf result FilterFault.Read → FiltersLines
+        (R.remaining reader.old) (R.remaining reader.new)
+        (W.taken writer.old) (W.taken writer.new) }
 {
     let mut chunk = vec![in alloc; 0u8; CHUNK_LEN]?;
     filter_by_chunks(alloc, reader, writer, &mut chunk)
 }
 
-/// Reads into the chunk to the end, and writes each line.
+/// Reads into the chunk to the end, and writes each line. The chunk holds what is left of a line that isn't whole yet.
 fn filter_by_chunks<R: Source, W: Sink>(
     alloc: Global,
     reader: &mut R,
     writer: &mut W,
-    chunk: &mut [u8],
+    chunk: &mut Vec<u8>,
 ) -> Result<(), FilterFault>
     requires reader_not_failed { R.failed reader.old ≡ false }
     requires writer_not_failed { W.failed writer.old ≡ false }
-    requires room { 0 < length chunk.old }
     ensures outcome { IsRunOutcome result (R.failed reader.new) (W.failed writer.new) }
     ensures used_up { OnOk result (IfSome (R.remaining reader.old) (λ _.
         R.remaining reader.new ≡ Some [])) }
@@ -62,47 +67,97 @@ fn filter_by_chunks<R: Source, W: Sink>(
     ensures err { OnErr result (FiltersFront
         (R.remaining reader.old) (R.remaining reader.new)
         (W.taken writer.old) (W.taken writer.new)) }
+    ensures put { IsErrOf result FilterFault.Read → FiltersLines
+        (R.remaining reader.old) (R.remaining reader.new)
+        (W.taken writer.old) (W.taken writer.new) }
 {
     let mut demangler = Demangler::new();
-    let mut line = Vec::new(alloc);
-    copy_lines(alloc, &mut demangler, &mut line, reader, writer, chunk)?;
-    if !line.is_empty() {
-        write_line(alloc, &mut demangler, &line, b"", writer)?;
-    }
-    Ok(())
+    let kept = copy_lines(alloc, &mut demangler, chunk, reader, writer)?;
+    write_last(alloc, &mut demangler, &chunk[..kept], writer)
 }
 
-/// Writes each line that ends in a line feed, and leaves a last one that doesn't in `line`.
+/// Writes each line that ends in a line feed, and answers how many bytes of a last one that doesn't are left at the
+/// front of the chunk.
 fn copy_lines<R: Source, W: Sink>(
     alloc: Global,
     demangler: &mut Demangler,
-    line: &mut Vec<u8>,
+    chunk: &mut Vec<u8>,
     reader: &mut R,
     writer: &mut W,
-    chunk: &mut [u8],
-) -> Result<(), FilterFault>
+) -> Result<usize, FilterFault>
     requires reader_not_failed { R.failed reader.old ≡ false }
     requires writer_not_failed { W.failed writer.old ≡ false }
-    requires room { 0 < length chunk.old }
-    requires no_line { line.old.items ≡ [] }
     ensures outcome { IsRunOutcome result (R.failed reader.new) (W.failed writer.new) }
+    ensures bound { IfOk result (λ kept. kept ≤ length chunk.new.items) }
     ensures at_end { OnOk result (IsAtEnd (R.remaining reader.new)) }
-    ensures unended { OnOk result (HasNoLineFeed line.new.items) }
-    ensures ok { OnOk result (HasCopied line.new.items
+    ensures unended { IfOk result (λ kept. HasNoLineFeed (take kept chunk.new.items)) }
+    ensures ok { IfOk result (λ kept. HasCopied (take kept chunk.new.items)
         (R.remaining reader.old) (R.remaining reader.new)
         (W.taken writer.old) (W.taken writer.new)) }
     ensures err { OnErr result (FiltersFront
         (R.remaining reader.old) (R.remaining reader.new)
         (W.taken writer.old) (W.taken writer.new)) }
+    ensures put { IsErrOf result FilterFault.Read → FiltersLines
+        (R.remaining reader.old) (R.remaining reader.new)
+        (W.taken writer.old) (W.taken writer.new) }
 {
-    loop {
-        let count = match reader.take(chunk) {
-            Ok(count) => count,
-            Err(Failed) => return Err(FilterFault::Read),
-        };
-        if count == 0 {
-            return Ok(());
+    let mut output = Vec::new(alloc);
+    let mut kept = 0;
+    'turns: loop {
+        let end = read_more(reader, chunk, kept)?;
+        if end == kept {
+            return Ok(kept);
         }
-        write_lines(alloc, demangler, line, &chunk[..count], writer)?;
+        let ended = ended_len(&chunk[..end], kept);
+        write_lines(alloc, demangler, &chunk[..ended], &mut output, writer)?;
+        move_rest(chunk, ended, end);
+        kept = end - ended;
+    }
+}
+
+/// Makes room for more than `kept` bytes in the chunk, whose first `kept` bytes stay.
+fn make_room(chunk: &mut Vec<u8>, kept: usize) -> Result<(), AllocError>
+    requires { kept ≤ length chunk.old.items }
+    ensures room { OnOk result (kept < length chunk.new.items) }
+    ensures stays { OnOk result (take kept chunk.new.items ≡ take kept chunk.old.items) }
+{
+    if kept == chunk.len() {
+        chunk.resize(kept + CHUNK_LEN, 0)?;
+    }
+    Ok(())
+}
+
+/// Reads after the first `kept` bytes of the chunk, which grows where it is full, and answers how many bytes stand
+/// there then: no more than before at the end alone.
+fn read_more<R: Source>(
+    reader: &mut R,
+    chunk: &mut Vec<u8>,
+    kept: usize,
+) -> Result<usize, FilterFault>
+    requires not_failed { R.failed reader.old ≡ false }
+    requires inside { kept ≤ length chunk.old.items }
+    ensures outcome { IsReadOutcome result (R.failed reader.new) }
+    ensures ok { IfOk result (λ end. ReadsMore kept end chunk.old.items chunk.new.items
+        (R.remaining reader.old) (R.remaining reader.new)) }
+    ensures fewer { IfOk result (λ end.
+        kept < end → R.calls_left reader.new < R.calls_left reader.old) }
+    ensures err { OnErr result (Keeps (R.remaining reader.old) (R.remaining reader.new)) }
+{
+    make_room(chunk, kept)?;
+    match reader.take(&mut chunk[kept..]) {
+        Ok(count) => Ok(kept + count),
+        Err(Failed) => Err(FilterFault::Read),
+    }
+}
+
+/// Moves the bytes from `from` up to `end` to the front of the chunk.
+fn move_rest(chunk: &mut Vec<u8>, from: usize, end: usize)
+    requires ordered { from ≤ end }
+    requires inside { end ≤ length chunk.old.items }
+    ensures len { length chunk.new.items ≡ length chunk.old.items }
+    ensures moved { take (end - from) chunk.new.items ≡ drop from (take end chunk.old.items) }
+{
+    if from > 0 {
+        chunk.copy_within(from..end, 0);
     }
 }

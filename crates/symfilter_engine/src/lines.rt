@@ -1,41 +1,84 @@
-//! Lines: where each ends, and what is written for it.
-ghost use Rattle.std.specs.Prelude.{◌≡◌, false, [], ◌∷◌, ◌++◌, IfOk, IfSome, IfNone, OnOk, OnErr};
+//! Lines of a chunk, and what is written for them.
+//!
+//! A line is ordinary where it doesn't begin with an underscore: then it is no symbol, and stands for itself.
+ghost use Rattle.std.specs.Prelude.{◌≡◌, ◌<◌, ◌≤◌, [], false, length, take, IsTrue, IsUtf8, IfOk, IfSome, IfNone, OnOk, OnErr};
 ghost use Rattle.symfilter_engine.specs.Fault.{IsWriteOutcome};
-ghost use Rattle.symfilter_engine.specs.Filtered.{HasNoLineFeed, IsLineAnswer, WritesBeginning};
-ghost use Rattle.symfilter_engine.specs.Progress.{EndsAt, HasFiltered, WritesLine, WritesLineFront};
+ghost use Rattle.symfilter_engine.specs.Filtered.{HasNoLineFeed, IsLineAnswer, AreLinesFiltered, WritesFiltered, WritesBeginning};
+ghost use Rattle.symfilter_engine.specs.Progress.{EndsInLineFeed, AppendsLine, AppendsLines, HasFiltered, WritesLines, WritesLinesFront};
 
 use super::ends::Sink;
 use super::fault::FilterFault;
+use super::line_feeds::line_end;
 use super::output::put_all;
 use itanium_demangle::Demangler;
 use std::alloc::{AllocError, Global};
 use std::str;
 
-const LINE_FEED: u8 = b'\n';
+/// So many bytes of output are put without waiting for more.
+const OUTPUT_LEN: usize = 131072;
 
-/// The place of the first line feed, or `None` where there is none.
-fn line_end(bytes: &[u8]) -> Option<usize>
-    ensures found { IfSome result (EndsAt bytes.now) }
-    ensures none { IfNone result (HasNoLineFeed bytes.now) }
+/// So many bytes of ordinary lines are put without a copy.
+const LONG_LEN: usize = 16384;
+
+/// The first byte of each symbol.
+const UNDERSCORE: u8 = b'_';
+
+/// How many bytes the first line has with its line feed, where it has one and is ordinary.
+#[inline(always)]
+fn ordinary_line_len(lines: &[u8]) -> Option<usize>
+    ensures some { IfSome result (λ len. 0 < len) }
+    ensures bound { IfSome result (λ len. len ≤ length lines.now) }
+    ensures ordinary { IfSome result (λ len. AreLinesFiltered (take len lines.now) (take len lines.now)) }
 {
-    for (place, byte) in bytes.iter().enumerate() {
-        if *byte == LINE_FEED {
-            return Some(place);
-        }
+    if lines.is_empty() || lines[0] == UNDERSCORE {
+        return None;
     }
-    None
+    match line_end(lines) {
+        Some(end) => Some(end + 1),
+        None => None,
+    }
 }
 
-/// What is written for a line without its line feed: its answer, or the line itself where it has
-/// none or isn't UTF-8.
+/// How many bytes the first whole lines have, as far as they are ordinary.
+fn ordinary_len(lines: &[u8]) -> usize
+    ensures bound { result ≤ length lines.now }
+    ensures ordinary { AreLinesFiltered (take result lines.now) (take result lines.now) }
+{
+    let mut len = 0;
+    while let Some(more) = ordinary_line_len(&lines[len..]) {
+        len += more;
+    }
+    len
+}
+
+/// The bytes as a text, or `None` where they aren't UTF-8. `known_utf8` says that they are, and then they aren't asked.
+#[inline(always)]
+fn as_text(bytes: &[u8], known_utf8: bool) -> Option<&str>
+    requires { IsTrue known_utf8 → IsUtf8 bytes.now }
+    ensures some { IfSome result (λ text. (text.now ≡ bytes.now) × IsUtf8 bytes.now) }
+    ensures none { IfNone result (¬ (IsUtf8 bytes.now)) }
+{
+    if known_utf8 {
+        return Some(unsafe { str::from_utf8_unchecked(bytes) });
+    }
+    match str::from_utf8(bytes) {
+        Ok(text) => Some(text),
+        Err(_) => None,
+    }
+}
+
+/// What is written for a line without its line feed: its answer, or the line itself where it has none or isn't UTF-8.
+/// `known_utf8` says that it is UTF-8.
 fn line_answer<'a>(
     alloc: Global,
     demangler: &'a mut Demangler,
     line: &'a [u8],
+    known_utf8: bool,
 ) -> Result<&'a [u8], AllocError>
-    ensures answer { IfOk result (λ text. IsLineAnswer line.now text.now) }
+    requires { IsTrue known_utf8 → IsUtf8 line.now }
+    ensures { IfOk result (λ text. IsLineAnswer line.now text.now) }
 {
-    let Ok(symbol) = str::from_utf8(line) else {
+    let Some(symbol) = as_text(line, known_utf8) else {
         return Ok(line);
     };
     match demangler.demangle(alloc, symbol)? {
@@ -44,51 +87,156 @@ fn line_answer<'a>(
     }
 }
 
-/// Writes what is written for a line, and then its end.
-pub(crate) fn write_line<W: Sink>(
+/// Appends what is written for a line, and a line feed. After an error nothing is appended.
+fn append_line(
     alloc: Global,
     demangler: &mut Demangler,
     line: &[u8],
-    end: &[u8],
-    writer: &mut W,
-) -> Result<(), FilterFault>
-    requires not_failed { W.failed writer.old ≡ false }
-    ensures outcome { IsWriteOutcome result (W.failed writer.new) }
-    ensures ok { OnOk result (WritesLine line.now end.now
-        (W.taken writer.old) (W.taken writer.new)) }
-    ensures err { OnErr result (WritesLineFront line.now end.now
-        (W.taken writer.old) (W.taken writer.new)) }
+    known_utf8: bool,
+    output: &mut Vec<u8>,
+) -> Result<(), AllocError>
+    requires { IsTrue known_utf8 → IsUtf8 line.now }
+    ensures ok { OnOk result (AppendsLine line.now output.old.items output.new.items) }
+    ensures err { OnErr result (output.new.items ≡ output.old.items) }
 {
-    let answer = line_answer(alloc, demangler, line)?;
-    put_all(writer, answer)?;
-    put_all(writer, end)
+    let len = output.len();
+    let answer = line_answer(alloc, demangler, line, known_utf8)?;
+    output.extend_from_slice(answer)?;
+    if output.extend_from_slice(b"\n").is_err() {
+        output.truncate(len);
+        return Err(AllocError);
+    }
+    Ok(())
 }
 
-/// Writes the lines that end in these bytes, of which the first began with `line`, and leaves the
-/// beginning of the next in `line`.
+/// Appends what is written for the first of these lines, a run of ordinary ones or one that isn't, and answers how many
+/// bytes they have. After an error nothing is appended.
+fn append_next(
+    alloc: Global,
+    demangler: &mut Demangler,
+    lines: &[u8],
+    known_utf8: bool,
+    output: &mut Vec<u8>,
+) -> Result<usize, AllocError>
+    requires some { 0 < length lines.now }
+    requires ended { EndsInLineFeed lines.now }
+    requires known { IsTrue known_utf8 → IsUtf8 lines.now }
+    ensures some { IfOk result (λ len. 0 < len) }
+    ensures bound { IfOk result (λ len. len ≤ length lines.now) }
+    ensures ok { IfOk result (λ len. AppendsLines (take len lines.now) output.old.items output.new.items) }
+    ensures err { OnErr result (output.new.items ≡ output.old.items) }
+{
+    let ordinary = ordinary_len(lines);
+    if ordinary > 0 {
+        output.extend_from_slice(&lines[..ordinary])?;
+        return Ok(ordinary);
+    }
+    let Some(end) = line_end(lines) else {
+        unreachable!()
+    };
+    append_line(alloc, demangler, &lines[..end], known_utf8, output)?;
+    Ok(end + 1)
+}
+
+/// Appends to the empty output what is written for these lines, from the front on until it is long or memory is
+/// refused, and answers how many bytes they have. An error comes only where memory is refused for the first.
+fn gather_lines(
+    alloc: Global,
+    demangler: &mut Demangler,
+    lines: &[u8],
+    known_utf8: bool,
+    output: &mut Vec<u8>,
+) -> Result<usize, AllocError>
+    requires empty { output.old.items ≡ [] }
+    requires some { 0 < length lines.now }
+    requires ended { EndsInLineFeed lines.now }
+    requires known { IsTrue known_utf8 → IsUtf8 lines.now }
+    ensures some { IfOk result (λ len. 0 < len) }
+    ensures bound { IfOk result (λ len. len ≤ length lines.now) }
+    ensures ok { IfOk result (λ len. AreLinesFiltered (take len lines.now) output.new.items) }
+    ensures err { OnErr result (output.new.items ≡ []) }
+{
+    let mut taken = append_next(alloc, demangler, lines, known_utf8, output)?;
+    while taken < lines.len() && output.len() < OUTPUT_LEN {
+        let Ok(more) = append_next(alloc, demangler, &lines[taken..], known_utf8, output) else {
+            break;
+        };
+        taken += more;
+    }
+    Ok(taken)
+}
+
+/// Writes what is written for the first of these lines, and answers how many bytes they have: a long run of ordinary
+/// lines is put as it stands, and other lines are gathered in the output.
+fn write_next<W: Sink>(
+    alloc: Global,
+    demangler: &mut Demangler,
+    lines: &[u8],
+    known_utf8: bool,
+    output: &mut Vec<u8>,
+    writer: &mut W,
+) -> Result<usize, FilterFault>
+    requires not_failed { W.failed writer.old ≡ false }
+    requires some { 0 < length lines.now }
+    requires ended { EndsInLineFeed lines.now }
+    requires known { IsTrue known_utf8 → IsUtf8 lines.now }
+    ensures outcome { IsWriteOutcome result (W.failed writer.new) }
+    ensures some { IfOk result (λ len. 0 < len) }
+    ensures bound { IfOk result (λ len. len ≤ length lines.now) }
+    ensures ok { IfOk result (λ len. WritesLines (take len lines.now)
+        (W.taken writer.old) (W.taken writer.new)) }
+    ensures err { OnErr result (WritesLinesFront lines.now (W.taken writer.old) (W.taken writer.new)) }
+{
+    let ordinary = ordinary_len(lines);
+    if ordinary >= LONG_LEN {
+        put_all(writer, &lines[..ordinary])?;
+        return Ok(ordinary);
+    }
+    output.clear();
+    let len = gather_lines(alloc, demangler, lines, known_utf8, output)?;
+    put_all(writer, output)?;
+    Ok(len)
+}
+
+/// Writes what is written for these lines, each with its line feed.
 pub(crate) fn write_lines<W: Sink>(
     alloc: Global,
     demangler: &mut Demangler,
-    line: &mut Vec<u8>,
-    bytes: &[u8],
+    lines: &[u8],
+    output: &mut Vec<u8>,
     writer: &mut W,
 ) -> Result<(), FilterFault>
     requires not_failed { W.failed writer.old ≡ false }
-    requires unended { HasNoLineFeed line.old.items }
+    requires ended { EndsInLineFeed lines.now }
     ensures outcome { IsWriteOutcome result (W.failed writer.new) }
-    ensures ok { OnOk result (HasFiltered (line.old.items ++ bytes.now) line.new.items
-        (W.taken writer.old) (W.taken writer.new)) }
-    ensures still_unended { OnOk result (HasNoLineFeed line.new.items) }
-    ensures err { OnErr result (WritesBeginning (line.old.items ++ bytes.now)
-        (W.taken writer.old) (W.taken writer.new)) }
+    ensures ok { OnOk result (HasFiltered lines.now [] (W.taken writer.old) (W.taken writer.new)) }
+    ensures err { OnErr result (WritesLinesFront lines.now (W.taken writer.old) (W.taken writer.new)) }
 {
-    let mut rest = bytes;
-    while let Some(end) = line_end(rest) {
-        line.extend_from_slice(&rest[..end])?;
-        write_line(alloc, demangler, line, b"\n", writer)?;
-        line.clear();
-        rest = &rest[end + 1..];
+    let known_utf8 = str::from_utf8(lines).is_ok();
+    let mut rest = lines;
+    while !rest.is_empty() {
+        let len = write_next(alloc, demangler, rest, known_utf8, output, writer)?;
+        rest = &rest[len..];
     }
-    line.extend_from_slice(rest)?;
     Ok(())
+}
+
+/// Writes what is written for a last line, which has no line feed. There may be none.
+pub(crate) fn write_last<W: Sink>(
+    alloc: Global,
+    demangler: &mut Demangler,
+    line: &[u8],
+    writer: &mut W,
+) -> Result<(), FilterFault>
+    requires not_failed { W.failed writer.old ≡ false }
+    requires unended { HasNoLineFeed line.now }
+    ensures outcome { IsWriteOutcome result (W.failed writer.new) }
+    ensures ok { OnOk result (WritesFiltered line.now (W.taken writer.old) (W.taken writer.new)) }
+    ensures err { OnErr result (WritesBeginning line.now (W.taken writer.old) (W.taken writer.new)) }
+{
+    if line.is_empty() {
+        return Ok(());
+    }
+    let answer = line_answer(alloc, demangler, line, false)?;
+    put_all(writer, answer)
 }

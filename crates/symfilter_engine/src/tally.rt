@@ -1,4 +1,4 @@
-//! A source over a reader of std, and a sink over a writer.
+//! Adapts std's readers and writers: a source over a reader, and a sink over a writer.
 ghost use Rattle.std.specs.Prelude.{◌≡◌, true, false, ◌+◌, ◌-◌, ◌^◌, OnOk, OnErr};
 ghost use Rattle.std.specs.Io.{ReadsAtMost};
 ghost use Rattle.std.specs.Io.KnownBytes.{ReadConsumes};
@@ -6,7 +6,7 @@ ghost use Rattle.std.specs.Io.KnownBytes.{ReadConsumes};
 use super::ends::{Failed, Sink, Source};
 use std::io::{Read, Write};
 
-/// A reader or a writer of std, and whether a call has failed. Any error is a failure, and so is a
+/// Adapts a reader or a writer of std, and keeps whether a call has failed. Any error is a failure, and so is a
 /// write of 0 bytes where some were offered, and each read after 2^64 - 1 of them.
 #[derive(Drop)]
 pub struct Tally<D> {

@@ -1,4 +1,57 @@
-use super::{Failed, FilterFault, Sink, Tally, filter};
+use super::{Failed, FilterFault, Sink, Source, Tally, filter};
+use std::io;
+use std::io::{ErrorKind, Read, Write};
+
+/// The kinds of errors that a reader or writer of std fails with here: any is a failure.
+const KINDS: [ErrorKind; 6] = [
+    ErrorKind::Interrupted,
+    ErrorKind::WouldBlock,
+    ErrorKind::TimedOut,
+    ErrorKind::UnexpectedEof,
+    ErrorKind::BrokenPipe,
+    ErrorKind::Other,
+];
+
+/// A reader and a writer of std that fails at its second call, and then goes on. Each other read gives a line, and each
+/// other write takes one byte.
+#[derive(Drop)]
+struct FailsOnce {
+    kind: ErrorKind,
+    calls: u8,
+}
+
+impl FailsOnce {
+    fn called(&mut self) -> io::Result<()> {
+        self.calls = self.calls.saturating_add(1);
+        if self.calls == 2 {
+            return Err(self.kind.into());
+        }
+        Ok(())
+    }
+}
+
+impl Read for FailsOnce {
+    fn read(&mut self, buf: &mut [u8]) -> io::Result<usize> {
+        self.called()?;
+        let line = b"_Z3foo\n";
+        if buf.len() < line.len() {
+            return Ok(0);
+        }
+        buf[..line.len()].copy_from_slice(line);
+        Ok(line.len())
+    }
+}
+
+impl Write for FailsOnce {
+    fn write(&mut self, buf: &[u8]) -> io::Result<usize> {
+        self.called()?;
+        Ok(buf.len().min(1))
+    }
+
+    fn flush(&mut self) -> io::Result<()> {
+        Ok(())
+    }
+}
 
 #[test]
 fn a_tally_reads_and_writes(rt: HostRuntime) {
@@ -17,6 +70,59 @@ fn a_full_slice_is_a_failure(rt: HostRuntime) {
     assert!(rt; !writer.failed());
     assert_eq!(rt; writer.put(b"c"), Err(Failed));
     assert!(rt; writer.failed());
+}
+
+#[test]
+fn any_error_of_a_reader_is_a_failure(rt: HostRuntime) {
+    for kind in KINDS {
+        let mut reader = Tally::new(FailsOnce { kind, calls: 0 });
+        let mut line = [0u8; 7];
+        assert_eq!(rt; reader.take(&mut line), Ok(7));
+        assert!(rt; !Source::failed(&reader));
+        assert_eq!(rt; reader.take(&mut line), Err(Failed));
+        assert!(rt; Source::failed(&reader));
+        // The reader goes on, and it has failed all the same.
+        let _ = reader.take(&mut line);
+        assert!(rt; Source::failed(&reader));
+    }
+}
+
+#[test]
+fn any_error_of_a_writer_is_a_failure(rt: HostRuntime) {
+    for kind in KINDS {
+        let mut writer = Tally::new(FailsOnce { kind, calls: 0 });
+        assert_eq!(rt; writer.put(b"abc"), Ok(1));
+        assert!(rt; !Sink::failed(&writer));
+        assert_eq!(rt; writer.put(b"bc"), Err(Failed));
+        assert!(rt; Sink::failed(&writer));
+        // The writer goes on, and it has failed all the same.
+        let _ = writer.put(b"bc");
+        assert!(rt; Sink::failed(&writer));
+    }
+}
+
+#[test]
+fn the_filter_ends_where_a_reader_fails_once(rt: HostRuntime) {
+    for kind in KINDS {
+        let mut inner = FailsOnce { kind, calls: 0 };
+        let mut bytes = Vec::new(rt.alloc());
+        let mut writer = Tally::new(&mut bytes);
+        let outcome = filter(rt.alloc(), &mut Tally::new(&mut inner), &mut writer);
+        assert_eq!(rt; outcome, Err(FilterFault::Read));
+        assert_eq!(rt; bytes.as_slice(), b"foo\n".as_slice());
+        assert_eq!(rt; inner.calls, 2);
+    }
+}
+
+#[test]
+fn the_filter_ends_where_a_writer_fails_once(rt: HostRuntime) {
+    for kind in KINDS {
+        let mut inner = FailsOnce { kind, calls: 0 };
+        let mut reader = Tally::new(b"_Z3foo\nx\n".as_slice());
+        let outcome = filter(rt.alloc(), &mut reader, &mut Tally::new(&mut inner));
+        assert_eq!(rt; outcome, Err(FilterFault::Write));
+        assert_eq!(rt; inner.calls, 2);
+    }
 }
 
 #[test]

@@ -1,29 +1,48 @@
-use Rattle.std.proofs.Common.{◌∙◌}
+use Rattle.std.proofs.Common.{◌≤◌, length, take, drop, arith, rules, refl, sym, ap, ◌∙◌}
+use Rattle.std.proofs.lemmas.List.{length-take, take-take}
+use Rattle.std.proofs.lemmas.List.Elements.{All-same}
 use Rattle.symfilter_engine.proofs.FilteredText.{at_fault}
-use Rattle.symfilter_engine.proofs.Copying.{none_copied, no_line_feed, chunk_copied, chunk_fault, read_fault}
+use Rattle.symfilter_engine.proofs.LineEnds.{is_other}
+use Rattle.symfilter_engine.proofs.Copying.{none_copied, turn_copied, turn_fault, end_copied, read_fault}
 use Rattle.symfilter_engine.proofs.filtering.copy_lines.Goals as goal
 
-pub loop-count-init : goal.loop-count-init
-loop-count-init g c =
-    record {
-      reader_not_failed = c.requires.reader_not_failed;
-      writer_not_failed = c.requires.writer_not_failed;
-      unended = no_line_feed _ c.requires.no_line;
-      so_far = none_copied _ _ _ c.requires.no_line;
-    }
+pub turns-init : goal.turns-init
+turns-init g c = record {
+  reader_not_failed = c.requires.reader_not_failed;
+  writer_not_failed = c.requires.writer_not_failed;
+  inside = search rules;
+  unended = search rules;
+  so_far = none_copied _ _ _ refl;
+}
 
-pub returns-in-Err-clause-err : goal.returns-in-Err-clause-err
-returns-in-Err-clause-err g c = read_fault _ _ _ _ _ _ c.loop-count.invariant.so_far c.in-Err.ensures.gives_none
+pub returns-in_err-end-clause-err : goal.returns-in_err-end-clause-err
+returns-in_err-end-clause-err g c = at_fault _ (read_fault _ _ _ _ _ _ c.turns.invariant.so_far c.in_err-end.ensures.err)
 
-pub loop-count-preserved : goal.loop-count-preserved
-loop-count-preserved g c =
-    record {
-      reader_not_failed = c.in-Ok.ensures.stays ∙ c.loop-count.invariant.reader_not_failed;
-      writer_not_failed = c.in_ok-write_lines.ensures.outcome;
-      unended = c.in_ok-write_lines.ensures.still_unended;
-      so_far = chunk_copied _ _ _ _ _ _ _ _ _ c.loop-count.invariant.so_far c.in-Ok.ensures.gives c.in_ok-write_lines.ensures.ok;
-    }
+pub returns-then-end-kept-clause-ok : goal.returns-then-end-kept-clause-ok
+returns-then-end-kept-clause-ok g c =
+    end_copied _ _ _ _ _ _ _ _ _ c.turns.invariant.so_far c.in_ok-end.ensures.ok c.turns.invariant.inside c.if-end-kept.true
 
 pub returns-in_err-write_lines-clause-err : goal.returns-in_err-write_lines-clause-err
 returns-in_err-write_lines-clause-err g c =
-    at_fault _ (chunk_fault _ _ _ _ _ _ _ _ c.loop-count.invariant.so_far c.in-Ok.ensures.gives c.in_err-write_lines.ensures.err)
+    let ended = c.ended_len-ended.result in
+    let end = c.in_ok-end.end in
+    let all = c.read_more.new.chunk.items in
+    let within : ended ≤ end = omega (arith, c.ended_len-ended.ensures.bound, length-take end c.deref.result.now) in
+    at_fault _ (turn_fault _ _ ended _ all _ _ _ _ _ _ _ c.turns.invariant.so_far c.in_ok-end.ensures.ok c.in_err-write_lines.ensures.err
+    (ap (take ended) c.deref-in-turns.ensures.value ∙ sym (take-take ended end all within)))
+
+pub turns-preserved : goal.turns-preserved
+turns-preserved g c =
+    let ended = c.ended_len-ended.result in
+    let end = c.in_ok-end.end in
+    let all = c.read_more.new.chunk.items in
+    let within : ended ≤ end = omega (arith, c.ended_len-ended.ensures.bound, length-take end c.deref.result.now) in
+    let inside : end ≤ length all = c.in_ok-end.ensures.ok.inside in
+    record {
+      reader_not_failed = c.in_ok-end.ensures.outcome;
+      writer_not_failed = c.in_ok-write_lines.ensures.outcome;
+      inside = omega (arith, inside, c.move_rest.ensures.len);
+      unended = All-same is_other _ _ (c.move_rest.ensures.moved ∙ ap (λ l. drop ended (take end l)) (sym c.deref.ensures.value)) c.ended_len-ended.ensures.unended;
+      so_far = turn_copied _ end ended _ all _ _ _ _ _ _ _ _ c.turns.invariant.so_far c.in_ok-end.ensures.ok c.in_ok-write_lines.ensures.ok
+          (ap (take ended) c.deref-in-turns.ensures.value ∙ sym (take-take ended end all within)) c.move_rest.ensures.moved;
+    }

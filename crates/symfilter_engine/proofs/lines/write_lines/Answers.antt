@@ -1,27 +1,27 @@
-use Rattle.std.proofs.Common.{arith, rules}
-use Rattle.std.proofs.lemmas.Grind.{common_steps}
-use Rattle.symfilter_engine.proofs.FilteredText.{at_fault, none_filtered, filtered_begins, turn_filtered, turn_begins}
+use Rattle.std.proofs.Common.{rules, sym, subst}
+use Rattle.std.specs.Prelude.{IsUtf8}
+use Rattle.std.proofs.lemmas.List.{take_rest}
+use Rattle.symfilter_engine.specs.Progress.{EndsInLineFeed, HasFiltered}
+use Rattle.symfilter_engine.proofs.FilteredText.{at_fault, none_filtered, lines_filtered, WritesLinesFront-append}
+use Rattle.symfilter_engine.proofs.LineEnds.{ended_after, utf8_after}
 use Rattle.symfilter_engine.proofs.lines.write_lines.Goals as goal
 
-pub loop-end-init : goal.loop-end-init
-loop-end-init g c =
-    record { not_failed = c.requires.not_failed; unended = c.requires.unended; so_far = none_filtered _ _ }
+pub loop-rest-init : goal.loop-rest-init
+loop-rest-init g c =
+    record { not_failed = c.requires.not_failed; ended = c.requires.ended; known = search rules; so_far = none_filtered _ _ }
 
-pub returns-in_err-extend_from_slice-clause-err : goal.returns-in_err-extend_from_slice-clause-err
-returns-in_err-extend_from_slice-clause-err g c = at_fault _ (filtered_begins _ _ _ _ c.loop-end.invariant.so_far)
+pub returns-in_err-len-clause-err : goal.returns-in_err-len-clause-err
+returns-in_err-len-clause-err g c = at_fault _ (WritesLinesFront-append _ _ _ _ _ c.loop-rest.invariant.so_far c.in_err-len.ensures.err)
 
-pub returns-in_err-write_line-clause-err : goal.returns-in_err-write_line-clause-err
-returns-in_err-write_line-clause-err g c =
-    at_fault _ (turn_begins _ _ c.loop-end.rest.now c.deref.result.now c.in-Some.end _ (g.W.Sink.taken c.loop-end.writer) _ c.loop-end.invariant.so_far c.loop-end.invariant.unended c.in-Some.ensures.found (grind (arith, common_steps)) c.in_err-write_line.ensures.err)
-
-pub loop-end-preserved : goal.loop-end-preserved
-loop-end-preserved g c =
+pub loop-rest-preserved : goal.loop-rest-preserved
+loop-rest-preserved g c =
+    let rest = c.loop-rest.rest.now in
+    let len = c.in_ok-len.len in
+    let left = sym (take_rest rest len) in
     record {
       not_failed = search rules;
-      unended = grind (arith, common_steps);
-      so_far = turn_filtered _ _ c.loop-end.rest.now c.deref.result.now _ c.in-Some.end _ (g.W.Sink.taken c.loop-end.writer) _ c.loop-end.invariant.so_far c.loop-end.invariant.unended c.in-Some.ensures.found (grind (arith, common_steps)) c.in_ok-write_line.ensures.ok (grind (arith, common_steps));
+      ended = subst EndsInLineFeed left (ended_after rest len c.loop-rest.invariant.ended);
+      known = λ known. subst IsUtf8 left (utf8_after rest c.in_ok-len.ensures.ok.0 len c.in_ok-len.ensures.ok.1 (c.loop-rest.invariant.known known));
+      so_far = subst (λ l. HasFiltered c.args.lines.now l (g.W.Sink.taken c.args.writer.now) (g.W.Sink.taken c.write_next.new.writer)) left
+          (lines_filtered _ rest len _ _ _ c.loop-rest.invariant.so_far c.in_ok-len.ensures.ok);
     }
-
-pub returns-in_err-extend_from_slice-2-clause-err :
-    goal.returns-in_err-extend_from_slice-2-clause-err
-returns-in_err-extend_from_slice-2-clause-err g c = at_fault _ (filtered_begins _ _ _ _ c.loop-end.invariant.so_far)

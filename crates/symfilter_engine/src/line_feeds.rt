@@ -1,0 +1,77 @@
+//! Line feeds in a chunk.
+ghost use Rattle.std.specs.Prelude.{◌+◌, ◌≤◌, ◌≡◌, not, ◌==◌, length, take, drop, IfSome, IfNone};
+ghost use Rattle.std.specs.Simd.Lanes.{chunk};
+ghost use Rattle.std.specs.List.{prefix_len};
+ghost use Rattle.symfilter_engine.specs.Filtered.{line_feed, HasNoLineFeed};
+ghost use Rattle.symfilter_engine.specs.Progress.{EndsAt, EndsInLineFeed};
+
+use std::simd::prelude::*;
+
+const LINE_FEED: u8 = b'\n';
+
+/// How many bytes are compared at once.
+const LANES: usize = 16;
+
+/// How many of the 16 bytes from `at` on come before the first line feed: 16 where there is none.
+#[inline(always)]
+fn before_line_feed(bytes: &[u8], at: usize) -> usize
+    requires { at + 16 ≤ length bytes.now }
+    ensures { result ≡ prefix_len (λ byte. not (byte == line_feed)) (chunk at 16 bytes.now) }
+{
+    let found = u8x16::from_slice(&bytes[at..])
+        .simd_eq(u8x16::splat(LINE_FEED))
+        .to_bitmask();
+    if found == 0 {
+        LANES
+    } else {
+        found.trailing_zeros() as usize
+    }
+}
+
+/// The place of the first line feed from `start` on, byte by byte; none is before it.
+fn line_end_from(bytes: &[u8], start: usize) -> Option<usize>
+    requires inside { start ≤ length bytes.now }
+    requires before { HasNoLineFeed (take start bytes.now) }
+    ensures found { IfSome result (EndsAt bytes.now) }
+    ensures none { IfNone result (HasNoLineFeed bytes.now) }
+{
+    for place in start..bytes.len() {
+        if bytes[place] == LINE_FEED {
+            return Some(place);
+        }
+    }
+    None
+}
+
+/// The place of the first line feed, or `None` where there is none.
+#[inline(always)]
+pub(crate) fn line_end(bytes: &[u8]) -> Option<usize>
+    ensures found { IfSome result (EndsAt bytes.now) }
+    ensures none { IfNone result (HasNoLineFeed bytes.now) }
+{
+    let mut at = 0;
+    while bytes.len() - at >= LANES {
+        let count = before_line_feed(bytes, at);
+        if count < LANES {
+            return Some(at + count);
+        }
+        at += LANES;
+    }
+    line_end_from(bytes, at)
+}
+
+/// How many bytes the whole lines have: up to the last line feed and with it. None is in the first `seen` bytes.
+pub(crate) fn ended_len(bytes: &[u8], seen: usize) -> usize
+    requires inside { seen ≤ length bytes.now }
+    requires before { HasNoLineFeed (take seen bytes.now) }
+    ensures bound { result ≤ length bytes.now }
+    ensures ended { EndsInLineFeed (take result bytes.now) }
+    ensures unended { HasNoLineFeed (drop result bytes.now) }
+{
+    for place in (seen..bytes.len()).rev() {
+        if bytes[place] == LINE_FEED {
+            return place + 1;
+        }
+    }
+    0
+}
