@@ -9,9 +9,6 @@
 //! `open` hands out a mark, and `close` takes it back; the pieces that were made since the
 //! innermost mark may end at the next edit, and all that were made before it keep their shapes. A
 //! buffer also keeps a list of saved shapes, and a list of scopes, each a list of shapes.
-//!
-//! The texts of pieces stand in one main text: what is made stands at its end, and an edit of what
-//! was made last is done in place.
 #![tactic(auto)]
 
 mod buffer;

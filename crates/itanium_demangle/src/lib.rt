@@ -1,8 +1,8 @@
-//! Demangles C++ symbols of the Itanium C++ ABI: a symbol's name, with its template arguments and without the parameters
-//! of a function.
+//! Demangles C++ symbols of the Itanium C++ ABI: a symbol's name, with its template arguments and without the
+//! parameters of a function.
 //!
-//! A crate that uses this one has it in its line of `crates.txt`, as `names: itanium_demangle`. The allocator comes from
-//! the `HostRuntime` that `main` and each test are given.
+//! A crate that uses this one has it in its line of `crates.txt`, as `names: itanium_demangle`. The allocator comes
+//! from the `HostRuntime` that `main` and each test are given.
 //!
 //! ```rust
 //! use itanium_demangle::Demangler;
