@@ -1,9 +1,12 @@
-//! The steps from the shapes of a tree's parts to the shape of the tree, as edits of a buffer's
-//! pieces.
+//! The steps from the shapes of a tree's parts to the shape of the tree, as edits of a buffer's pieces.
 //!
-//! Each edit ends the pieces that were made since the innermost open mark, but for the one that it
-//! answers. What is older keeps its shape, and so do the saved components and the arguments of the
-//! scopes. After an `AllocError` `clear` of the buffer is the only call that is promised.
+//! Each edit ends the pieces that were made since the innermost open mark, but for the one that it answers. What is
+//! older keeps its shape, and so do the saved components and the arguments of the scopes. After an `AllocError` `clear`
+//! of the buffer is the only call that is promised.
+//!
+//! A list after a name is put together from pieces (`attach_template_args`, `format_params`), or built as it is
+//! read: what opens it, then for each text `separate` before it is read and `list_next` after it, then what closes
+//! it. Both give the same shape.
 #![tactic(auto)]
 
 mod appends;

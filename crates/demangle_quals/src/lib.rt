@@ -1,4 +1,4 @@
-//! Qualifiers, references and pointers, as a symbol has them (Itanium C++ ABI 5.1.5).
+//! Qualifiers, references and pointers, as a symbol has them (Itanium C++ ABI 5.1.5), and the texts that they print.
 #![tactic(auto)]
 
 mod quals;

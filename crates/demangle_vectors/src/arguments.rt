@@ -70,7 +70,7 @@ fn argument_lists(rt: HostRuntime) -> Result<(), Fail> {
         ("_Z1fIEvv", "f<>"),
         ("_Z1fIicEvv", "f<int, char>"),
         ("_Z1fI1AEvv", "f<A>"),
-        // A space stands before a closing `>` behind another one.
+        // A space stands before a closing `>` that follows another one.
         ("_Z1fI1AIiEEvv", "f<A<int> >"),
         ("_ZN1AIiE1BIcE1fEv", "A<int>::B<char>::f"),
         ("_ZSt4swapIiEvRT_S1_", "std::swap<int>"),

@@ -149,7 +149,7 @@ fn back_references(rt: HostRuntime) -> Result<(), Fail> {
 #[test]
 fn groups(rt: HostRuntime) -> Result<(), Fail> {
     let rows = [
-        // No space stands between a `*` and a group behind it.
+        // No space stands between a `*` and a group after it.
         (
             "_ZSsIPMPRA3_Mt1AdcnwS2_E",
             "std::string<double A unsigned short::*(&*) [3]::**, char, __int128, wchar_t, A unsigned short::*(&) [3]>",

@@ -1,5 +1,5 @@
-//! Tests that cross crates: symbols with their answers, scripts over the buffer, each edit, and the
-//! filter, over texts in memory.
+//! Tests that cross crates: symbols with their answers, scripts over the buffer, each edit, and the filter between two
+//! ends in memory.
 //!
 //! The expected texts come from the grammar's definition, and not from what the crates answer.
 #![tactic(auto)]

@@ -1,4 +1,31 @@
-//! Demangles C++ symbols of the Itanium C++ ABI.
+//! Demangles C++ symbols of the Itanium C++ ABI: a symbol's name, with its template arguments and without the
+//! parameters of a function.
+//!
+//! A crate that uses this one has it in its line of `crates.txt`, as `names: itanium_demangle`. The allocator comes
+//! from the `HostRuntime` that `main` and each test are given.
+//!
+//! ```rust
+//! use itanium_demangle::Demangler;
+//! use std::process::ExitCode;
+//!
+//! fn main(rt: HostRuntime) -> ExitCode {
+//!     let mut demangler = Demangler::new();
+//!     match demangler.demangle(rt.alloc(), "_ZN3Foo3barEv") {
+//!         // It prints Foo::bar.
+//!         Ok(Some(name)) => match println!(rt; "{name}") {
+//!             Ok(()) => ExitCode::SUCCESS,
+//!             Err(_) => ExitCode::FAILURE,
+//!         },
+//!         // It is no symbol, or one that isn't read.
+//!         Ok(None) => ExitCode::SUCCESS,
+//!         // Memory was refused.
+//!         Err(_) => ExitCode::FAILURE,
+//!     }
+//! }
+//! ```
+//!
+//! The answer is lent until the next call. Keep one value for symbol after symbol: it keeps its buffers. What an answer
+//! is, `itanium_grammar` defines.
 #![tactic(auto)]
 
 mod args;

@@ -1,4 +1,5 @@
-//! Copies lines from standard input to standard output, with each mangled symbol demangled.
+//! Copies lines from standard input to standard output. A line that is a mangled C++ symbol is written demangled, each
+//! other line as it is. It takes no arguments. After a fault it ends with status 1, and says on standard error which.
 #![tactic(auto)]
 
 use std::process::ExitCode;
