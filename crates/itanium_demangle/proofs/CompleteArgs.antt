@@ -1,5 +1,5 @@
 -- Of template arguments: what the grammar reads, the parser reads.
-use Rattle.std.proofs.Common.{◌≡◌, ◌<◌, ◌≤◌, ℕ, zero, suc, ◌+◌, max, Bool, true, false, List, [], ◌∷◌, drop, map, length, refl, sym, ◌∙◌, arith, Option, Some}
+use Rattle.std.proofs.Common.{◌≡◌, ◌<◌, ◌≤◌, ℕ, zero, suc, ◌+◌, max, Bool, true, false, List, [], drop, map, length, refl, sym, ◌∙◌, arith, Some}
 use Rattle.std.proofs.lemmas.List.{length-map}
 use Rattle.std.specs.Prelude.{codes}
 use Rattle.demangle_text.specs.Shape.{Shape, plain_shape}
@@ -10,10 +10,10 @@ use Rattle.itanium_syntax.specs.Context.{opens_scope}
 use Rattle.itanium_syntax.specs.Args.{args_case}
 use Rattle.itanium_syntax.proofs.Fronts.{after_drop, after-le}
 use Rattle.itanium_grammar.specs.Tree.{Tree, shape_of}
-use Rattle.itanium_grammar.specs.Grammar.{Position, Cost, begin, Args, Arguments, ArgumentsAs, ArgumentAs, PackedAs, Pack, args, arguments, end_of_arguments, one_more_argument, pack_argument, type_argument, pack, end_of_pack, one_more_packed}
+use Rattle.itanium_grammar.specs.Grammar.{Position, Cost, begin, Arguments, ArgumentsAs, ArgumentAs, PackedAs, args, arguments, end_of_arguments, one_more_argument, pack_argument, type_argument, pack, end_of_pack, one_more_packed}
 use Rattle.itanium_grammar.proofs.Progress.{argument_takes}
 use Rattle.itanium_demangle.specs.Cases.{ArgsCase, ArgumentCase}
-use Rattle.itanium_demangle.specs.Parser.{ParserState, Turn, after_turn, loop, put, put_nowhere, ◌>>=◌, argument_as, argument_by, list_as, list_turn, parse_args, parse_pack, parse_type}
+use Rattle.itanium_demangle.specs.Parser.{after_turn, loop, put, put_nowhere, ◌>>=◌, argument_as, argument_by, list_as, list_turn, parse_args, parse_pack, parse_type}
 use Rattle.itanium_demangle.specs.Outcome.{state_at}
 use Rattle.itanium_demangle.proofs.Shapes.{same_read, put-scopes, begin-scopes, shape-pack_of}
 use Rattle.itanium_demangle.proofs.Readings.{given, ArgsComplete, PacksComplete, TypesComplete}

@@ -1,7 +1,6 @@
 -- Of lists that are built as they are read: what the grammar reads, the parser reads.
-use Rattle.std.proofs.Common.{◌≡◌, ◌<◌, ◌≤◌, ℕ, zero, suc, ◌+◌, max, Bool, true, false, List, [], ◌∷◌, map, length, refl, ◌∙◌, arith, Option, Some}
-use Rattle.std.specs.Prelude.{codes}
-use Rattle.demangle_text.specs.Shape.{Shape, plain_shape}
+use Rattle.std.proofs.Common.{◌≡◌, ◌<◌, ◌≤◌, ℕ, zero, suc, ◌+◌, max, Bool, true, false, List, map, length, refl, arith, Some}
+use Rattle.demangle_text.specs.Shape.{Shape}
 use Rattle.demangle_edit.specs.Built.{listed_each, listed_more}
 use Rattle.itanium_syntax.specs.declared.context.Context.{Context}
 use Rattle.itanium_syntax.specs.Types.{types_case}
@@ -9,7 +8,7 @@ use Rattle.itanium_grammar.specs.Tree.{Tree, shape_of}
 use Rattle.itanium_grammar.specs.Grammar.{Position, Cost, ParamsAs, TypesAs, no_params, some_params, end_of_types, one_more_type}
 use Rattle.itanium_grammar.proofs.Progress.{type_takes}
 use Rattle.itanium_demangle.specs.Cases.{ParamsCase, TypesCase}
-use Rattle.itanium_demangle.specs.Parser.{ParserState, Turn, after_turn, loop, ◌>>=◌, typed_as, typed_turn, typed_params_as, parse_type}
+use Rattle.itanium_demangle.specs.Parser.{after_turn, loop, ◌>>=◌, typed_as, typed_turn, typed_params_as, parse_type}
 use Rattle.itanium_demangle.specs.Outcome.{state_at}
 use Rattle.itanium_demangle.proofs.Shapes.{same_read}
 use Rattle.itanium_demangle.proofs.Readings.{TypesComplete}

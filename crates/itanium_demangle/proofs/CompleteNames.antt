@@ -1,5 +1,5 @@
 -- Of names: what the grammar reads, the parser reads.
-use Rattle.std.proofs.Common.{◌≡◌, ◌<◌, ◌≤◌, ℕ, zero, suc, ◌+◌, max, Bool, true, false, List, ◌++◌, drop, map, length, refl, ◌∙◌, sym, arith, Option, Some, ap}
+use Rattle.std.proofs.Common.{◌≡◌, ◌<◌, ◌≤◌, ℕ, zero, suc, ◌+◌, max, Bool, true, false, ◌++◌, drop, map, length, refl, ◌∙◌, sym, arith, Option, Some, ap}
 use Rattle.std.proofs.lemmas.List.{length-map}
 use Rattle.std.specs.Prelude.{codes, option_map}
 use Rattle.std.proofs.lemmas.Option.{slice_get-map}
@@ -9,11 +9,11 @@ use Rattle.itanium_syntax.specs.declared.context.Context.{Context}
 use Rattle.itanium_syntax.specs.Names.{source_text, name_quals, tag_case}
 use Rattle.itanium_syntax.specs.Context.{inside_lambda}
 use Rattle.itanium_syntax.proofs.Fronts.{initializer_after, after_drop, source_takes, after-le}
-use Rattle.itanium_grammar.specs.Tree.{Tree, plain_text, with_args, lambda_of, trees, unnamed_text, literal_operator_text, shape_of}
+use Rattle.itanium_grammar.specs.Tree.{Tree, with_args, trees, unnamed_text, literal_operator_text, shape_of}
 use Rattle.itanium_grammar.specs.Grammar.{Position, Cost, past_initializer, last_of, SubstitutionAs, Substitution, ParameterAs, Parameter, TaggedAs, UnqualifiedAs, Unqualified, FirstAs, NameAs, UnscopedAs, AttachedAs, Nested, Components, ComponentsAs, abbreviation_substitution, component_substitution, substitution, auto_parameter, scope_parameter, parameter, no_tag, next_tag, FreeAs, source_free, unnamed_type_free, lambda_free, conversion_free, literal_operator_free, operator_free, constructor_component, destructor_component, free_component, unqualified, parameter_first, std_first, substitution_first, name_first, name, nested_name, unscoped_name, std_name, substitution_name, global_name, none_attached, args_attached, nested, components, end_of_components, args_component, name_component}
 use Rattle.itanium_grammar.proofs.Progress.{unqualified_takes, args_takes}
 use Rattle.itanium_demangle.specs.Cases.{SubstitutionCase, TagCase, UnqualifiedCase, FreeCase, FirstCase, NameCase, UnscopedCase, AttachedCase, ComponentCase}
-use Rattle.itanium_demangle.specs.Parser.{ParserState, Turn, after_turn, loop, ◌>>=◌, tag_as, tag_turn, parse_tags, free_as, parse_type, substitution_as, parse_substitution, parameter_as, parse_parameter, unqualified_as, parse_unqualified, first_as, attached_as, unscoped_as, component_as, component_turn, parse_nested, name_as, parse_name, parse_args}
+use Rattle.itanium_demangle.specs.Parser.{after_turn, loop, ◌>>=◌, tag_as, tag_turn, parse_tags, free_as, parse_type, substitution_as, parse_substitution, parameter_as, parse_parameter, unqualified_as, parse_unqualified, first_as, attached_as, unscoped_as, component_as, component_turn, parse_nested, name_as, parse_name, parse_args}
 use Rattle.itanium_demangle.specs.Outcome.{state_at}
 use Rattle.itanium_demangle.proofs.Shapes.{same_read, one_more, taken-map, some-map, last-map, shape-plain_text, shape-abbreviation, shape-ctor_dtor_of, shape-tagged_with, shape-lambda_of, shape-conversion_to, shape-with_args, shape-in_scope, shape-nested_of}
 use Rattle.itanium_demangle.proofs.CompleteLists.{typed_params_complete}

@@ -2,7 +2,7 @@
 use Rattle.std.proofs.Common.{◌≡◌, ◌≤◌, ℕ, zero, suc, arith}
 use Rattle.itanium_syntax.specs.declared.context.Context.{Context}
 use Rattle.itanium_grammar.specs.Tree.{Tree, shape_of}
-use Rattle.itanium_grammar.specs.Grammar.{Position, Cost, Name, Args, Pack, TypeOf, SymbolAs, Symbol, name, args, pack, type, name_symbol, symbol}
+use Rattle.itanium_grammar.specs.Grammar.{Position, Cost, SymbolAs, Symbol, name, args, pack, type, name_symbol, symbol}
 use Rattle.itanium_demangle.specs.Cases.{SymbolCase}
 use Rattle.itanium_demangle.specs.Parser.{symbol_as, parse_symbol}
 use Rattle.itanium_demangle.specs.Outcome.{state_at}

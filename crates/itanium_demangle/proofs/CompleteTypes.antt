@@ -1,5 +1,5 @@
 -- Of types: what the grammar reads, the parser reads.
-use Rattle.std.proofs.Common.{◌≡◌, ◌<◌, ◌≤◌, ℕ, zero, suc, ◌+◌, max, Bool, true, false, List, [], ◌∷◌, ◌++◌, map, length, refl, ◌∙◌, sym, arith, Option, Some, append_assoc}
+use Rattle.std.proofs.Common.{◌≡◌, ◌<◌, ◌≤◌, ℕ, zero, suc, ◌+◌, max, true, false, List, [], ◌∷◌, ◌++◌, map, length, refl, ◌∙◌, sym, arith, Some, append_assoc}
 use Rattle.std.proofs.lemmas.List.{length-map, append-nil}
 use Rattle.demangle_text.specs.Shape.{Shape}
 use Rattle.demangle_quals.specs.declared.quals.Quals.{Quals}

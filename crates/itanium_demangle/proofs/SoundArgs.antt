@@ -8,7 +8,7 @@ use Rattle.itanium_syntax.specs.Context.{opens_scope, inside_pack}
 use Rattle.itanium_syntax.specs.Args.{args_case, argument_case}
 use Rattle.itanium_syntax.proofs.Fronts.{after_drop, after-le}
 use Rattle.itanium_grammar.specs.Tree.{shape_of}
-use Rattle.itanium_grammar.specs.Grammar.{Position, Cost, put, begin, skip, both, Args, Arguments, ArgumentsAs, ArgumentAs, Pack, PackedAs, args, arguments, end_of_arguments, one_more_argument, pack_argument, type_argument, pack, end_of_pack, one_more_packed}
+use Rattle.itanium_grammar.specs.Grammar.{Position, put, begin, skip, both, Args, Arguments, ArgumentsAs, ArgumentAs, Pack, PackedAs, args, arguments, end_of_arguments, one_more_argument, pack_argument, type_argument, pack, end_of_pack, one_more_packed}
 use Rattle.itanium_grammar.proofs.Progress.{argument_takes}
 use Rattle.itanium_demangle.specs.Cases.{ArgsCase, EndOfArguments, NextArgument, ArgumentCase, ExpressionArgument, PackArgument, LiteralArgument, ConstraintArgument, TypeArgument}
 use Rattle.itanium_demangle.specs.Parser as parser

@@ -1,15 +1,15 @@
 -- Of lists that are built as they are read: what the parser reads, the grammar reads.
-use Rattle.std.proofs.Common.{◌≡◌, ◌<◌, ◌≤◌, ℕ, zero, suc, ◌+◌, max, Bool, true, false, List, ◌∷◌, map, length, ◌∙◌, sym, arith, Option, Some, None}
+use Rattle.std.proofs.Common.{◌≡◌, ◌<◌, ℕ, zero, suc, ◌+◌, max, Bool, true, false, ◌∷◌, map, length, ◌∙◌, sym, arith, Some}
 use Rattle.std.proofs.lemmas.Option.{same_Some, option_and_then_some}
 use Rattle.demangle_text.specs.Shape.{Shape}
 use Rattle.demangle_edit.specs.Built.{listed_each, listed_more}
 use Rattle.itanium_syntax.specs.declared.context.Context.{Context}
 use Rattle.itanium_syntax.specs.Types.{types_case}
-use Rattle.itanium_grammar.specs.Tree.{Tree, shape_of}
-use Rattle.itanium_grammar.specs.Grammar.{Position, Cost, ParamsAs, TypesAs, no_params, some_params, end_of_types, one_more_type}
+use Rattle.itanium_grammar.specs.Tree.{shape_of}
+use Rattle.itanium_grammar.specs.Grammar.{Position, ParamsAs, TypesAs, no_params, some_params, end_of_types, one_more_type}
 use Rattle.itanium_grammar.proofs.Progress.{type_takes}
 use Rattle.itanium_demangle.specs.Cases.{ParamsCase, NoParams, SomeParams, TypesCase, EndOfTypes, NextType}
-use Rattle.itanium_demangle.specs.Parser.{ParserState, Turn, after_turn, loop, ◌>>=◌, typed_as, typed_turn, typed_params_as, parse_type}
+use Rattle.itanium_demangle.specs.Parser.{ParserState, after_turn, loop, ◌>>=◌, typed_as, typed_turn, typed_params_as, parse_type}
 use Rattle.itanium_demangle.specs.Outcome.{state_at}
 use Rattle.itanium_demangle.proofs.Readings.{Within, Found, TypesSound, TypesComplete}
 use Rattle.itanium_demangle.proofs.CompleteLists.{typed_params_complete}

@@ -20,8 +20,7 @@ unfolding parse_name
 all_sound zero = (λ x p e m y is. cc, λ x of_name p e m y is. cc, λ x p e m y is. cc, λ x p e m y is. cc)
 all_sound (suc d) =
     let (names_are, lists_are, packs_are, kinds_are) = all_complete d in
-    let (names, lists, packs, kinds) = all_sound d in
-    (
+    let (names, lists, packs, kinds) = all_sound d in (
       names_sound d lists_are kinds_are lists kinds,
       args_sound d packs_are kinds_are packs kinds,
       packs_sound d packs_are kinds_are packs kinds,

@@ -20,7 +20,7 @@ use Rattle.itanium_demangle.specs.declared.stop.Stop.TheVariants.{Unread, Memory
 use Rattle.itanium_demangle.specs.Outcome.{Gives, GivesList, SavedBounds}
 use Rattle.itanium_demangle.proofs.Loops.{LoopSoFar, loop_end, loop_more, loop_fail, ListSoFar, list_start, list_end, list_more, list_fail}
 use Rattle.itanium_demangle.specs.Cases.{FreeName, NoTag, NextTag, EndOfComponents, ArgsComponent, NameComponent, EndOfArguments, NextArgument, EndOfTypes, NextType}
-use Rattle.itanium_demangle.specs.Parser.{ParserState, Parses, ParsesName, Turn, ends, goes_on, ◌>>=◌, enter, at, save, skip, begin, put, put_nowhere, taken_back, past_initializer, substitution_as, parse_substitution, parameter_as, parse_parameter, tag_turn, unqualified_as, parse_unqualified, parse_free, in_scope, first_as, attached_by, component_turn, parse_components, parse_nested, name_as, parse_name, argument_by, list_turn, typed_turn, parse_list, parse_packed, parse_args, parse_pack, types_turn, type_as, parse_type, symbol_as, parse_symbol}
+use Rattle.itanium_demangle.specs.Parser.{ParserState, Parses, ParsesName, ◌>>=◌, enter, at, save, skip, begin, put, put_nowhere, taken_back, past_initializer, substitution_as, parse_substitution, parameter_as, parse_parameter, tag_turn, unqualified_as, parse_unqualified, parse_free, in_scope, first_as, attached_by, component_turn, parse_components, parse_nested, name_as, parse_name, argument_by, list_turn, typed_turn, parse_list, parse_packed, parse_args, parse_pack, types_turn, type_as, parse_type, symbol_as, parse_symbol}
 
 pub name_opens : (d : ℕ) (x : Context) (s : ParserState) → 0 < d → parse_name d x s
     ≡ name_as (name_case s.rest) (parse_unqualified (parse_type (d - 1) x) (parse_type (d - 1) (inside_lambda x))) (parse_args (d - 1) x true) x (enter s)

@@ -235,7 +235,7 @@ unqualified_as FreeName type param scope s =
 unfoldable pub parse_unqualified : Parses Shape → Parses Shape → Option Shape → Parses Shape
 parse_unqualified type param scope s =
     unqualified_as (unqualified_case (is_some scope) (past_internal s.rest)) type param scope
-        (at (past_internal s.rest) s)
+    (at (past_internal s.rest) s)
 
 -- a parser of unqualified names, in the scope that stands in front of them
 abbrev pub ParsesName : Type 0
@@ -296,7 +296,7 @@ unfoldable pub parse_nested : ParsesName → Parses Shape → Context → Parses
 parse_nested unqualified args x s =
     first_as (first_case (past_name_quals s.rest)) unqualified x (at (past_name_quals s.rest) s) >>= λ first.
     parse_components unqualified args (saves_first (first_case (past_name_quals s.rest))) first.0
-        (past_initializer first.1) >>= λ name.
+    (past_initializer first.1) >>= λ name.
     Some (with_name_qualifiers name.0 (name_quals s.rest) x.shown, name.1)
 
 -- <name>, by what it begins with
@@ -331,7 +331,7 @@ scopes_in opens s = length (begin opens s).scopes
 abbrev pub parse_list : Parses Shape → Bool → Parses Shape
 parse_list argument opens s =
     parse_loop (list_turn (put opens (scopes_in opens s)) argument) (true, plain_shape (codes "<"))
-        (begin opens (skip 1 s)) >>= λ list.
+    (begin opens (skip 1 s)) >>= λ list.
     Some (whole_shape (arguments_closed list.0), list.1)
 
 -- <template-args> after a type, which is saved with them
@@ -464,7 +464,7 @@ unfoldable mutual
   parse_name zero x s = None
   parse_name (suc d) x s =
       name_as (name_case s.rest) (parse_unqualified (parse_type d x) (parse_type d (inside_lambda x)))
-          (parse_args d x true) x (enter s)
+      (parse_args d x true) x (enter s)
 
   -- <template-args>
   pub parse_args : ℕ → Context → Bool → Parses Shape

@@ -1,12 +1,12 @@
 -- Each reading takes a front of the bytes, of one byte at least.
-use Rattle.std.proofs.Common.{◌≡◌, ◌<◌, ℕ, Bool, List, Option, length, drop, refl, arith, is_some}
+use Rattle.std.proofs.Common.{◌≡◌, ℕ, Bool, List, Option, drop, refl, arith, is_some}
 use Rattle.demangle_quals.specs.declared.quals.Quals.{Quals}
 use Rattle.itanium_syntax.specs.declared.context.Context.{Context}
 use Rattle.itanium_syntax.specs.declared.numerals.Radix.TheVariants.{Decimal, Base36}
 use Rattle.itanium_grammar.specs.Cases.{SymbolCase, NameCase, UnscopedCase, AttachedCase, FirstCase, ComponentCase, UnqualifiedCase, FreeCase, TagCase, SubstitutionCase, ArgsCase, ArgumentCase, TypeCase, CvCase, ParamsCase, TypesCase}
 use Rattle.itanium_syntax.specs.Names.{first_case, component_case, unqualified_case}
 use Rattle.itanium_syntax.specs.Args.{args_case}
-use Rattle.itanium_syntax.specs.Types.{type_case, types_case, past_reference}
+use Rattle.itanium_syntax.specs.Types.{type_case, past_reference}
 use Rattle.itanium_syntax.proofs.Fronts.{IsAfter, Takes, after_none, after_drop, after_then, takes_then, after_takes, takes_takes, takes_drop, internal_after, initializer_after, cv_after, quals_after, reference_after, builtin_after, builtin_shorter, abbreviation_takes, index_takes, source_takes, dimension_takes, constructor_some, destructor_some, std_shorter, components_end_shorter, arguments_end_shorter, unnamed_type_takes, lambda_takes, operator_takes}
 use Rattle.itanium_grammar.specs.Tree.{Tree}
 use Rattle.itanium_grammar.specs.Grammar.{Position, Cost, SubstitutionAs, Substitution, Parameter, TaggedAs, UnqualifiedAs, Unqualified, FirstAs, Name, NameAs, UnscopedAs, AttachedAs, Nested, Components, ComponentsAs, Args, Arguments, ArgumentsAs, ArgumentAs, TypeOf, TypeAs, CvAs, Function, ParamsAs, TypesAs, TypeAttachedAs, SymbolAs, Symbol, abbreviation_substitution, component_substitution, substitution, parameter, no_tag, next_tag, source_free, unnamed_type_free, lambda_free, conversion_free, literal_operator_free, operator_free, FreeAs, free_component, constructor_component, destructor_component, unqualified, parameter_first, std_first, substitution_first, name_first, name, nested_name, unscoped_name, std_name, substitution_name, global_name, none_attached, args_attached, nested, components, end_of_components, args_component, name_component, args, arguments, end_of_arguments, one_more_argument, pack_argument, type_argument, Pack, PackedAs, pack, end_of_pack, one_more_packed, expansion_type, type, builtin_type, vendor_type, array_type, function_type, member_type, pointer_type, cv_type, elaborated_type, parameter_type, substitution_type, name_type, cv_function, cv_other, function, no_params, some_params, end_of_types, one_more_type, none_attached_to_type, args_attached_to_type, name_symbol, symbol}

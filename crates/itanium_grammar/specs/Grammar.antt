@@ -261,7 +261,7 @@ mutual
     unqualified :
         {x : Context} {scope : Option Tree} {p q : Position} {t : Tree} {c : Cost}
         → UnqualifiedAs (unqualified_case (is_some scope) (past_internal p.rest)) x scope
-            (at (past_internal p.rest) p) t q c
+        (at (past_internal p.rest) p) t q c
         → Unqualified x scope p t q c
 
   -- the first component of a <nested-name>

@@ -1,5 +1,5 @@
 -- Operators (Itanium C++ ABI 5.1.4): what follows `operator` in a name, and how many operands an expression has.
-use Rattle.std.specs.Prelude.{ℕ, List, [], ◌∷◌, Bool, true, false, ◌&&◌, ◌==◌, codes, if◌then◌else◌, Option, Some, None}
+use Rattle.std.specs.Prelude.{ℕ, List, [], ◌∷◌, Bool, false, ◌&&◌, ◌==◌, codes, if◌then◌else◌, Option, Some, None}
 
 -- the code is the one that the word spells
 abbrev pub is_code : List ℕ → ℕ → ℕ → Bool

@@ -189,6 +189,8 @@ read_typed-loop-list-preserved t c = record {
 pub read_unqualified-returns-in_ok-enclose-in-FreeName-clause-reads : goal.read_unqualified-returns-in_ok-enclose-in-FreeName-clause-reads
 read_unqualified-returns-in_ok-enclose-in-FreeName-clause-reads t c =
     let free = c.framed_free_name.new.self in
-    let kept = kept_scope c.args.self.now.buffer free.buffer c.args.scope (search rules) c.requires.scope in
-    (search rules, free_found _ _ _ _ {name = shape free.buffer free.found} {mid = state free}
-        (rw (some_scope c.args.self.now.buffer c.args.scope) (search rules)) (search rules) (search rules) (search rules))
+    let kept = kept_scope c.args.self.now.buffer free.buffer c.args.scope (search rules) c.requires.scope in (
+      search rules,
+      free_found _ _ _ _ {name = shape free.buffer free.found} {mid = state free}
+          (rw (some_scope c.args.self.now.buffer c.args.scope) (search rules)) (search rules) (search rules) (search rules),
+    )

@@ -1,4 +1,4 @@
-use Rattle.std.proofs.Common.{◌≡◌, ◌+◌, ◌*◌, ◌≤◌, length}
+use Rattle.std.proofs.Common.{◌≡◌, ◌≤◌, length}
 use Rattle.demangle_text.specs.State.{IsLiving, IsRun, shape, saved, scopes}
 use Rattle.itanium_demangle.specs.Parser as spec
 use Rattle.itanium_demangle.specs.Outcome.{state}
