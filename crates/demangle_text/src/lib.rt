@@ -12,7 +12,11 @@
 #![tactic(auto)]
 
 mod buffer;
+mod moves;
+mod parts;
+mod ranges;
 mod shape;
+mod text;
 
 pub use crate::buffer::Buffer;
 pub use crate::shape::{Kind, Mark, Piece, Place};
