@@ -50,7 +50,7 @@ IsSplice-inserted s t p at bytes h ordered within is =
     record {
       within = omega (arith, n);
       text = ap (drop p.from_byte) is ∙ tail_inserted main bytes p.from_byte at there
-        ∙ ap (λ (v : List ℕ). take at v ++ (bytes ++ drop at v)) (sym (tail_text s p h));
+          ∙ ap (λ (v : List ℕ). take at v ++ (bytes ++ drop at v)) (sym (tail_text s p h));
       front = ap (take s.frame_main) is ∙ front_inserted main bytes s.frame_main (p.from_byte + at) low there;
       in_place = λ _. (refl, n);
     }
@@ -78,8 +78,7 @@ adjacent_text s first second h ordered after =
     let by_first = ap (λ (home : Bool). slice_range (home_bytes main s.side_text home) first.from_byte first.to_byte) h.first_in_main in
     let by_second = ap (λ (home : Bool). slice_range (home_bytes main s.side_text home) second.from_byte second.to_byte) h.second_in_main in
     let whole = take_all (second.to_byte - second.from_byte) (drop second.from_byte main) (omega (arith, h.ends, length-drop second.from_byte main)) in
-    let split : second.from_byte ≡ first.from_byte + k = omega (arith, h.meets) in
-    (
+    let split : second.from_byte ≡ first.from_byte + k = omega (arith, h.meets) in (
       by_first ∙ ap (λ (i : ℕ). take (i - first.from_byte) (drop first.from_byte main)) h.meets,
       by_second ∙ whole ∙ ap (λ (i : ℕ). drop i main) split ∙ sym (drop-drop k first.from_byte main),
     )
@@ -98,11 +97,11 @@ IsJoint-inserted s t first bytes second h ordered after is =
     record {
       within = omega (arith, n);
       text = ap (drop first.from_byte) is
-        ∙ ap (λ (i : ℕ). drop first.from_byte (take i main ++ (bytes ++ drop i main))) split
-        ∙ tail_inserted main bytes first.from_byte k there
-        ∙ ap (λ (v : List ℕ). v ++ (bytes ++ drop k (drop first.from_byte main))) (sym texts.0)
-        ∙ ap (λ (v : List ℕ). piece_text main s.side_text first ++ (bytes ++ v)) (sym texts.1)
-        ∙ sym (append_assoc (piece_text main s.side_text first) bytes (piece_text main s.side_text second));
+          ∙ ap (λ (i : ℕ). drop first.from_byte (take i main ++ (bytes ++ drop i main))) split
+          ∙ tail_inserted main bytes first.from_byte k there
+          ∙ ap (λ (v : List ℕ). v ++ (bytes ++ drop k (drop first.from_byte main))) (sym texts.0)
+          ∙ ap (λ (v : List ℕ). piece_text main s.side_text first ++ (bytes ++ v)) (sym texts.1)
+          ∙ sym (append_assoc (piece_text main s.side_text first) bytes (piece_text main s.side_text second));
       front = ap (take s.frame_main) is ∙ front_inserted main bytes s.frame_main second.from_byte low (omega (arith, split));
       in_place = λ _. (refl, n);
     }

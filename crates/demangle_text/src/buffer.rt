@@ -210,7 +210,7 @@ impl Buffer {
         ensures stands { IfOk result (λ p. Stands p (length (main self.old)) (length (main self.new))) }
     {
         let from = self.main.len();
-        self.main.add(bytes)?;
+        self.add_bytes(bytes)?;
         Ok(Piece::whole_at(from, self.main.len()))
     }
 
@@ -480,7 +480,7 @@ impl Buffer {
         requires living { IsLiving self.now piece }
         ensures value { result ≡ text_len (shape self.now piece) }
     {
-        piece.to_byte - piece.from_byte
+        piece.text_len()
     }
 
     /// What the piece declares, or `None` where it is plain.
@@ -675,7 +675,7 @@ impl Buffer {
         ensures kept { SameFrame self.old self.new }
         ensures main { main self.new ≡ main self.old }
     {
-        let last = self.saved.len() - 1;
+        let last = self.saved_len() - 1;
         self.saved.truncate(last);
     }
 

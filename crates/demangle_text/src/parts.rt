@@ -111,11 +111,11 @@ pub(crate) fn add_joined(
         ++ bytes.now ++ piece_text main.old side.now second)) }
     ensures err { OnErr result (main.new ≡ main.old) }
 {
-    let len = main.len();
+    let before = main.len();
     match join_parts(main, side, first, bytes, second) {
         Ok(()) => Ok(()),
         Err(error) => {
-            main.truncate(len);
+            main.truncate(before);
             Err(error)
         }
     }

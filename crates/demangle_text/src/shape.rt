@@ -92,13 +92,22 @@ impl Piece {
         }
     }
 
+    // How many bytes its text has.
+    #[inline(always)]
+    pub(crate) fn text_len(self) -> usize
+        requires ordered { self.from_byte ≤ self.to_byte }
+        ensures value { result ≡ self.to_byte - self.from_byte }
+    {
+        self.to_byte - self.from_byte
+    }
+
     // Where a place lies in its text.
     #[inline(always)]
     pub(crate) fn place(self, place: Place) -> usize
         requires ordered { self.from_byte ≤ self.to_byte }
         ensures value { result ≡ place_at place (marks_of self).layout (self.to_byte - self.from_byte) }
     {
-        let len = self.to_byte - self.from_byte;
+        let len = self.text_len();
         if self.declares.is_none() {
             return match place {
                 Place::Start => 0,
@@ -209,7 +218,7 @@ impl Piece {
         ensures ends { result.to_byte + n ≡ self.to_byte }
         ensures marks { marks_of result ≡ cut_marks (self.to_byte - self.from_byte - n) (marks_of self) }
     {
-        let left = self.to_byte - self.from_byte - n;
+        let left = self.text_len() - n;
         Piece {
             to_byte: self.to_byte - n,
             own_start: self.own_start.min(left),
@@ -232,7 +241,7 @@ impl Piece {
         ensures ctor { result.is_ctor ≡ self.is_ctor }
     {
         let (own_start, own_end) = match kind {
-            Kind::Function => (0, self.to_byte - self.from_byte),
+            Kind::Function => (0, self.text_len()),
             Kind::Array => (self.own_start, self.own_end),
         };
         Piece {

@@ -30,7 +30,7 @@ returns-clause-shape c =
     c.args.bytes.now c.requires.declared c.place-at.ensures.value is
     (m.layout ∙ ap (λ (i : ℕ). layout_opened i (length c.args.bytes.now + 2) (marks_of p).layout) j)
     (m.own ∙ ap (λ (i : ℕ). own_at (marks_of p).layout (i - from) (moved at c.len.result (marks_of p).own)) k
-      ∙ ap (λ (i : ℕ). own_at (marks_of p).layout (length n.main_text - from) (moved at i (marks_of p).own)) j)
+    ∙ ap (λ (i : ℕ). own_at (marks_of p).layout (length n.main_text - from) (moved at i (marks_of p).own)) j)
     m.templ m.ctor
 
 pub returns-clause-edit_of : goal.returns-clause-edit_of
