@@ -167,9 +167,9 @@ impl Buffer {
             ++ piece_text self.old.main_text self.old.side_text piece) }
     {
         if piece.in_side || piece.from_byte < at {
-            let from = self.main.len();
-            let text = self.copy(piece)?;
-            return self.keep_block(at, from, text.to_byte);
+            let from = self.copy_text(piece)?;
+            let to = self.main.len();
+            return self.keep_block(at, from, to);
         }
         self.keep_block(at, piece.from_byte, piece.to_byte)
     }
@@ -215,6 +215,7 @@ impl Buffer {
     }
 
     /// A new piece of the same shape, whose text goes to the end of the main text.
+    #[inline(always)]
     pub fn copy(&mut self, piece: Piece) -> Result<Piece, AllocError>
         requires living { IsLiving self.old piece }
         ensures shape { IfOk result (λ p. Lives self.new p (shape self.old piece)) }
@@ -222,6 +223,21 @@ impl Buffer {
         ensures main { OnOk result (main self.new ≡ main self.old ++ text (shape self.old piece)) }
         ensures main_err { OnErr result (main self.new ≡ main self.old) }
         ensures stands { IfOk result (λ p. Stands p (length (main self.old)) (length (main self.new))) }
+    {
+        let from = self.copy_text(piece)?;
+        Ok(piece.moved_to(from, self.main.len()))
+    }
+
+    // The text of a piece at the end of the main text: where it begins.
+    #[inline(never)]
+    fn copy_text(&mut self, piece: Piece) -> Result<usize, AllocError>
+        requires living { IsLiving self.old piece }
+        ensures from { IfOk result (λ from. from ≡ length self.old.main_text) }
+        ensures inner { self.old.frame_main ≤ length self.old.main_text }
+        ensures kept { KeepsAll self.old self.new }
+        ensures main { OnOk result (self.new.main_text ≡ self.old.main_text
+            ++ piece_text self.old.main_text self.old.side_text piece) }
+        ensures main_err { OnErr result (self.new.main_text ≡ self.old.main_text) }
     {
         let from = self.main.len();
         add_part(
@@ -231,7 +247,7 @@ impl Buffer {
             piece.from_byte,
             piece.to_byte,
         )?;
-        Ok(piece.moved_to(from, self.main.len()))
+        Ok(from)
     }
 
     // Whether the piece lies in the main text, from the innermost mark or later up to the end.
@@ -406,6 +422,7 @@ impl Buffer {
     /// begins, and both stand up to the end of the main text, from the innermost mark or later,
     /// they stay there; else both are copied to the end. Ends pieces, and keeps all after
     /// `AllocError`, as `append` does.
+    #[inline(always)]
     pub fn join(&mut self, first: Piece, bytes: &[u8], second: Piece) -> Result<Piece, AllocError>
         requires first_living { IsLiving self.old first }
         requires second_living { IsLiving self.old second }
@@ -421,6 +438,7 @@ impl Buffer {
     }
 
     // Both texts with bytes between them, at the end of the main text: where they begin there.
+    #[inline(never)]
     fn join_texts(&mut self, first: Piece, bytes: &[u8], second: Piece) -> Result<usize, AllocError>
         requires first_living { IsLiving self.old first }
         requires second_living { IsLiving self.old second }

@@ -124,6 +124,7 @@ impl Piece {
 
     // The piece after n bytes were inserted at a place, which was the byte `at` of its text, when its text lies at
     // these bytes of the main text.
+    #[inline(always)]
     pub(crate) fn with_bytes(
         self,
         place: Place,
@@ -157,6 +158,7 @@ impl Piece {
     }
 
     // Where the group and `after` begin after n bytes were inserted at a place.
+    #[inline(always)]
     fn parts_moved(self, place: Place, n: usize) -> (Option<usize>, usize)
         requires fits { layout_end (marks_of self).layout + n < 2 ^ 64 }
         ensures value { layout_by self.declares result.0 result.1 ≡ layout_with place n (marks_of self).layout }
@@ -179,6 +181,7 @@ impl Piece {
 
     // The declarator after n bytes were inserted at the byte `at`, where `after` began, which end in a group of m bytes
     // with its parentheses, when its text lies at these bytes of the main text.
+    #[inline(always)]
     pub(crate) fn with_group(self, at: usize, n: usize, m: usize, from: usize, to: usize) -> Piece
         requires text { from ≤ to }
         requires ordered { self.own_start ≤ self.own_end }
@@ -210,6 +213,7 @@ impl Piece {
     }
 
     // The piece without its last n bytes, as a plain one.
+    #[inline(always)]
     pub(crate) fn cut(self, n: usize) -> Piece
         requires ordered { self.from_byte ≤ self.to_byte }
         requires within { n ≤ self.to_byte - self.from_byte }
@@ -270,6 +274,7 @@ impl Piece {
 }
 
 // A range after n bytes were inserted at the byte `at`.
+#[inline(always)]
 fn moved_range(at: usize, n: usize, own: (usize, usize)) -> (usize, usize)
     requires ordered { own.0 ≤ own.1 }
     requires fits { own.1 + n < 2 ^ 64 }
