@@ -180,6 +180,15 @@ pub record Extends (old new : List ℕ) : Type 0 where
 abbrev pub IsApart : ℕ → ℕ → ℕ → Piece → Type 0
 IsApart low from to p = p.in_side ≡ false → low < p.to_byte → (from ≤ p.from_byte) × (p.to_byte ≤ to)
 
+-- the piece lies in the side text, or ends by a byte of the main text
+abbrev pub EndsBy : ℕ → Piece → Type 0
+EndsBy end p = p.in_side ≡ false → p.to_byte ≤ end
+
+-- the first pieces of a list are there, and end by a byte
+pub record IsBounded (pieces : List Piece) (count end : ℕ) : Type 0 where
+  pub within : count ≤ length pieces
+  pub ends : All (EndsBy end) (take count pieces)
+
 -- where a place lies after the block that begins at `from` was moved to `dest`: what ends by `low` stays
 abbrev pub carried_from : Bool → Bool → ℕ → ℕ → ℕ → ℕ
 carried_from true ends from dest at = at

@@ -12,6 +12,7 @@
 #![tactic(auto)]
 
 mod buffer;
+mod lanes;
 mod moves;
 mod parts;
 mod ranges;

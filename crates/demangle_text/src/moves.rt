@@ -70,6 +70,9 @@ pub(crate) fn evict(
     ensures long { length pieces.new ≡ length pieces.old }
     ensures apart { OnOk result (All (IsApart low from to) pieces.new) }
 {
+    if pieces.end_by(low) {
+        return Ok(());
+    }
     for i in 0..pieces.len() {
         let piece = evict_one(main, side, pieces.at(i), low, from, to)?;
         pieces.set(i, piece);
@@ -121,7 +124,22 @@ fn carry_one(piece: Piece, low: usize, from: usize, to: usize, dest: usize) -> P
 }
 
 // Carries all pieces of a list that lie in the block.
+#[inline(always)]
 pub(crate) fn carry(pieces: &mut Ranges, low: usize, from: usize, to: usize, dest: usize)
+    requires ordered { All (λ p. p.from_byte ≤ p.to_byte) pieces.old }
+    requires block { from ≤ to }
+    requires apart { All (IsApart low from to) pieces.old }
+    requires fits { dest + (to - from) < 2 ^ 64 }
+    ensures value { pieces.new ≡ map (carried low from dest) pieces.old }
+{
+    if pieces.end_by(low) {
+        return;
+    }
+    carry_each(pieces, low, from, to, dest);
+}
+
+// The same, piece by piece.
+fn carry_each(pieces: &mut Ranges, low: usize, from: usize, to: usize, dest: usize)
     requires ordered { All (λ p. p.from_byte ≤ p.to_byte) pieces.old }
     requires block { from ≤ to }
     requires apart { All (IsApart low from to) pieces.old }
@@ -132,4 +150,5 @@ pub(crate) fn carry(pieces: &mut Ranges, low: usize, from: usize, to: usize, des
         let piece = carry_one(pieces.at(i), low, from, to, dest);
         pieces.set(i, piece);
     }
+    pieces.bound(low.max(dest + (to - from)));
 }

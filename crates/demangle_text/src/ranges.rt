@@ -1,6 +1,7 @@
 //! A list of pieces that grows: the front of a vector that is as long as what is reserved.
 ghost use Rattle.std.specs.Prelude.{◌≡◌, ℕ, ◌+◌, ◌-◌, ◌<◌, ◌≤◌, List, [], ◌∷◌, ◌++◌, length, take, slice_get, OnOk};
-ghost use Rattle.std.specs.Prelude.{OnErr, drop, slice_set, slice_index_or};
+ghost use Rattle.std.specs.Prelude.{OnErr, All, true, drop, slice_set, slice_index_or};
+ghost use Rattle.demangle_text.specs.Pieces.{EndsBy};
 
 use crate::shape::Piece;
 use std::alloc::{AllocError, Global};
@@ -13,17 +14,21 @@ const FIRST_ROOM: usize = 16;
 pub(crate) struct Ranges {
     pieces: Vec<Piece>,
     count: usize,
+    // Those in the main text end by this byte.
+    end: usize,
 }
 
 impl Model for Ranges {
-    ghost use Rattle.std.specs.Prelude.{List, ◌≤◌, length, take};
+    ghost use Rattle.std.specs.Prelude.{List, take};
     ghost use Rattle.demangle_text.specs.declared.shape.Piece.{Piece};
 
     ghost Value = { List Piece };
 
     ghost view = { λ r. take r.count r.pieces.items };
 
-    ghost invariant = { λ r. r.count ≤ length r.pieces.items };
+    ghost use Rattle.demangle_text.specs.Pieces.{IsBounded};
+
+    ghost invariant = { λ r. IsBounded r.pieces.items r.count r.end };
 }
 
 impl Ranges {
@@ -33,6 +38,7 @@ impl Ranges {
         Ranges {
             pieces: Vec::new(alloc),
             count: 0,
+            end: 0,
         }
     }
 
@@ -49,6 +55,26 @@ impl Ranges {
         ensures empty { self.new ≡ [] }
     {
         self.count = 0;
+        self.end = 0;
+    }
+
+    // Whether no piece reaches past a byte of the main text, as far as is known.
+    #[inline(always)]
+    pub(crate) fn end_by(&self, at: usize) -> bool
+        ensures ends { result ≡ true → All (EndsBy at) self.now }
+    {
+        self.end <= at
+    }
+
+    // Makes known that no piece reaches past a byte of the main text.
+    #[inline(always)]
+    pub(crate) fn bound(&mut self, end: usize)
+        requires ends { All (EndsBy end) self.old }
+        ensures same { self.new ≡ self.old }
+    {
+        if end < self.end {
+            self.end = end;
+        }
     }
 
     // The first n pieces are kept.
@@ -97,6 +123,7 @@ impl Ranges {
         ensures value { self.new ≡ slice_set self.old i piece }
     {
         self.pieces[i] = piece;
+        self.end = reached(self.end, piece);
     }
 
     // A piece at the end.
@@ -110,7 +137,21 @@ impl Ranges {
         }
         self.pieces[self.count] = piece;
         self.count += 1;
+        self.end = reached(self.end, piece);
         Ok(())
+    }
+}
+
+// An end for all that ends by a byte, and for a piece.
+#[inline(always)]
+fn reached(end: usize, piece: Piece) -> usize
+    ensures more { end ≤ result }
+    ensures ends { EndsBy result piece }
+{
+    if !piece.in_side && end < piece.to_byte {
+        piece.to_byte
+    } else {
+        end
     }
 }
 

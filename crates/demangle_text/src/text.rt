@@ -2,6 +2,7 @@
 ghost use Rattle.std.specs.Prelude.{◌≡◌, ℕ, ◌+◌, ◌-◌, ◌<◌, ◌≤◌, List, [], ◌++◌, length, take, drop, slice_range, OnOk};
 ghost use Rattle.std.specs.Prelude.{OnErr};
 
+use crate::lanes::copy_text;
 use std::alloc::{AllocError, Global};
 use std::marker::Model;
 
@@ -82,7 +83,7 @@ impl Text {
         let n = bytes.len();
         make_room(&mut self.bytes, self.len, n)?;
         let to = self.len + n;
-        self.bytes[self.len..to].copy_from_slice(bytes);
+        copy_text(&mut self.bytes[self.len..to], bytes);
         self.len = to;
         Ok(())
     }

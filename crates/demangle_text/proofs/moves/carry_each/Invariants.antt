@@ -1,6 +1,6 @@
 use Rattle.std.proofs.Common.{◌≡◌, ◌++◌, map, take, drop, length}
 use Rattle.demangle_text.specs.Pieces.{carried}
-use Rattle.demangle_text.proofs.moves.carry.Given as goal
+use Rattle.demangle_text.proofs.moves.carry_each.Given as goal
 
 abbrev pub invariant-loop-i : goal.invariant-loop-i
 invariant-loop-i l = record {
