@@ -5,7 +5,7 @@ use Rattle.std.proofs.lemmas.List.{length-append, length-map, length-take-le, le
 use Rattle.std.proofs.lemmas.List.Edits.{length-between}
 use Rattle.std.proofs.lemmas.List.Elements.{All-head, All-tail, All-nil, All-cons}
 use Rattle.demangle_text.specs.declared.shape.Piece.{Piece}
-use Rattle.demangle_text.specs.Pieces.{Store, IsStore, IsPiece, IsApart, AreStarts, marks_of, shape_of, shape_in, home_bytes, carried, carried_from, Extends}
+use Rattle.demangle_text.specs.Pieces.{Store, IsStore, IsPiece, IsApart, marks_of, shape_of, shape_in, home_bytes, carried, carried_from, Extends}
 use Rattle.demangle_text.specs.State.{IsLiving, shape, Lives, IsOlder, Frame, frame, IsEdit, saved, scopes, parts_at, IsBelow, KeepsAll}
 use Rattle.demangle_text.proofs.States.{KeepsAll-elsewhere}
 use Rattle.demangle_text.proofs.Laws.{IsEdit-trans, IsEdit-keeps}

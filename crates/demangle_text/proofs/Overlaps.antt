@@ -1,5 +1,5 @@
 -- A text that is written by its first and its last lanes, which may overlap.
-use Rattle.std.proofs.Common.{◌≡◌, ℕ, ◌+◌, ◌-◌, ◌≤◌, List, [], ◌++◌, length, take, drop, refl, sym, ap, ◌∙◌, arith}
+use Rattle.std.proofs.Common.{◌≡◌, ℕ, ◌+◌, ◌-◌, ◌≤◌, List, [], ◌++◌, length, take, drop, ap, ◌∙◌, arith}
 use Rattle.std.proofs.lemmas.List.{length-take-le, length-drop, take_all, drop_all, take-append-le, take-take, take-append-drop, append-nil}
 use Rattle.std.proofs.lemmas.Simd.{length-put_chunk, put_chunk_is}
 use lib.Lanes.{put_chunk, chunk}

@@ -1,6 +1,6 @@
 -- A list of arguments, cut where the scopes begin.
 use Rattle.std.proofs.Common.{◌≡◌, ℕ, ◌+◌, ◌-◌, ◌<◌, ◌≤◌, List, [], ◌∷◌, ◌++◌, length, map, get_or, set, take, drop, slice_range, slice_get, option_map, IfSome, zero, suc, refl, sym, ap, ◌∙◌, arith}
-use Rattle.std.proofs.lemmas.List.{length-append, drop-append-le, take-append-le, drop-take, take-take, take_all, drop_all, length-drop, length-map, length-take-le, map_push, take-map, drop-map}
+use Rattle.std.proofs.lemmas.List.{length-append, drop-append-le, drop-take, take_all, drop_all, length-drop, length-map, length-take-le, map_push, take-map, drop-map}
 use Rattle.std.proofs.lemmas.List.Elements.{All-push, All-take, All-drop}
 use Rattle.std.proofs.lemmas.Option.{slice_get-map}
 use Rattle.demangle_text.specs.declared.shape.Piece.{Piece}

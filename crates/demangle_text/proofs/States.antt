@@ -1,13 +1,13 @@
 -- What stays when a buffer's texts grow, and when the texts that it keeps lie elsewhere.
-use Rattle.std.proofs.Common.{◌≡◌, ℕ, ◌-◌, ◌<◌, ◌≤◌, Bool, true, false, List, [], ◌++◌, length, take, drop, slice_range, All, map, refl, sym, ap, ◌∙◌, subst, arith, Result, Ok, Err, OnErr, append_assoc, set, get_or}
+use Rattle.std.proofs.Common.{◌≡◌, ℕ, ◌-◌, ◌<◌, ◌≤◌, Bool, true, false, List, [], ◌++◌, length, drop, slice_range, All, map, refl, sym, ap, ◌∙◌, subst, arith, Result, Ok, Err, OnErr, append_assoc, set, get_or}
 use Rattle.std.proofs.Math.Seq.{map-set_same}
 use Rattle.std.proofs.lemmas.List.Elements.{All-set, All-get_or, All-weaker}
 use Rattle.std.proofs.lemmas.List.{length-append, length-drop, append-nil, drop_at, take_all}
 use Rattle.demangle_text.specs.declared.shape.Piece.{Piece}
 use Rattle.demangle_text.specs.declared.shape.Mark.{Mark}
 use Rattle.demangle_text.specs.Shape.{text}
-use Rattle.demangle_text.specs.Pieces.{Store, IsStore, IsPiece, IsAt, IsMarked, Marks, marks_of, shape_of, shape_in, piece_text, home_bytes, Extends}
-use Rattle.demangle_text.specs.State.{IsLiving, shape, saved, scopes, frame, inside, outside, Frame, IsOlder, KeepsAll, IsEdit, Closes, Lives, Stands, parts_at}
+use Rattle.demangle_text.specs.Pieces.{Store, IsStore, IsPiece, IsAt, IsMarked, marks_of, shape_of, shape_in, piece_text, home_bytes, Extends}
+use Rattle.demangle_text.specs.State.{IsLiving, shape, saved, scopes, frame, inside, outside, Frame, IsOlder, KeepsAll, IsEdit, Closes, Lives, parts_at}
 use Rattle.demangle_text.proofs.Forms.{text-form_of}
 use Rattle.demangle_text.proofs.Texts.{part-append, map_same}
 

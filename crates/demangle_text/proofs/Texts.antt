@@ -1,6 +1,6 @@
 -- Parts of a text that grows or is moved.
 use Rattle.std.proofs.Common.{◌≡◌, ℕ, ◌+◌, ◌-◌, ◌≤◌, List, [], ◌∷◌, ◌++◌, length, take, drop, slice_range, All, map, slice_get, IfSome, zero, suc, refl, sym, ap, ◌∙◌, arith}
-use Rattle.std.proofs.lemmas.List.{length-append, drop-take, take-take, drop-drop, drop-append-le, take-append-le, length-take-le, take-append-drop, length-drop}
+use Rattle.std.proofs.lemmas.List.{drop-take, take-take, drop-drop, drop-append-le, take-append-le, length-take-le, take-append-drop, length-drop}
 use Rattle.std.proofs.lemmas.List.Elements.{All-head, All-tail}
 
 -- a part of a list that goes on

@@ -1,5 +1,6 @@
 -- How a piece lies in the two texts of a buffer.
-use Rattle.std.specs.Prelude.{◌≡◌, ℕ, Bool, min, max, true, false, ◌+◌, ◌-◌, ◌<◌, ◌≤◌, List, [], ◌∷◌, ◌++◌, length, take, drop}
+use Rattle.std.specs.Prelude.{◌≡◌, ℕ, Bool, min, max, true, false, ◌+◌, ◌-◌, ◌<◌, ◌≤◌, List, [], ◌∷◌, ◌++◌, length}
+use Rattle.std.specs.Prelude.{take, drop}
 use Rattle.std.specs.Prelude.{slice_range, slice_index, nat_le, Option, Some, None, All}
 use Rattle.demangle_text.specs.declared.shape.Kind.{Kind}
 use Rattle.demangle_text.specs.declared.shape.Kind.TheVariants.{Array, Function}
@@ -216,7 +217,8 @@ pub record IsAdjacent (s : Store) (first second : Piece) : Type 0 where
 pub record IsSplice (old new : Store) (p : Piece) (at : ℕ) (bytes : List ℕ) (from : ℕ) : Type 0 where
   pub within : from ≤ length new.main_text
   pub text : drop from new.main_text
-      ≡ take at (piece_text old.main_text old.side_text p) ++ (bytes ++ drop at (piece_text old.main_text old.side_text p))
+      ≡ take at (piece_text old.main_text old.side_text p)
+      ++ (bytes ++ drop at (piece_text old.main_text old.side_text p))
   pub front : take old.frame_main new.main_text ≡ take old.frame_main old.main_text
   pub in_place : IsTail old p → (from ≡ p.from_byte) × (length new.main_text ≡ length old.main_text + length bytes)
 

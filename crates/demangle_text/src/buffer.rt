@@ -54,11 +54,13 @@ crate::specs::State::inside, crate::specs::State::outside,
 // Lists.
 crate::specs::State::saved, crate::specs::State::scopes,),)]
 impl Buffer {
-    ghost use Rattle.demangle_text.specs.State.{IsLiving, shape, saved, scopes, frame, inside, outside, outermost, Lives};
+    ghost use Rattle.demangle_text.specs.State.{IsLiving, shape, saved, scopes, frame, inside, outside, outermost};
+    ghost use Rattle.demangle_text.specs.State.{Lives};
     ghost use Rattle.demangle_text.specs.State.{KeepsAll, SameFrame, SameLists, IsEdit, Opens, Closes, last_args};
     ghost use Rattle.demangle_text.specs.State.{with_arg, IsAsOld, main, Stands, StandsAs, start, KeepsFront, IsEditOf};
     ghost use Rattle.demangle_text.specs.State.{IsJoinOf};
-    ghost use Rattle.demangle_text.specs.Shape.{text, text_len, form_text, plain_shape, inserted, appended, opened_group};
+    ghost use Rattle.demangle_text.specs.Shape.{text, text_len, form_text, plain_shape, inserted, appended};
+    ghost use Rattle.demangle_text.specs.Shape.{opened_group};
     ghost use Rattle.demangle_text.specs.Shape.{joined, shortened, CanInsert, IsPlain, IsDeclared, flagged, with_own};
     ghost use Rattle.demangle_text.specs.Shape.{flattened, whole_shape, own_shape, IsNotFunction, kind_of, group_of};
     ghost use Rattle.demangle_text.specs.Shape.{after_of, declared_at, declared_group};
@@ -272,6 +274,9 @@ impl Buffer {
     {
         if at == self.main.len() {
             return self.add_bytes(bytes);
+        }
+        if bytes.is_empty() {
+            return Ok(());
         }
         self.insert_within(at, bytes)
     }

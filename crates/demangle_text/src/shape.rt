@@ -139,7 +139,8 @@ impl Piece {
         requires layout_fits { layout_end (marks_of self).layout + n < 2 ^ 64 }
         ensures stands { IsAt result from to }
         ensures layout { (marks_of result).layout ≡ layout_with place n (marks_of self).layout }
-        ensures own { (marks_of result).own ≡ own_at (marks_of self).layout (to - from) (moved at n (marks_of self).own) }
+        ensures own { (marks_of result).own
+            ≡ own_at (marks_of self).layout (to - from) (moved at n (marks_of self).own) }
         ensures templ { result.is_templ ≡ self.is_templ }
         ensures ctor { result.is_ctor ≡ self.is_ctor }
     {
@@ -190,7 +191,8 @@ impl Piece {
         requires within { m ≤ n }
         ensures stands { IsAt result from to }
         ensures layout { (marks_of result).layout ≡ layout_opened n m (marks_of self).layout }
-        ensures own { (marks_of result).own ≡ own_at (marks_of self).layout (to - from) (moved at n (marks_of self).own) }
+        ensures own { (marks_of result).own
+            ≡ own_at (marks_of self).layout (to - from) (moved at n (marks_of self).own) }
         ensures templ { result.is_templ ≡ self.is_templ }
         ensures ctor { result.is_ctor ≡ self.is_ctor }
     {

@@ -1,5 +1,5 @@
 -- The last scope begins at the last place.
-use Rattle.std.proofs.Common.{◌≡◌, ◌-◌, List, length, drop, slice_get, ap, ◌∙◌, arith}
+use Rattle.std.proofs.Common.{◌≡◌, ◌-◌, length, ◌∙◌, arith}
 use Rattle.std.proofs.lemmas.List.{get_or_default}
 use Rattle.demangle_text.specs.View.{store_of}
 use Rattle.demangle_text.proofs.Scopes.{arg_within, arg_found, arg_lives, length-starts}

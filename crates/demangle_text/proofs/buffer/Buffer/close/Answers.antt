@@ -1,6 +1,5 @@
-use Rattle.std.proofs.Common.{◌≡◌, ℕ, List, ◌++◌, take, length, ap, sym, ◌∙◌, subst}
+use Rattle.std.proofs.Common.{ℕ, List, ◌++◌, take, ap, sym, ◌∙◌, subst}
 use Rattle.demangle_text.specs.Pieces.{Store, IsAt}
-use Rattle.demangle_text.specs.View.{store_of}
 use Rattle.demangle_text.specs.State.{main, start, inside, Frame}
 use Rattle.demangle_text.proofs.States.{text_is}
 use Rattle.demangle_text.proofs.Tails.{Lives-settled}

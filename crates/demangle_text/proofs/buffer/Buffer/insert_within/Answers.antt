@@ -1,10 +1,10 @@
 -- What would be torn is set aside, and then the rest moves on with its bytes.
-use Rattle.std.proofs.Common.{◌≡◌, ◌≤◌, ◌+◌, length, ap, arith}
+use Rattle.std.proofs.Common.{◌≤◌, ◌+◌, length, ap, arith}
 use Rattle.demangle_text.specs.Pieces.{Store}
 use Rattle.demangle_text.specs.View.{store_of}
 use Rattle.demangle_text.specs.State.{KeepsAll}
 use Rattle.demangle_text.proofs.States.{on_err_from}
-use Rattle.demangle_text.proofs.Carried.{IsAside, Moves-inserted, KeepsAll-aside, IsStore-after, IsEdit-after}
+use Rattle.demangle_text.proofs.Carried.{Moves-inserted, KeepsAll-aside, IsStore-after, IsEdit-after}
 use Rattle.demangle_text.proofs.buffer.Buffer.insert_within.Goals as goal
 
 pub returns-in_err-set_apart-clause-err : goal.returns-in_err-set_apart-clause-err

@@ -1,5 +1,5 @@
-use Rattle.std.proofs.Common.{◌≡◌, ◌-◌, length, ap, ◌∙◌, subst}
-use Rattle.demangle_text.specs.Pieces.{IsAt, marks_of, whole_marks}
+use Rattle.std.proofs.Common.{◌-◌, length, ap, ◌∙◌, subst}
+use Rattle.demangle_text.specs.Pieces.{IsAt, whole_marks}
 use Rattle.demangle_text.proofs.Tails.{Lives-joined}
 use Rattle.demangle_text.proofs.buffer.Buffer.join.Goals as goal
 

@@ -1,8 +1,8 @@
 -- What would be torn is set aside; the block moves to the mark, and what lies in it moves with it.
-use Rattle.std.proofs.Common.{◌≡◌, ◌≤◌, length, ap, arith}
+use Rattle.std.proofs.Common.{◌≤◌, length, ap, arith}
 use Rattle.demangle_text.specs.Pieces.{Store}
 use Rattle.demangle_text.specs.View.{store_of}
-use Rattle.demangle_text.proofs.Carried.{IsAside, Moves-kept, IsStore-after, IsEdit-after}
+use Rattle.demangle_text.proofs.Carried.{Moves-kept, IsStore-after, IsEdit-after}
 use Rattle.demangle_text.proofs.buffer.Buffer.keep_block.Goals as goal
 
 pub invariant_of-self-2 : goal.invariant_of-self-2

@@ -1,4 +1,4 @@
-use Rattle.std.proofs.Common.{◌<◌, length, take, ap, arith}
+use Rattle.std.proofs.Common.{◌<◌, length, ap, arith}
 use Rattle.std.proofs.Math.Seq.{take-set-lt}
 use Rattle.std.proofs.lemmas.List.{length-take-le}
 use Rattle.demangle_text.proofs.ranges.Ranges.set.Goals as goal

@@ -1,4 +1,4 @@
-use Rattle.std.proofs.Common.{rules, ◌≡◌, ◌+◌, ◌-◌, ◌≤◌, ◌++◌, List, ℕ, length, take, drop, slice_range, arith, ap, sym, refl, ◌∙◌}
+use Rattle.std.proofs.Common.{rules, ◌≡◌, ◌+◌, ◌-◌, ◌≤◌, ◌++◌, List, ℕ, length, take, drop, arith, ap, refl, ◌∙◌}
 use Rattle.std.proofs.lemmas.List.{length-take-le, with_items_is}
 use Rattle.std.proofs.lemmas.List.{places}
 use Rattle.std.specs.List.{copy_within}
