@@ -5,7 +5,7 @@ use Rattle.std.proofs.lemmas.List.{length-append, length-map, length-take-le, le
 use Rattle.std.proofs.lemmas.List.Edits.{length-between}
 use Rattle.std.proofs.lemmas.List.Elements.{All-head, All-tail, All-nil, All-cons}
 use Rattle.demangle_text.specs.declared.shape.Piece.{Piece}
-use Rattle.demangle_text.specs.Pieces.{Store, IsStore, IsPiece, IsApart, marks_of, shape_of, shape_in, home_bytes, carried, carried_from, Extends}
+use Rattle.demangle_text.specs.Pieces.{Store, IsStore, IsPiece, IsApart, marks_of, shape_of, shape_in, home_bytes, IsAside, carried, carried_from}
 use Rattle.demangle_text.specs.State.{IsLiving, shape, Lives, IsOlder, Frame, frame, IsEdit, saved, scopes, parts_at, IsBelow, KeepsAll}
 use Rattle.demangle_text.proofs.States.{KeepsAll-elsewhere}
 use Rattle.demangle_text.proofs.Laws.{IsEdit-trans, IsEdit-keeps}
@@ -158,49 +158,39 @@ Moves-kept main new at from to h ordered within by_new = rw by_new moves
         }
 
 -- texts that would be torn are set aside: m is the main text as it was read
-module _ (s : Store) (m side : List ℕ) (saved args : List Piece) where
+module _ (s : Store) (m side : List ℕ) (saved args : List Piece) (same : m ≡ s.main_text) (a : IsAside m s.side_text side s.saved_pieces saved s.arg_pieces args) where
   abbrev pub aside : Store
   aside = record s { side_text = side; saved_pieces = saved; arg_pieces = args }
 
-  -- what that leaves
-  pub record IsAside : Type 0 where
-    pub main_is : m ≡ s.main_text
-    pub side_more : Extends s.side_text side
-    pub saved_lie : All (IsPiece m side) saved
-    pub args_lie : All (IsPiece m side) args
-    pub saved_shapes : map (shape_in m side) saved ≡ map (shape_in m s.side_text) s.saved_pieces
-    pub args_shapes : map (shape_in m side) args ≡ map (shape_in m s.side_text) s.arg_pieces
-    pub args_long : length args ≡ length s.arg_pieces
+  pub KeepsAll-aside : KeepsAll s aside
+  KeepsAll-aside =
+      KeepsAll-elsewhere s aside refl a.side
+      (subst (λ (v : List ℕ). map (shape_in v side) saved ≡ map (shape_in v s.side_text) s.saved_pieces) same a.saved_shapes)
+      (subst (λ (v : List ℕ). map (shape_in v side) args ≡ map (shape_in v s.side_text) s.arg_pieces) same a.args_shapes) refl refl refl
 
-  pub KeepsAll-aside : IsAside → KeepsAll s aside
-  KeepsAll-aside a =
-      KeepsAll-elsewhere s aside refl a.side_more
-      (subst (λ (v : List ℕ). map (shape_in v side) saved ≡ map (shape_in v s.side_text) s.saved_pieces) a.main_is a.saved_shapes)
-      (subst (λ (v : List ℕ). map (shape_in v side) args ≡ map (shape_in v s.side_text) s.arg_pieces) a.main_is a.args_shapes) refl refl refl
-
-  pub IsStore-aside : IsStore s → IsAside → IsStore aside
-  IsStore-aside i a =
-      let n = ap length a.side_more.all ∙ length-append s.side_text a.side_more.more in
+  IsStore-aside : IsStore s → IsStore aside
+  IsStore-aside i =
+      let n = ap length a.side.all ∙ length-append s.side_text a.side.more in
       record {
-        saved_lie = subst (λ (v : List ℕ). All (IsPiece v side) saved) a.main_is a.saved_lie;
-        args_lie = subst (λ (v : List ℕ). All (IsPiece v side) args) a.main_is a.args_lie;
+        saved_lie = subst (λ (v : List ℕ). All (IsPiece v side) saved) same a.saved_lie;
+        args_lie = subst (λ (v : List ℕ). All (IsPiece v side) args) same a.args_lie;
         starts_fit = rw a.args_long i.starts_fit;
         main_frame = i.main_frame;
         side_frame = omega (arith, n, i.side_frame);
       }
 
   -- and then a block is moved
-  module _ (low from to dest : ℕ) (main : List ℕ) (saved' args' : List Piece) (i : IsStore s) (a : IsAside)
+  module _ (low from to dest : ℕ) (main : List ℕ) (saved' args' : List Piece) (i : IsStore s)
       (saved_apart : All (IsApart low from to) saved) (args_apart : All (IsApart low from to) args)
       (by_saved : saved' ≡ map (carried low from dest) saved) (by_args : args' ≡ map (carried low from dest) args)
       (moves : Moves s.main_text main low from to dest) (inner : s.frame_main ≤ low) where
-    abbrev pub after_move : Store
+    abbrev after_move : Store
     after_move = record s { main_text = main; side_text = side; saved_pieces = saved'; arg_pieces = args' }
 
     pub IsStore-after : IsStore after_move
-    IsStore-after = IsStore-moved aside after_move low from to dest moves inner saved_apart args_apart refl by_saved by_args refl refl refl (IsStore-aside i a)
+    IsStore-after = IsStore-moved aside after_move low from to dest moves inner saved_apart args_apart refl by_saved by_args refl refl refl (IsStore-aside i)
 
     pub IsEdit-after : IsEdit s after_move
     IsEdit-after =
-        IsEdit-trans s aside after_move (IsEdit-keeps s aside (KeepsAll-aside a))
-        (IsEdit-moved aside after_move low from to dest moves inner saved_apart args_apart refl by_saved by_args refl refl refl (IsStore-aside i a))
+        IsEdit-trans s aside after_move (IsEdit-keeps s aside KeepsAll-aside)
+        (IsEdit-moved aside after_move low from to dest moves inner saved_apart args_apart refl by_saved by_args refl refl refl (IsStore-aside i))

@@ -1,7 +1,7 @@
 -- How a piece lies in the two texts of a buffer.
 use Rattle.std.specs.Prelude.{◌≡◌, ℕ, Bool, min, max, true, false, ◌+◌, ◌-◌, ◌<◌, ◌≤◌, List, [], ◌∷◌, ◌++◌, length}
 use Rattle.std.specs.Prelude.{take, drop}
-use Rattle.std.specs.Prelude.{slice_range, slice_index, nat_le, Option, Some, None, All}
+use Rattle.std.specs.Prelude.{slice_range, slice_index, nat_le, Option, Some, None, All, map}
 use Rattle.demangle_text.specs.declared.shape.Kind.{Kind}
 use Rattle.demangle_text.specs.declared.shape.Kind.TheVariants.{Array, Function}
 use Rattle.demangle_text.specs.declared.shape.Place.{Place}
@@ -180,6 +180,15 @@ pub record Extends (old new : List ℕ) : Type 0 where
 -- a piece in the main text ends by `low`, or lies in the block from `from` to `to`
 abbrev pub IsApart : ℕ → ℕ → ℕ → Piece → Type 0
 IsApart low from to p = p.in_side ≡ false → low < p.to_byte → (from ≤ p.from_byte) × (p.to_byte ≤ to)
+
+-- both lists keep their shapes while texts of theirs are put at the end of the side text
+pub record IsAside (main old_side new_side : List ℕ) (old_saved new_saved old_args new_args : List Piece) : Type 0 where
+  pub side : Extends old_side new_side
+  pub saved_lie : All (IsPiece main new_side) new_saved
+  pub args_lie : All (IsPiece main new_side) new_args
+  pub saved_shapes : map (shape_in main new_side) new_saved ≡ map (shape_in main old_side) old_saved
+  pub args_shapes : map (shape_in main new_side) new_args ≡ map (shape_in main old_side) old_args
+  pub args_long : length new_args ≡ length old_args
 
 -- the piece lies in the side text, or ends by a byte of the main text
 abbrev pub EndsBy : ℕ → Piece → Type 0

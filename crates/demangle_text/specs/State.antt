@@ -29,8 +29,8 @@ unfoldable pub scopes : Store → List (List Shape)
 scopes b = parts_at b.scope_starts (map (shape b) b.arg_pieces)
 
 -- the bytes of the main text
-unfoldable pub main : Store → List ℕ
-main b = b.main_text
+unfoldable pub main_bytes : Store → List ℕ
+main_bytes b = b.main_text
 
 -- the piece stands at these bytes of the main text, from the first one up to the second
 unfoldable pub Stands : Piece → ℕ → ℕ → Type 0
@@ -60,9 +60,9 @@ unfolding Frame
 outside m = (m.outside_main, m.outside_side)
 
 -- the byte of the main text at which a frame begins
-unfoldable pub start : Frame → ℕ
+unfoldable pub frame_start : Frame → ℕ
 unfolding Frame
-start f = f.0
+frame_start f = f.0
 
 -- a place of one of the two texts lies before the frame
 abbrev pub IsBelow : ℕ × ℕ → Bool → ℕ → Type 0
@@ -141,25 +141,25 @@ pub record Closes (old new : Store) (m : Mark) : Type 0 where
 
 -- no byte of the main text before the innermost mark changes
 abbrev pub KeepsFront : Store → Store → Type 0
-KeepsFront old new = take (start (frame old)) (main new) ≡ take (start (frame old)) (main old)
+KeepsFront old new = take (frame_start (frame old)) (main_bytes new) ≡ take (frame_start (frame old)) (main_bytes old)
 
 -- an edit of a piece, which puts n bytes into its text: the answer stands up to the end of the main text; a piece
 -- that stands there, from the innermost mark or later, keeps its start, and the main text grows as its text does
 pub record IsEditOf (old new : Store) (piece answer : Piece) (n : ℕ) : Type 0 where
   pub front : KeepsFront old new
-  pub ends : (at : ℕ) × Stands answer at (length (main new))
-  pub in_place : (at : ℕ) → start (frame old) ≤ at → Stands piece at (length (main old))
-      → Stands answer at (length (main new)) × (length (main new) ≡ length (main old) + n)
+  pub ends : (at : ℕ) × Stands answer at (length (main_bytes new))
+  pub in_place : (at : ℕ) → frame_start (frame old) ≤ at → Stands piece at (length (main_bytes old))
+      → Stands answer at (length (main_bytes new)) × (length (main_bytes new) ≡ length (main_bytes old) + n)
 
 -- both pieces in one, with n bytes between them: the answer stands up to the end of the main text; where the second
 -- begins at the end of the first and stands up to that end, and the first stands from the innermost mark or later, the
 -- start of the first stays, and the main text grows by n bytes
 pub record IsJoinOf (old new : Store) (first second answer : Piece) (n : ℕ) : Type 0 where
   pub front : KeepsFront old new
-  pub ends : (at : ℕ) × Stands answer at (length (main new))
-  pub in_place : (from middle : ℕ) → start (frame old) ≤ from → Stands first from middle
-      → Stands second middle (length (main old))
-      → Stands answer from (length (main new)) × (length (main new) ≡ length (main old) + n)
+  pub ends : (at : ℕ) × Stands answer at (length (main_bytes new))
+  pub in_place : (from middle : ℕ) → frame_start (frame old) ≤ from → Stands first from middle
+      → Stands second middle (length (main_bytes old))
+      → Stands answer from (length (main_bytes new)) × (length (main_bytes new) ≡ length (main_bytes old) + n)
 
 -- what is answered for a piece stands where the piece does
 abbrev pub StandsAs : Piece → Piece → Type 0

@@ -46,7 +46,7 @@ using(crate::proofs::States::states), unfolding(
 // Pieces.
 crate::specs::State::IsLiving, crate::specs::State::shape,
 // Where they stand.
-crate::specs::State::main, crate::specs::State::Stands, crate::specs::State::start,
+crate::specs::State::main_bytes, crate::specs::State::Stands, crate::specs::State::frame_start,
 // How old they are.
 crate::specs::State::frame, crate::specs::State::outermost, crate::specs::State::IsOlder, crate::specs::State::IsAsOld,
 // Marks.
@@ -57,7 +57,8 @@ impl Buffer {
     ghost use Rattle.demangle_text.specs.State.{IsLiving, shape, saved, scopes, frame, inside, outside, outermost};
     ghost use Rattle.demangle_text.specs.State.{Lives};
     ghost use Rattle.demangle_text.specs.State.{KeepsAll, SameFrame, SameLists, IsEdit, Opens, Closes, last_args};
-    ghost use Rattle.demangle_text.specs.State.{with_arg, IsAsOld, main, Stands, StandsAs, start, KeepsFront, IsEditOf};
+    ghost use Rattle.demangle_text.specs.State.{with_arg, IsAsOld, main_bytes, Stands, StandsAs, frame_start};
+    ghost use Rattle.demangle_text.specs.State.{KeepsFront, IsEditOf};
     ghost use Rattle.demangle_text.specs.State.{IsJoinOf};
     ghost use Rattle.demangle_text.specs.Shape.{text, text_len, form_text, plain_shape, inserted, appended};
     ghost use Rattle.demangle_text.specs.Shape.{opened_group};
@@ -71,7 +72,7 @@ impl Buffer {
         ensures no_saved { saved result ≡ [] }
         ensures no_scopes { scopes result ≡ [] }
         ensures no_mark { frame result ≡ outermost }
-        ensures no_bytes { main result ≡ [] }
+        ensures no_bytes { main_bytes result ≡ [] }
     {
         Buffer {
             alloc,
@@ -91,7 +92,7 @@ impl Buffer {
         ensures no_saved { saved self.new ≡ [] }
         ensures no_scopes { scopes self.new ≡ [] }
         ensures no_mark { frame self.new ≡ outermost }
-        ensures no_bytes { main self.new ≡ [] }
+        ensures no_bytes { main_bytes self.new ≡ [] }
     {
         self.saved.clear();
         self.args.clear();
@@ -107,8 +108,8 @@ impl Buffer {
     #[inline(always)]
     pub fn open(&mut self) -> Mark
         ensures opens { Opens self.old self.new result }
-        ensures main { main self.new ≡ main self.old }
-        ensures mark { start (inside result) ≡ length (main self.old) }
+        ensures main { main_bytes self.new ≡ main_bytes self.old }
+        ensures mark { frame_start (inside result) ≡ length (main_bytes self.old) }
     {
         let mark = Mark {
             inside_main: self.main.len(),
@@ -130,9 +131,9 @@ impl Buffer {
         requires living { IsLiving self.old piece }
         ensures shape { IfOk result (λ p. Lives self.new p (shape self.old piece)) }
         ensures closed { OnOk result (Closes self.old self.new mark) }
-        ensures main { OnOk result (main self.new
-            ≡ take (start (inside mark)) (main self.old) ++ text (shape self.old piece)) }
-        ensures stands { IfOk result (λ p. Stands p (start (inside mark)) (length (main self.new))) }
+        ensures main { OnOk result (main_bytes self.new
+            ≡ take (frame_start (inside mark)) (main_bytes self.old) ++ text (shape self.old piece)) }
+        ensures stands { IfOk result (λ p. Stands p (frame_start (inside mark)) (length (main_bytes self.new))) }
     {
         let at = mark.inside_main;
         self.settle(at, piece)?;
@@ -207,9 +208,9 @@ impl Buffer {
     pub fn push(&mut self, bytes: &[u8]) -> Result<Piece, AllocError>
         ensures shape { IfOk result (λ p. Lives self.new p (plain_shape bytes.now)) }
         ensures kept { KeepsAll self.old self.new }
-        ensures main { OnOk result (main self.new ≡ main self.old ++ bytes.now) }
-        ensures main_err { OnErr result (main self.new ≡ main self.old) }
-        ensures stands { IfOk result (λ p. Stands p (length (main self.old)) (length (main self.new))) }
+        ensures main { OnOk result (main_bytes self.new ≡ main_bytes self.old ++ bytes.now) }
+        ensures main_err { OnErr result (main_bytes self.new ≡ main_bytes self.old) }
+        ensures stands { IfOk result (λ p. Stands p (length (main_bytes self.old)) (length (main_bytes self.new))) }
     {
         let from = self.main.len();
         self.add_bytes(bytes)?;
@@ -222,9 +223,9 @@ impl Buffer {
         requires living { IsLiving self.old piece }
         ensures shape { IfOk result (λ p. Lives self.new p (shape self.old piece)) }
         ensures kept { KeepsAll self.old self.new }
-        ensures main { OnOk result (main self.new ≡ main self.old ++ text (shape self.old piece)) }
-        ensures main_err { OnErr result (main self.new ≡ main self.old) }
-        ensures stands { IfOk result (λ p. Stands p (length (main self.old)) (length (main self.new))) }
+        ensures main { OnOk result (main_bytes self.new ≡ main_bytes self.old ++ text (shape self.old piece)) }
+        ensures main_err { OnErr result (main_bytes self.new ≡ main_bytes self.old) }
+        ensures stands { IfOk result (λ p. Stands p (length (main_bytes self.old)) (length (main_bytes self.new))) }
     {
         let from = self.copy_text(piece)?;
         Ok(piece.moved_to(from, self.main.len()))
@@ -362,7 +363,7 @@ impl Buffer {
         ensures edit { OnOk result (IsEdit self.old self.new) }
         ensures err { OnErr result (KeepsAll self.old self.new) }
         ensures edit_of { IfOk result (λ p. IsEditOf self.old self.new piece p (length bytes.now)) }
-        ensures main_err { OnErr result (main self.new ≡ main self.old) }
+        ensures main_err { OnErr result (main_bytes self.new ≡ main_bytes self.old) }
     {
         self.insert(piece, Place::End, bytes)
     }
@@ -379,7 +380,7 @@ impl Buffer {
         ensures edit { OnOk result (IsEdit self.old self.new) }
         ensures err { OnErr result (KeepsAll self.old self.new) }
         ensures edit_of { IfOk result (λ p. IsEditOf self.old self.new piece p (length bytes.now)) }
-        ensures main_err { OnErr result (main self.new ≡ main self.old) }
+        ensures main_err { OnErr result (main_bytes self.new ≡ main_bytes self.old) }
     {
         let at = piece.place(place);
         let from = self.splice(piece, at, bytes)?;
@@ -397,7 +398,7 @@ impl Buffer {
         ensures err { OnErr result (KeepsAll self.old self.new) }
         ensures edit_of { IfOk result (λ p. IsEditOf self.old self.new piece p
             (text_len (opened_group bytes.now (shape self.old piece)) - text_len (shape self.old piece))) }
-        ensures main_err { OnErr result (main self.new ≡ main self.old) }
+        ensures main_err { OnErr result (main_bytes self.new ≡ main_bytes self.old) }
     {
         let at = piece.place(Place::Suffix);
         let group = group_bytes(self.alloc, &self.bytes(piece)[..at], bytes)?;
@@ -417,7 +418,7 @@ impl Buffer {
         ensures edit { OnOk result (IsEdit self.old self.new) }
         ensures err { OnErr result (KeepsAll self.old self.new) }
         ensures front { KeepsFront self.old self.new }
-        ensures main_err { OnErr result (main self.new ≡ main self.old) }
+        ensures main_err { OnErr result (main_bytes self.new ≡ main_bytes self.old) }
     {
         Ok(piece.cut(n))
     }
@@ -436,7 +437,7 @@ impl Buffer {
         ensures edit { OnOk result (IsEdit self.old self.new) }
         ensures err { OnErr result (KeepsAll self.old self.new) }
         ensures join_of { IfOk result (λ p. IsJoinOf self.old self.new first second p (length bytes.now)) }
-        ensures main_err { OnErr result (main self.new ≡ main self.old) }
+        ensures main_err { OnErr result (main_bytes self.new ≡ main_bytes self.old) }
     {
         let from = self.join_texts(first, bytes, second)?;
         Ok(Piece::whole_at(from, self.main.len()))
@@ -478,7 +479,7 @@ impl Buffer {
     /// The main text.
     #[inline(always)]
     pub fn main_bytes(&self) -> &[u8]
-        ensures value { result.now ≡ main self.now }
+        ensures value { result.now ≡ main_bytes self.now }
     {
         self.main.as_slice()
     }
@@ -488,7 +489,7 @@ impl Buffer {
     pub fn bytes(&self, piece: Piece) -> &[u8]
         requires living { IsLiving self.now piece }
         ensures value { result.now ≡ text (shape self.now piece) }
-        ensures stands { (from to : ℕ) → Stands piece from to → result.now ≡ slice_range (main self.now) from to }
+        ensures stands { (from to : ℕ) → Stands piece from to → result.now ≡ slice_range (main_bytes self.now) from to }
     {
         if piece.in_side {
             self.side.part(piece.from_byte, piece.to_byte)
@@ -682,7 +683,7 @@ impl Buffer {
         ensures saved { OnOk result (saved self.new ≡ saved self.old ++ shape self.old piece ∷ []) }
         ensures scopes { scopes self.new ≡ scopes self.old }
         ensures kept { SameFrame self.old self.new }
-        ensures main { main self.new ≡ main self.old }
+        ensures main { main_bytes self.new ≡ main_bytes self.old }
         ensures err { OnErr result (KeepsAll self.old self.new) }
     {
         self.saved.push(piece)?;
@@ -696,7 +697,7 @@ impl Buffer {
         ensures saved { saved self.new ≡ take (length (saved self.old) - 1) (saved self.old) }
         ensures scopes { scopes self.new ≡ scopes self.old }
         ensures kept { SameFrame self.old self.new }
-        ensures main { main self.new ≡ main self.old }
+        ensures main { main_bytes self.new ≡ main_bytes self.old }
     {
         let last = self.saved_len() - 1;
         self.saved.truncate(last);
@@ -725,7 +726,7 @@ impl Buffer {
         ensures scopes { OnOk result (scopes self.new ≡ scopes self.old ++ [] ∷ []) }
         ensures saved { saved self.new ≡ saved self.old }
         ensures kept { SameFrame self.old self.new }
-        ensures main { main self.new ≡ main self.old }
+        ensures main { main_bytes self.new ≡ main_bytes self.old }
         ensures err { OnErr result (KeepsAll self.old self.new) }
     {
         let start = self.args.len();
@@ -741,7 +742,7 @@ impl Buffer {
         ensures scopes { OnOk result (scopes self.new ≡ with_arg (shape self.old piece) (scopes self.old)) }
         ensures saved { saved self.new ≡ saved self.old }
         ensures kept { SameFrame self.old self.new }
-        ensures main { main self.new ≡ main self.old }
+        ensures main { main_bytes self.new ≡ main_bytes self.old }
         ensures err { OnErr result (KeepsAll self.old self.new) }
     {
         self.args.push(piece)?;
@@ -777,7 +778,7 @@ impl Buffer {
         ensures scopes { scopes self.new ≡ take n (scopes self.old) }
         ensures saved { saved self.new ≡ saved self.old }
         ensures kept { SameFrame self.old self.new }
-        ensures main { main self.new ≡ main self.old }
+        ensures main { main_bytes self.new ≡ main_bytes self.old }
     {
         if n < self.scopes() {
             let start = self.starts[n];

@@ -2,7 +2,7 @@
 ghost use Rattle.std.specs.Prelude.{◌≡◌, ℕ, ◌+◌, ◌-◌, ◌^◌, ◌<◌, ◌≤◌, ◌++◌, length, slice_range, All, map, IfOk, OnOk};
 ghost use Rattle.std.specs.Prelude.{OnErr};
 ghost use Rattle.std.specs.Prelude.{true, false};
-ghost use Rattle.demangle_text.specs.Pieces.{IsPiece, IsApart, Extends, shape_in, carried};
+ghost use Rattle.demangle_text.specs.Pieces.{IsPiece, IsApart, IsAside, Extends, shape_in, carried};
 
 use crate::ranges::Ranges;
 use crate::shape::Piece;
@@ -56,6 +56,7 @@ fn evict_one(
 }
 
 // Sets aside the texts of all pieces of a list that would be torn.
+#[inline(always)]
 pub(crate) fn evict(
     main: &[u8],
     side: &mut Text,
@@ -74,6 +75,25 @@ pub(crate) fn evict(
     if pieces.end_by(low) {
         return Ok(());
     }
+    evict_each(main, side, pieces, low, from, to)
+}
+
+// The same, piece by piece.
+fn evict_each(
+    main: &[u8],
+    side: &mut Text,
+    pieces: &mut Ranges,
+    low: usize,
+    from: usize,
+    to: usize,
+) -> Result<(), AllocError>
+    requires lie { All (IsPiece main.now side.old) pieces.old }
+    ensures side { Extends side.old side.new }
+    ensures lie { All (IsPiece main.now side.new) pieces.new }
+    ensures shapes { map (shape_in main.now side.new) pieces.new ≡ map (shape_in main.now side.old) pieces.old }
+    ensures long { length pieces.new ≡ length pieces.old }
+    ensures apart { OnOk result (All (IsApart low from to) pieces.new) }
+{
     for i in 0..pieces.len() {
         let piece = evict_one(main, side, pieces.at(i), low, from, to)?;
         pieces.set(i, piece);
@@ -93,12 +113,7 @@ pub(crate) fn set_apart(
 ) -> Result<(), AllocError>
     requires saved { All (IsPiece main.now side.old) saved.old }
     requires args { All (IsPiece main.now side.old) args.old }
-    ensures side { Extends side.old side.new }
-    ensures saved_lie { All (IsPiece main.now side.new) saved.new }
-    ensures args_lie { All (IsPiece main.now side.new) args.new }
-    ensures saved_shapes { map (shape_in main.now side.new) saved.new ≡ map (shape_in main.now side.old) saved.old }
-    ensures args_shapes { map (shape_in main.now side.new) args.new ≡ map (shape_in main.now side.old) args.old }
-    ensures args_long { length args.new ≡ length args.old }
+    ensures aside { IsAside main.now side.old side.new saved.old saved.new args.old args.new }
     ensures saved_apart { OnOk result (All (IsApart low from to) saved.new) }
     ensures args_apart { OnOk result (All (IsApart low from to) args.new) }
 {

@@ -1,12 +1,12 @@
 use Rattle.std.proofs.Common.{ℕ, List, ◌++◌, take, ap, sym, ◌∙◌, subst}
 use Rattle.demangle_text.specs.Pieces.{Store, IsAt}
-use Rattle.demangle_text.specs.State.{main, start, inside, Frame}
+use Rattle.demangle_text.specs.State.{main_bytes, frame_start, inside, Frame}
 use Rattle.demangle_text.proofs.States.{text_is}
 use Rattle.demangle_text.proofs.Tails.{Lives-settled}
 use Rattle.demangle_text.proofs.buffer.Buffer.close.Goals as goal
 
 pub returns-clause-main : goal.returns-clause-main
-unfolding main start inside Frame
+unfolding main_bytes frame_start inside Frame
 returns-clause-main c =
     ap (λ (b : Store). b.main_text) c.self.view_is ∙ c.in_ok-settle.ensures.main
     ∙ ap (λ (v : List ℕ). take c.args.mark.inside_main c.args.self.now.main_text ++ v) (sym (text_is c.args.self.now c.args.piece c.requires.living))

@@ -2,7 +2,7 @@
 use Rattle.std.proofs.Common.{◌≡◌, ◌-◌, ◌+◌, ℕ, List, length, take, sym, ap, ◌∙◌, subst, arith}
 use Rattle.demangle_text.specs.Pieces.{Store, IsAt, IsTail, marks_of, own_at, layout_opened}
 use Rattle.demangle_text.specs.Shape.{moved}
-use Rattle.demangle_text.specs.State.{IsEditOf, main, frame, start, Frame, Stands}
+use Rattle.demangle_text.specs.State.{IsEditOf, main_bytes, frame, frame_start, Frame, Stands}
 use Rattle.demangle_text.proofs.States.{text_is}
 use Rattle.demangle_text.proofs.Groups.{group_text}
 use Rattle.demangle_text.proofs.Tails.{Lives-opened, opened-longer, layout-fits}
@@ -34,7 +34,7 @@ returns-clause-shape c =
     m.templ m.ctor
 
 pub returns-clause-edit_of : goal.returns-clause-edit_of
-unfolding main frame start Frame Stands
+unfolding main_bytes frame frame_start Frame Stands
 returns-clause-edit_of c =
     let b = c.args.self.now in
     let n = c.splice.new.self in

@@ -3,7 +3,7 @@ use Rattle.std.proofs.lemmas.List.{length-set}
 use Rattle.std.proofs.lemmas.List.Elements.{AllWithin-more_set}
 use Rattle.demangle_text.specs.Pieces.{IsApart}
 use Rattle.demangle_text.proofs.States.{All-extends, replaced_lie, replaced_shapes, shapes-extends, Extends-trans}
-use Rattle.demangle_text.proofs.moves.evict.Goals as goal
+use Rattle.demangle_text.proofs.moves.evict_each.Goals as goal
 
 pub returns-in_err-piece-clause-lie : goal.returns-in_err-piece-clause-lie
 returns-in_err-piece-clause-lie c = All-extends c.args.main.now c.loop-i.side _ c.evict_one.ensures.side c.loop-i.pieces c.loop-i.invariant.lie
