@@ -1,7 +1,6 @@
 -- How a piece lies in the two texts of a buffer.
 use Rattle.std.specs.Prelude.{◌≡◌, ℕ, Bool, min, max, true, false, ◌+◌, ◌-◌, ◌<◌, ◌≤◌, List, [], ◌∷◌, ◌++◌, length}
-use Rattle.std.specs.Prelude.{take, drop}
-use Rattle.std.specs.Prelude.{slice_range, slice_index, nat_le, Option, Some, None, All, map}
+use Rattle.std.specs.Prelude.{take, drop, slice_range, slice_index, nat_le, Option, Some, None, All, map}
 use Rattle.demangle_text.specs.declared.shape.Kind.{Kind}
 use Rattle.demangle_text.specs.declared.shape.Kind.TheVariants.{Array, Function}
 use Rattle.demangle_text.specs.declared.shape.Place.{Place}

@@ -55,16 +55,13 @@ crate::specs::State::inside, crate::specs::State::outside,
 crate::specs::State::saved, crate::specs::State::scopes,),)]
 impl Buffer {
     ghost use Rattle.demangle_text.specs.State.{IsLiving, shape, saved, scopes, frame, inside, outside, outermost};
-    ghost use Rattle.demangle_text.specs.State.{Lives};
-    ghost use Rattle.demangle_text.specs.State.{KeepsAll, SameFrame, SameLists, IsEdit, Opens, Closes, last_args};
-    ghost use Rattle.demangle_text.specs.State.{with_arg, IsAsOld, main_bytes, Stands, StandsAs, frame_start};
-    ghost use Rattle.demangle_text.specs.State.{KeepsFront, IsEditOf};
-    ghost use Rattle.demangle_text.specs.State.{IsJoinOf};
+    ghost use Rattle.demangle_text.specs.State.{Lives, KeepsAll, SameFrame, SameLists, IsEdit, Opens, Closes};
+    ghost use Rattle.demangle_text.specs.State.{last_args, with_arg, IsAsOld, main_bytes, Stands, StandsAs};
+    ghost use Rattle.demangle_text.specs.State.{frame_start, KeepsFront, IsEditOf, IsJoinOf};
     ghost use Rattle.demangle_text.specs.Shape.{text, text_len, form_text, plain_shape, inserted, appended};
-    ghost use Rattle.demangle_text.specs.Shape.{opened_group};
-    ghost use Rattle.demangle_text.specs.Shape.{joined, shortened, CanInsert, IsPlain, IsDeclared, flagged, with_own};
-    ghost use Rattle.demangle_text.specs.Shape.{flattened, whole_shape, own_shape, IsNotFunction, kind_of, group_of};
-    ghost use Rattle.demangle_text.specs.Shape.{after_of, declared_at, declared_group};
+    ghost use Rattle.demangle_text.specs.Shape.{opened_group, joined, shortened, CanInsert, IsPlain, IsDeclared};
+    ghost use Rattle.demangle_text.specs.Shape.{flagged, with_own, flattened, whole_shape, own_shape, IsNotFunction};
+    ghost use Rattle.demangle_text.specs.Shape.{kind_of, group_of, after_of, declared_at, declared_group};
     ghost use Rattle.demangle_text.specs.Pieces.{IsTail, IsSplice, IsAdjacent, IsJoint, piece_text};
 
     /// An empty buffer, with no mark open. It takes no memory.

@@ -1,7 +1,6 @@
 //! What a move of bytes in the main text does to the pieces that are kept.
 ghost use Rattle.std.specs.Prelude.{◌≡◌, ℕ, ◌+◌, ◌-◌, ◌^◌, ◌<◌, ◌≤◌, ◌++◌, length, slice_range, All, map, IfOk, OnOk};
-ghost use Rattle.std.specs.Prelude.{OnErr};
-ghost use Rattle.std.specs.Prelude.{true, false};
+ghost use Rattle.std.specs.Prelude.{OnErr, true, false};
 ghost use Rattle.demangle_text.specs.Pieces.{IsPiece, IsApart, IsAside, Extends, shape_in, carried};
 
 use crate::ranges::Ranges;
