@@ -2,8 +2,8 @@
 use Rattle.std.proofs.Common.{◌≡◌, ℕ, ◌+◌, ◌-◌, ◌<◌, List, [], ◌∷◌, ◌++◌, length, slice_range, take, drop, Some, None, refl, sym, ap, ◌∙◌, arith, append_assoc, add_comm}
 use Rattle.std.proofs.lemmas.List.{length-append, take_at, drop_at, get_or_at, take-append-drop, drop_more, length-take-le, drop-drop}
 use Rattle.std.proofs.lemmas.List.Edits.{length-between}
-use Rattle.demangle_text.specs.declared.shape.Layout.{Layout}
-use Rattle.demangle_text.specs.declared.shape.Layout.TheVariants.{Flat, Cut}
+use Rattle.demangle_text.specs.Pieces.{Layout}
+use Rattle.demangle_text.specs.Pieces.{Flat, Cut}
 use Rattle.demangle_text.specs.Shape.{Form, Plain, Declared, form_text}
 use Rattle.demangle_text.specs.Pieces.{form_of, IsLayout}
 

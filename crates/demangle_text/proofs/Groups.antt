@@ -3,9 +3,9 @@ use Rattle.std.proofs.Common.{◌≡◌, ℕ, ◌+◌, ◌-◌, ◌≤◌, List,
 use Rattle.std.proofs.lemmas.List.{length-append, take_at, drop_at, append-nil}
 use Rattle.demangle_text.specs.declared.shape.Kind.TheVariants.{Array, Function}
 use Rattle.demangle_text.specs.declared.shape.Place.TheVariants.{Suffix}
-use Rattle.demangle_text.specs.declared.shape.Layout.{Layout}
-use Rattle.demangle_text.specs.declared.shape.Layout.TheVariants.{Flat, Cut}
-use Rattle.demangle_text.specs.declared.shape.Marks.{Marks}
+use Rattle.demangle_text.specs.Pieces.{Layout}
+use Rattle.demangle_text.specs.Pieces.{Flat, Cut}
+use Rattle.demangle_text.specs.Pieces.{Marks}
 use Rattle.demangle_text.specs.Shape.{Form, Plain, Declared, form_text, front_text, grouped, gap_after, own_in, moved, opened_form, opened_own, opened_group, IsDeclared}
 use Rattle.demangle_text.specs.Pieces.{form_of, shape_of, IsMarked, IsLayout, layout_end, place_at, layout_opened, own_at}
 use Rattle.demangle_text.proofs.Forms.{layout_for, layout_for-form_of, text-form_of}
@@ -93,7 +93,7 @@ own_at-opened bytes (Declared Function b None a) own = refl
 own_at-opened bytes (Declared Function b (Some g) a) own = refl
 
 -- how far the parts reach
-pub layout_end_within : (t : List ℕ) (l : Layout) → IsLayout t l → layout_end l ≤ length t + length t
+pub layout_end_within : (t : List ℕ) (l : Layout) → IsLayout t l → layout_end l ≤ length t
 layout_end_within t Flat h = omega arith
 layout_end_within t (Cut k None at) h = omega arith
 layout_end_within t (Cut k (Some g) at) h = omega arith

@@ -4,9 +4,9 @@ use Rattle.std.proofs.lemmas.List.{length-append, take_at, drop_at, append-nil, 
 use Rattle.demangle_text.specs.declared.shape.Kind.TheVariants.{Array, Function}
 use Rattle.demangle_text.specs.declared.shape.Place.{Place}
 use Rattle.demangle_text.specs.declared.shape.Place.TheVariants.{Start, Close, Suffix, End}
-use Rattle.demangle_text.specs.declared.shape.Layout.{Layout}
-use Rattle.demangle_text.specs.declared.shape.Layout.TheVariants.{Cut}
-use Rattle.demangle_text.specs.declared.shape.Marks.{Marks}
+use Rattle.demangle_text.specs.Pieces.{Layout}
+use Rattle.demangle_text.specs.Pieces.{Cut}
+use Rattle.demangle_text.specs.Pieces.{Marks}
 use Rattle.demangle_text.specs.Shape.{Form, Plain, Declared, Shape, form_text, grouped, own_in, moved, form_with, place_in, inserted, CanInsert}
 use Rattle.demangle_text.specs.Pieces.{form_of, shape_of, IsOwn, IsMarked, place_at, layout_with, own_at}
 use Rattle.demangle_text.proofs.Forms.{layout_for, form_of-layout_for, IsLayout-layout_for, layout_for-form_of, text-form_of, parts, closed_parts}

@@ -1,33 +1,19 @@
 -- A list of arguments, cut where the scopes begin.
 use Rattle.std.proofs.Common.{◌≡◌, ℕ, ◌+◌, ◌-◌, ◌<◌, ◌≤◌, List, [], ◌∷◌, ◌++◌, length, map, get_or, set, take, drop, slice_range, slice_get, option_map, IfSome, zero, suc, refl, sym, ap, ◌∙◌, arith}
-use Rattle.std.proofs.lemmas.List.{length-append, drop-append-le, take-append-le, drop-take, take-take, take_all, drop_all, length-drop, length-map, length-take-le, map_push, take-map, drop-map}
+use Rattle.std.proofs.lemmas.List.{length-append, drop-append-le, drop-take, take_all, drop_all, length-drop, length-map, length-take-le, map_push, take-map, drop-map}
 use Rattle.std.proofs.lemmas.List.Elements.{All-push, All-take, All-drop}
 use Rattle.std.proofs.lemmas.Option.{slice_get-map}
 use Rattle.demangle_text.specs.declared.shape.Piece.{Piece}
 use Rattle.demangle_text.specs.Shape.{Shape}
-use Rattle.demangle_text.specs.Pieces.{AreStarts, Store, IsStore, IsPiece, shape_of, span_text}
+use Rattle.demangle_text.specs.Pieces.{AreStarts, Store, IsStore, IsPiece, shape_in}
 use Rattle.demangle_text.specs.State.{IsLiving, shape, scopes, parts_at, last_args, with_arg}
-use Rattle.demangle_text.proofs.Texts.{slice_get-All}
+use Rattle.demangle_text.proofs.Texts.{part-append, part-take, slice_get-All}
 
 -- there are as many parts as places
 pub length-parts_at : {X : Type 0} (starts : List ℕ) (xs : List X) → length (parts_at starts xs) ≡ length starts
 length-parts_at [] xs = refl
 length-parts_at (s ∷ []) xs = refl
 length-parts_at (s ∷ t ∷ rest) xs = ap (λ (n : ℕ). suc n) (length-parts_at (t ∷ rest) xs)
-
--- a part of a list that goes on
-part-append : {X : Type 0} (xs ys : List X) (a b : ℕ) → a ≤ b → b ≤ length xs → slice_range (xs ++ ys) a b ≡ slice_range xs a b
-part-append xs ys a b ordered within =
-    let le : a ≤ length xs = omega arith in
-    let more : b - a ≤ length (drop a xs) = omega (arith, length-drop a xs) in
-    rw (drop-append-le a xs ys le, take-append-le (b - a) (drop a xs) ys more) refl
-
--- a part of the front of a list
-part-take : {X : Type 0} (xs : List X) (n a b : ℕ) → a ≤ b → b ≤ n → slice_range (take n xs) a b ≡ slice_range xs a b
-part-take xs n a b ordered within =
-    let m : n ≡ a + (n - a) = omega arith in
-    let le : b - a ≤ n - a = omega arith in
-    rw (m, drop-take a (n - a) xs, take-take (b - a) (n - a) (drop a xs) le) refl
 
 -- the places still fit when there are more arguments
 pub AreStarts-more : (starts : List ℕ) (n m : ℕ) → n ≤ m → AreStarts starts n → AreStarts starts m
@@ -125,11 +111,14 @@ parts_at-push (s ∷ t ∷ rest) xs x h some =
     let both : parts_at (s ∷ t ∷ rest) (xs ++ x ∷ []) ≡ slice_range xs s t ∷ with_arg x (parts_at (t ∷ rest) xs) = cc in
     both ∙ sym (with_arg-more x (slice_range xs s t) (parts_at (t ∷ rest) xs) some)
 
--- a buffer whose arguments or their places change, and whose texts and saved pieces do not
-module _ (s new : Store) (texts : new.kept_texts ≡ s.kept_texts) where
+-- a buffer whose arguments or their places change, and nothing else
+module _ (s new : Store) (main : new.main_text ≡ s.main_text) (side : new.side_text ≡ s.side_text) (frame_main : new.frame_main ≡ s.frame_main) (frame_side : new.frame_side ≡ s.frame_side) where
   shape_same : shape new ≡ shape s
   unfolding shape
-  shape_same = ap (λ (ts : List (List ℕ)). λ (p : Piece). shape_of (span_text ts p.span) p.marks) texts
+  shape_same = ap (λ (ts : List ℕ). λ (p : Piece). shape_in ts new.side_text p) main ∙ ap (λ (ts : List ℕ). λ (p : Piece). shape_in s.main_text ts p) side
+
+  frame_fits : IsStore s → (new.frame_main ≤ length new.main_text) × (new.frame_side ≤ length new.side_text)
+  frame_fits i = (rw (frame_main, main) i.main_frame, rw (frame_side, side) i.side_frame)
 
   -- the scopes, by the arguments and their places
   scopes_are : (args : List Piece) (starts : List ℕ) → new.arg_pieces ≡ args → new.scope_starts ≡ starts → scopes new ≡ parts_at starts (map (shape s) args)
@@ -145,9 +134,11 @@ module _ (s new : Store) (texts : new.kept_texts ≡ s.kept_texts) where
 
   pub IsStore-open : IsStore s → new.saved_pieces ≡ s.saved_pieces → new.arg_pieces ≡ s.arg_pieces → new.scope_starts ≡ s.scope_starts ++ length s.arg_pieces ∷ [] → IsStore new
   IsStore-open i saved args starts = record {
-    saved_lie = rw (texts, saved) i.saved_lie;
-    args_lie = rw (texts, args) i.args_lie;
+    saved_lie = rw (main, side, saved) i.saved_lie;
+    args_lie = rw (main, side, args) i.args_lie;
     starts_fit = rw (args, starts) (AreStarts-push s.scope_starts (length s.arg_pieces) i.starts_fit);
+    main_frame = (frame_fits i).0;
+    side_frame = (frame_fits i).1;
   }
 
   -- the last scope gains an argument
@@ -165,9 +156,11 @@ module _ (s new : Store) (texts : new.kept_texts ≡ s.kept_texts) where
   pub IsStore-arg : IsStore s → (p : Piece) → IsLiving s p → new.saved_pieces ≡ s.saved_pieces → new.arg_pieces ≡ s.arg_pieces ++ p ∷ [] → new.scope_starts ≡ s.scope_starts → IsStore new
   unfolding IsLiving
   IsStore-arg i p lies saved args starts = record {
-    saved_lie = rw (texts, saved) i.saved_lie;
-    args_lie = rw (texts, args) (All-push (IsPiece s.kept_texts) s.arg_pieces p i.args_lie lies);
+    saved_lie = rw (main, side, saved) i.saved_lie;
+    args_lie = rw (main, side, args) (All-push (IsPiece s.main_text s.side_text) s.arg_pieces p i.args_lie lies);
     starts_fit = rw (args, starts) (AreStarts-more s.scope_starts (length s.arg_pieces) (length (s.arg_pieces ++ p ∷ [])) (omega (arith, length-append s.arg_pieces (p ∷ []))) i.starts_fit);
+    main_frame = (frame_fits i).0;
+    side_frame = (frame_fits i).1;
   }
 
   -- the first scopes are kept
@@ -183,9 +176,11 @@ module _ (s new : Store) (texts : new.kept_texts ≡ s.kept_texts) where
       let within : from ≤ length s.arg_pieces = omega (arith, start_within s.scope_starts (length s.arg_pieces) n i.starts_fit there) in
       let m : length (take from s.arg_pieces) ≡ get_or s.scope_starts n 0 = length-take-le from s.arg_pieces within ∙ e in
       record {
-        saved_lie = rw (texts, saved) i.saved_lie;
-        args_lie = rw (texts, args) (All-take (IsPiece s.kept_texts) from s.arg_pieces i.args_lie);
+        saved_lie = rw (main, side, saved) i.saved_lie;
+        args_lie = rw (main, side, args) (All-take (IsPiece s.main_text s.side_text) from s.arg_pieces i.args_lie);
         starts_fit = rw (args, starts, m) (AreStarts-take s.scope_starts (length s.arg_pieces) n i.starts_fit there);
+        main_frame = (frame_fits i).0;
+        side_frame = (frame_fits i).1;
       }
 
 -- there are as many scopes as places
@@ -211,4 +206,4 @@ module _ (s : Store) (i n from : ℕ) (all : n ≡ length s.scope_starts) (some 
 
   pub arg_lives : IsStore s → IfSome (slice_get (drop from s.arg_pieces) i) (IsLiving s)
   unfolding IsLiving
-  arg_lives h = slice_get-All (IsPiece s.kept_texts) (drop from s.arg_pieces) i (All-drop (IsPiece s.kept_texts) from s.arg_pieces h.args_lie)
+  arg_lives h = slice_get-All (IsPiece s.main_text s.side_text) (drop from s.arg_pieces) i (All-drop (IsPiece s.main_text s.side_text) from s.arg_pieces h.args_lie)

@@ -1,69 +1,189 @@
--- What stays when texts are added to a buffer.
-use Rattle.std.proofs.Common.{◌≡◌, ℕ, List, [], ◌∷◌, ◌++◌, refl, ap, Result, Ok, Err, OnErr}
+-- What stays when a buffer's texts grow, and when the texts that it keeps lie elsewhere.
+use Rattle.std.proofs.Common.{◌≡◌, ℕ, ◌-◌, ◌<◌, ◌≤◌, Bool, true, false, List, [], ◌++◌, length, drop, slice_range, All, map, refl, sym, ap, ◌∙◌, subst, arith, Result, Ok, Err, OnErr, append_assoc, set, get_or}
+use Rattle.std.proofs.Math.Seq.{map-set_same}
+use Rattle.std.proofs.lemmas.List.Elements.{All-set, All-get_or, All-weaker}
+use Rattle.std.proofs.lemmas.List.{length-append, length-drop, append-nil, drop_at, take_all}
 use Rattle.demangle_text.specs.declared.shape.Piece.{Piece}
+use Rattle.demangle_text.specs.declared.shape.Mark.{Mark}
 use Rattle.demangle_text.specs.Shape.{text}
-use Rattle.demangle_text.specs.Pieces.{Store, IsStore, IsPiece, span_text}
-use Rattle.demangle_text.specs.State.{IsLiving, shape, saved, scopes, frame, KeepsAll, KeepsPieces, parts_at}
+use Rattle.demangle_text.specs.Pieces.{Store, IsStore, IsPiece, IsAt, IsMarked, marks_of, shape_of, shape_in, piece_text, home_bytes, Extends}
+use Rattle.demangle_text.specs.State.{IsLiving, shape, saved, scopes, frame, inside, outside, Frame, IsOlder, KeepsAll, IsEdit, Closes, Lives, parts_at}
 use Rattle.demangle_text.proofs.Forms.{text-form_of}
-use Rattle.demangle_text.proofs.Texts.{IsPiece-append, piece_shape-append, map_same}
+use Rattle.demangle_text.proofs.Texts.{part-append, map_same}
 
--- the store with more texts
-abbrev pub grown : Store → List (List ℕ) → Store
-grown s more = record s { kept_texts = s.kept_texts ++ more }
+home-grown : (main side m n : List ℕ) (h : Bool) → home_bytes (main ++ m) (side ++ n) h ≡ home_bytes main side h ++ home_bytes m n h
+home-grown main side m n false = refl
+home-grown main side m n true = refl
 
-pub kept_piece : (s : Store) (more : List (List ℕ)) → KeepsPieces s (grown s more)
-unfolding IsLiving shape
-kept_piece s more p h = record {
-  living = IsPiece-append _ more p h;
-  shape_is = piece_shape-append _ more p h;
-}
+-- the text of a piece stays when both texts grow
+module _ (main side m n : List ℕ) (p : Piece) (h : IsPiece main side p) where
+  piece_text-grown : piece_text (main ++ m) (side ++ n) p ≡ piece_text main side p
+  piece_text-grown =
+      ap (λ (t : List ℕ). slice_range t p.from_byte p.to_byte) (home-grown main side m n p.in_side)
+      ∙ part-append (home_bytes main side p.in_side) (home_bytes m n p.in_side) p.from_byte p.to_byte h.ordered h.within
 
-pub KeepsAll-grown : (s : Store) (more : List (List ℕ)) → IsStore s → KeepsAll s (grown s more)
+  pub IsPiece-grown : IsPiece (main ++ m) (side ++ n) p
+  IsPiece-grown = record {
+    ordered = h.ordered;
+    within = rw (home-grown main side m n p.in_side) (omega (arith, length-append (home_bytes main side p.in_side) (home_bytes m n p.in_side), h.within));
+    marked = rw piece_text-grown h.marked;
+  }
+
+  pub shape_in-grown : shape_in (main ++ m) (side ++ n) p ≡ shape_in main side p
+  shape_in-grown = ap (λ (t : List ℕ). shape_of t (marks_of p)) piece_text-grown
+
+-- the same when the side text goes on
+module _ (main side new : List ℕ) (e : Extends side new) where
+  shape_in-extends : (p : Piece) → IsPiece main side p → shape_in main new p ≡ shape_in main side p
+  shape_in-extends p h =
+      ap (λ (t : List ℕ). shape_in t new p) (sym (append-nil main)) ∙ ap (λ (t : List ℕ). shape_in (main ++ []) t p) e.all
+      ∙ shape_in-grown main side [] e.more p h
+
+  IsPiece-extends : (p : Piece) → IsPiece main side p → IsPiece main new p
+  IsPiece-extends p h =
+      let a = IsPiece-grown main side [] e.more p h in
+      subst (λ (t : List ℕ). IsPiece t new p) (append-nil main) (subst (λ (t : List ℕ). IsPiece (main ++ []) t p) (sym e.all) a)
+
+  pub All-extends : (ps : List Piece) → All (IsPiece main side) ps → All (IsPiece main new) ps
+  All-extends ps h = All-weaker (IsPiece main side) (IsPiece main new) IsPiece-extends ps h
+
+  pub shapes-extends : (ps : List Piece) → All (IsPiece main side) ps → map (shape_in main new) ps ≡ map (shape_in main side) ps
+  shapes-extends ps h = map_same (IsPiece main side) (shape_in main new) (shape_in main side) shape_in-extends ps h
+
+-- one piece is replaced by one of the same shape
+module _ (main side new : List ℕ) (ps : List Piece) (i : ℕ) (d q : Piece) where
+  pub replaced_lie : Extends side new → All (IsPiece main side) ps → IsPiece main new q → All (IsPiece main new) (set ps i q)
+  replaced_lie e lie h =
+      All-set (IsPiece main new) ps i q h (All-weaker (IsPiece main side) (IsPiece main new) (IsPiece-extends main side new e) ps lie)
+
+  pub replaced_shapes : i < length ps → Extends side new → All (IsPiece main side) ps → shape_in main new q ≡ shape_in main side (get_or ps i d) → map (shape_in main new) (set ps i q) ≡ map (shape_in main side) ps
+  replaced_shapes there e lie same =
+      let at = All-get_or (IsPiece main side) ps i d there lie in
+      map-set_same (shape_in main new) ps i q d (same ∙ sym (shape_in-extends main side new e (get_or ps i d) at)) ∙ shapes-extends main side new e ps lie
+
+pub Extends-trans : (a b c : List ℕ) → Extends a b → Extends b c → Extends a c
+Extends-trans a b c h k = record { more = h.more ++ k.more; all = k.all ∙ ap (λ (v : List ℕ). v ++ k.more) h.all ∙ append_assoc a h.more k.more }
+
+pub Extends-same : (a : List ℕ) → Extends a a
+Extends-same a = record { more = []; all = sym (append-nil a) }
+
+-- the store with longer texts
+abbrev grown : Store → List ℕ → List ℕ → Store
+grown s m n = record s { main_text = s.main_text ++ m; side_text = s.side_text ++ n }
+
+KeepsAll-grown : (s : Store) (m n : List ℕ) → IsStore s → KeepsAll s (grown s m n)
 unfolding IsLiving shape saved scopes frame
-KeepsAll-grown s more i =
-    let same = (λ (p : Piece) (h : IsPiece s.kept_texts p). (kept_piece s more p h).shape_is) in
+KeepsAll-grown s m n i =
+    let same = (λ (p : Piece) (h : IsPiece s.main_text s.side_text p). shape_in-grown s.main_text s.side_text m n p h) in
+    let f = shape_in (s.main_text ++ m) (s.side_text ++ n) in
+    let g = shape_in s.main_text s.side_text in
     record {
-      pieces = kept_piece s more;
+      pieces = λ p h. record { living = IsPiece-grown s.main_text s.side_text m n p h; shape_is = same p h };
       frame_same = refl;
       lists = record {
-        saved_same = map_same (IsPiece s.kept_texts) (shape (grown s more)) (shape s) same s.saved_pieces i.saved_lie;
-        scopes_same = ap (parts_at s.scope_starts) (map_same (IsPiece s.kept_texts) (shape (grown s more)) (shape s) same s.arg_pieces i.args_lie);
+        saved_same = map_same (IsPiece s.main_text s.side_text) f g same s.saved_pieces i.saved_lie;
+        scopes_same = ap (parts_at s.scope_starts) (map_same (IsPiece s.main_text s.side_text) f g same s.arg_pieces i.args_lie);
       };
     }
 
-pub IsStore-grown : (s : Store) (more : List (List ℕ)) → IsStore s → IsStore (grown s more)
-IsStore-grown s more i = record {
-  saved_lie = λ k d h. IsPiece-append s.kept_texts more _ (i.saved_lie k d h);
-  args_lie = λ k d h. IsPiece-append s.kept_texts more _ (i.args_lie k d h);
+IsStore-grown : (s : Store) (m n : List ℕ) → IsStore s → IsStore (grown s m n)
+IsStore-grown s m n i = record {
+  saved_lie = λ k d h. IsPiece-grown s.main_text s.side_text m n _ (i.saved_lie k d h);
+  args_lie = λ k d h. IsPiece-grown s.main_text s.side_text m n _ (i.args_lie k d h);
   starts_fit = i.starts_fit;
+  main_frame = omega (arith, length-append s.main_text m, i.main_frame);
+  side_frame = omega (arith, length-append s.side_text n, i.side_frame);
 }
 
--- one text is added
-pub added : (s new : Store) (t : List ℕ) → IsStore s → new.kept_texts ≡ s.kept_texts ++ t ∷ [] → new.saved_pieces ≡ s.saved_pieces → new.arg_pieces ≡ s.arg_pieces → new.scope_starts ≡ s.scope_starts → new.frame_start ≡ s.frame_start → KeepsAll s new
-added s new t i by_texts by_saved by_args by_starts by_frame =
-    let e : new ≡ grown s (t ∷ []) = λ j. record { kept_texts = by_texts j; saved_pieces = by_saved j; arg_pieces = by_args j; scope_starts = by_starts j; frame_start = by_frame j } in
-    rw e (KeepsAll-grown s (t ∷ []) i)
+-- the store with a longer main text
+abbrev pub longer : Store → List ℕ → Store
+longer s m = record s { main_text = s.main_text ++ m }
 
--- the text of a living piece is that of its span
-pub text_is : (s : Store) (p : Piece) → IsLiving s p → text (shape s p) ≡ span_text s.kept_texts p.span
-unfolding IsLiving shape
-text_is s p h = text-form_of (span_text s.kept_texts p.span) p.marks.layout h.marked.layout
+longer-is : (s : Store) (m : List ℕ) → grown s m [] ≡ longer s m
+longer-is s m = ap (λ (v : List ℕ). let t : Store = record s { main_text = s.main_text ++ m; side_text = v } in t) (append-nil s.side_text)
 
--- nothing is another
-pub unchanged : (s new : Store) → new.kept_texts ≡ s.kept_texts → new.saved_pieces ≡ s.saved_pieces → new.arg_pieces ≡ s.arg_pieces → new.scope_starts ≡ s.scope_starts → new.frame_start ≡ s.frame_start → KeepsAll s new
+pub KeepsAll-longer : (s : Store) (m : List ℕ) → IsStore s → KeepsAll s (longer s m)
+KeepsAll-longer s m i = subst (KeepsAll s) (longer-is s m) (KeepsAll-grown s m [] i)
+
+pub IsStore-longer : (s : Store) (m : List ℕ) → IsStore s → IsStore (longer s m)
+IsStore-longer s m i = subst IsStore (longer-is s m) (IsStore-grown s m [] i)
+
+-- the kept pieces may lie elsewhere, with the same shapes
+pub KeepsAll-elsewhere : (s t : Store) → t.main_text ≡ s.main_text → Extends s.side_text t.side_text
+    → map (shape_in t.main_text t.side_text) t.saved_pieces ≡ map (shape_in s.main_text s.side_text) s.saved_pieces
+    → map (shape_in t.main_text t.side_text) t.arg_pieces ≡ map (shape_in s.main_text s.side_text) s.arg_pieces
+    → t.scope_starts ≡ s.scope_starts → t.frame_main ≡ s.frame_main → t.frame_side ≡ s.frame_side → KeepsAll s t
+unfolding IsLiving shape saved scopes frame
+KeepsAll-elsewhere s t by_main by_side by_saved by_args by_starts by_frame_main by_frame_side =
+    record {
+      pieces = λ p h. record {
+        living = rw by_main (IsPiece-extends s.main_text s.side_text t.side_text by_side p h);
+        shape_is = rw by_main (shape_in-extends s.main_text s.side_text t.side_text by_side p h);
+      };
+      frame_same = cc;
+      lists = record { saved_same = by_saved; scopes_same = cc };
+    }
+
+-- a piece of the main text that ends it, by its text
+pub Lives-at_end : (s : Store) (p : Piece) (t : List ℕ) → IsAt p p.from_byte (length s.main_text) → p.from_byte ≤ length s.main_text
+    → drop p.from_byte s.main_text ≡ t → IsMarked t (marks_of p) → Lives s p (shape_of t (marks_of p))
 unfolding IsLiving shape
-unchanged s new by_texts by_saved by_args by_starts by_frame =
-    let e : new ≡ s = λ j. record { kept_texts = by_texts j; saved_pieces = by_saved j; arg_pieces = by_args j; scope_starts = by_starts j; frame_start = by_frame j } in
-    rw e (record {
-      pieces = λ p h. record { living = h; shape_is = refl };
-      frame_same = refl;
-      lists = record { saved_same = refl; scopes_same = refl };
-    })
+Lives-at_end s p t stands within is marked =
+    let home : piece_text s.main_text s.side_text p ≡ slice_range s.main_text p.from_byte p.to_byte =
+    ap (λ (h : Bool). slice_range (home_bytes s.main_text s.side_text h) p.from_byte p.to_byte) stands.in_main in
+    let here : piece_text s.main_text s.side_text p ≡ t =
+    home ∙ take_all (p.to_byte - p.from_byte) (drop p.from_byte s.main_text) (omega (arith, stands.ends, length-drop p.from_byte s.main_text)) ∙ is in
+    record {
+      living = record { ordered = omega (arith, stands.ends); within = rw stands.in_main (omega (arith, stands.ends)); marked = rw here marked };
+      shape_is = ap (λ (u : List ℕ). shape_of u (marks_of p)) here;
+    }
+
+-- the same where the main text has just grown by its text
+pub Lives-grown : (s : Store) (t : List ℕ) (p : Piece) → IsAt p (length s.main_text) (length (s.main_text ++ t)) → IsMarked t (marks_of p) → Lives (longer s t) p (shape_of t (marks_of p))
+Lives-grown s t p stands marked =
+    let there : IsAt p p.from_byte (length (s.main_text ++ t)) = record { in_main = stands.in_main; begins = refl; ends = stands.ends } in
+    Lives-at_end (longer s t) p t there (omega (arith, stands.begins, length-append s.main_text t)) (drop_at s.main_text t p.from_byte (sym stands.begins)) marked
+
+-- a mark is closed after an edit inside it
+pub Closes-edit : (s t : Store) (m : Mark) → frame s ≡ inside m → IsEdit s t → Closes s (record t { frame_main = m.outside_main; frame_side = m.outside_side }) m
+unfolding IsLiving shape saved scopes frame outside Frame
+Closes-edit s t m innermost e = record {
+  pieces = λ p h o.
+      let k = e.pieces p h (subst (IsOlder p) (sym innermost) o) in
+      record { living = k.living; shape_is = k.shape_is };
+  outside_is = refl;
+  lists = record { saved_same = e.lists.saved_same; scopes_same = e.lists.scopes_same };
+}
 
 -- a fact at the exit of a `?`
 pub on_err_from : {T E Q : Type 0} (r : Result T E) → Q → OnErr r Q
 on_err_from (Ok x) q = tt
 on_err_from (Err e) q = q
 
+-- the text of a living piece is that of its bytes
+pub text_is : (s : Store) (p : Piece) → IsLiving s p → text (shape s p) ≡ piece_text s.main_text s.side_text p
+unfolding IsLiving shape
+text_is s p h = text-form_of (piece_text s.main_text s.side_text p) (marks_of p).layout h.marked.layout
+
+-- the same as it was
+pub unchanged : (s new : Store) → new.main_text ≡ s.main_text → new.side_text ≡ s.side_text → new.saved_pieces ≡ s.saved_pieces → new.arg_pieces ≡ s.arg_pieces
+    → new.scope_starts ≡ s.scope_starts → new.frame_main ≡ s.frame_main → new.frame_side ≡ s.frame_side → KeepsAll s new
+unfolding IsLiving shape
+unchanged s new by_main by_side by_saved by_args by_starts by_frame_main by_frame_side =
+    let e : new ≡ s = λ j. record {
+      main_text = by_main j;
+      side_text = by_side j;
+      saved_pieces = by_saved j;
+      arg_pieces = by_args j;
+      scope_starts = by_starts j;
+      frame_main = by_frame_main j;
+      frame_side = by_frame_side j;
+    } in
+    rw e (record {
+      pieces = λ p h. record { living = h; shape_is = refl };
+      frame_same = refl;
+      lists = record { saved_same = refl; scopes_same = refl };
+    })
+
 -- the lemmas for the calls of a buffer
-pub ruleset states = (added, unchanged, IsStore-grown, text-form_of)
+pub ruleset states = (KeepsAll-longer, IsStore-longer, text-form_of, unchanged)

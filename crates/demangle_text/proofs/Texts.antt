@@ -1,38 +1,21 @@
--- Texts that are added leave the pieces as they were.
-use Rattle.std.proofs.Common.{◌≡◌, ℕ, ◌+◌, ◌-◌, ◌<◌, ◌≤◌, List, [], ◌∷◌, ◌++◌, length, take, drop, All, map, slice_get, IfSome, zero, suc, refl, ap, arith}
-use Rattle.std.proofs.lemmas.List.{get_or_append_left, length-append, drop-take, take-take, drop-drop}
+-- Parts of a text that grows or is moved.
+use Rattle.std.proofs.Common.{◌≡◌, ℕ, ◌+◌, ◌-◌, ◌≤◌, List, [], ◌∷◌, ◌++◌, length, take, drop, slice_range, All, map, slice_get, IfSome, zero, suc, refl, sym, ap, ◌∙◌, arith}
+use Rattle.std.proofs.lemmas.List.{drop-take, take-take, drop-drop, drop-append-le, take-append-le, length-take-le, take-append-drop, length-drop}
 use Rattle.std.proofs.lemmas.List.Elements.{All-head, All-tail}
-use Rattle.demangle_text.specs.declared.shape.Piece.{Piece}
-use Rattle.demangle_text.specs.declared.shape.Span.{Span}
-use Rattle.demangle_text.specs.Shape.{Shape}
-use Rattle.demangle_text.specs.Pieces.{IsPiece, shape_of, span_text}
 
--- the text of a span that lies in the texts stays
-pub span_text-append : (ts us : List (List ℕ)) (s : Span) → s.text < length ts → span_text (ts ++ us) s ≡ span_text ts s
-span_text-append ts us s h = ap (λ (t : List ℕ). take (s.to - s.from) (drop s.from t)) (get_or_append_left ts us [] s.text h)
+-- a part of a list that goes on
+pub part-append : {X : Type 0} (xs ys : List X) (a b : ℕ) → a ≤ b → b ≤ length xs → slice_range (xs ++ ys) a b ≡ slice_range xs a b
+part-append xs ys a b ordered within =
+    let le : a ≤ length xs = omega arith in
+    let more : b - a ≤ length (drop a xs) = omega (arith, length-drop a xs) in
+    rw (drop-append-le a xs ys le, take-append-le (b - a) (drop a xs) ys more) refl
 
--- a piece stays a piece
-pub IsPiece-append : (ts us : List (List ℕ)) (p : Piece) → IsPiece ts p → IsPiece (ts ++ us) p
-IsPiece-append ts us p h =
-    let there : p.span.text < length ts = h.there in
-    record {
-      there = omega (arith, length-append ts us);
-      ordered = h.ordered;
-      within = rw (get_or_append_left ts us [] p.span.text there) h.within;
-      marked = rw (span_text-append ts us p.span there) h.marked;
-    }
-
--- the shape of a piece
-abbrev pub piece_shape : List (List ℕ) → Piece → Shape
-piece_shape ts p = shape_of (span_text ts p.span) p.marks
-
-pub piece_shape-append : (ts us : List (List ℕ)) (p : Piece) → IsPiece ts p → piece_shape (ts ++ us) p ≡ piece_shape ts p
-piece_shape-append ts us p h = ap (λ (t : List ℕ). shape_of t p.marks) (span_text-append ts us p.span h.there)
-
--- functions that agree at each element
-pub map_same : {X Y : Type 0} (P : X → Type 0) (f g : X → Y) → ((x : X) → P x → f x ≡ g x) → (xs : List X) → All P xs → map f xs ≡ map g xs
-map_same P f g e [] h = refl
-map_same P f g e (x ∷ xs) h = cc (e x (All-head P x xs h), map_same P f g e xs (All-tail P x xs h))
+-- a part of the front of a list
+pub part-take : {X : Type 0} (xs : List X) (n a b : ℕ) → a ≤ b → b ≤ n → slice_range (take n xs) a b ≡ slice_range xs a b
+part-take xs n a b ordered within =
+    let m : n ≡ a + (n - a) = omega arith in
+    let le : b - a ≤ n - a = omega arith in
+    rw (m, drop-take a (n - a) xs, take-take (b - a) (n - a) (drop a xs) le) refl
 
 -- a part of a part
 pub part-part : (t : List ℕ) (from to a b : ℕ) → a ≤ b → from + b ≤ to → take (from + b - (from + a)) (drop (from + a) t) ≡ take (b - a) (drop a (take (to - from) (drop from t)))
@@ -42,6 +25,39 @@ part-part t from to a b ordered within =
     let k : from + b - (from + a) ≡ b - a = omega arith in
     let le : b - a ≤ m = omega arith in
     rw (n, drop-take a m (drop from t), take-take (b - a) m (drop a (drop from t)) le, drop-drop a from t, k) refl
+
+-- a part that lies below a place by which two texts agree
+pub part-below : (t u : List ℕ) (low a b : ℕ) → a ≤ b → b ≤ low → low ≤ length t → low ≤ length u → take low u ≡ take low t → slice_range u a b ≡ slice_range t a b
+part-below t u low a b ordered within lt lu e =
+    let n = length-take-le low t lt in
+    let m = length-take-le low u lu in
+    let one : slice_range u a b ≡ slice_range (take low u) a b = ap (λ (v : List ℕ). slice_range v a b) (sym (take-append-drop low u)) ∙ part-append (take low u) (drop low u) a b ordered (omega arith) in
+    let two : slice_range t a b ≡ slice_range (take low t) a b = ap (λ (v : List ℕ). slice_range v a b) (sym (take-append-drop low t)) ∙ part-append (take low t) (drop low t) a b ordered (omega arith) in
+    one ∙ ap (λ (v : List ℕ). slice_range v a b) e ∙ sym two
+
+-- a block of a text lies elsewhere in another, which begins with the same bytes
+pub record Moves (old new : List ℕ) (low from to dest : ℕ) : Type 0 where
+  pub low_old : low ≤ length old
+  pub low_new : low ≤ length new
+  pub below : take low new ≡ take low old
+  pub ordered : from ≤ to
+  pub within_old : to ≤ length old
+  pub within_new : dest + (to - from) ≤ length new
+  pub block : slice_range new dest (dest + (to - from)) ≡ slice_range old from to
+
+-- a part of the block
+pub part-moved : (old new : List ℕ) (low from to dest a b : ℕ) → Moves old new low from to dest → a ≤ b → from ≤ a → b ≤ to → slice_range new (dest + (a - from)) (dest + (b - from)) ≡ slice_range old a b
+part-moved old new low from to dest a b m ordered starts ends =
+    let one = part-part new dest (dest + (to - from)) (a - from) (b - from) (omega arith) (omega arith) in
+    let two = part-part old from to (a - from) (b - from) (omega arith) (omega arith) in
+    let x : from + (a - from) ≡ a = omega arith in
+    let y : from + (b - from) ≡ b = omega arith in
+    one ∙ ap (λ (v : List ℕ). slice_range v (a - from) (b - from)) m.block ∙ sym two ∙ ap (λ (i : ℕ). take (from + (b - from) - i) (drop i old)) x ∙ ap (λ (j : ℕ). take (j - a) (drop a old)) y
+
+-- functions that agree at each element
+pub map_same : {X Y : Type 0} (P : X → Type 0) (f g : X → Y) → ((x : X) → P x → f x ≡ g x) → (xs : List X) → All P xs → map f xs ≡ map g xs
+map_same P f g e [] h = refl
+map_same P f g e (x ∷ xs) h = cc (e x (All-head P x xs h), map_same P f g e xs (All-tail P x xs h))
 
 -- an element that is there has what all have
 pub slice_get-All : {X : Type 0} (P : X → Type 0) (xs : List X) (i : ℕ) → All P xs → IfSome (slice_get xs i) P

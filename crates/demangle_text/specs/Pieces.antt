@@ -1,16 +1,40 @@
--- How a piece lies in a list of texts.
-use Rattle.std.specs.Prelude.{◌≡◌, ℕ, min, false, ◌+◌, ◌-◌, ◌<◌, ◌≤◌, List, [], ◌∷◌, length, take, drop, slice_range}
-use Rattle.std.specs.Prelude.{slice_index, slice_index_or, Some, None, All}
+-- How a piece lies in the two texts of a buffer.
+use Rattle.std.specs.Prelude.{◌≡◌, ℕ, Bool, min, max, true, false, ◌+◌, ◌-◌, ◌<◌, ◌≤◌, List, [], ◌∷◌, ◌++◌, length}
+use Rattle.std.specs.Prelude.{take, drop, slice_range, slice_index, nat_le, Option, Some, None, All, map}
 use Rattle.demangle_text.specs.declared.shape.Kind.{Kind}
 use Rattle.demangle_text.specs.declared.shape.Kind.TheVariants.{Array, Function}
 use Rattle.demangle_text.specs.declared.shape.Place.{Place}
 use Rattle.demangle_text.specs.declared.shape.Place.TheVariants.{Start, Close, Suffix, End}
-use Rattle.demangle_text.specs.declared.shape.Layout.{Layout}
-use Rattle.demangle_text.specs.declared.shape.Layout.TheVariants.{Flat, Cut}
-use Rattle.demangle_text.specs.declared.shape.Marks.{Marks}
-use Rattle.demangle_text.specs.declared.shape.Span.{Span}
 use Rattle.demangle_text.specs.declared.shape.Piece.{Piece}
 use Rattle.demangle_text.specs.Shape.{Form, Plain, Declared, Shape}
+
+-- how a text is cut
+pub data Layout : Type 0 where
+  -- not at all
+  Flat : Layout
+  -- a declarator: where the `(` of its group stands, if there is one, and where `after` begins
+  Cut : Kind → Option ℕ → ℕ → Layout
+
+-- what a text stands for, by places in it
+pub record Marks : Type 0 where
+  pub layout : Layout
+  pub own : ℕ × ℕ
+  pub templ : Bool
+  pub ctor : Bool
+
+-- the layout of a piece that declares this
+abbrev pub layout_by : Option Kind → Option ℕ → ℕ → Layout
+layout_by None group at = Flat
+layout_by (Some kind) group at = Cut kind group at
+
+-- what the text of a piece stands for
+abbrev pub marks_of : Piece → Marks
+marks_of p = record {
+  layout = layout_by p.declares p.group_start p.after_start;
+  own = (p.own_start, p.own_end);
+  templ = p.is_templ;
+  ctor = p.is_ctor;
+}
 
 -- the form that a layout cuts out of a text
 abbrev pub form_of : List ℕ → Layout → Form
@@ -79,7 +103,7 @@ layout_opened n m (Cut kind group at) = Cut kind (Some (at + n - m)) (at + n)
 abbrev pub layout_end : Layout → ℕ
 layout_end Flat = 0
 layout_end (Cut kind None at) = at
-layout_end (Cut kind (Some group) at) = group + at
+layout_end (Cut kind (Some group) at) = max group at
 
 -- the last own name of a declarator whose text has this length
 abbrev pub own_of : Kind → ℕ → ℕ × ℕ → ℕ × ℕ
@@ -91,16 +115,30 @@ abbrev pub own_at : Layout → ℕ → ℕ × ℕ → ℕ × ℕ
 own_at Flat len own = own
 own_at (Cut kind group at) len own = own_of kind len own
 
--- the text of a span
-abbrev pub span_text : List (List ℕ) → Span → List ℕ
-span_text ts s = slice_range (slice_index_or ts s.text []) s.from s.to
+-- the text in which a piece lies
+abbrev pub home_bytes : List ℕ → List ℕ → Bool → List ℕ
+home_bytes main side false = main
+home_bytes main side true = side
 
--- the piece lies in the texts
-pub record IsPiece (ts : List (List ℕ)) (p : Piece) : Type 0 where
-  pub there : p.span.text < length ts
-  pub ordered : p.span.from ≤ p.span.to
-  pub within : p.span.to ≤ length (slice_index_or ts p.span.text [])
-  pub marked : IsMarked (span_text ts p.span) p.marks
+-- the text of a piece
+abbrev pub piece_text : List ℕ → List ℕ → Piece → List ℕ
+piece_text main side p = slice_range (home_bytes main side p.in_side) p.from_byte p.to_byte
+
+-- the piece lies in the two texts
+pub record IsPiece (main side : List ℕ) (p : Piece) : Type 0 where
+  pub ordered : p.from_byte ≤ p.to_byte
+  pub within : p.to_byte ≤ length (home_bytes main side p.in_side)
+  pub marked : IsMarked (piece_text main side p) (marks_of p)
+
+-- the shape of a piece
+abbrev pub shape_in : List ℕ → List ℕ → Piece → Shape
+shape_in main side p = shape_of (piece_text main side p) (marks_of p)
+
+-- the piece lies in the main text, at these bytes
+pub record IsAt (p : Piece) (from to : ℕ) : Type 0 where
+  pub in_main : p.in_side ≡ false
+  pub begins : p.from_byte ≡ from
+  pub ends : p.to_byte ≡ to
 
 -- where the lists of arguments begin: in order, and none past the last argument
 abbrev pub AreStarts : List ℕ → ℕ → Type 0
@@ -108,17 +146,95 @@ AreStarts [] count = Unit {0}
 AreStarts (start ∷ []) count = start ≤ count
 AreStarts (start ∷ next ∷ rest) count = (start ≤ next) × AreStarts (next ∷ rest) count
 
--- what a buffer keeps: its texts, the saved pieces, the arguments of all scopes with the places where
--- the scopes begin, and how many texts are older than the innermost mark
+-- what a buffer keeps: its two texts, the saved pieces, the arguments of all scopes with the places
+-- where the scopes begin, and how long the texts were at the innermost mark
 pub record Store : Type 0 where
-  pub kept_texts : List (List ℕ)
+  pub main_text : List ℕ
+  pub side_text : List ℕ
   pub saved_pieces : List Piece
   pub arg_pieces : List Piece
   pub scope_starts : List ℕ
-  pub frame_start : ℕ
+  pub frame_main : ℕ
+  pub frame_side : ℕ
 
 -- what is kept lies in the texts
 pub record IsStore (s : Store) : Type 0 where
-  pub saved_lie : All (IsPiece s.kept_texts) s.saved_pieces
-  pub args_lie : All (IsPiece s.kept_texts) s.arg_pieces
+  pub saved_lie : All (IsPiece s.main_text s.side_text) s.saved_pieces
+  pub args_lie : All (IsPiece s.main_text s.side_text) s.arg_pieces
   pub starts_fit : AreStarts s.scope_starts (length s.arg_pieces)
+  pub main_frame : s.frame_main ≤ length s.main_text
+  pub side_frame : s.frame_side ≤ length s.side_text
+
+-- the piece lies in the main text, from the innermost mark or later up to the end
+pub record IsTail (s : Store) (p : Piece) : Type 0 where
+  pub in_main : p.in_side ≡ false
+  pub inner : s.frame_main ≤ p.from_byte
+  pub ends : p.to_byte ≡ length s.main_text
+
+-- the text begins with the other
+pub record Extends (old new : List ℕ) : Type 0 where
+  pub more : List ℕ
+  pub all : new ≡ old ++ more
+
+-- a piece in the main text ends by `low`, or lies in the block from `from` to `to`
+abbrev pub IsApart : ℕ → ℕ → ℕ → Piece → Type 0
+IsApart low from to p = p.in_side ≡ false → low < p.to_byte → (from ≤ p.from_byte) × (p.to_byte ≤ to)
+
+-- both lists keep their shapes while texts of theirs are put at the end of the side text
+pub record IsAside (main old_side new_side : List ℕ) (old_saved new_saved old_args new_args : List Piece) : Type 0 where
+  pub side : Extends old_side new_side
+  pub saved_lie : All (IsPiece main new_side) new_saved
+  pub args_lie : All (IsPiece main new_side) new_args
+  pub saved_shapes : map (shape_in main new_side) new_saved ≡ map (shape_in main old_side) old_saved
+  pub args_shapes : map (shape_in main new_side) new_args ≡ map (shape_in main old_side) old_args
+  pub args_long : length new_args ≡ length old_args
+
+-- the piece lies in the side text, or ends by a byte of the main text
+abbrev pub EndsBy : ℕ → Piece → Type 0
+EndsBy end p = p.in_side ≡ false → p.to_byte ≤ end
+
+-- the first pieces of a list are there, and end by a byte
+pub record IsBounded (pieces : List Piece) (count end : ℕ) : Type 0 where
+  pub within : count ≤ length pieces
+  pub ends : All (EndsBy end) (take count pieces)
+
+-- where a place lies after the block that begins at `from` was moved to `dest`: what ends by `low` stays
+abbrev pub carried_from : Bool → Bool → ℕ → ℕ → ℕ → ℕ
+carried_from true ends from dest at = at
+carried_from false true from dest at = at
+carried_from false false from dest at = dest + (at - from)
+
+-- the piece after that move
+abbrev pub carried : ℕ → ℕ → ℕ → Piece → Piece
+carried low from dest p =
+    let ends = nat_le p.to_byte low in
+    record p {
+      from_byte = carried_from p.in_side ends from dest p.from_byte;
+      to_byte = carried_from p.in_side ends from dest p.to_byte;
+    }
+
+-- the second piece begins where the first ends, and both lie in the main text, from the innermost mark up to the end
+pub record IsAdjacent (s : Store) (first second : Piece) : Type 0 where
+  pub first_in_main : first.in_side ≡ false
+  pub second_in_main : second.in_side ≡ false
+  pub inner : s.frame_main ≤ first.from_byte
+  pub meets : first.to_byte ≡ second.from_byte
+  pub ends : second.to_byte ≡ length s.main_text
+
+-- the main text ends in the text of the piece with bytes at a place of it, from a byte on: a piece at the end stayed
+pub record IsSplice (old new : Store) (p : Piece) (at : ℕ) (bytes : List ℕ) (from : ℕ) : Type 0 where
+  pub within : from ≤ length new.main_text
+  pub text : drop from new.main_text
+      ≡ take at (piece_text old.main_text old.side_text p)
+      ++ (bytes ++ drop at (piece_text old.main_text old.side_text p))
+  pub front : take old.frame_main new.main_text ≡ take old.frame_main old.main_text
+  pub in_place : IsTail old p → (from ≡ p.from_byte) × (length new.main_text ≡ length old.main_text + length bytes)
+
+-- the main text ends in both texts with bytes between them, from a byte on: adjacent pieces at the end stayed
+pub record IsJoint (old new : Store) (first : Piece) (bytes : List ℕ) (second : Piece) (from : ℕ) : Type 0 where
+  pub within : from ≤ length new.main_text
+  pub text : drop from new.main_text
+      ≡ piece_text old.main_text old.side_text first ++ bytes ++ piece_text old.main_text old.side_text second
+  pub front : take old.frame_main new.main_text ≡ take old.frame_main old.main_text
+  pub in_place : IsAdjacent old first second
+      → (from ≡ first.from_byte) × (length new.main_text ≡ length old.main_text + length bytes)

@@ -1,18 +1,18 @@
 -- What a buffer is to its callers: the shapes of its pieces, its frames, its saved shapes and its scopes.
-use Rattle.std.specs.Prelude.{◌≡◌, ℕ, ◌<◌, List, [], ◌∷◌, ◌++◌, ◌-◌, length, drop, slice_range, slice_index_or}
-use Rattle.std.specs.Prelude.{slice_set, map}
+use Rattle.std.specs.Prelude.{◌≡◌, ℕ, ◌≤◌, Bool, true, false, List, [], ◌∷◌, ◌++◌, ◌+◌, ◌-◌, length, take, drop}
+use Rattle.std.specs.Prelude.{slice_range, slice_index_or, slice_set, map}
 use Rattle.demangle_text.specs.Shape.{Shape}
-use Rattle.demangle_text.specs.Pieces.{Store, IsPiece, shape_of, span_text}
+use Rattle.demangle_text.specs.Pieces.{Store, IsPiece, IsAt, shape_in}
 use Rattle.demangle_text.specs.declared.shape.Piece.{Piece}
 use Rattle.demangle_text.specs.declared.shape.Mark.{Mark}
 
 -- the piece lives in the buffer
 unfoldable pub IsLiving : Store → Piece → Type 0
-IsLiving b p = IsPiece b.kept_texts p
+IsLiving b p = IsPiece b.main_text b.side_text p
 
 -- the shape that a living piece stands for
 unfoldable pub shape : Store → Piece → Shape
-shape b p = shape_of (span_text b.kept_texts p.span) p.marks
+shape b p = shape_in b.main_text b.side_text p
 
 -- the saved shapes, the first one saved first
 unfoldable pub saved : Store → List Shape
@@ -28,33 +28,51 @@ parts_at (start ∷ next ∷ rest) xs = slice_range xs start next ∷ parts_at (
 unfoldable pub scopes : Store → List (List Shape)
 scopes b = parts_at b.scope_starts (map (shape b) b.arg_pieces)
 
+-- the bytes of the main text
+unfoldable pub main_bytes : Store → List ℕ
+main_bytes b = b.main_text
+
+-- the piece stands at these bytes of the main text, from the first one up to the second
+unfoldable pub Stands : Piece → ℕ → ℕ → Type 0
+Stands p from to = IsAt p from to
+
 -- a frame is the stretch of calls from one mark to the next
 unfoldable pub Frame : Type 0
-Frame = ℕ
+Frame = ℕ × ℕ
 
 -- the frame of a buffer with no open mark
 unfoldable pub outermost : Frame
 unfolding Frame
-outermost = 0
+outermost = (0, 0)
 
 -- the frame inside the innermost open mark
 unfoldable pub frame : Store → Frame
 unfolding Frame
-frame b = b.frame_start
+frame b = (b.frame_main, b.frame_side)
 
 -- the frame inside a mark, and the one outside it
 unfoldable pub inside : Mark → Frame
 unfolding Frame
-inside m = m.inside_start
+inside m = (m.inside_main, m.inside_side)
 
 unfoldable pub outside : Mark → Frame
 unfolding Frame
-outside m = m.outside_start
+outside m = (m.outside_main, m.outside_side)
+
+-- the byte of the main text at which a frame begins
+unfoldable pub frame_start : Frame → ℕ
+unfolding Frame
+frame_start f = f.0
+
+-- a place of one of the two texts lies before the frame
+abbrev pub IsBelow : ℕ × ℕ → Bool → ℕ → Type 0
+IsBelow f false n = n ≤ f.0
+IsBelow f true n = n ≤ f.1
 
 -- the piece was made before the frame began
 unfoldable pub IsOlder : Piece → Frame → Type 0
 unfolding Frame
-IsOlder p f = p.span.text < f
+IsOlder p f = IsBelow f p.in_side p.to_byte
 
 -- what is answered for a piece was made when the piece was
 unfoldable pub IsAsOld : Piece → Piece → Type 0
@@ -120,6 +138,32 @@ pub record Closes (old new : Store) (m : Mark) : Type 0 where
   pub pieces : KeepsOlder (inside m) old new
   pub outside_is : frame new ≡ outside m
   pub lists : SameLists old new
+
+-- no byte of the main text before the innermost mark changes
+abbrev pub KeepsFront : Store → Store → Type 0
+KeepsFront old new = take (frame_start (frame old)) (main_bytes new) ≡ take (frame_start (frame old)) (main_bytes old)
+
+-- an edit of a piece, which puts n bytes into its text: the answer stands up to the end of the main text; a piece
+-- that stands there, from the innermost mark or later, keeps its start, and the main text grows as its text does
+pub record IsEditOf (old new : Store) (piece answer : Piece) (n : ℕ) : Type 0 where
+  pub front : KeepsFront old new
+  pub ends : (at : ℕ) × Stands answer at (length (main_bytes new))
+  pub in_place : (at : ℕ) → frame_start (frame old) ≤ at → Stands piece at (length (main_bytes old))
+      → Stands answer at (length (main_bytes new)) × (length (main_bytes new) ≡ length (main_bytes old) + n)
+
+-- both pieces in one, with n bytes between them: the answer stands up to the end of the main text; where the second
+-- begins at the end of the first and stands up to that end, and the first stands from the innermost mark or later, the
+-- start of the first stays, and the main text grows by n bytes
+pub record IsJoinOf (old new : Store) (first second answer : Piece) (n : ℕ) : Type 0 where
+  pub front : KeepsFront old new
+  pub ends : (at : ℕ) × Stands answer at (length (main_bytes new))
+  pub in_place : (from middle : ℕ) → frame_start (frame old) ≤ from → Stands first from middle
+      → Stands second middle (length (main_bytes old))
+      → Stands answer from (length (main_bytes new)) × (length (main_bytes new) ≡ length (main_bytes old) + n)
+
+-- what is answered for a piece stands where the piece does
+abbrev pub StandsAs : Piece → Piece → Type 0
+StandsAs p q = (from to : ℕ) → Stands p from to → Stands q from to
 
 -- the arguments of the last scope
 abbrev pub last_args : List (List Shape) → List Shape

@@ -1,16 +1,17 @@
 -- What a buffer's fields mean.
-use Rattle.std.specs.Prelude.{map}
 use Rattle.demangle_text.specs.declared.buffer.Buffer.TheInside.{Inside}
 use Rattle.demangle_text.specs.Pieces.{Store, IsStore}
 
 -- the storage that the fields hold
 abbrev pub store_of : Inside → Store
 store_of a = record {
-  kept_texts = map (λ v. v.items) a.texts.items;
-  saved_pieces = a.saved.items;
-  arg_pieces = a.args.items;
+  main_text = a.main;
+  side_text = a.side;
+  saved_pieces = a.saved;
+  arg_pieces = a.args;
   scope_starts = a.starts.items;
-  frame_start = a.frame;
+  frame_main = a.frame_main;
+  frame_side = a.frame_side;
 }
 
 -- what holds of the fields between calls

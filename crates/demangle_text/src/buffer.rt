@@ -1,9 +1,14 @@
-//! A buffer of pieces, each a text of its own.
+//! A buffer of pieces over one main text and one side text.
 ghost use Rattle.std.specs.Prelude.{◌≡◌, ℕ, ◌+◌, ◌-◌, ◌<◌, ◌≤◌, [], ◌∷◌, ◌++◌, length, take, drop, if◌then◌else◌, IfOk};
-ghost use Rattle.std.specs.Prelude.{OnOk, OnErr, IfSome, Some, option_map, slice_get, slice_index, is_some};
+ghost use Rattle.std.specs.Prelude.{OnOk, OnErr, IfSome, Some, true, option_map, slice_get, slice_range, slice_index};
+ghost use Rattle.std.specs.Prelude.{is_some};
 ghost use Rattle.demangle_text.specs.Shape.{gap_after, grouped};
 
-use crate::shape::{Kind, Layout, Mark, Marks, Piece, Place, Span};
+use crate::moves::{carry, set_apart};
+use crate::parts::{add_joined, add_part, add_spliced};
+use crate::ranges::Ranges;
+use crate::shape::{Kind, Mark, Piece, Place};
+use crate::text::Text;
 use std::alloc::{AllocError, Global};
 use std::marker::Model;
 
@@ -11,14 +16,16 @@ use std::marker::Model;
 #[derive(Drop)]
 pub struct Buffer {
     alloc: Global,
-    // The text of each piece, which stays until `clear`.
-    texts: Vec<Vec<u8>>,
-    saved: Vec<Piece>,
+    // The texts of pieces: what is made stands in the main text, and what a move would tear in the side text.
+    main: Text,
+    side: Text,
+    saved: Ranges,
     // The arguments of all scopes, and where those of each scope begin.
-    args: Vec<Piece>,
+    args: Ranges,
     starts: Vec<usize>,
-    // How many texts are older than the innermost mark.
-    frame: usize,
+    // How long both texts were at the innermost mark.
+    frame_main: usize,
+    frame_side: usize,
 }
 
 impl Model for Buffer {
@@ -38,6 +45,8 @@ impl Model for Buffer {
 using(crate::proofs::States::states), unfolding(
 // Pieces.
 crate::specs::State::IsLiving, crate::specs::State::shape,
+// Where they stand.
+crate::specs::State::main_bytes, crate::specs::State::Stands, crate::specs::State::frame_start,
 // How old they are.
 crate::specs::State::frame, crate::specs::State::outermost, crate::specs::State::IsOlder, crate::specs::State::IsAsOld,
 // Marks.
@@ -47,157 +56,357 @@ crate::specs::State::saved, crate::specs::State::scopes,),)]
 impl Buffer {
     ghost use Rattle.demangle_text.specs.State.{IsLiving, shape, saved, scopes, frame, inside, outside, outermost};
     ghost use Rattle.demangle_text.specs.State.{Lives, KeepsAll, SameFrame, SameLists, IsEdit, Opens, Closes};
-    ghost use Rattle.demangle_text.specs.State.{last_args, with_arg, IsAsOld};
+    ghost use Rattle.demangle_text.specs.State.{last_args, with_arg, IsAsOld, main_bytes, Stands, StandsAs};
+    ghost use Rattle.demangle_text.specs.State.{frame_start, KeepsFront, IsEditOf, IsJoinOf};
     ghost use Rattle.demangle_text.specs.Shape.{text, text_len, form_text, plain_shape, inserted, appended};
     ghost use Rattle.demangle_text.specs.Shape.{opened_group, joined, shortened, CanInsert, IsPlain, IsDeclared};
     ghost use Rattle.demangle_text.specs.Shape.{flagged, with_own, flattened, whole_shape, own_shape, IsNotFunction};
     ghost use Rattle.demangle_text.specs.Shape.{kind_of, group_of, after_of, declared_at, declared_group};
-    ghost use Rattle.demangle_text.specs.Pieces.{IsMarked, shape_of};
+    ghost use Rattle.demangle_text.specs.Pieces.{IsTail, IsSplice, IsAdjacent, IsJoint, piece_text};
 
     /// An empty buffer, with no mark open. It takes no memory.
     pub fn new(alloc: Global) -> Self
         ensures no_saved { saved result ≡ [] }
         ensures no_scopes { scopes result ≡ [] }
         ensures no_mark { frame result ≡ outermost }
+        ensures no_bytes { main_bytes result ≡ [] }
     {
         Buffer {
             alloc,
-            texts: Vec::new(alloc),
-            saved: Vec::new(alloc),
-            args: Vec::new(alloc),
+            main: Text::new(alloc),
+            side: Text::new(alloc),
+            saved: Ranges::new(alloc),
+            args: Ranges::new(alloc),
             starts: Vec::new(alloc),
-            frame: 0,
+            frame_main: 0,
+            frame_side: 0,
         }
     }
 
-    /// Ends all pieces and marks: nothing is saved, no scope and no mark is open. What was reserved
-    /// may stay.
+    /// Ends all pieces and marks: nothing is saved, no scope and no mark is open, and the main text
+    /// is empty. What was reserved stays.
     pub fn clear(&mut self)
         ensures no_saved { saved self.new ≡ [] }
         ensures no_scopes { scopes self.new ≡ [] }
         ensures no_mark { frame self.new ≡ outermost }
+        ensures no_bytes { main_bytes self.new ≡ [] }
     {
         self.saved.clear();
         self.args.clear();
         self.starts.clear();
-        self.texts.clear();
-        self.frame = 0;
+        self.main.clear();
+        self.side.clear();
+        self.frame_main = 0;
+        self.frame_side = 0;
     }
 
-    /// Opens a mark, which is the innermost one then. All living pieces are older than it.
+    /// Opens a mark, which is the innermost one then, at the end of the main text. All living
+    /// pieces are older than it.
+    #[inline(always)]
     pub fn open(&mut self) -> Mark
         ensures opens { Opens self.old self.new result }
+        ensures main { main_bytes self.new ≡ main_bytes self.old }
+        ensures mark { frame_start (inside result) ≡ length (main_bytes self.old) }
     {
         let mark = Mark {
-            inside_start: self.texts.len(),
-            outside_start: self.frame,
+            inside_main: self.main.len(),
+            inside_side: self.side.len(),
+            outside_main: self.frame_main,
+            outside_side: self.frame_side,
         };
-        self.frame = mark.inside_start;
+        self.frame_main = mark.inside_main;
+        self.frame_side = mark.inside_side;
         mark
     }
 
-    /// Takes the innermost mark back: the piece, with its shape, becomes all text since the mark,
-    /// and counts as made under the mark outside. The other pieces made since the mark end. After
-    /// `AllocError`, `clear` is the only call that is promised.
+    /// Takes the innermost mark back: the piece, with its shape, becomes all of the main text since
+    /// the mark, and counts as made under the mark outside. The other pieces made since the mark
+    /// end. After `AllocError`, `clear` is the only call that is promised.
+    #[inline(always)]
     pub fn close(&mut self, mark: Mark, piece: Piece) -> Result<Piece, AllocError>
         requires innermost { frame self.old ≡ inside mark }
         requires living { IsLiving self.old piece }
         ensures shape { IfOk result (λ p. Lives self.new p (shape self.old piece)) }
         ensures closed { OnOk result (Closes self.old self.new mark) }
+        ensures main { OnOk result (main_bytes self.new
+            ≡ take (frame_start (inside mark)) (main_bytes self.old) ++ text (shape self.old piece)) }
+        ensures stands { IfOk result (λ p. Stands p (frame_start (inside mark)) (length (main_bytes self.new))) }
     {
-        self.frame = mark.outside_start;
-        Ok(piece)
+        let at = mark.inside_main;
+        self.settle(at, piece)?;
+        self.frame_main = mark.outside_main;
+        self.frame_side = mark.outside_side;
+        Ok(piece.moved_to(at, self.main.len()))
     }
 
-    // Keeps a text of its own.
-    fn add(&mut self, text: Vec<u8>, marks: Marks) -> Result<Piece, AllocError>
-        requires marked { IsMarked text.items marks }
-        ensures shape { IfOk result (λ p. Lives self.new p (shape_of text.items marks)) }
-        ensures kept { KeepsAll self.old self.new }
+    // The text of a piece becomes all of the main text since the innermost mark.
+    #[inline(always)]
+    fn settle(&mut self, at: usize, piece: Piece) -> Result<(), AllocError>
+        requires mark { self.old.frame_main ≡ at }
+        requires living { IsLiving self.old piece }
+        ensures edit { OnOk result (IsEdit self.old self.new) }
+        ensures main { OnOk result (self.new.main_text ≡ take at self.old.main_text
+            ++ piece_text self.old.main_text self.old.side_text piece) }
+        ensures within { at ≤ length self.old.main_text }
     {
-        let index = self.texts.len();
-        let len = text.len();
-        self.texts.push(text)?;
-        Ok(Piece {
-            span: Span {
-                text: index,
-                from: 0,
-                to: len,
-            },
-            marks,
-        })
+        let len = self.main.len();
+        if !piece.in_side && piece.from_byte == at && piece.to_byte == len {
+            return Ok(());
+        }
+        self.move_down(at, piece)
     }
 
-    /// A plain piece of the bytes. Its last own name is the whole text, and both flags are off.
+    // The same where the piece stands elsewhere.
+    #[cold]
+    #[inline(never)]
+    fn move_down(&mut self, at: usize, piece: Piece) -> Result<(), AllocError>
+        requires mark { self.old.frame_main ≡ at }
+        requires living { IsLiving self.old piece }
+        ensures edit { OnOk result (IsEdit self.old self.new) }
+        ensures main { OnOk result (self.new.main_text ≡ take at self.old.main_text
+            ++ piece_text self.old.main_text self.old.side_text piece) }
+    {
+        if piece.in_side || piece.from_byte < at {
+            let from = self.copy_text(piece)?;
+            let to = self.main.len();
+            return self.keep_block(at, from, to);
+        }
+        self.keep_block(at, piece.from_byte, piece.to_byte)
+    }
+
+    // A block of the main text moves down to the innermost mark, and all else since the mark goes.
+    fn keep_block(&mut self, at: usize, from: usize, to: usize) -> Result<(), AllocError>
+        requires mark { self.old.frame_main ≡ at }
+        requires before { at ≤ from }
+        requires ordered { from ≤ to }
+        requires within { to ≤ length self.old.main_text }
+        ensures edit { OnOk result (IsEdit self.old self.new) }
+        ensures main { OnOk result (self.new.main_text ≡ take at self.old.main_text
+            ++ slice_range self.old.main_text from to) }
+    {
+        set_apart(
+            self.main.as_slice(),
+            &mut self.side,
+            &mut self.saved,
+            &mut self.args,
+            at,
+            from,
+            to,
+        )?;
+        self.main.keep(at, from, to);
+        carry(&mut self.saved, at, from, to, at);
+        carry(&mut self.args, at, from, to, at);
+        Ok(())
+    }
+
+    /// A plain piece of the bytes, which go to the end of the main text. Its last own name is the
+    /// whole text, and both flags are off.
+    #[inline(always)]
     pub fn push(&mut self, bytes: &[u8]) -> Result<Piece, AllocError>
         ensures shape { IfOk result (λ p. Lives self.new p (plain_shape bytes.now)) }
         ensures kept { KeepsAll self.old self.new }
+        ensures main { OnOk result (main_bytes self.new ≡ main_bytes self.old ++ bytes.now) }
+        ensures main_err { OnErr result (main_bytes self.new ≡ main_bytes self.old) }
+        ensures stands { IfOk result (λ p. Stands p (length (main_bytes self.old)) (length (main_bytes self.new))) }
     {
-        let text = Vec::from_slice(self.alloc, bytes)?;
-        self.add(text, Marks::whole(bytes.len()))
+        let from = self.main.len();
+        self.add_bytes(bytes)?;
+        Ok(Piece::whole_at(from, self.main.len()))
     }
 
-    /// A new piece of the same shape.
+    /// A new piece of the same shape, whose text goes to the end of the main text.
+    #[inline(always)]
     pub fn copy(&mut self, piece: Piece) -> Result<Piece, AllocError>
         requires living { IsLiving self.old piece }
         ensures shape { IfOk result (λ p. Lives self.new p (shape self.old piece)) }
         ensures kept { KeepsAll self.old self.new }
+        ensures main { OnOk result (main_bytes self.new ≡ main_bytes self.old ++ text (shape self.old piece)) }
+        ensures main_err { OnErr result (main_bytes self.new ≡ main_bytes self.old) }
+        ensures stands { IfOk result (λ p. Stands p (length (main_bytes self.old)) (length (main_bytes self.new))) }
     {
-        let text = Vec::from_slice(self.alloc, self.bytes(piece))?;
-        self.add(text, piece.marks)
+        let from = self.copy_text(piece)?;
+        Ok(piece.moved_to(from, self.main.len()))
+    }
+
+    // The text of a piece at the end of the main text: where it begins.
+    #[inline(never)]
+    fn copy_text(&mut self, piece: Piece) -> Result<usize, AllocError>
+        requires living { IsLiving self.old piece }
+        ensures from { IfOk result (λ from. from ≡ length self.old.main_text) }
+        ensures inner { self.old.frame_main ≤ length self.old.main_text }
+        ensures kept { KeepsAll self.old self.new }
+        ensures main { OnOk result (self.new.main_text ≡ self.old.main_text
+            ++ piece_text self.old.main_text self.old.side_text piece) }
+        ensures main_err { OnErr result (self.new.main_text ≡ self.old.main_text) }
+    {
+        let from = self.main.len();
+        add_part(
+            &mut self.main,
+            &self.side,
+            piece.in_side,
+            piece.from_byte,
+            piece.to_byte,
+        )?;
+        Ok(from)
+    }
+
+    // Whether the piece lies in the main text, from the innermost mark or later up to the end.
+    #[inline(always)]
+    fn is_tail(&self, piece: Piece) -> bool
+        ensures tail { result ≡ true → IsTail self.now piece }
+        ensures other { IsTail self.now piece → result ≡ true }
+    {
+        !piece.in_side && self.frame_main <= piece.from_byte && piece.to_byte == self.main.len()
+    }
+
+    // Bytes at a place of the main text since the innermost mark: what lies after it moves on.
+    #[inline(always)]
+    fn insert_at(&mut self, at: usize, bytes: &[u8]) -> Result<(), AllocError>
+        requires inner { self.old.frame_main ≤ at }
+        requires within { at ≤ length self.old.main_text }
+        ensures edit { OnOk result (IsEdit self.old self.new) }
+        ensures err { OnErr result (KeepsAll self.old self.new) }
+        ensures main { OnOk result (self.new.main_text ≡ take at self.old.main_text
+            ++ (bytes.now ++ drop at self.old.main_text)) }
+        ensures main_err { OnErr result (self.new.main_text ≡ self.old.main_text) }
+    {
+        if at == self.main.len() {
+            return self.add_bytes(bytes);
+        }
+        if bytes.is_empty() {
+            return Ok(());
+        }
+        self.insert_within(at, bytes)
+    }
+
+    // Bytes at the end of the main text.
+    #[inline(always)]
+    fn add_bytes(&mut self, bytes: &[u8]) -> Result<(), AllocError>
+        ensures kept { KeepsAll self.old self.new }
+        ensures main { OnOk result (self.new.main_text ≡ self.old.main_text ++ bytes.now) }
+        ensures main_err { OnErr result (self.new.main_text ≡ self.old.main_text) }
+    {
+        self.main.add(bytes)?;
+        Ok(())
+    }
+
+    // Bytes at a place of the main text that has bytes after it.
+    #[inline(never)]
+    fn insert_within(&mut self, at: usize, bytes: &[u8]) -> Result<(), AllocError>
+        requires inner { self.old.frame_main ≤ at }
+        requires within { at ≤ length self.old.main_text }
+        ensures edit { OnOk result (IsEdit self.old self.new) }
+        ensures err { OnErr result (KeepsAll self.old self.new) }
+        ensures main { OnOk result (self.new.main_text ≡ take at self.old.main_text
+            ++ (bytes.now ++ drop at self.old.main_text)) }
+        ensures main_err { OnErr result (self.new.main_text ≡ self.old.main_text) }
+    {
+        let len = self.main.len();
+        set_apart(
+            self.main.as_slice(),
+            &mut self.side,
+            &mut self.saved,
+            &mut self.args,
+            at,
+            at,
+            len,
+        )?;
+        self.main.insert(at, bytes)?;
+        carry(&mut self.saved, at, at, len, at + bytes.len());
+        carry(&mut self.args, at, at, len, at + bytes.len());
+        Ok(())
+    }
+
+    // The text of a piece with bytes at a place of it, at the end of the main text: where it begins.
+    #[inline(always)]
+    fn splice(&mut self, piece: Piece, at: usize, bytes: &[u8]) -> Result<usize, AllocError>
+        requires living { IsLiving self.old piece }
+        requires within { at ≤ piece.to_byte - piece.from_byte }
+        ensures splice { IfOk result (IsSplice self.old self.new piece at bytes.now) }
+        ensures edit { OnOk result (IsEdit self.old self.new) }
+        ensures err { OnErr result (KeepsAll self.old self.new) }
+        ensures main_err { OnErr result (self.new.main_text ≡ self.old.main_text) }
+    {
+        if self.is_tail(piece) {
+            self.insert_at(piece.from_byte + at, bytes)?;
+            return Ok(piece.from_byte);
+        }
+        self.splice_copy(piece, at, bytes)
+    }
+
+    // The same of a piece that doesn't stand at the end.
+    #[inline(never)]
+    fn splice_copy(&mut self, piece: Piece, at: usize, bytes: &[u8]) -> Result<usize, AllocError>
+        requires living { IsLiving self.old piece }
+        requires within { at ≤ piece.to_byte - piece.from_byte }
+        requires apart { IsTail self.old piece → ⊥ }
+        ensures splice { IfOk result (IsSplice self.old self.new piece at bytes.now) }
+        ensures kept { KeepsAll self.old self.new }
+        ensures main_err { OnErr result (self.new.main_text ≡ self.old.main_text) }
+    {
+        let from = self.main.len();
+        add_spliced(&mut self.main, &self.side, piece, at, bytes)?;
+        Ok(from)
     }
 
     /// The piece with the bytes at the end of its text. It ends the other pieces made since the
-    /// innermost mark. After `AllocError` all is as it was.
+    /// innermost mark. A piece that stands up to the end of the main text, from the innermost mark
+    /// or later, stays there; the text of any other is copied to the end first. After `AllocError`
+    /// all is as it was.
+    #[inline(always)]
     pub fn append(&mut self, piece: Piece, bytes: &[u8]) -> Result<Piece, AllocError>
         requires living { IsLiving self.old piece }
         ensures shape { IfOk result (λ p. Lives self.new p (appended bytes.now (shape self.old piece))) }
         ensures edit { OnOk result (IsEdit self.old self.new) }
         ensures err { OnErr result (KeepsAll self.old self.new) }
+        ensures edit_of { IfOk result (λ p. IsEditOf self.old self.new piece p (length bytes.now)) }
+        ensures main_err { OnErr result (main_bytes self.new ≡ main_bytes self.old) }
     {
         self.insert(piece, Place::End, bytes)
     }
 
     /// The piece with the bytes at a place of its text: `Close` asks for a group, `Suffix` for a
     /// declarator without one. The last own name moves on where it begins at the place or later,
-    /// and grows where the place lies inside it. Ends pieces, and keeps all after `AllocError`, as
-    /// `append` does.
+    /// and grows where the place lies inside it. Ends pieces, copies a text, and keeps all after
+    /// `AllocError`, as `append` does.
+    #[inline(always)]
     pub fn insert(&mut self, piece: Piece, place: Place, bytes: &[u8]) -> Result<Piece, AllocError>
         requires living { IsLiving self.old piece }
         requires fits { CanInsert place (shape self.old piece).form }
         ensures shape { IfOk result (λ p. Lives self.new p (inserted place bytes.now (shape self.old piece))) }
         ensures edit { OnOk result (IsEdit self.old self.new) }
         ensures err { OnErr result (KeepsAll self.old self.new) }
+        ensures edit_of { IfOk result (λ p. IsEditOf self.old self.new piece p (length bytes.now)) }
+        ensures main_err { OnErr result (main_bytes self.new ≡ main_bytes self.old) }
     {
-        let old = self.bytes(piece);
-        let at = piece.marks.layout.place(place, old.len());
-        let text = spliced(self.alloc, old, at, bytes)?;
-        let marks = piece.marks.with_bytes(place, at, bytes.len(), text.len());
-        self.add(text, marks)
+        let at = piece.place(place);
+        let from = self.splice(piece, at, bytes)?;
+        Ok(piece.with_bytes(place, at, bytes.len(), from, self.main.len()))
     }
 
     /// The declarator with a new group of the bytes, after all text up to its `after`, and after a
-    /// space where that text isn't empty and doesn't end in a space, `(` or `*`. Ends pieces, and
-    /// keeps all after `AllocError`, as `append` does.
+    /// space where that text isn't empty and doesn't end in a space, `(` or `*`. Ends pieces, copies
+    /// a text, and keeps all after `AllocError`, as `append` does.
     pub fn open_group(&mut self, piece: Piece, bytes: &[u8]) -> Result<Piece, AllocError>
         requires living { IsLiving self.old piece }
         requires declared { IsDeclared (shape self.old piece).form }
         ensures shape { IfOk result (λ p. Lives self.new p (opened_group bytes.now (shape self.old piece))) }
         ensures edit { OnOk result (IsEdit self.old self.new) }
         ensures err { OnErr result (KeepsAll self.old self.new) }
+        ensures edit_of { IfOk result (λ p. IsEditOf self.old self.new piece p
+            (text_len (opened_group bytes.now (shape self.old piece)) - text_len (shape self.old piece))) }
+        ensures main_err { OnErr result (main_bytes self.new ≡ main_bytes self.old) }
     {
-        let old = self.bytes(piece);
-        let at = piece.marks.layout.place(Place::Suffix, old.len());
-        let group = group_bytes(self.alloc, &old[..at], bytes)?;
-        let text = spliced(self.alloc, old, at, &group)?;
-        let marks = piece
-            .marks
-            .with_group(at, group.len(), bytes.len() + 2, text.len());
-        self.add(text, marks)
+        let at = piece.place(Place::Suffix);
+        let group = group_bytes(self.alloc, &self.bytes(piece)[..at], bytes)?;
+        let from = self.splice(piece, at, &group)?;
+        let n = bytes.len() + 2;
+        Ok(piece.with_group(at, group.len(), n, from, self.main.len()))
     }
 
     /// The plain piece without its last n bytes. Its last own name is what is left of it. Ends
     /// pieces, and keeps all after `AllocError`, as `append` does.
+    #[inline(always)]
     pub fn cut(&mut self, piece: Piece, n: usize) -> Result<Piece, AllocError>
         requires living { IsLiving self.old piece }
         requires plain { IsPlain (shape self.old piece).form }
@@ -205,16 +414,18 @@ impl Buffer {
         ensures shape { IfOk result (λ p. Lives self.new p (shortened n (shape self.old piece))) }
         ensures edit { OnOk result (IsEdit self.old self.new) }
         ensures err { OnErr result (KeepsAll self.old self.new) }
+        ensures front { KeepsFront self.old self.new }
+        ensures main_err { OnErr result (main_bytes self.new ≡ main_bytes self.old) }
     {
-        let old = self.bytes(piece);
-        let left = old.len() - n;
-        let text = Vec::from_slice(self.alloc, &old[..left])?;
-        self.add(text, piece.marks.cut(left))
+        Ok(piece.cut(n))
     }
 
     /// A plain piece: the text of the first piece, the bytes, and the text of the second. Its last
-    /// own name is the whole text, and both flags are off. Ends pieces, and keeps all after
+    /// own name is the whole text, and both flags are off. Where the first ends where the second
+    /// begins, and both stand up to the end of the main text, from the innermost mark or later,
+    /// they stay there; else both are copied to the end. Ends pieces, and keeps all after
     /// `AllocError`, as `append` does.
+    #[inline(always)]
     pub fn join(&mut self, first: Piece, bytes: &[u8], second: Piece) -> Result<Piece, AllocError>
         requires first_living { IsLiving self.old first }
         requires second_living { IsLiving self.old second }
@@ -222,102 +433,152 @@ impl Buffer {
             (joined (shape self.old first) bytes.now (shape self.old second))) }
         ensures edit { OnOk result (IsEdit self.old self.new) }
         ensures err { OnErr result (KeepsAll self.old self.new) }
+        ensures join_of { IfOk result (λ p. IsJoinOf self.old self.new first second p (length bytes.now)) }
+        ensures main_err { OnErr result (main_bytes self.new ≡ main_bytes self.old) }
     {
-        let mut text = Vec::from_slice(self.alloc, self.bytes(first))?;
-        text.extend_from_slice(bytes)?;
-        text.extend_from_slice(self.bytes(second))?;
-        let len = text.len();
-        self.add(text, Marks::whole(len))
+        let from = self.join_texts(first, bytes, second)?;
+        Ok(Piece::whole_at(from, self.main.len()))
+    }
+
+    // Both texts with bytes between them, at the end of the main text: where they begin there.
+    #[inline(never)]
+    fn join_texts(&mut self, first: Piece, bytes: &[u8], second: Piece) -> Result<usize, AllocError>
+        requires first_living { IsLiving self.old first }
+        requires second_living { IsLiving self.old second }
+        ensures joint { IfOk result (IsJoint self.old self.new first bytes.now second) }
+        ensures edit { OnOk result (IsEdit self.old self.new) }
+        ensures err { OnErr result (KeepsAll self.old self.new) }
+        ensures main_err { OnErr result (self.new.main_text ≡ self.old.main_text) }
+    {
+        if self.are_adjacent(first, second) {
+            self.insert_at(second.from_byte, bytes)?;
+            return Ok(first.from_byte);
+        }
+        let from = self.main.len();
+        add_joined(&mut self.main, &self.side, first, bytes, second)?;
+        Ok(from)
+    }
+
+    // Whether the second piece begins where the first ends, and both stand up to the end of the main text, from the
+    // innermost mark or later.
+    #[inline(always)]
+    fn are_adjacent(&self, first: Piece, second: Piece) -> bool
+        ensures adjacent { result ≡ true → IsAdjacent self.now first second }
+        ensures other { IsAdjacent self.now first second → result ≡ true }
+    {
+        !first.in_side
+            && self.frame_main <= first.from_byte
+            && first.to_byte == second.from_byte
+            && !second.in_side
+            && second.to_byte == self.main.len()
+    }
+
+    /// The main text.
+    #[inline(always)]
+    pub fn main_bytes(&self) -> &[u8]
+        ensures value { result.now ≡ main_bytes self.now }
+    {
+        self.main.as_slice()
     }
 
     /// The text of the piece.
+    #[inline(always)]
     pub fn bytes(&self, piece: Piece) -> &[u8]
         requires living { IsLiving self.now piece }
         ensures value { result.now ≡ text (shape self.now piece) }
+        ensures stands { (from to : ℕ) → Stands piece from to → result.now ≡ slice_range (main_bytes self.now) from to }
     {
-        &self.texts[piece.span.text][piece.span.from..piece.span.to]
+        if piece.in_side {
+            self.side.part(piece.from_byte, piece.to_byte)
+        } else {
+            self.main.part(piece.from_byte, piece.to_byte)
+        }
     }
 
     /// How many bytes the text of the piece has.
+    #[inline(always)]
     pub fn len(&self, piece: Piece) -> usize
         requires living { IsLiving self.now piece }
         ensures value { result ≡ text_len (shape self.now piece) }
     {
-        self.bytes(piece).len()
+        piece.text_len()
     }
 
     /// What the piece declares, or `None` where it is plain.
+    #[inline(always)]
     pub fn kind(&self, piece: Piece) -> Option<Kind>
         requires living { IsLiving self.now piece }
         ensures value { result ≡ kind_of (shape self.now piece).form }
     {
-        match piece.marks.layout {
-            Layout::Flat => None,
-            Layout::Cut { kind, .. } => Some(kind),
-        }
+        piece.declares
     }
 
     /// Whether the piece is declared with a group.
+    #[inline(always)]
     pub fn has_group(&self, piece: Piece) -> bool
         requires living { IsLiving self.now piece }
         ensures value { result ≡ is_some (group_of (shape self.now piece).form) }
     {
-        matches!(piece.marks.layout, Layout::Cut { group: Some(_), .. })
+        piece.declares.is_some() && piece.group_start.is_some()
     }
 
     /// The byte of its text at which `after` begins, or `None` where the piece is plain.
+    #[inline(always)]
     pub fn after_at(&self, piece: Piece) -> Option<usize>
         requires living { IsLiving self.now piece }
         ensures value { result ≡ after_of (shape self.now piece).form }
     {
-        match piece.marks.layout {
-            Layout::Flat => None,
-            Layout::Cut { at, .. } => Some(at),
+        match piece.declares {
+            None => None,
+            Some(_) => Some(piece.after_start),
         }
     }
 
     /// The bytes of its text from which and up to which its last own name lies.
+    #[inline(always)]
     pub fn own_range(&self, piece: Piece) -> (usize, usize)
         requires living { IsLiving self.now piece }
         ensures own { result ≡ (shape self.now piece).own }
         ensures ordered { result.0 ≤ result.1 }
         ensures within { result.1 ≤ text_len (shape self.now piece) }
     {
-        piece.marks.own
+        (piece.own_start, piece.own_end)
     }
 
     /// Whether the piece ends in template arguments.
+    #[inline(always)]
     pub fn templ(&self, piece: Piece) -> bool
         ensures value { result ≡ (shape self.now piece).templ }
     {
-        piece.marks.templ
+        piece.is_templ
     }
 
     /// Whether the piece names a constructor, a destructor or a conversion.
+    #[inline(always)]
     pub fn ctor(&self, piece: Piece) -> bool
         ensures value { result ≡ (shape self.now piece).ctor }
     {
-        piece.marks.ctor
+        piece.is_ctor
     }
 
     /// The same shape with these flags. The answer is as old as the piece.
+    #[inline(always)]
     pub fn with_flags(&self, piece: Piece, templ: bool, ctor: bool) -> Piece
         requires living { IsLiving self.now piece }
         ensures shape { Lives self.now result (flagged templ ctor (shape self.now piece)) }
         ensures age { IsAsOld piece result }
+        ensures stands { StandsAs piece result }
     {
         Piece {
-            marks: Marks {
-                templ,
-                ctor,
-                ..piece.marks
-            },
+            is_templ: templ,
+            is_ctor: ctor,
             ..piece
         }
     }
 
     /// The same shape, which isn't a function's, with these bytes of its text as its last own name.
     /// The answer is as old as the piece.
+    #[inline(always)]
     pub fn own_at(&self, piece: Piece, from: usize, to: usize) -> Piece
         requires living { IsLiving self.now piece }
         requires ordered { from ≤ to }
@@ -325,83 +586,78 @@ impl Buffer {
         requires kind { IsNotFunction (shape self.now piece).form }
         ensures shape { Lives self.now result (with_own from to (shape self.now piece)) }
         ensures age { IsAsOld piece result }
+        ensures stands { StandsAs piece result }
     {
         Piece {
-            marks: Marks {
-                own: (from, to),
-                ..piece.marks
-            },
+            own_start: from,
+            own_end: to,
             ..piece
         }
     }
 
     /// The same shape with its whole text as its last own name. The answer is as old as the piece.
+    #[inline(always)]
     pub fn whole(&self, piece: Piece) -> Piece
         requires living { IsLiving self.now piece }
         ensures shape { Lives self.now result (whole_shape (shape self.now piece)) }
         ensures age { IsAsOld piece result }
+        ensures stands { StandsAs piece result }
     {
         Piece {
-            marks: Marks {
-                own: (0, self.len(piece)),
-                ..piece.marks
-            },
+            own_start: 0,
+            own_end: self.len(piece),
             ..piece
         }
     }
 
     /// Its text as a plain shape, with the same last own name and flags. The answer is as old as
     /// the piece.
+    #[inline(always)]
     pub fn plain(&self, piece: Piece) -> Piece
         requires living { IsLiving self.now piece }
         ensures shape { Lives self.now result (flattened (shape self.now piece)) }
         ensures age { IsAsOld piece result }
+        ensures stands { StandsAs piece result }
     {
         Piece {
-            marks: Marks {
-                layout: Layout::Flat,
-                ..piece.marks
-            },
+            declares: None,
             ..piece
         }
     }
 
     /// A plain piece of its last own name, with both flags off. The answer is as old as the piece.
+    #[inline(always)]
     pub fn own(&self, piece: Piece) -> Piece
         requires living { IsLiving self.now piece }
         ensures shape { Lives self.now result (own_shape (shape self.now piece)) }
         ensures age { IsAsOld piece result }
     {
-        let Marks { own, .. } = piece.marks;
+        let from = piece.from_byte + piece.own_start;
+        let to = piece.from_byte + piece.own_end;
         Piece {
-            span: Span {
-                text: piece.span.text,
-                from: piece.span.from + own.0,
-                to: piece.span.from + own.1,
-            },
-            marks: Marks::whole(own.1 - own.0),
+            in_side: piece.in_side,
+            ..Piece::whole_at(from, to)
         }
     }
 
     /// The plain piece as a declarator of this kind, with no group: its `after` begins at the byte
     /// `at` of its text. It keeps its flags and, but for a function, its last own name. The answer
     /// is as old as the piece.
+    #[inline(always)]
     pub fn declare(&self, piece: Piece, kind: Kind, at: usize) -> Piece
         requires living { IsLiving self.now piece }
         requires plain { IsPlain (shape self.now piece).form }
         requires within { at ≤ text_len (shape self.now piece) }
         ensures shape { Lives self.now result (declared_at kind at (shape self.now piece)) }
         ensures age { IsAsOld piece result }
+        ensures stands { StandsAs piece result }
     {
-        let len = self.len(piece);
-        Piece {
-            marks: piece.marks.declared(kind, None, at, len),
-            ..piece
-        }
+        piece.declared(kind, None, at)
     }
 
     /// As `declare`, with a group: its `(` stands at the byte `from` of its text, where `before`
     /// ends, and its `)` right before the byte `at`. The answer is as old as the piece.
+    #[inline(always)]
     pub fn declare_group(&self, piece: Piece, kind: Kind, from: usize, at: usize) -> Piece
         requires living { IsLiving self.now piece }
         requires plain { IsPlain (shape self.now piece).form }
@@ -411,21 +667,20 @@ impl Buffer {
         requires within { at ≤ text_len (shape self.now piece) }
         ensures shape { Lives self.now result (declared_group kind from at (shape self.now piece)) }
         ensures age { IsAsOld piece result }
+        ensures stands { StandsAs piece result }
     {
-        let len = self.len(piece);
-        Piece {
-            marks: piece.marks.declared(kind, Some(from), at, len),
-            ..piece
-        }
+        piece.declared(kind, Some(from), at)
     }
 
     /// Adds the shape of the piece to the end of the saved ones. After `AllocError` all is as it
     /// was.
+    #[inline(always)]
     pub fn save(&mut self, piece: Piece) -> Result<(), AllocError>
         requires living { IsLiving self.old piece }
         ensures saved { OnOk result (saved self.new ≡ saved self.old ++ shape self.old piece ∷ []) }
         ensures scopes { scopes self.new ≡ scopes self.old }
         ensures kept { SameFrame self.old self.new }
+        ensures main { main_bytes self.new ≡ main_bytes self.old }
         ensures err { OnErr result (KeepsAll self.old self.new) }
     {
         self.saved.push(piece)?;
@@ -433,24 +688,29 @@ impl Buffer {
     }
 
     /// Takes the last saved shape out.
+    #[inline(always)]
     pub fn unsave(&mut self)
         requires some { 0 < length (saved self.old) }
         ensures saved { saved self.new ≡ take (length (saved self.old) - 1) (saved self.old) }
         ensures scopes { scopes self.new ≡ scopes self.old }
         ensures kept { SameFrame self.old self.new }
+        ensures main { main_bytes self.new ≡ main_bytes self.old }
     {
-        let _ = self.saved.pop();
+        let last = self.saved_len() - 1;
+        self.saved.truncate(last);
     }
 
     /// A piece of the saved shape with this index, from 0, or `None` past the last one.
+    #[inline(always)]
     pub fn saved(&self, i: usize) -> Option<Piece>
         ensures shape { option_map (shape self.now) result ≡ slice_get (saved self.now) i }
         ensures living { IfSome result (IsLiving self.now) }
     {
-        self.saved.get(i).copied()
+        self.saved.get(i)
     }
 
     /// How many shapes are saved.
+    #[inline(always)]
     pub fn saved_len(&self) -> usize
         ensures value { result ≡ length (saved self.now) }
     {
@@ -463,6 +723,7 @@ impl Buffer {
         ensures scopes { OnOk result (scopes self.new ≡ scopes self.old ++ [] ∷ []) }
         ensures saved { saved self.new ≡ saved self.old }
         ensures kept { SameFrame self.old self.new }
+        ensures main { main_bytes self.new ≡ main_bytes self.old }
         ensures err { OnErr result (KeepsAll self.old self.new) }
     {
         let start = self.args.len();
@@ -478,6 +739,7 @@ impl Buffer {
         ensures scopes { OnOk result (scopes self.new ≡ with_arg (shape self.old piece) (scopes self.old)) }
         ensures saved { saved self.new ≡ saved self.old }
         ensures kept { SameFrame self.old self.new }
+        ensures main { main_bytes self.new ≡ main_bytes self.old }
         ensures err { OnErr result (KeepsAll self.old self.new) }
     {
         self.args.push(piece)?;
@@ -486,6 +748,7 @@ impl Buffer {
 
     /// A piece of the argument of the last scope with this index, from 0. `None` past the last
     /// argument, and where no scope is open.
+    #[inline(always)]
     pub fn arg(&self, i: usize) -> Option<Piece>
         ensures shape { option_map (shape self.now) result ≡ slice_get (last_args (scopes self.now)) i }
         ensures living { IfSome result (IsLiving self.now) }
@@ -495,10 +758,11 @@ impl Buffer {
             return None;
         }
         let start = self.starts[count - 1];
-        piece_from(&self.args, start, i)
+        self.args.get_from(start, i)
     }
 
     /// How many scopes are open.
+    #[inline(always)]
     pub fn scopes(&self) -> usize
         ensures value { result ≡ length (scopes self.now) }
     {
@@ -511,6 +775,7 @@ impl Buffer {
         ensures scopes { scopes self.new ≡ take n (scopes self.old) }
         ensures saved { saved self.new ≡ saved self.old }
         ensures kept { SameFrame self.old self.new }
+        ensures main { main_bytes self.new ≡ main_bytes self.old }
     {
         if n < self.scopes() {
             let start = self.starts[n];
@@ -518,25 +783,6 @@ impl Buffer {
             self.starts.truncate(n);
         }
     }
-}
-
-// The piece with an index, counted from a place on.
-fn piece_from(pieces: &[Piece], start: usize, i: usize) -> Option<Piece>
-    requires within { start ≤ length pieces.now }
-    ensures value { result ≡ slice_get (drop start pieces.now) i }
-{
-    pieces[start..].get(i).copied()
-}
-
-// A text with bytes at a place.
-fn spliced(alloc: Global, text: &[u8], at: usize, bytes: &[u8]) -> Result<Vec<u8>, AllocError>
-    requires within { at ≤ length text.now }
-    ensures text { IfOk result (λ v. v.items ≡ take at text.now ++ (bytes.now ++ drop at text.now)) }
-{
-    let mut all = Vec::from_slice(alloc, &text[..at])?;
-    all.extend_from_slice(bytes)?;
-    all.extend_from_slice(&text[at..])?;
-    Ok(all)
 }
 
 // Whether a space goes between a text and a group.

@@ -9,10 +9,19 @@
 //! `open` hands out a mark, and `close` takes it back; the pieces that were made since the
 //! innermost mark may end at the next edit, and all that were made before it keep their shapes. A
 //! buffer also keeps a list of saved shapes, and a list of scopes, each a list of shapes.
+//!
+//! What is made stands in one main text, which `main_bytes` lends. An edit of the piece that ends it
+//! works in place, and what is kept is carried along. `close` leaves nothing but its piece after the
+//! mark; what is still kept of the rest is put aside in a second text.
 #![tactic(auto)]
 
 mod buffer;
+mod lanes;
+mod moves;
+mod parts;
+mod ranges;
 mod shape;
+mod text;
 
 pub use crate::buffer::Buffer;
 pub use crate::shape::{Kind, Mark, Piece, Place};

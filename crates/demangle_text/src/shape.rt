@@ -1,7 +1,7 @@
-//! Pieces: how their texts are cut into the parts of a shape, and where the last own name lies.
-ghost use Rattle.std.specs.Prelude.{◌≡◌, ℕ, ◌+◌, ◌^◌, ◌<◌, ◌≤◌, if◌then◌else◌};
+//! Pieces: where their texts lie, how these are cut into the parts of a shape, and where the last own name lies.
+ghost use Rattle.std.specs.Prelude.{◌≡◌, ℕ, ◌+◌, ◌-◌, ◌^◌, ◌<◌, ◌≤◌, if◌then◌else◌};
 ghost use Rattle.demangle_text.specs.Pieces.{place_at, layout_with, layout_opened, layout_end, own_at, own_of};
-ghost use Rattle.demangle_text.specs.Pieces.{whole_marks, cut_marks};
+ghost use Rattle.demangle_text.specs.Pieces.{whole_marks, cut_marks, marks_of, IsAt, Layout, layout_by};
 ghost use Rattle.demangle_text.specs.Shape.{moved};
 
 /// What a declarator declares.
@@ -26,219 +26,257 @@ pub enum Place {
     End,
 }
 
-// How a text is cut: the group has its `(` at byte `group`, and `after` begins at byte `at`.
-#[derive(Clone, Copy)]
-pub(crate) enum Layout {
-    // A plain text.
-    Flat,
-    // A declarator.
-    Cut {
-        kind: Kind,
-        group: Option<usize>,
-        at: usize,
-    },
-}
-
-// What a text stands for: all places are bytes of that text.
-#[derive(Clone, Copy)]
-pub(crate) struct Marks {
-    pub(crate) layout: Layout,
-    pub(crate) own: (usize, usize),
-    pub(crate) templ: bool,
-    pub(crate) ctor: bool,
-}
-
-// Where a text lies: from a byte up to another of a text of the buffer.
-#[derive(Clone, Copy)]
-pub(crate) struct Span {
-    pub(crate) text: usize,
-    pub(crate) from: usize,
-    pub(crate) to: usize,
-}
-
 /// A value that stands for a shape in a buffer, from the call of the buffer that answers it.
 #[derive(Clone, Copy)]
 pub struct Piece {
-    pub(crate) span: Span,
-    pub(crate) marks: Marks,
+    // Whether the text lies in the side text and not in the main text, and its bytes there.
+    pub(crate) in_side: bool,
+    pub(crate) from_byte: usize,
+    pub(crate) to_byte: usize,
+    // The other places are bytes of its own text. These are the last own name's.
+    pub(crate) own_start: usize,
+    pub(crate) own_end: usize,
+    // What a declarator declares, where the `(` of its group stands, and where `after` begins.
+    pub(crate) declares: Option<Kind>,
+    pub(crate) group_start: Option<usize>,
+    pub(crate) after_start: usize,
+    pub(crate) is_templ: bool,
+    pub(crate) is_ctor: bool,
 }
 
 /// What `open` hands out, and `close` takes back.
 #[derive(Drop)]
 pub struct Mark {
-    pub(crate) inside_start: usize,
-    pub(crate) outside_start: usize,
+    // How long both texts were at the mark, and at the one outside it.
+    pub(crate) inside_main: usize,
+    pub(crate) inside_side: usize,
+    pub(crate) outside_main: usize,
+    pub(crate) outside_side: usize,
+    ghost main_nested: { outside_main ≤ inside_main },
+    ghost side_nested: { outside_side ≤ inside_side },
 }
 
-impl Layout {
-    // Where a place lies in a text of `len` bytes.
-    pub(crate) fn place(self, place: Place, len: usize) -> usize
-        ensures value { result ≡ place_at place self len }
+impl Piece {
+    // A plain piece of the main text, all of which is its last own name.
+    #[inline(always)]
+    pub(crate) fn whole_at(from: usize, to: usize) -> Piece
+        requires ordered { from ≤ to }
+        ensures stands { IsAt result from to }
+        ensures marks { marks_of result ≡ whole_marks (to - from) }
     {
-        match (place, self) {
-            (Place::Start, _) => 0,
-            (Place::End, _) => len,
-            (_, Layout::Flat) => len,
-            (Place::Close, Layout::Cut { at, .. }) => at.saturating_sub(1),
-            (Place::Suffix, Layout::Cut { at, .. }) => at,
+        Piece {
+            in_side: false,
+            from_byte: from,
+            to_byte: to,
+            own_start: 0,
+            own_end: to - from,
+            declares: None,
+            group_start: None,
+            after_start: 0,
+            is_templ: false,
+            is_ctor: false,
         }
     }
 
-    // The layout after n bytes were inserted at a place.
-    fn with_bytes(self, place: Place, n: usize) -> Layout
-        requires fits { layout_end self + n < 2 ^ 64 }
-        ensures value { result ≡ layout_with place n self }
+    // The same marks over other bytes of the main text.
+    #[inline(always)]
+    pub(crate) fn moved_to(self, from: usize, to: usize) -> Piece
+        ensures stands { IsAt result from to }
+        ensures marks { marks_of result ≡ marks_of self }
     {
-        let Layout::Cut { kind, group, at } = self else {
-            return Layout::Flat;
-        };
+        Piece {
+            in_side: false,
+            from_byte: from,
+            to_byte: to,
+            ..self
+        }
+    }
+
+    // How many bytes its text has.
+    #[inline(always)]
+    pub(crate) fn text_len(self) -> usize
+        requires ordered { self.from_byte ≤ self.to_byte }
+        ensures value { result ≡ self.to_byte - self.from_byte }
+    {
+        self.to_byte - self.from_byte
+    }
+
+    // Where a place lies in its text.
+    #[inline(always)]
+    pub(crate) fn place(self, place: Place) -> usize
+        requires ordered { self.from_byte ≤ self.to_byte }
+        ensures value { result ≡ place_at place (marks_of self).layout (self.to_byte - self.from_byte) }
+    {
+        let len = self.text_len();
+        if self.declares.is_none() {
+            return match place {
+                Place::Start => 0,
+                Place::Close | Place::Suffix | Place::End => len,
+            };
+        }
         match place {
+            Place::Start => 0,
+            Place::End => len,
+            Place::Close => self.after_start.saturating_sub(1),
+            Place::Suffix => self.after_start,
+        }
+    }
+
+    // The piece after n bytes were inserted at a place, which was the byte `at` of its text, when its text lies at
+    // these bytes of the main text.
+    #[inline(always)]
+    pub(crate) fn with_bytes(
+        self,
+        place: Place,
+        at: usize,
+        n: usize,
+        from: usize,
+        to: usize,
+    ) -> Piece
+        requires text { from ≤ to }
+        requires ordered { self.own_start ≤ self.own_end }
+        requires own_fits { self.own_end + n < 2 ^ 64 }
+        requires layout_fits { layout_end (marks_of self).layout + n < 2 ^ 64 }
+        ensures stands { IsAt result from to }
+        ensures layout { (marks_of result).layout ≡ layout_with place n (marks_of self).layout }
+        ensures own { (marks_of result).own
+            ≡ own_at (marks_of self).layout (to - from) (moved at n (marks_of self).own) }
+        ensures templ { result.is_templ ≡ self.is_templ }
+        ensures ctor { result.is_ctor ≡ self.is_ctor }
+    {
+        let (own_start, own_end) = self.own_moved(at, n, to - from);
+        let (group_start, after_start) = self.parts_moved(place, n);
+        Piece {
+            in_side: false,
+            from_byte: from,
+            to_byte: to,
+            own_start,
+            own_end,
+            group_start,
+            after_start,
+            ..self
+        }
+    }
+
+    // Where the group and `after` begin after n bytes were inserted at a place.
+    #[inline(always)]
+    fn parts_moved(self, place: Place, n: usize) -> (Option<usize>, usize)
+        requires fits { layout_end (marks_of self).layout + n < 2 ^ 64 }
+        ensures value { layout_by self.declares result.0 result.1 ≡ layout_with place n (marks_of self).layout }
+    {
+        if self.declares.is_none() {
+            return (None, 0);
+        }
+        match place {
+            Place::End => (self.group_start, self.after_start),
+            Place::Close | Place::Suffix => (self.group_start, self.after_start + n),
             Place::Start => {
-                let group = match group {
+                let group = match self.group_start {
                     Some(open) => Some(open + n),
                     None => None,
                 };
-                Layout::Cut {
-                    kind,
-                    group,
-                    at: at + n,
-                }
+                (group, self.after_start + n)
             }
-            Place::Close | Place::Suffix => Layout::Cut {
-                kind,
-                group,
-                at: at + n,
-            },
-            Place::End => self,
         }
     }
 
-    // The layout after n bytes were inserted where `after` began, which end in a group of m bytes
-    // with its parentheses.
-    fn with_group(self, n: usize, m: usize) -> Layout
-        requires fits { layout_end self + n < 2 ^ 64 }
+    // The declarator after n bytes were inserted at the byte `at`, where `after` began, which end in a group of m bytes
+    // with its parentheses, when its text lies at these bytes of the main text.
+    #[inline(always)]
+    pub(crate) fn with_group(self, at: usize, n: usize, m: usize, from: usize, to: usize) -> Piece
+        requires text { from ≤ to }
+        requires ordered { self.own_start ≤ self.own_end }
+        requires own_fits { self.own_end + n < 2 ^ 64 }
+        requires layout_fits { layout_end (marks_of self).layout + n < 2 ^ 64 }
         requires within { m ≤ n }
-        ensures value { result ≡ layout_opened n m self }
+        ensures stands { IsAt result from to }
+        ensures layout { (marks_of result).layout ≡ layout_opened n m (marks_of self).layout }
+        ensures own { (marks_of result).own
+            ≡ own_at (marks_of self).layout (to - from) (moved at n (marks_of self).own) }
+        ensures templ { result.is_templ ≡ self.is_templ }
+        ensures ctor { result.is_ctor ≡ self.is_ctor }
     {
-        match self {
-            Layout::Flat => Layout::Flat,
-            Layout::Cut { kind, at, .. } => Layout::Cut {
-                kind,
-                group: Some(at + n - m),
-                at: at + n,
-            },
-        }
-    }
-
-    fn is_function(self) -> bool
-        ensures own { (len : ℕ) (own : ℕ × ℕ) → own_at self len own ≡ (if result then (0, len) else own) }
-    {
-        matches!(
-            self,
-            Layout::Cut {
-                kind: Kind::Function,
-                ..
-            }
-        )
-    }
-}
-
-impl Marks {
-    // The marks of a plain text of `len` bytes, all of which are its last own name.
-    pub(crate) fn whole(len: usize) -> Marks
-        ensures value { result ≡ whole_marks len }
-    {
-        Marks {
-            layout: Layout::Flat,
-            own: (0, len),
-            templ: false,
-            ctor: false,
-        }
-    }
-
-    // The marks after n bytes were inserted at a place, which was the byte `at`, in a text that has
-    // `len` bytes then.
-    pub(crate) fn with_bytes(self, place: Place, at: usize, n: usize, len: usize) -> Marks
-        requires ordered { self.own.0 ≤ self.own.1 }
-        requires own_fits { self.own.1 + n < 2 ^ 64 }
-        requires layout_fits { layout_end self.layout + n < 2 ^ 64 }
-        ensures layout { result.layout ≡ layout_with place n self.layout }
-        ensures own { result.own ≡ own_at self.layout len (moved at n self.own) }
-        ensures templ { result.templ ≡ self.templ }
-        ensures ctor { result.ctor ≡ self.ctor }
-    {
-        Marks {
-            layout: self.layout.with_bytes(place, n),
-            own: self.own_moved(at, n, len),
-            ..self
-        }
-    }
-
-    // The marks after n bytes were inserted at the byte `at`, where `after` began, which end in a
-    // group of m bytes with its parentheses, in a text that has `len` bytes then.
-    pub(crate) fn with_group(self, at: usize, n: usize, m: usize, len: usize) -> Marks
-        requires ordered { self.own.0 ≤ self.own.1 }
-        requires own_fits { self.own.1 + n < 2 ^ 64 }
-        requires layout_fits { layout_end self.layout + n < 2 ^ 64 }
-        requires within { m ≤ n }
-        ensures layout { result.layout ≡ layout_opened n m self.layout }
-        ensures own { result.own ≡ own_at self.layout len (moved at n self.own) }
-        ensures templ { result.templ ≡ self.templ }
-        ensures ctor { result.ctor ≡ self.ctor }
-    {
-        Marks {
-            layout: self.layout.with_group(n, m),
-            own: self.own_moved(at, n, len),
-            ..self
-        }
-    }
-
-    // The marks of a plain text of which the first `len` bytes are left.
-    pub(crate) fn cut(self, len: usize) -> Marks
-        ensures value { result ≡ cut_marks len self }
-    {
-        let (from, to) = self.own;
-        Marks {
-            layout: Layout::Flat,
-            own: (from.min(len), to.min(len)),
-            ..self
-        }
-    }
-
-    // The marks of a declarator, of a text that has `len` bytes.
-    pub(crate) fn declared(self, kind: Kind, group: Option<usize>, at: usize, len: usize) -> Marks
-        ensures layout { result.layout ≡ Layout.Cut kind group at }
-        ensures own { result.own ≡ own_of kind len self.own }
-        ensures templ { result.templ ≡ self.templ }
-        ensures ctor { result.ctor ≡ self.ctor }
-    {
-        let own = match kind {
-            Kind::Function => (0, len),
-            Kind::Array => self.own,
+        let (own_start, own_end) = self.own_moved(at, n, to - from);
+        let (group_start, after_start) = if self.declares.is_some() {
+            (Some(self.after_start + n - m), self.after_start + n)
+        } else {
+            (None, 0)
         };
-        Marks {
-            layout: Layout::Cut { kind, group, at },
-            own,
+        Piece {
+            in_side: false,
+            from_byte: from,
+            to_byte: to,
+            own_start,
+            own_end,
+            group_start,
+            after_start,
             ..self
         }
     }
 
-    // The last own name after n bytes were inserted at the byte `at`, in a text that has `len`
-    // bytes then.
-    fn own_moved(self, at: usize, n: usize, len: usize) -> (usize, usize)
-        requires ordered { self.own.0 ≤ self.own.1 }
-        requires fits { self.own.1 + n < 2 ^ 64 }
-        ensures value { result ≡ own_at self.layout len (moved at n self.own) }
+    // The piece without its last n bytes, as a plain one.
+    #[inline(always)]
+    pub(crate) fn cut(self, n: usize) -> Piece
+        requires ordered { self.from_byte ≤ self.to_byte }
+        requires within { n ≤ self.to_byte - self.from_byte }
+        ensures home { result.in_side ≡ self.in_side }
+        ensures begins { result.from_byte ≡ self.from_byte }
+        ensures ends { result.to_byte + n ≡ self.to_byte }
+        ensures marks { marks_of result ≡ cut_marks (self.to_byte - self.from_byte - n) (marks_of self) }
     {
-        if self.layout.is_function() {
+        let left = self.text_len() - n;
+        Piece {
+            to_byte: self.to_byte - n,
+            own_start: self.own_start.min(left),
+            own_end: self.own_end.min(left),
+            declares: None,
+            ..self
+        }
+    }
+
+    // The text as a declarator.
+    #[inline(always)]
+    pub(crate) fn declared(self, kind: Kind, group: Option<usize>, at: usize) -> Piece
+        requires ordered { self.from_byte ≤ self.to_byte }
+        ensures home { result.in_side ≡ self.in_side }
+        ensures begins { result.from_byte ≡ self.from_byte }
+        ensures ends { result.to_byte ≡ self.to_byte }
+        ensures layout { (marks_of result).layout ≡ Layout.Cut kind group at }
+        ensures own { (marks_of result).own ≡ own_of kind (self.to_byte - self.from_byte) (marks_of self).own }
+        ensures templ { result.is_templ ≡ self.is_templ }
+        ensures ctor { result.is_ctor ≡ self.is_ctor }
+    {
+        let (own_start, own_end) = match kind {
+            Kind::Function => (0, self.text_len()),
+            Kind::Array => (self.own_start, self.own_end),
+        };
+        Piece {
+            own_start,
+            own_end,
+            declares: Some(kind),
+            group_start: group,
+            after_start: at,
+            ..self
+        }
+    }
+
+    // The last own name after n bytes were inserted at the byte `at` of its text, which has `len` bytes then.
+    #[inline(always)]
+    fn own_moved(self, at: usize, n: usize, len: usize) -> (usize, usize)
+        requires ordered { self.own_start ≤ self.own_end }
+        requires fits { self.own_end + n < 2 ^ 64 }
+        ensures value { result ≡ own_at (marks_of self).layout len (moved at n (self.own_start, self.own_end)) }
+    {
+        if matches!(self.declares, Some(Kind::Function)) {
             (0, len)
         } else {
-            moved_range(at, n, self.own)
+            moved_range(at, n, (self.own_start, self.own_end))
         }
     }
 }
 
 // A range after n bytes were inserted at the byte `at`.
+#[inline(always)]
 fn moved_range(at: usize, n: usize, own: (usize, usize)) -> (usize, usize)
     requires ordered { own.0 ≤ own.1 }
     requires fits { own.1 + n < 2 ^ 64 }

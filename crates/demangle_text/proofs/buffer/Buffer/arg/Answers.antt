@@ -1,7 +1,6 @@
 -- The last scope begins at the last place.
-use Rattle.std.proofs.Common.{◌≡◌, ◌-◌, List, length, drop, slice_get, ap, ◌∙◌, arith}
+use Rattle.std.proofs.Common.{◌≡◌, ◌-◌, length, ◌∙◌, arith}
 use Rattle.std.proofs.lemmas.List.{get_or_default}
-use Rattle.demangle_text.specs.declared.shape.Piece.{Piece}
 use Rattle.demangle_text.specs.View.{store_of}
 use Rattle.demangle_text.proofs.Scopes.{arg_within, arg_found, arg_lives, length-starts}
 use Rattle.demangle_text.proofs.buffer.Buffer.arg.Goals as goal
@@ -12,8 +11,8 @@ index-start-requires c =
     let all : c.scopes-count.result ≡ length s.scope_starts = length-starts s _ _ c.self.view_is c.scopes-count.ensures.value in
     omega arith
 
-pub piece_from-requires : goal.piece_from-requires
-piece_from-requires c =
+pub get_from-requires : goal.get_from-requires
+get_from-requires c =
     let s = store_of c.self.inside in
     let n = c.scopes-count.result in
     let all : n ≡ length s.scope_starts = length-starts s _ _ c.self.view_is c.scopes-count.ensures.value in
@@ -27,7 +26,7 @@ returns-clause-shape c =
     let all : n ≡ length s.scope_starts = length-starts s _ _ c.self.view_is c.scopes-count.ensures.value in
     let from = c.index-start.result.now in
     let e = c.index-start.ensures ∙ get_or_default s.scope_starts (n - 1) from 0 (omega arith) in
-    let found = c.piece_from.ensures.value ∙ ap (λ (ps : List Piece). slice_get (drop from ps) c.args.i) c.deref.ensures.value in
+    let found = c.get_from.ensures.value in
     rw (← c.self.view_is, found) (arg_found s c.args.i n from all (omega arith) e)
 
 pub returns-clause-living : goal.returns-clause-living
@@ -37,5 +36,5 @@ returns-clause-living c =
     let all : n ≡ length s.scope_starts = length-starts s _ _ c.self.view_is c.scopes-count.ensures.value in
     let from = c.index-start.result.now in
     let e = c.index-start.ensures ∙ get_or_default s.scope_starts (n - 1) from 0 (omega arith) in
-    let found = c.piece_from.ensures.value ∙ ap (λ (ps : List Piece). slice_get (drop from ps) c.args.i) c.deref.ensures.value in
+    let found = c.get_from.ensures.value in
     rw (← c.self.view_is, found) (arg_lives s c.args.i n from all (omega arith) e c.self.invariant)

@@ -1,63 +1,55 @@
--- The new text and its marks are those of the declarator with the group.
-use Rattle.std.proofs.Common.{◌≡◌, ℕ, ◌+◌, List, ◌++◌, length, take, drop, IfOk, sym, ap, ◌∙◌, subst, arith}
-use Rattle.demangle_text.specs.declared.shape.Marks.{Marks}
-use Rattle.demangle_text.specs.declared.shape.Piece.{Piece}
-use Rattle.demangle_text.specs.declared.shape.Place.TheVariants.{Suffix}
-use Rattle.demangle_text.specs.Pieces.{Store, IsMarked, shape_of, form_of, own_at, layout_opened, place_at}
-use Rattle.demangle_text.specs.Shape.{Shape, text, opened_group, IsDeclared, moved}
-use Rattle.demangle_text.specs.State.{IsLiving, shape, Lives}
+-- The text with the group in it stands at the end, and its marks are those of the declarator with the group.
+use Rattle.std.proofs.Common.{◌≡◌, ◌-◌, ◌+◌, ℕ, List, length, take, sym, ap, ◌∙◌, subst, arith}
+use Rattle.demangle_text.specs.Pieces.{Store, IsAt, IsTail, marks_of, own_at, layout_opened}
+use Rattle.demangle_text.specs.Shape.{moved}
+use Rattle.demangle_text.specs.State.{IsEditOf, main_bytes, frame, frame_start, Frame, Stands}
 use Rattle.demangle_text.proofs.States.{text_is}
-use Rattle.demangle_text.proofs.Inserts.{length-inserted}
-use Rattle.demangle_text.proofs.Groups.{Groups, group_text, layout_end_within, shape-opened, IsMarked-opened}
+use Rattle.demangle_text.proofs.Groups.{group_text}
+use Rattle.demangle_text.proofs.Tails.{Lives-opened, opened-longer, layout-fits}
 use Rattle.demangle_text.proofs.buffer.Buffer.open_group.Goals as goal
 
-pub with_group-marks-requires-clause-layout_fits : goal.with_group-marks-requires-clause-layout_fits
-unfolding IsLiving
-with_group-marks-requires-clause-layout_fits c =
-    let t_is = c.bytes-old.ensures.value ∙ text_is c.args.self.now c.args.piece c.requires.living in
-    let h = subst (λ (t : List ℕ). IsMarked t c.args.piece.marks) (sym t_is) c.requires.living.marked in
-    let reach = layout_end_within c.bytes-old.result.now c.args.piece.marks.layout h.layout in
-    let long = ap length c.in_ok-text.ensures.text ∙ length-inserted c.bytes-old.result.now c.deref.result.now c.place-at.result in
-    omega (arith, reach, long)
-
--- a text with a new group in front of `after`, made of the text of a living declarator
-with_group : (b : Store) (p : Piece) (bytes t group u : List ℕ) (w : Marks) (at n len : ℕ)
-    → IsLiving b p → IsDeclared (shape b p).form → t ≡ text (shape b p)
-    → at ≡ place_at Suffix p.marks.layout (length t) → group ≡ group_text bytes (take at t) → u ≡ take at t ++ (group ++ drop at t)
-    → n ≡ length group → len ≡ length u
-    → w.layout ≡ layout_opened n (length bytes + 2) p.marks.layout → w.own ≡ own_at p.marks.layout len (moved at n p.marks.own)
-    → w.templ ≡ p.marks.templ → w.ctor ≡ p.marks.ctor
-    → IsMarked u w × (shape_of u w ≡ opened_group bytes (shape b p))
-unfolding IsLiving shape
-with_group b p bytes t group u w at n len lies declared is_text at_is group_is u_is n_is long layout own templ ctor =
-    let t_is = is_text ∙ text_is b p lies in
-    let h = subst (λ (v : List ℕ). IsMarked v p.marks) (sym t_is) lies.marked in
-    let can = subst (λ (v : List ℕ). IsDeclared (form_of v p.marks.layout)) (sym t_is) declared in
-    let k = n_is ∙ ap length group_is in
-    let i : Groups bytes t u p.marks w at = record {
-      place = at_is;
-      text = u_is ∙ ap (λ (v : List ℕ). take at t ++ (v ++ drop at t)) group_is;
-      layout = layout ∙ ap (λ (j : ℕ). layout_opened j (length bytes + 2) p.marks.layout) k;
-      own = own ∙ ap (λ (j : ℕ). own_at p.marks.layout j (moved at n p.marks.own)) long ∙ ap (λ (j : ℕ). own_at p.marks.layout (length u) (moved at j p.marks.own)) k;
-      templ = templ;
-      ctor = ctor;
-    } in (
-      IsMarked-opened bytes t u p.marks w at h can i,
-      shape-opened bytes t u p.marks w at h can i ∙ ap (λ (v : List ℕ). opened_group bytes (shape_of v p.marks)) t_is,
-    )
-
-pub add-requires : goal.add-requires
-add-requires c =
-    let m = c.with_group-marks.ensures in
-    let group = c.deref.ensures.value ∙ c.in_ok-group.ensures.text in
-    let made = with_group c.args.self.now c.args.piece c.args.bytes.now _ _ _ _ _ c.len.result c.len-2.result c.requires.living c.requires.declared c.bytes-old.ensures.value
-    c.place-at.ensures.value group c.in_ok-text.ensures.text (omega arith) (omega arith) m.layout m.own m.templ m.ctor in
-    record { marked = made.0 }
+pub with_group-requires-clause-layout_fits : goal.with_group-requires-clause-layout_fits
+with_group-requires-clause-layout_fits c =
+    let fits = layout-fits c.args.self.now c.splice.new.self c.args.piece c.place-at.result c.deref.result.now c.in_ok-from.from c.requires.living c.in_ok-from.ensures.splice in
+    omega (arith, fits, c.len.ensures, c.deref.ensures.len, c.len-2.ensures.value, ap (λ (b : Store). length b.main_text) c.self-2.view_is)
 
 pub returns-clause-shape : goal.returns-clause-shape
 returns-clause-shape c =
-    let m = c.with_group-marks.ensures in
-    let group = c.deref.ensures.value ∙ c.in_ok-group.ensures.text in
-    let made = with_group c.args.self.now c.args.piece c.args.bytes.now _ _ _ _ _ c.len.result c.len-2.result c.requires.living c.requires.declared c.bytes-old.ensures.value
-    c.place-at.ensures.value group c.in_ok-text.ensures.text (omega arith) (omega arith) m.layout m.own m.templ m.ctor in
-    subst (λ (s : Shape). IfOk c.add.result (λ p. Lives c.add.new.self p s)) made.1 c.add.ensures.shape
+    let b = c.args.self.now in
+    let n = c.splice.new.self in
+    let p = c.args.piece in
+    let q = c.with_group.result in
+    let from = c.in_ok-from.from in
+    let at = c.place-at.result in
+    let bytes = c.deref.result.now in
+    let m = c.with_group.ensures in
+    let k : c.len-2.result ≡ length n.main_text = c.len-2.ensures.value ∙ ap (λ (b : Store). length b.main_text) c.self-2.view_is in
+    let j : c.len.result ≡ length bytes = c.len.ensures ∙ sym c.deref.ensures.len in
+    let is = c.deref.ensures.value ∙ c.in_ok-group.ensures.text ∙ ap (λ (v : List ℕ). group_text c.args.bytes.now (take at v)) (c.bytes.ensures.value ∙ text_is b p c.requires.living) in
+    Lives-opened b n p at bytes from c.requires.living c.in_ok-from.ensures.splice q (subst (IsAt q from) k m.stands)
+    c.args.bytes.now c.requires.declared c.place-at.ensures.value is
+    (m.layout ∙ ap (λ (i : ℕ). layout_opened i (length c.args.bytes.now + 2) (marks_of p).layout) j)
+    (m.own ∙ ap (λ (i : ℕ). own_at (marks_of p).layout (i - from) (moved at c.len.result (marks_of p).own)) k
+    ∙ ap (λ (i : ℕ). own_at (marks_of p).layout (length n.main_text - from) (moved at i (marks_of p).own)) j)
+    m.templ m.ctor
+
+pub returns-clause-edit_of : goal.returns-clause-edit_of
+unfolding main_bytes frame frame_start Frame Stands
+returns-clause-edit_of c =
+    let b = c.args.self.now in
+    let n = c.splice.new.self in
+    let q = c.with_group.result in
+    let from = c.in_ok-from.from in
+    let s = c.in_ok-from.ensures.splice in
+    let k : c.len-2.result ≡ length n.main_text = c.len-2.ensures.value ∙ ap (λ (b : Store). length b.main_text) c.self-2.view_is in
+    let stands = subst (IsAt q from) k c.with_group.ensures.stands in
+    let by = opened-longer b n c.args.piece c.place-at.result c.deref.result.now from c.requires.living s q stands c.args.bytes.now (returns-clause-shape c) in
+    let whole : IsEditOf b n c.args.piece q (length c.deref.result.now) = record {
+      front = s.front;
+      ends = (from, stands);
+      in_place = λ at inner there.
+          let tail : IsTail b c.args.piece = record { in_main = there.in_main; inner = omega (arith, inner, there.begins); ends = there.ends } in
+          let stays = s.in_place tail in
+          (subst (λ (i : ℕ). IsAt q i (length n.main_text)) (stays.0 ∙ there.begins) stands, stays.1);
+    } in
+    subst (IsEditOf b n c.args.piece q) by whole

@@ -1,9 +1,8 @@
-use Rattle.std.proofs.Common.{sym, subst, refl}
+use Rattle.std.proofs.Common.{sym, subst}
 use Rattle.std.proofs.lemmas.List.Elements.{All-push}
 use Rattle.demangle_text.specs.Pieces.{Store, IsPiece}
-use Rattle.demangle_text.specs.State.{IsLiving, KeepsAll}
+use Rattle.demangle_text.specs.State.{IsLiving}
 use Rattle.demangle_text.specs.View.{store_of}
-use Rattle.demangle_text.proofs.States.{unchanged, on_err_from}
 use Rattle.demangle_text.proofs.buffer.Buffer.save.Goals as goal
 
 pub invariant_of-self-2 : goal.invariant_of-self-2
@@ -12,12 +11,9 @@ invariant_of-self-2 c =
     let s = store_of c.self.inside in
     let lies = subst (λ (b : Store). IsLiving b c.args.piece) (sym c.self.view_is) c.requires.living in
     record {
-      saved_lie = rw c.in_ok-push.ensures.items (All-push (IsPiece s.kept_texts) _ _ c.self.invariant.saved_lie lies);
+      saved_lie = rw c.in_ok-push.ensures.ok (All-push (IsPiece s.main_text s.side_text) _ _ c.self.invariant.saved_lie lies);
       args_lie = c.self.invariant.args_lie;
       starts_fit = c.self.invariant.starts_fit;
+      main_frame = c.self.invariant.main_frame;
+      side_frame = c.self.invariant.side_frame;
     }
-
-pub returns-in_err-push-clause-err : goal.returns-in_err-push-clause-err
-returns-in_err-push-clause-err c =
-    let same : KeepsAll c.args.self.now _ = rw (← c.self.view_is) (unchanged (store_of c.self.inside) _ refl c.in_err-push.ensures.items refl refl refl) in
-    on_err_from c.from_residual.result same

@@ -1,0 +1,274 @@
+-- What stands at the end of the main text after an insertion, a copy or a join.
+use Rattle.std.proofs.Common.{◌≡◌, ℕ, ◌+◌, ◌-◌, ◌≤◌, Bool, false, List, ◌++◌, length, take, drop, slice_range, refl, sym, ap, ◌∙◌, subst, arith, append_assoc}
+use Rattle.std.proofs.lemmas.List.{length-append, length-drop, length-take-le, drop_at, take-append-drop, drop-append-le, drop-drop, drop-take, take_all, take-append-le, take-take}
+use Rattle.std.proofs.lemmas.List.Edits.{length-between}
+use Rattle.demangle_text.specs.declared.shape.Piece.{Piece}
+use Rattle.demangle_text.specs.Pieces.{Store, IsTail, IsAdjacent, IsSplice, IsJoint, piece_text, home_bytes}
+use Rattle.demangle_text.specs.Shape.{text, text_len, plain_shape, joined, inserted, own_shape, opened_group, CanInsert, IsDeclared, moved}
+use Rattle.demangle_text.specs.Pieces.{IsAt, IsMarked, marks_of, whole_marks, shape_of, place_at, layout_with, layout_opened, layout_end, own_at}
+use Rattle.demangle_text.specs.State.{IsLiving, shape, Lives}
+use Rattle.demangle_text.specs.declared.shape.Place.{Place}
+use Rattle.demangle_text.specs.declared.shape.Place.TheVariants.{Suffix}
+use Rattle.demangle_text.proofs.Inserts.{Inserts, length-inserted, shape-inserted, IsMarked-inserted}
+use Rattle.demangle_text.proofs.Groups.{Groups, group_text, layout_end_within, shape-opened, IsMarked-opened}
+use Rattle.demangle_text.proofs.Texts.{part-part}
+use Rattle.demangle_text.proofs.States.{Lives-at_end, text_is}
+
+-- the text from a place on, with bytes inserted in it
+tail_inserted : (main bytes : List ℕ) (from at : ℕ) → from + at ≤ length main → drop from (take (from + at) main ++ (bytes ++ drop (from + at) main)) ≡ take at (drop from main) ++ (bytes ++ drop at (drop from main))
+tail_inserted main bytes from at h =
+    let n = length-take-le (from + at) main h in
+    let one = drop-append-le from (take (from + at) main) (bytes ++ drop (from + at) main) (omega arith) in
+    let two = drop-take from at main in
+    let three : drop (from + at) main ≡ drop at (drop from main) = sym (drop-drop at from main) in
+    one ∙ ap (λ (v : List ℕ). v ++ (bytes ++ drop (from + at) main)) two ∙ ap (λ (v : List ℕ). take at (drop from main) ++ (bytes ++ v)) three
+
+-- no byte before an insertion changes
+front_inserted : (main bytes : List ℕ) (low at : ℕ) → low ≤ at → at ≤ length main → take low (take at main ++ (bytes ++ drop at main)) ≡ take low main
+front_inserted main bytes low at below h =
+    let n = length-take-le at main h in
+    take-append-le low (take at main) (bytes ++ drop at main) (omega arith) ∙ take-take low at main below
+
+-- nor one before the end of a text that grows
+front_longer : (main more : List ℕ) (low : ℕ) → low ≤ length main → take low (main ++ more) ≡ take low main
+front_longer main more low h = take-append-le low main more h
+
+-- the text of a piece that ends the main text
+tail_text : (s : Store) (p : Piece) → IsTail s p → piece_text s.main_text s.side_text p ≡ drop p.from_byte s.main_text
+tail_text s p h =
+    ap (λ (home : Bool). slice_range (home_bytes s.main_text s.side_text home) p.from_byte p.to_byte) h.in_main
+    ∙ take_all (p.to_byte - p.from_byte) (drop p.from_byte s.main_text) (omega (arith, h.ends, length-drop p.from_byte s.main_text))
+
+-- an insertion into a piece that ends the main text
+pub IsSplice-inserted : (s t : Store) (p : Piece) (at : ℕ) (bytes : List ℕ) → IsTail s p → p.from_byte ≤ p.to_byte → at ≤ p.to_byte - p.from_byte
+    → t.main_text ≡ take (p.from_byte + at) s.main_text ++ (bytes ++ drop (p.from_byte + at) s.main_text) → IsSplice s t p at bytes p.from_byte
+IsSplice-inserted s t p at bytes h ordered within is =
+    let main = s.main_text in
+    let there : p.from_byte + at ≤ length main = omega (arith, h.ends) in
+    let low : s.frame_main ≤ p.from_byte + at = omega (arith, h.inner) in
+    let n = ap length is ∙ length-inserted main bytes (p.from_byte + at) in
+    record {
+      within = omega (arith, n);
+      text = ap (drop p.from_byte) is ∙ tail_inserted main bytes p.from_byte at there
+          ∙ ap (λ (v : List ℕ). take at v ++ (bytes ++ drop at v)) (sym (tail_text s p h));
+      front = ap (take s.frame_main) is ∙ front_inserted main bytes s.frame_main (p.from_byte + at) low there;
+      in_place = λ _. (refl, n);
+    }
+
+-- a copy with the bytes in it, of a piece that doesn't
+pub IsSplice-copied : (s t : Store) (p : Piece) (at : ℕ) (bytes : List ℕ) (from : ℕ) → (IsTail s p → ⊥) → s.frame_main ≤ length s.main_text → from ≡ length s.main_text
+    → t.main_text ≡ s.main_text ++ (take at (piece_text s.main_text s.side_text p) ++ (bytes ++ drop at (piece_text s.main_text s.side_text p))) → IsSplice s t p at bytes from
+IsSplice-copied s t p at bytes from apart inner starts is =
+    let text = piece_text s.main_text s.side_text p in
+    let more = take at text ++ (bytes ++ drop at text) in
+    record {
+      within = omega (arith, ap length is ∙ length-append s.main_text more);
+      text = ap (drop from) is ∙ drop_at s.main_text more from (sym starts);
+      front = ap (take s.frame_main) is ∙ front_longer s.main_text more s.frame_main inner;
+      in_place = λ h. absurd (apart h);
+    }
+
+-- the texts of two pieces that meet and end the main text
+adjacent_text : (s : Store) (first second : Piece) → IsAdjacent s first second → first.from_byte ≤ first.to_byte → second.from_byte ≤ second.to_byte
+    → (piece_text s.main_text s.side_text first ≡ take (second.from_byte - first.from_byte) (drop first.from_byte s.main_text))
+    × (piece_text s.main_text s.side_text second ≡ drop (second.from_byte - first.from_byte) (drop first.from_byte s.main_text))
+adjacent_text s first second h ordered after =
+    let main = s.main_text in
+    let k = second.from_byte - first.from_byte in
+    let by_first = ap (λ (home : Bool). slice_range (home_bytes main s.side_text home) first.from_byte first.to_byte) h.first_in_main in
+    let by_second = ap (λ (home : Bool). slice_range (home_bytes main s.side_text home) second.from_byte second.to_byte) h.second_in_main in
+    let whole = take_all (second.to_byte - second.from_byte) (drop second.from_byte main) (omega (arith, h.ends, length-drop second.from_byte main)) in
+    let split : second.from_byte ≡ first.from_byte + k = omega (arith, h.meets) in (
+      by_first ∙ ap (λ (i : ℕ). take (i - first.from_byte) (drop first.from_byte main)) h.meets,
+      by_second ∙ whole ∙ ap (λ (i : ℕ). drop i main) split ∙ sym (drop-drop k first.from_byte main),
+    )
+
+-- an insertion between them
+pub IsJoint-inserted : (s t : Store) (first : Piece) (bytes : List ℕ) (second : Piece) → IsAdjacent s first second → first.from_byte ≤ first.to_byte → second.from_byte ≤ second.to_byte
+    → t.main_text ≡ take second.from_byte s.main_text ++ (bytes ++ drop second.from_byte s.main_text) → IsJoint s t first bytes second first.from_byte
+IsJoint-inserted s t first bytes second h ordered after is =
+    let main = s.main_text in
+    let k = second.from_byte - first.from_byte in
+    let split : second.from_byte ≡ first.from_byte + k = omega (arith, h.meets) in
+    let there : first.from_byte + k ≤ length main = omega (arith, h.ends, h.meets) in
+    let low : s.frame_main ≤ second.from_byte = omega (arith, h.inner, h.meets) in
+    let n = ap length is ∙ length-inserted main bytes second.from_byte in
+    let texts = adjacent_text s first second h ordered after in
+    record {
+      within = omega (arith, n);
+      text = ap (drop first.from_byte) is
+          ∙ ap (λ (i : ℕ). drop first.from_byte (take i main ++ (bytes ++ drop i main))) split
+          ∙ tail_inserted main bytes first.from_byte k there
+          ∙ ap (λ (v : List ℕ). v ++ (bytes ++ drop k (drop first.from_byte main))) (sym texts.0)
+          ∙ ap (λ (v : List ℕ). piece_text main s.side_text first ++ (bytes ++ v)) (sym texts.1)
+          ∙ sym (append_assoc (piece_text main s.side_text first) bytes (piece_text main s.side_text second));
+      front = ap (take s.frame_main) is ∙ front_inserted main bytes s.frame_main second.from_byte low (omega (arith, split));
+      in_place = λ _. (refl, n);
+    }
+
+-- a copy of both, where they don't meet at the end
+pub IsJoint-copied : (s t : Store) (first : Piece) (bytes : List ℕ) (second : Piece) (from : ℕ) → (IsAdjacent s first second → ⊥) → s.frame_main ≤ length s.main_text → from ≡ length s.main_text
+    → t.main_text ≡ s.main_text ++ (piece_text s.main_text s.side_text first ++ bytes ++ piece_text s.main_text s.side_text second) → IsJoint s t first bytes second from
+IsJoint-copied s t first bytes second from apart inner starts is =
+    let more = piece_text s.main_text s.side_text first ++ bytes ++ piece_text s.main_text s.side_text second in
+    record {
+      within = omega (arith, ap length is ∙ length-append s.main_text more);
+      text = ap (drop from) is ∙ drop_at s.main_text more from (sym starts);
+      front = ap (take s.frame_main) is ∙ front_longer s.main_text more s.frame_main inner;
+      in_place = λ h. absurd (apart h);
+    }
+
+-- how long the text of a piece is
+length-text : (s : Store) (p : Piece) → IsLiving s p → length (piece_text s.main_text s.side_text p) ≡ p.to_byte - p.from_byte
+unfolding IsLiving
+length-text s p h = length-between (home_bytes s.main_text s.side_text p.in_side) p.from_byte p.to_byte h.within
+
+-- a splice of a living piece
+module _ (b n : Store) (p : Piece) (at : ℕ) (bytes : List ℕ) (from : ℕ) (lies : IsLiving b p) (i : IsSplice b n p at bytes from) where
+  abbrev t : List ℕ
+  t = piece_text b.main_text b.side_text p
+
+  pub splice-long : length n.main_text - from ≡ p.to_byte - p.from_byte + length bytes
+  splice-long = sym (length-drop from n.main_text) ∙ ap length i.text ∙ length-inserted t bytes at ∙ ap (λ (k : ℕ). k + length bytes) (length-text b p lies)
+
+  pub own-fits : p.own_end + length bytes ≤ length n.main_text
+  unfolding IsLiving
+  own-fits = omega (arith, splice-long, i.within, lies.marked.own_within, length-text b p lies)
+
+  pub layout-fits : layout_end (marks_of p).layout + length bytes ≤ length n.main_text
+  unfolding IsLiving
+  layout-fits = omega (arith, splice-long, i.within, layout_end_within t (marks_of p).layout lies.marked.layout, length-text b p lies)
+
+  module _ (q : Piece) (stands : IsAt q from (length n.main_text)) where
+    abbrev u : List ℕ
+    u = drop from n.main_text
+
+    long : length n.main_text - from ≡ length u
+    long = sym (length-drop from n.main_text)
+
+    there : IsAt q q.from_byte (length n.main_text)
+    there = record { in_main = stands.in_main; begins = refl; ends = stands.ends }
+
+    at_end : IsMarked u (marks_of q) → Lives n q (shape_of u (marks_of q))
+    at_end marked = Lives-at_end n q u there (omega (arith, i.within, stands.begins)) (ap (λ (k : ℕ). drop k n.main_text) stands.begins) marked
+
+    -- the bytes at a place
+    pub Lives-inserted : (place : Place) → CanInsert place (shape b p).form → at ≡ place_at place (marks_of p).layout (p.to_byte - p.from_byte)
+        → (marks_of q).layout ≡ layout_with place (length bytes) (marks_of p).layout
+        → (marks_of q).own ≡ own_at (marks_of p).layout (length n.main_text - from) (moved at (length bytes) (marks_of p).own)
+        → q.is_templ ≡ p.is_templ → q.is_ctor ≡ p.is_ctor → Lives n q (inserted place bytes (shape b p))
+    unfolding IsLiving shape
+    Lives-inserted place can at_is layout own templ ctor =
+        let m = marks_of p in
+        let w = marks_of q in
+        let at_t : at ≡ place_at place m.layout (length t) = at_is ∙ ap (place_at place m.layout) (sym (length-text b p lies)) in
+        let k : Inserts place bytes t u m w = record {
+          text = i.text ∙ ap (λ (j : ℕ). take j t ++ (bytes ++ drop j t)) at_t;
+          layout = layout;
+          own = own ∙ ap (λ (j : ℕ). own_at m.layout j (moved at (length bytes) m.own)) long ∙ ap (λ (j : ℕ). own_at m.layout (length u) (moved j (length bytes) m.own)) at_t;
+          templ = templ;
+          ctor = ctor;
+        } in
+        rw (← shape-inserted place bytes t u m w lies.marked can k) (at_end (IsMarked-inserted place bytes t u m w lies.marked can k))
+
+    -- a group before `after`, where the bytes are the gap and the group in its parentheses
+    pub Lives-opened : (group : List ℕ) → IsDeclared (shape b p).form → at ≡ place_at Suffix (marks_of p).layout (p.to_byte - p.from_byte) → bytes ≡ group_text group (take at t)
+        → (marks_of q).layout ≡ layout_opened (length bytes) (length group + 2) (marks_of p).layout
+        → (marks_of q).own ≡ own_at (marks_of p).layout (length n.main_text - from) (moved at (length bytes) (marks_of p).own)
+        → q.is_templ ≡ p.is_templ → q.is_ctor ≡ p.is_ctor → Lives n q (opened_group group (shape b p))
+    unfolding IsLiving shape
+    Lives-opened group declared at_is is layout own templ ctor =
+        let m = marks_of p in
+        let w = marks_of q in
+        let at_t : at ≡ place_at Suffix m.layout (length t) = at_is ∙ ap (place_at Suffix m.layout) (sym (length-text b p lies)) in
+        let k : Groups group t u m w at = record {
+          place = at_t;
+          text = i.text ∙ ap (λ (v : List ℕ). take at t ++ (v ++ drop at t)) is;
+          layout = layout ∙ ap (λ (v : List ℕ). layout_opened (length v) (length group + 2) m.layout) is;
+          own = own ∙ ap (λ (j : ℕ). own_at m.layout j (moved at (length bytes) m.own)) long ∙ ap (λ (v : List ℕ). own_at m.layout (length u) (moved at (length v) m.own)) is;
+          templ = templ;
+          ctor = ctor;
+        } in
+        rw (← shape-opened group t u m w at lies.marked declared k) (at_end (IsMarked-opened group t u m w at lies.marked declared k))
+
+    -- by how much its text grows
+    pub opened-longer : (group : List ℕ) → Lives n q (opened_group group (shape b p)) → length bytes ≡ text_len (opened_group group (shape b p)) - text_len (shape b p)
+    unfolding IsLiving shape
+    opened-longer group h =
+        let new = ap text (sym h.shape_is) ∙ text_is n q h.living in
+        let whole = length-text n q h.living in
+        let old = ap length (text_is b p lies) in
+        omega (arith, ap length new, whole, old, length-text b p lies, splice-long, stands.begins, stands.ends, i.within)
+
+-- both texts with bytes between them
+pub Lives-joined : (b n : Store) (first second q : Piece) (bytes : List ℕ) (from : ℕ) → IsLiving b first → IsLiving b second → IsJoint b n first bytes second from
+    → IsAt q from (length n.main_text) → marks_of q ≡ whole_marks (length n.main_text - from) → Lives n q (joined (shape b first) bytes (shape b second))
+Lives-joined b n first second q bytes from one two i stands marks =
+    let u = piece_text b.main_text b.side_text first ++ bytes ++ piece_text b.main_text b.side_text second in
+    let texts : u ≡ text (shape b first) ++ bytes ++ text (shape b second) =
+    ap (λ (v : List ℕ). v ++ bytes ++ piece_text b.main_text b.side_text second) (sym (text_is b first one))
+    ∙ ap (λ (v : List ℕ). text (shape b first) ++ bytes ++ v) (sym (text_is b second two)) in
+    let n_is : length n.main_text - from ≡ length u = sym (length-drop from n.main_text) ∙ ap length i.text in
+    let marks_are : marks_of q ≡ whole_marks (length u) = marks ∙ ap whole_marks n_is in
+    let whole : IsMarked u (whole_marks (length u)) = record { layout = tt; own_ordered = omega arith; own_within = omega arith; own_whole = tt } in
+    let there : IsAt q q.from_byte (length n.main_text) = record { in_main = stands.in_main; begins = refl; ends = stands.ends } in
+    let lives = Lives-at_end n q u there (omega (arith, i.within, stands.begins)) (ap (λ (k : ℕ). drop k n.main_text) stands.begins ∙ i.text) (subst (IsMarked u) (sym marks_are) whole) in
+    record {
+      living = lives.living;
+      shape_is = lives.shape_is ∙ ap (shape_of u) marks_are ∙ ap plain_shape texts;
+    }
+
+-- a text that became all of the main text since a place
+pub Lives-settled : (b n : Store) (p q : Piece) (at : ℕ) → IsLiving b p → at ≤ length b.main_text → n.main_text ≡ take at b.main_text ++ piece_text b.main_text b.side_text p
+    → IsAt q at (length n.main_text) → marks_of q ≡ marks_of p → Lives n q (shape b p)
+unfolding IsLiving shape
+Lives-settled b n p q at lies within is stands marks =
+    let t = piece_text b.main_text b.side_text p in
+    let low = length-take-le at b.main_text within in
+    let there : IsAt q q.from_byte (length n.main_text) = record { in_main = stands.in_main; begins = refl; ends = stands.ends } in
+    let text : drop q.from_byte n.main_text ≡ t = ap (λ (k : ℕ). drop k n.main_text) stands.begins ∙ ap (drop at) is ∙ drop_at (take at b.main_text) t at low in
+    let lives = Lives-at_end n q t there (omega (arith, ap length is, length-append (take at b.main_text) t, stands.begins)) text (subst (IsMarked t) (sym marks) lies.marked) in
+    record { living = lives.living; shape_is = lives.shape_is ∙ ap (shape_of t) marks }
+
+-- a text that stands there already
+pub settled-already : (b : Store) (p : Piece) (at : ℕ) → p.in_side ≡ false → p.from_byte ≡ at → p.to_byte ≡ length b.main_text → b.main_text ≡ take at b.main_text ++ piece_text b.main_text b.side_text p
+settled-already b p at home begins ends =
+    let text : piece_text b.main_text b.side_text p ≡ drop at b.main_text =
+    ap (λ (h : Bool). slice_range (home_bytes b.main_text b.side_text h) p.from_byte p.to_byte) home
+    ∙ take_all (p.to_byte - p.from_byte) (drop p.from_byte b.main_text) (omega (arith, ends, length-drop p.from_byte b.main_text))
+    ∙ ap (λ (k : ℕ). drop k b.main_text) begins in
+    sym (take-append-drop at b.main_text) ∙ ap (λ (v : List ℕ). take at b.main_text ++ v) (sym text)
+
+-- a copy at the end that becomes the block
+pub settled-copy : (main mid t : List ℕ) (at from to : ℕ) → mid ≡ main ++ t → at ≤ length main → from ≡ length main → to ≡ length mid → take at mid ++ slice_range mid from to ≡ take at main ++ t
+settled-copy main mid t at from to is within starts ends =
+    let low = ap (take at) is ∙ take-append-le at main t within in
+    let block = take_all (to - from) (drop from mid) (omega (arith, ends, length-drop from mid)) ∙ ap (drop from) is ∙ drop_at main t from (sym starts) in
+    ap (λ (v : List ℕ). v ++ slice_range mid from to) low ∙ ap (λ (v : List ℕ). take at main ++ v) block
+
+-- the last own name as a piece of its own
+pub Lives-own : (b : Store) (p q : Piece) → IsLiving b p → q.in_side ≡ p.in_side → q.from_byte ≡ p.from_byte + p.own_start → q.to_byte ≡ p.from_byte + p.own_end
+    → marks_of q ≡ whole_marks (p.from_byte + p.own_end - (p.from_byte + p.own_start)) → Lives b q (own_shape (shape b p))
+unfolding IsLiving shape
+Lives-own b p q lies home begins ends marks =
+    let bytes = home_bytes b.main_text b.side_text p.in_side in
+    let t = piece_text b.main_text b.side_text p in
+    let u = slice_range bytes (p.from_byte + p.own_start) (p.from_byte + p.own_end) in
+    let n = length-text b p lies in
+    let inside : p.from_byte + p.own_end ≤ p.to_byte = omega (arith, n, lies.marked.own_within, lies.ordered) in
+    let m : length u ≡ p.from_byte + p.own_end - (p.from_byte + p.own_start) = length-between bytes (p.from_byte + p.own_start) (p.from_byte + p.own_end) (omega (arith, inside, lies.within)) in
+    let here : piece_text b.main_text b.side_text q ≡ u =
+    ap (λ (h : Bool). slice_range (home_bytes b.main_text b.side_text h) q.from_byte q.to_byte) home
+    ∙ ap (λ (k : ℕ). slice_range bytes k q.to_byte) begins ∙ ap (λ (k : ℕ). slice_range bytes (p.from_byte + p.own_start) k) ends in
+    let marks_are : marks_of q ≡ whole_marks (length u) = marks ∙ ap whole_marks (sym m) in
+    let whole : IsMarked u (whole_marks (length u)) = record { layout = tt; own_ordered = omega arith; own_within = omega arith; own_whole = tt } in
+    let name : u ≡ slice_range (text (shape b p)) p.own_start p.own_end =
+    part-part bytes p.from_byte p.to_byte p.own_start p.own_end lies.marked.own_ordered inside ∙ ap (λ (v : List ℕ). slice_range v p.own_start p.own_end) (sym (text_is b p lies)) in
+    record {
+      living = record {
+        ordered = omega (arith, begins, ends, lies.marked.own_ordered);
+        within = rw home (omega (arith, ends, inside, lies.within));
+        marked = rw (here, marks_are) whole;
+      };
+      shape_is = ap (λ (v : List ℕ). shape_of v (marks_of q)) here ∙ ap (shape_of u) marks_are ∙ ap plain_shape name;
+    }

@@ -1,0 +1,169 @@
+//! What a move of bytes in the main text does to the pieces that are kept.
+ghost use Rattle.std.specs.Prelude.{◌≡◌, ℕ, ◌+◌, ◌-◌, ◌^◌, ◌<◌, ◌≤◌, ◌++◌, length, slice_range, All, map, IfOk, OnOk};
+ghost use Rattle.std.specs.Prelude.{OnErr, true, false};
+ghost use Rattle.demangle_text.specs.Pieces.{IsPiece, IsApart, IsAside, Extends, shape_in, carried};
+
+use crate::ranges::Ranges;
+use crate::shape::Piece;
+use crate::text::Text;
+use std::alloc::AllocError;
+
+// The piece with its text at the end of the side text.
+fn set_aside(main: &[u8], side: &mut Text, piece: Piece) -> Result<Piece, AllocError>
+    requires ordered { piece.from_byte ≤ piece.to_byte }
+    requires within { piece.to_byte ≤ length main.now }
+    ensures piece { IfOk result (λ p. p ≡ record piece {
+      in_side = true;
+      from_byte = length side.old;
+      to_byte = length side.old + (piece.to_byte - piece.from_byte);
+    }) }
+    ensures text { OnOk result (side.new ≡ side.old ++ slice_range main.now piece.from_byte piece.to_byte) }
+    ensures err { OnErr result (side.new ≡ side.old) }
+{
+    let from = side.len();
+    side.add(&main[piece.from_byte..piece.to_byte])?;
+    Ok(Piece {
+        in_side: true,
+        from_byte: from,
+        to_byte: side.len(),
+        ..piece
+    })
+}
+
+// A kept piece before a block is moved down or up from `low` on: one that would be torn is set aside.
+fn evict_one(
+    main: &[u8],
+    side: &mut Text,
+    piece: Piece,
+    low: usize,
+    from: usize,
+    to: usize,
+) -> Result<Piece, AllocError>
+    requires lies { IsPiece main.now side.old piece }
+    ensures side { Extends side.old side.new }
+    ensures lies { IfOk result (IsPiece main.now side.new) }
+    ensures shape { IfOk result (λ p. shape_in main.now side.new p ≡ shape_in main.now side.old piece) }
+    ensures apart { IfOk result (IsApart low from to) }
+{
+    if piece.in_side || piece.to_byte <= low {
+        return Ok(piece);
+    }
+    if from <= piece.from_byte && piece.to_byte <= to {
+        return Ok(piece);
+    }
+    set_aside(main, side, piece)
+}
+
+// Sets aside the texts of all pieces of a list that would be torn.
+#[inline(always)]
+pub(crate) fn evict(
+    main: &[u8],
+    side: &mut Text,
+    pieces: &mut Ranges,
+    low: usize,
+    from: usize,
+    to: usize,
+) -> Result<(), AllocError>
+    requires lie { All (IsPiece main.now side.old) pieces.old }
+    ensures side { Extends side.old side.new }
+    ensures lie { All (IsPiece main.now side.new) pieces.new }
+    ensures shapes { map (shape_in main.now side.new) pieces.new ≡ map (shape_in main.now side.old) pieces.old }
+    ensures long { length pieces.new ≡ length pieces.old }
+    ensures apart { OnOk result (All (IsApart low from to) pieces.new) }
+{
+    if pieces.end_by(low) {
+        return Ok(());
+    }
+    evict_each(main, side, pieces, low, from, to)
+}
+
+// The same, piece by piece.
+fn evict_each(
+    main: &[u8],
+    side: &mut Text,
+    pieces: &mut Ranges,
+    low: usize,
+    from: usize,
+    to: usize,
+) -> Result<(), AllocError>
+    requires lie { All (IsPiece main.now side.old) pieces.old }
+    ensures side { Extends side.old side.new }
+    ensures lie { All (IsPiece main.now side.new) pieces.new }
+    ensures shapes { map (shape_in main.now side.new) pieces.new ≡ map (shape_in main.now side.old) pieces.old }
+    ensures long { length pieces.new ≡ length pieces.old }
+    ensures apart { OnOk result (All (IsApart low from to) pieces.new) }
+{
+    for i in 0..pieces.len() {
+        let piece = evict_one(main, side, pieces.at(i), low, from, to)?;
+        pieces.set(i, piece);
+    }
+    Ok(())
+}
+
+// The same for both lists.
+pub(crate) fn set_apart(
+    main: &[u8],
+    side: &mut Text,
+    saved: &mut Ranges,
+    args: &mut Ranges,
+    low: usize,
+    from: usize,
+    to: usize,
+) -> Result<(), AllocError>
+    requires saved { All (IsPiece main.now side.old) saved.old }
+    requires args { All (IsPiece main.now side.old) args.old }
+    ensures aside { IsAside main.now side.old side.new saved.old saved.new args.old args.new }
+    ensures saved_apart { OnOk result (All (IsApart low from to) saved.new) }
+    ensures args_apart { OnOk result (All (IsApart low from to) args.new) }
+{
+    evict(main, side, saved, low, from, to)?;
+    evict(main, side, args, low, from, to)
+}
+
+// A kept piece after the block was moved to `dest`.
+fn carry_one(piece: Piece, low: usize, from: usize, to: usize, dest: usize) -> Piece
+    requires ordered { piece.from_byte ≤ piece.to_byte }
+    requires block { from ≤ to }
+    requires apart { IsApart low from to piece }
+    requires fits { dest + (to - from) < 2 ^ 64 }
+    ensures value { result ≡ carried low from dest piece }
+{
+    if piece.in_side || piece.to_byte <= low {
+        return piece;
+    }
+    Piece {
+        from_byte: dest + (piece.from_byte - from),
+        to_byte: dest + (piece.to_byte - from),
+        ..piece
+    }
+}
+
+// Carries all pieces of a list that lie in the block.
+#[inline(always)]
+pub(crate) fn carry(pieces: &mut Ranges, low: usize, from: usize, to: usize, dest: usize)
+    requires ordered { All (λ p. p.from_byte ≤ p.to_byte) pieces.old }
+    requires block { from ≤ to }
+    requires apart { All (IsApart low from to) pieces.old }
+    requires fits { dest + (to - from) < 2 ^ 64 }
+    ensures value { pieces.new ≡ map (carried low from dest) pieces.old }
+{
+    if pieces.end_by(low) {
+        return;
+    }
+    carry_each(pieces, low, from, to, dest);
+}
+
+// The same, piece by piece.
+fn carry_each(pieces: &mut Ranges, low: usize, from: usize, to: usize, dest: usize)
+    requires ordered { All (λ p. p.from_byte ≤ p.to_byte) pieces.old }
+    requires block { from ≤ to }
+    requires apart { All (IsApart low from to) pieces.old }
+    requires fits { dest + (to - from) < 2 ^ 64 }
+    ensures value { pieces.new ≡ map (carried low from dest) pieces.old }
+{
+    for i in 0..pieces.len() {
+        let piece = carry_one(pieces.at(i), low, from, to, dest);
+        pieces.set(i, piece);
+    }
+    pieces.bound(low.max(dest + (to - from)));
+}
