@@ -19,6 +19,8 @@ mod memory;
 #[cfg(test)]
 mod names;
 #[cfg(test)]
+mod own_names;
+#[cfg(test)]
 mod sample;
 #[cfg(test)]
 mod scalars;

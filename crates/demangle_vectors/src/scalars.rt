@@ -1,6 +1,6 @@
-//! Numbers, sequence ids and source names, read by themselves.
+//! Numbers, sequence ids, source names and operator codes, read by themselves.
 
-use itanium_demangle::scalar::{number, sequence_id, source_name};
+use itanium_demangle::scalar::{number, operator_arity, operator_text, sequence_id, source_name};
 
 #[test]
 fn numbers(rt: HostRuntime) {
@@ -40,4 +40,19 @@ fn source_names(rt: HostRuntime) {
     assert_eq!(rt; source_name(b"0", 0), None);
     assert_eq!(rt; source_name(b"18446744073709551615", 0), None);
     assert_eq!(rt; source_name(b"foo", 0), None);
+}
+
+#[test]
+fn operator_codes(rt: HostRuntime) {
+    assert_eq!(rt; operator_text(b'n', b'w'), Some(" new"));
+    assert_eq!(rt; operator_text(b'd', b'a'), Some(" delete[]"));
+    assert_eq!(rt; operator_text(b'p', b's'), Some("+"));
+    assert_eq!(rt; operator_text(b'm', b'I'), Some("-="));
+    assert_eq!(rt; operator_text(b's', b's'), Some("<=>"));
+    assert_eq!(rt; operator_text(b'c', b'v'), None);
+    assert_eq!(rt; operator_text(b'l', b'i'), None);
+    assert_eq!(rt; operator_arity(b'p', b's'), Some(1));
+    assert_eq!(rt; operator_arity(b'm', b'i'), Some(2));
+    assert_eq!(rt; operator_arity(b'q', b'u'), Some(3));
+    assert_eq!(rt; operator_arity(b'c', b'v'), None);
 }

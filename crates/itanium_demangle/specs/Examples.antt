@@ -35,8 +35,12 @@ pub record WorkedSymbols : Type 0 where
   pub no_scope_of_a_type : IsAnswer (codes "_Z1fI1AIiET_Evv") (Some (codes "f<A<int>, A<int> >"))
   pub operator : IsAnswer (codes "_ZN1AlsIiEEvv") (Some (codes "A::operator<< <int>"))
   pub second_lambda : IsAnswer (codes "_ZN1AUlvE0_E") (Some (codes "A::{lambda()#2}"))
-  pub tagged_twice : IsAnswer (codes "_ZN1A12_GLOBAL__N_1B12_GLOBAL__N_1E") (Some (codes "A::(anonymous namespace)[abi:(anonymous namespace)]"))
-  pub lambda_parameter : IsAnswer (codes "_Z1fIN1A1BENS1_UlP1CE_ES2_Ev") (Some (codes "f<A::B, A::B::{lambda(C*)#1}, C>"))
+  pub tagged_name :
+      IsAnswer (codes "_ZN1A12_GLOBAL__N_1B12_GLOBAL__N_1E")
+      (Some (codes "A::(anonymous namespace)[abi:(anonymous namespace)]"))
+  pub lambda_parameter :
+      IsAnswer (codes "_Z1fIN1A1BENS1_UlP1CE_ES2_Ev")
+      (Some (codes "f<A::B, A::B::{lambda(C*)#1}, C>"))
   pub conversion : IsAnswer (codes "_ZN3FoocvM1AiEv") (Some (codes "Foo::operator int A::*"))
   pub empty_pack : IsAnswer (codes "_Z1fIiJEEvv") (Some (codes "f<int, >"))
   pub expansion_in_a_pack : IsAnswer (codes "_Z1fIJDpiEEvv") (Some (codes "f<int>"))

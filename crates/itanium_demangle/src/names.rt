@@ -194,8 +194,8 @@ impl<'a> Reader<'a> {
     #[cycle(reader)]
     fn read_free_name(&mut self, depth: usize, context: Context) -> Result<(), Stop>
         requires room { HasRoom 0 (state self.old) }
-        ensures reads { Gives result self.new (spec.free_as (free_case self.old.rest.now) (spec.parse_type depth context)
-            (spec.parse_type depth (inside_lambda context)) (state self.old)) }
+        ensures reads { Gives result self.new (spec.free_as (free_case self.old.rest.now)
+            (spec.parse_type depth context) (spec.parse_type depth (inside_lambda context)) (state self.old)) }
         ensures run { OnOk result (IsRun self.old.buffer self.new.buffer) }
         ensures bounds { Bounds 2 result (state self.old) (state self.new) }
         ensures saved { SavedBounds 1 result (state self.old) (state self.new) }

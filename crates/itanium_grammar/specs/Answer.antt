@@ -34,7 +34,8 @@ pub record IsReading (symbol : List ℕ) (tree : Tree) (next : Position) (cost :
   pub prefix : after_prefix symbol ≡ Some inside
   pub reading : Symbol outside (start inside) tree next cost
 
--- a reading nests at most 128 counted productions, its printing is UTF-8, and the answer is the printing with the suffix
+-- a reading nests at most 128 counted productions, its printing is UTF-8, and the answer is the printing with the
+-- suffix
 pub record HasAnswer (symbol answer : List ℕ) : Type 0 where
   pub tree : Tree
   pub next : Position

@@ -1,6 +1,9 @@
-//! What stands in the bytes by itself: numbers and source names (Itanium C++ ABI 5.1.2).
+//! What stands in the bytes by itself: numbers and source names (Itanium C++ ABI 5.1.2), and the codes of operators
+//! (5.1.4).
 ghost use Rattle.std.specs.Prelude.{◌≡◌, ◌<◌, ◌≤◌, IfSome, option_map, length, drop, slice_range};
 ghost use Rattle.itanium_syntax.specs.Scalars as spec;
+
+pub use crate::operators::{operator_arity, operator_text};
 
 use crate::numerals::{Radix, numeral};
 

@@ -1,0 +1,106 @@
+//! Names that are no plain words: operators, conversions, unnamed types, lambdas and tags; packs and their expansions.
+
+use crate::tables::{assert_answers, assert_unread};
+use itanium_demangle::Demangler;
+use std::test::Fail;
+
+#[test]
+fn operators(rt: HostRuntime) -> Result<(), Fail> {
+    let rows = [
+        ("_ZN1AlsIiEEvv", "A::operator<< <int>"),
+        ("_ZltIiEvv", "operator< <int>"),
+        ("_ZN3FoonwEm", "Foo::operator new"),
+        ("_ZN3FooaSERS_", "Foo::operator="),
+        ("_ZN3FooUlvE_clEv", "Foo::{lambda()#1}::operator()"),
+        ("_Zli4_fooe", "operator\"\" _foo"),
+        ("_ZN1Nli4_fooEe", "N::operator\"\" _foo"),
+        ("_ZN3FoocviEv", "Foo::operator int"),
+        ("_ZN3FoocvM1AiEv", "Foo::operator int A::*"),
+    ];
+    assert_answers(&rt, rt.alloc(), rows.as_slice())?;
+    // The parameter is read before the list that it would be of.
+    assert_unread(&rt, rt.alloc(), ["_ZN1AcvT_IiEEv"].as_slice())
+}
+
+#[test]
+fn unnamed_types_and_lambdas(rt: HostRuntime) -> Result<(), Fail> {
+    let rows = [
+        ("_ZN3FooUt_3barEv", "Foo::{unnamed type#1}::bar"),
+        ("_ZN1AUlvE0_E", "A::{lambda()#2}"),
+        ("_ZN1AUlE_E", "A::{lambda()#1}"),
+        ("_ZN3FooUlvE_3barEv", "Foo::{lambda()#1}::bar"),
+        ("_ZN3FooUlT_E_clEi", "Foo::{lambda(auto)#1}::operator()"),
+        ("_ZN3FooUlPT_E_clEPi", "Foo::{lambda(auto*)#1}::operator()"),
+        (
+            "_ZN3FooUlRKT_E_clERKi",
+            "Foo::{lambda(auto const&)#1}::operator()",
+        ),
+        (
+            "_ZN3FooUlT_T0_E_clEii",
+            "Foo::{lambda(auto, auto)#1}::operator()",
+        ),
+        (
+            "_ZN3FooUlSt6vectorIT_EE_clEv",
+            "Foo::{lambda(std::vector<auto>)#1}::operator()",
+        ),
+        (
+            "_ZN3Foo3barIiEUlT_E_Ev",
+            "Foo::bar<int>::{lambda(auto)#1}",
+        ),
+        (
+            "_Z1fIN1A1BENS1_UlP1CE_ES2_Ev",
+            "f<A::B, A::B::{lambda(C*)#1}, C>",
+        ),
+    ];
+    assert_answers(&rt, rt.alloc(), rows.as_slice())
+}
+
+#[test]
+fn tags(rt: HostRuntime) -> Result<(), Fail> {
+    let rows = [
+        (
+            "_ZN1A12_GLOBAL__N_1B12_GLOBAL__N_1E",
+            "A::(anonymous namespace)[abi:(anonymous namespace)]",
+        ),
+        ("_ZN1A3fooB03abcE", "A::foo[abi:abc]"),
+        ("_ZN3Foo3barB3abcEv", "Foo::bar[abi:abc]"),
+        ("_ZN3FooD0B8nn180100Ev", "Foo::~Foo[abi:nn180100]"),
+    ];
+    assert_answers(&rt, rt.alloc(), rows.as_slice())
+}
+
+#[test]
+fn packs(rt: HostRuntime) -> Result<(), Fail> {
+    let rows = [
+        ("_Z1fIiJEEvv", "f<int, >"),
+        ("_Z1fIJDpiEEvv", "f<int>"),
+        ("_Z1fIDpiEvv", "f<int...>"),
+        ("_ZN3Foo5applyIJ3Bar3BazEEEv", "Foo::apply<Bar, Baz>"),
+        ("_Z1fIJRKPFvvEEEvv", "f<void (* const&)()>"),
+        ("_Z1fIJRPA3_iEEvv", "f<int (*&) [3]>"),
+        ("_Z1fIJRPFvvEEEvv", "f<void (*&)()>"),
+        ("_Z1fIJOPFvvEEEvv", "f<void (*&&)()>"),
+        ("_Z1fIJPPFvvEEEvv", "f<void (**)()>"),
+        (
+            "_Z1fIJN3Foo3BarENS1_3BazERKS2_EEvv",
+            "f<Foo::Bar, Foo::Bar::Baz, Foo::Bar::Baz const&>",
+        ),
+        (
+            "_Z1fIJM1DKFvN1N1TEOEEEvv",
+            "f<void (D::*)(N::T) const &&>",
+        ),
+        ("_Z1fIJM1DFvN1N1TEREEEvv", "f<void (D::*)(N::T) &>"),
+    ];
+    assert_answers(&rt, rt.alloc(), rows.as_slice())
+}
+
+#[test]
+fn a_pack_is_over_when_its_symbol_is(rt: HostRuntime) -> Result<(), Fail> {
+    let mut demangler = Demangler::new();
+    let alloc = rt.alloc();
+    assert_eq!(rt; demangler.demangle(alloc, "_Z1fIiJEEvv")?, Some("f<int, >"));
+    assert_eq!(rt; demangler.demangle(alloc, "_Z1fIDpiEvv")?, Some("f<int...>"));
+    assert_eq!(rt; demangler.demangle(alloc, "_Z1fIJDp")?, None);
+    assert_eq!(rt; demangler.demangle(alloc, "_Z1fIDpiEvv")?, Some("f<int...>"));
+    Ok(())
+}
