@@ -43,10 +43,7 @@ fn unnamed_types_and_lambdas(rt: HostRuntime) -> Result<(), Fail> {
             "_ZN3FooUlSt6vectorIT_EE_clEv",
             "Foo::{lambda(std::vector<auto>)#1}::operator()",
         ),
-        (
-            "_ZN3Foo3barIiEUlT_E_Ev",
-            "Foo::bar<int>::{lambda(auto)#1}",
-        ),
+        ("_ZN3Foo3barIiEUlT_E_Ev", "Foo::bar<int>::{lambda(auto)#1}"),
         (
             "_Z1fIN1A1BENS1_UlP1CE_ES2_Ev",
             "f<A::B, A::B::{lambda(C*)#1}, C>",
@@ -85,10 +82,7 @@ fn packs(rt: HostRuntime) -> Result<(), Fail> {
             "_Z1fIJN3Foo3BarENS1_3BazERKS2_EEvv",
             "f<Foo::Bar, Foo::Bar::Baz, Foo::Bar::Baz const&>",
         ),
-        (
-            "_Z1fIJM1DKFvN1N1TEOEEEvv",
-            "f<void (D::*)(N::T) const &&>",
-        ),
+        ("_Z1fIJM1DKFvN1N1TEOEEEvv", "f<void (D::*)(N::T) const &&>"),
         ("_Z1fIJM1DFvN1N1TEREEEvv", "f<void (D::*)(N::T) &>"),
     ];
     assert_answers(&rt, rt.alloc(), rows.as_slice())
@@ -99,8 +93,14 @@ fn a_pack_is_over_when_its_symbol_is(rt: HostRuntime) -> Result<(), Fail> {
     let mut demangler = Demangler::new();
     let alloc = rt.alloc();
     assert_eq!(rt; demangler.demangle(alloc, "_Z1fIiJEEvv")?, Some("f<int, >"));
-    assert_eq!(rt; demangler.demangle(alloc, "_Z1fIDpiEvv")?, Some("f<int...>"));
+    assert_eq!(rt;
+        demangler.demangle(alloc, "_Z1fIDpiEvv")?,
+        Some("f<int...>")
+    );
     assert_eq!(rt; demangler.demangle(alloc, "_Z1fIJDp")?, None);
-    assert_eq!(rt; demangler.demangle(alloc, "_Z1fIDpiEvv")?, Some("f<int...>"));
+    assert_eq!(rt;
+        demangler.demangle(alloc, "_Z1fIDpiEvv")?,
+        Some("f<int...>")
+    );
     Ok(())
 }

@@ -3,9 +3,8 @@
 ghost use Rattle.std.specs.Prelude.{◌≡◌, ◌<◌, ◌≤◌, IfSome, option_map, length, drop, slice_range};
 ghost use Rattle.itanium_syntax.specs.Scalars as spec;
 
-pub use crate::operators::{operator_arity, operator_text};
-
 use crate::numerals::{Radix, numeral};
+pub use crate::operators::{operator_arity, operator_text};
 
 /// `<number>` without a sign: as many decimal digits as stand at `pos`, at least one. The value, and the place after
 /// the digits, in bytes; `None` where no digit stands there or the value is past 2^64 - 1.
