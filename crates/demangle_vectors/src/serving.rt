@@ -37,13 +37,13 @@ fn a_used_value_answers(rt: HostRuntime) -> Result<(), Fail> {
     for other in OTHERS {
         demangler.demangle(rt.alloc(), other)?;
         let found = demangler.demangle(rt.alloc(), symbol)?;
-        assert_eq!(rt; found, Some(answer), "behind {other}");
+        assert_eq!(rt; found, Some(answer), "after {other}");
     }
     Ok(())
 }
 
 #[test]
-fn no_answer_behind_an_answer(rt: HostRuntime) -> Result<(), Fail> {
+fn no_answer_after_an_answer(rt: HostRuntime) -> Result<(), Fail> {
     let mut demangler = Demangler::new();
     assert!(rt; demangler.prepare(rt.alloc(), "_ZN3Foo3barEv")?);
     assert_eq!(rt; demangler.text(), Some("Foo::bar"));
@@ -65,15 +65,15 @@ fn arguments_of_an_earlier_symbol_are_gone(rt: HostRuntime) -> Result<(), Fail> 
         assert_eq!(rt;
             demangler.demangle(rt.alloc(), "_Z1fIT_E")?,
             None,
-            "behind {refused}"
+            "after {refused}"
         );
         assert_eq!(rt;
             demangler.demangle(rt.alloc(), "_ZS0_IiE")?,
             None,
-            "behind {refused}"
+            "after {refused}"
         );
         let found = demangler.demangle(rt.alloc(), "_Z1fIcT_E")?;
-        assert_eq!(rt; found, Some("f<char, char>"), "behind {refused}");
+        assert_eq!(rt; found, Some("f<char, char>"), "after {refused}");
     }
     Ok(())
 }

@@ -18,7 +18,7 @@ pub(crate) fn assert_answers(
         let found = fresh.demangle(alloc, symbol)?;
         assert_eq!(rt; found, Some(*answer), "{symbol}");
         let again = kept.demangle(alloc, symbol)?;
-        assert_eq!(rt; again, Some(*answer), "{symbol}, behind others");
+        assert_eq!(rt; again, Some(*answer), "{symbol}, after others");
     }
     Ok(())
 }
@@ -31,7 +31,7 @@ pub(crate) fn assert_unread(rt: &impl Abort, alloc: Global, symbols: &[&str]) ->
         let found = fresh.demangle(alloc, symbol)?;
         assert_eq!(rt; found, None, "{symbol}");
         let again = kept.demangle(alloc, symbol)?;
-        assert_eq!(rt; again, None, "{symbol}, behind others");
+        assert_eq!(rt; again, None, "{symbol}, after others");
     }
     Ok(())
 }

@@ -1,5 +1,6 @@
 //! What the next bytes of a mangled C++ symbol are (Itanium C++ ABI 5.1): numbers and source names, the abbreviations
-//! of std, and which case of each production the bytes begin. Of several cases the first one that fits holds.
+//! of std, the operators, and which case of each production the bytes begin. Of several cases the first one that fits
+//! holds.
 #![tactic(auto)]
 
 pub mod abbreviations;
