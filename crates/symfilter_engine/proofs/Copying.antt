@@ -7,10 +7,10 @@ use Rattle.symfilter_engine.specs.declared.fault.FilterFault.TheVariants.{Read, 
 use Rattle.symfilter_engine.specs.Fault.{IsRunOutcome}
 use Rattle.std.proofs.KnownBytes.{Consumes-nil, Consumes-trans, Consumes-kept, Keeps-refl}
 use Rattle.std.specs.Io.KnownBytes.{Consumes, IsAtEnd, Keeps}
-use Rattle.symfilter_engine.specs.Filtered.{WritesFiltered, WritesBeginning, FiltersFront}
-use Rattle.symfilter_engine.specs.Progress.{WritesLinesFront, HasFiltered, HasCopied, ReadsMore}
+use Rattle.symfilter_engine.specs.Filtered.{WritesFiltered, WritesBeginning, FiltersFront, FiltersWholeLines}
+use Rattle.symfilter_engine.specs.Progress.{WritesLinesFront, WritesWholeLines, HasFiltered, HasCopied, ReadsMore}
 use Rattle.symfilter_engine.proofs.Chunks.{nothing_read}
-use Rattle.symfilter_engine.proofs.FilteredText.{none_filtered, filtered_begins, piece_filtered, piece_begins, WritesFiltered-append, WritesBeginning-append}
+use Rattle.symfilter_engine.proofs.FilteredText.{none_filtered, filtered_begins, piece_filtered, piece_begins, next_unwritten, lines_before, WritesFiltered-append, WritesBeginning-append}
 
 -- nothing was read yet
 pub none_copied : (line : List ℕ) (source sink : Option (List ℕ)) → line ≡ [] → HasCopied line source source sink sink
@@ -56,6 +56,46 @@ turn_fault kept end n old new lines s s' s'' t t' t'' so_far more begins lines_a
       begins = piece_begins so_far.read more.piece (take kept old) t t' t'' so_far.filtered
           (subst (λ l. WritesBeginning l t' t'') (ap (λ l. l ++ drop n all) lines_are ∙ take-append-drop n all ∙ more.held) (begins (drop n all)));
     }
+
+-- whole lines of what was read were written
+pub copied_lines : (left : List ℕ) (s s' t t' : Option (List ℕ)) → HasCopied left s s' t t' → FiltersWholeLines s s' t t'
+copied_lines left s s' t t' so_far =
+    record {
+      lines = so_far.filtered.lines;
+      left = left;
+      consumed = subst (Consumes s s') so_far.filtered.given_is so_far.consumed;
+      text = so_far.filtered.text;
+      filtered = so_far.filtered.filtered;
+      written = so_far.filtered.written;
+    }
+
+-- memory was refused for a line of the next piece
+pub turn_refused : (kept end n : ℕ) (old new lines : List ℕ) (s s' s'' t t' t'' : Option (List ℕ))
+    → HasCopied (take kept old) s s' t t' → ReadsMore kept end old new s' s'' → WritesWholeLines lines t' t''
+    → lines ≡ take n (take end new) → FiltersWholeLines s s'' t t''
+turn_refused kept end n old new lines s s' s'' t t' t'' so_far more (left, filtered) lines_are =
+    let all : List ℕ = take end new in
+    let rest : List ℕ = drop n all in
+    let held : lines ++ rest ≡ take kept old ++ more.piece =
+    ap (λ l. l ++ rest) lines_are ∙ take-append-drop n all ∙ more.held in
+    copied_lines (left ++ rest) s s'' t t''
+    (record {
+      read = so_far.read ++ more.piece;
+      consumed = Consumes-trans s s' s'' so_far.read more.piece so_far.consumed more.consumed;
+      filtered = piece_filtered so_far.read more.piece (take kept old) (left ++ rest) t t' t'' so_far.filtered
+          (subst (λ l. HasFiltered l (left ++ rest) t' t'') held (lines_before lines left rest t' t'' filtered));
+    })
+
+-- memory was refused for the last line
+pub last_refused : (line : List ℕ) (s s' t t' t'' : Option (List ℕ))
+    → HasCopied line s s' t t' → Keeps t' t'' → FiltersWholeLines s s' t t''
+last_refused line s s' t t' t'' so_far keeps =
+    copied_lines line s s' t t''
+    (record {
+      read = so_far.read;
+      consumed = so_far.consumed;
+      filtered = next_unwritten so_far.read line t t' t'' so_far.filtered keeps;
+    })
 
 -- nothing more was read
 pub end_copied : (kept end : ℕ) (old new : List ℕ) (s s' s'' t t' : Option (List ℕ))

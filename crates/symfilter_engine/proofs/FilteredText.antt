@@ -7,8 +7,8 @@ use Rattle.std.proofs.lemmas.Str.{IsUtf8-from_is_utf8, is_utf8-from_IsUtf8}
 use Rattle.std.proofs.lemmas.Bool.{false≢true, cases_eq}
 use Rattle.itanium_grammar.specs.Answer.{IsAnswer}
 use Rattle.itanium_demangle.proofs.Answered.{each_answered}
-use Rattle.std.proofs.KnownBytes.{Appends-nil, Appends-trans}
-use Rattle.std.specs.Io.KnownBytes.{Appends}
+use Rattle.std.proofs.KnownBytes.{Appends-nil, Appends-trans, Appends-kept}
+use Rattle.std.specs.Io.KnownBytes.{Appends, Keeps}
 use Rattle.symfilter_engine.specs.Filtered.{line_feed, HasNoLineFeed, AreLinesFiltered, no_line, one_more, IsFiltered, ended, unended, IsFront, IsBeginning, IsLineAnswer, answered, unanswered, not_utf8, WritesFiltered, WritesBeginning}
 use Rattle.symfilter_engine.specs.Progress.{WritesFront, WritesLines, WritesLinesFront, HasFiltered}
 
@@ -124,6 +124,30 @@ lines_filtered given rest n before mid after so_far (text, filtered, writes) =
       written = Appends-trans before mid after so_far.text text so_far.written writes;
     }
 
+-- nothing of the next line was written
+pub next_unwritten : (given left : List ℕ) (before mid after : Option (List ℕ))
+    → HasFiltered given left before mid → Keeps mid after → HasFiltered given left before after
+next_unwritten given left before mid after so_far keeps =
+    record {
+      lines = so_far.lines;
+      text = so_far.text;
+      given_is = so_far.given_is;
+      filtered = so_far.filtered;
+      written = Appends-kept before mid after so_far.text so_far.written keeps;
+    }
+
+-- whatever follows what was given
+pub lines_before : (given left rest : List ℕ) (before after : Option (List ℕ))
+    → HasFiltered given left before after → HasFiltered (given ++ rest) (left ++ rest) before after
+lines_before given left rest before after so_far =
+    record {
+      lines = so_far.lines;
+      text = so_far.text;
+      given_is = ap (λ l. l ++ rest) so_far.given_is ∙ append_assoc so_far.lines left rest;
+      filtered = so_far.filtered;
+      written = so_far.written;
+    }
+
 -- what is written stays a beginning
 pub filtered_begins : (given left : List ℕ) (before after : Option (List ℕ)) → HasFiltered given left before after → WritesBeginning given before after
 filtered_begins given left before after so_far =
@@ -193,13 +217,7 @@ WritesBeginning-append given left before mid after so_far (written, begins, writ
 pub WritesLinesFront-append : (given left : List ℕ) (before mid after : Option (List ℕ)) → HasFiltered given left before mid → WritesLinesFront left mid after → WritesLinesFront given before after
 WritesLinesFront-append given left before mid after so_far begins rest =
     WritesBeginning-append (given ++ rest) (left ++ rest) before mid after
-    (record {
-      lines = so_far.lines;
-      text = so_far.text;
-      given_is = ap (λ l. l ++ rest) so_far.given_is ∙ append_assoc so_far.lines left rest;
-      filtered = so_far.filtered;
-      written = so_far.written;
-    })
+    (lines_before given left rest before mid so_far)
     (begins rest)
 
 -- what holds after a fault

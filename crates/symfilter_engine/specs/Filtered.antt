@@ -62,6 +62,16 @@ pub record FiltersFront (before after written_before written_after : Option (Lis
   pub consumed : Consumes before after read
   pub begins : WritesBeginning read written_before written_after
 
+-- the reader gave whole lines and then these bytes, where its bytes are known, and the writer got the filtered text of
+-- the whole lines and nothing else
+pub record FiltersWholeLines (before after written_before written_after : Option (List ℕ)) : Type 0 where
+  pub lines : List ℕ
+  pub left : List ℕ
+  pub consumed : Consumes before after (lines ++ left)
+  pub text : List ℕ
+  pub filtered : AreLinesFiltered lines text
+  pub written : Appends written_before written_after text
+
 -- the reader gave whole lines and a part of one more, where its bytes are known, and the writer got the filtered text
 -- of the whole lines and nothing else
 pub record FiltersLines (before after written_before written_after : Option (List ℕ)) : Type 0 where

@@ -41,6 +41,10 @@ pub record HasFiltered (given left : List ℕ) (before after : Option (List ℕ)
   pub filtered : AreLinesFiltered lines text
   pub written : Appends before after text
 
+-- of the bytes given whole lines were written filtered, and nothing of the next
+abbrev pub WritesWholeLines : List ℕ → Option (List ℕ) → Option (List ℕ) → Type 0
+WritesWholeLines given before after = (left : List ℕ) × HasFiltered given left before after
+
 -- the filtered text of these lines was written
 abbrev pub WritesLines : List ℕ → Option (List ℕ) → Option (List ℕ) → Type 0
 WritesLines lines before after = (text : List ℕ) × AreLinesFiltered lines text × Appends before after text

@@ -2,7 +2,7 @@
 ghost use Rattle.std.specs.Prelude.{◌≡◌, ◌≤◌, ◌↔◌, ◌<◌, ◌-◌, false, [], length, take, drop, IsTrue, IsErrOf, IfOk, IfSome, Some, OnOk, OnErr};
 ghost use Rattle.std.specs.Io.KnownBytes.{IsAtEnd, Keeps};
 ghost use Rattle.symfilter_engine.specs.Fault.{IsRunOutcome, IsReadOutcome};
-ghost use Rattle.symfilter_engine.specs.Filtered.{HasNoLineFeed, FiltersFront, FiltersLines, WritesFiltered};
+ghost use Rattle.symfilter_engine.specs.Filtered.{HasNoLineFeed, FiltersFront, FiltersLines, FiltersWholeLines, WritesFiltered};
 ghost use Rattle.symfilter_engine.specs.Progress.{HasCopied, ReadsMore};
 
 use super::ends::{Failed, Sink, Source};
@@ -20,8 +20,9 @@ const CHUNK_LEN: usize = 131072;
 /// Whenever it reads, all whole lines that were read before are written.
 ///
 /// It ends at the first fault and calls neither end after it: `Read` where the reader failed, `Write` where the writer
-/// did, `Memory` where memory ran out. What was written then is a beginning of what would have been: all lines before
-/// the fault, unless the writer failed.
+/// did, `Memory` where memory ran out. What was written then is a beginning of what would have been: after `Read` the
+/// text of all whole lines that were read, and after `Memory` that of whole lines, with nothing of the next. That the
+/// next is the one that memory ran out for is so by the code alone, and no clause says it.
 pub fn filter<R: Source, W: Sink>(
     alloc: Global,
     reader: &mut R,
@@ -43,6 +44,11 @@ pub fn filter<R: Source, W: Sink>(
 
     // Any call of the reader may fail. So whenever it is asked, all whole lines that it gave are written.
     ensures put { IsErrOf result FilterFault.Read → FiltersLines
+        (R.remaining reader.old) (R.remaining reader.new)
+        (W.taken writer.old) (W.taken writer.new) }
+
+    // Where memory runs out, whole lines are written, and nothing of the next.
+    ensures memory { IsErrOf result FilterFault.Memory → FiltersWholeLines
         (R.remaining reader.old) (R.remaining reader.new)
         (W.taken writer.old) (W.taken writer.new) }
 {
@@ -68,6 +74,9 @@ fn filter_by_chunks<R: Source, W: Sink>(
         (R.remaining reader.old) (R.remaining reader.new)
         (W.taken writer.old) (W.taken writer.new)) }
     ensures put { IsErrOf result FilterFault.Read → FiltersLines
+        (R.remaining reader.old) (R.remaining reader.new)
+        (W.taken writer.old) (W.taken writer.new) }
+    ensures memory { IsErrOf result FilterFault.Memory → FiltersWholeLines
         (R.remaining reader.old) (R.remaining reader.new)
         (W.taken writer.old) (W.taken writer.new) }
 {
@@ -98,6 +107,9 @@ fn copy_lines<R: Source, W: Sink>(
         (R.remaining reader.old) (R.remaining reader.new)
         (W.taken writer.old) (W.taken writer.new)) }
     ensures put { IsErrOf result FilterFault.Read → FiltersLines
+        (R.remaining reader.old) (R.remaining reader.new)
+        (W.taken writer.old) (W.taken writer.new) }
+    ensures memory { IsErrOf result FilterFault.Memory → FiltersWholeLines
         (R.remaining reader.old) (R.remaining reader.new)
         (W.taken writer.old) (W.taken writer.new) }
 {

@@ -1,10 +1,11 @@
 //! Lines of a chunk, and what is written for them.
 //!
 //! A line is ordinary where it doesn't begin with an underscore: then it is no symbol, and stands for itself.
-ghost use Rattle.std.specs.Prelude.{◌≡◌, ◌<◌, ◌≤◌, [], false, length, take, IsTrue, IsUtf8, IfOk, IfSome, IfNone, OnOk, OnErr};
+ghost use Rattle.std.specs.Prelude.{◌≡◌, ◌<◌, ◌≤◌, [], false, length, take, IsTrue, IsErrOf, IsUtf8, IfOk, IfSome, IfNone, OnOk, OnErr};
+ghost use Rattle.std.specs.Io.KnownBytes.{Keeps};
 ghost use Rattle.symfilter_engine.specs.Fault.{IsWriteOutcome};
 ghost use Rattle.symfilter_engine.specs.Filtered.{HasNoLineFeed, IsLineAnswer, AreLinesFiltered, WritesFiltered, WritesBeginning};
-ghost use Rattle.symfilter_engine.specs.Progress.{EndsInLineFeed, AppendsLine, AppendsLines, HasFiltered, WritesLines, WritesLinesFront};
+ghost use Rattle.symfilter_engine.specs.Progress.{EndsInLineFeed, AppendsLine, AppendsLines, HasFiltered, WritesLines, WritesLinesFront, WritesWholeLines};
 
 use super::ends::Sink;
 use super::fault::FilterFault;
@@ -138,32 +139,32 @@ fn append_next(
     Ok(end + 1)
 }
 
-/// Appends to the empty output what is written for these lines, from the front on until it is long or memory is
-/// refused, and answers how many bytes they have. An error comes only where memory is refused for the first.
+/// Appends what is written for more of these lines, until the output is long or memory is refused, and answers how many
+/// bytes all have whose text is in the output. It was so for the first `gathered` bytes, and they are kept.
 fn gather_lines(
     alloc: Global,
     demangler: &mut Demangler,
     lines: &[u8],
     known_utf8: bool,
+    gathered: usize,
     output: &mut Vec<u8>,
-) -> Result<usize, AllocError>
-    requires empty { output.old.items ≡ [] }
-    requires some { 0 < length lines.now }
+) -> usize
+    requires inside { gathered ≤ length lines.now }
+    requires so_far { AreLinesFiltered (take gathered lines.now) output.old.items }
     requires ended { EndsInLineFeed lines.now }
     requires known { IsTrue known_utf8 → IsUtf8 lines.now }
-    ensures some { IfOk result (λ len. 0 < len) }
-    ensures bound { IfOk result (λ len. len ≤ length lines.now) }
-    ensures ok { IfOk result (λ len. AreLinesFiltered (take len lines.now) output.new.items) }
-    ensures err { OnErr result (output.new.items ≡ []) }
+    ensures kept { gathered ≤ result }
+    ensures bound { result ≤ length lines.now }
+    ensures filtered { AreLinesFiltered (take result lines.now) output.new.items }
 {
-    let mut taken = append_next(alloc, demangler, lines, known_utf8, output)?;
+    let mut taken = gathered;
     while taken < lines.len() && output.len() < OUTPUT_LEN {
         let Ok(more) = append_next(alloc, demangler, &lines[taken..], known_utf8, output) else {
             break;
         };
         taken += more;
     }
-    Ok(taken)
+    taken
 }
 
 /// Writes what is written for the first of these lines, and answers how many bytes they have: a long run of ordinary
@@ -186,6 +187,8 @@ fn write_next<W: Sink>(
     ensures ok { IfOk result (λ len. WritesLines (take len lines.now)
         (W.taken writer.old) (W.taken writer.new)) }
     ensures err { OnErr result (WritesLinesFront lines.now (W.taken writer.old) (W.taken writer.new)) }
+    ensures memory { IsErrOf result FilterFault.Memory →
+        Keeps (W.taken writer.old) (W.taken writer.new) }
 {
     let ordinary = ordinary_len(lines);
     if ordinary >= LONG_LEN {
@@ -193,7 +196,8 @@ fn write_next<W: Sink>(
         return Ok(ordinary);
     }
     output.clear();
-    let len = gather_lines(alloc, demangler, lines, known_utf8, output)?;
+    let first = append_next(alloc, demangler, lines, known_utf8, output)?;
+    let len = gather_lines(alloc, demangler, lines, known_utf8, first, output);
     put_all(writer, output)?;
     Ok(len)
 }
@@ -211,6 +215,8 @@ pub(crate) fn write_lines<W: Sink>(
     ensures outcome { IsWriteOutcome result (W.failed writer.new) }
     ensures ok { OnOk result (HasFiltered lines.now [] (W.taken writer.old) (W.taken writer.new)) }
     ensures err { OnErr result (WritesLinesFront lines.now (W.taken writer.old) (W.taken writer.new)) }
+    ensures memory { IsErrOf result FilterFault.Memory →
+        WritesWholeLines lines.now (W.taken writer.old) (W.taken writer.new) }
 {
     let known_utf8 = str::from_utf8(lines).is_ok();
     let mut rest = lines;
@@ -233,6 +239,8 @@ pub(crate) fn write_last<W: Sink>(
     ensures outcome { IsWriteOutcome result (W.failed writer.new) }
     ensures ok { OnOk result (WritesFiltered line.now (W.taken writer.old) (W.taken writer.new)) }
     ensures err { OnErr result (WritesBeginning line.now (W.taken writer.old) (W.taken writer.new)) }
+    ensures memory { IsErrOf result FilterFault.Memory →
+        Keeps (W.taken writer.old) (W.taken writer.new) }
 {
     if line.is_empty() {
         return Ok(());

@@ -1,5 +1,5 @@
 //! Writing to a sink.
-ghost use Rattle.std.specs.Prelude.{◌≡◌, false, ◌<◌, OnOk, OnErr};
+ghost use Rattle.std.specs.Prelude.{◌≡◌, true, false, ◌<◌, OnOk, OnErr};
 ghost use Rattle.std.specs.Io.KnownBytes.{Appends};
 ghost use Rattle.symfilter_engine.specs.Fault.{IsWriteOutcome};
 ghost use Rattle.symfilter_engine.specs.Progress.{WritesFront};
@@ -12,6 +12,7 @@ pub(crate) fn put_all<W: Sink>(writer: &mut W, bytes: &[u8]) -> Result<(), Filte
     requires not_failed { W.failed writer.old ≡ false }
     ensures outcome { IsWriteOutcome result (W.failed writer.new) }
     ensures ok { OnOk result (Appends (W.taken writer.old) (W.taken writer.new) bytes.now) }
+    ensures fails { OnErr result (W.failed writer.new ≡ true) }
     ensures err { OnErr result (WritesFront bytes.now (W.taken writer.old) (W.taken writer.new)) }
 {
     let mut rest = bytes;

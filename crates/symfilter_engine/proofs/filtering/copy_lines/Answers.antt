@@ -3,7 +3,7 @@ use Rattle.std.proofs.lemmas.List.{length-take, take-take}
 use Rattle.std.proofs.lemmas.List.Elements.{All-same}
 use Rattle.symfilter_engine.proofs.FilteredText.{at_fault}
 use Rattle.symfilter_engine.proofs.LineEnds.{is_other}
-use Rattle.symfilter_engine.proofs.Copying.{none_copied, turn_copied, turn_fault, end_copied, read_fault}
+use Rattle.symfilter_engine.proofs.Copying.{none_copied, turn_copied, turn_fault, turn_refused, end_copied, read_fault}
 use Rattle.symfilter_engine.proofs.filtering.copy_lines.Goals as goal
 
 pub turns-init : goal.turns-init
@@ -30,6 +30,15 @@ returns-in_err-write_lines-clause-err g c =
     let within : ended ≤ end = omega (arith, c.ended_len-ended.ensures.bound, length-take end c.deref.result.now) in
     at_fault _ (turn_fault _ _ ended _ all _ _ _ _ _ _ _ c.turns.invariant.so_far c.in_ok-end.ensures.ok c.in_err-write_lines.ensures.err
     (ap (take ended) c.deref-in-turns.ensures.value ∙ sym (take-take ended end all within)))
+
+pub returns-in_err-write_lines-clause-memory : goal.returns-in_err-write_lines-clause-memory
+returns-in_err-write_lines-clause-memory g c = λ refused.
+    let ended = c.ended_len-ended.result in
+    let end = c.in_ok-end.end in
+    let all = c.read_more.new.chunk.items in
+    let within : ended ≤ end = omega (arith, c.ended_len-ended.ensures.bound, length-take end c.deref.result.now) in
+    turn_refused _ _ ended _ all _ _ _ _ _ _ _ c.turns.invariant.so_far c.in_ok-end.ensures.ok (c.in_err-write_lines.ensures.memory (search rules))
+    (ap (take ended) c.deref-in-turns.ensures.value ∙ sym (take-take ended end all within))
 
 pub turns-preserved : goal.turns-preserved
 turns-preserved g c =

@@ -1,5 +1,6 @@
+use Rattle.std.proofs.Common.{[], refl}
 use Rattle.symfilter_engine.proofs.FilteredText.{at_fault}
-use Rattle.symfilter_engine.proofs.Copying.{none_read, read_outcome, write_outcome}
+use Rattle.symfilter_engine.proofs.Copying.{none_copied, copied_lines, none_read, read_outcome, write_outcome}
 use Rattle.symfilter_engine.proofs.filtering.filter.Goals as goal
 
 pub returns-in_err-chunk-clause-err : goal.returns-in_err-chunk-clause-err
@@ -10,3 +11,6 @@ returns-clause-read g c = read_outcome _ _ _ c.filter_by_chunks.ensures.outcome
 
 pub returns-clause-write : goal.returns-clause-write
 returns-clause-write g c = write_outcome _ _ _ c.filter_by_chunks.ensures.outcome
+
+pub returns-in_err-chunk-clause-memory : goal.returns-in_err-chunk-clause-memory
+returns-in_err-chunk-clause-memory g c = λ _. copied_lines [] _ _ _ _ (none_copied [] _ _ refl)

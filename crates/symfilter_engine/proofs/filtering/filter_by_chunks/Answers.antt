@@ -1,7 +1,7 @@
 use Rattle.std.proofs.Common.{take, subst}
 use Rattle.std.proofs.lemmas.Result.{on_ok_weaker, on_err_weaker}
 use Rattle.symfilter_engine.specs.Filtered.{WritesFiltered, WritesBeginning}
-use Rattle.symfilter_engine.proofs.Copying.{last_copied, last_fault}
+use Rattle.symfilter_engine.proofs.Copying.{last_copied, last_fault, last_refused}
 use Rattle.symfilter_engine.proofs.filtering.filter_by_chunks.Goals as goal
 
 pub returns-clause-ok : goal.returns-clause-ok
@@ -25,3 +25,7 @@ returns-clause-err g c =
     let kept = c.in_ok-kept.kept in
     on_err_weaker _ (λ begins. last_fault (take kept c.copy_lines.new.chunk.items) s s' t t' t'' c.in_ok-kept.ensures.ok
     (subst (λ l. WritesBeginning (take kept l) t' t'') c.deref.ensures.value begins)) c.write_last.ensures.err
+
+pub returns-clause-memory : goal.returns-clause-memory
+returns-clause-memory g c = λ refused.
+    last_refused _ _ _ _ _ _ c.in_ok-kept.ensures.ok (c.write_last.ensures.memory refused)

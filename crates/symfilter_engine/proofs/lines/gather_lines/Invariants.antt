@@ -1,11 +1,11 @@
-use Rattle.std.proofs.Common.{◌-◌, ◌<◌, ◌≤◌, length, take}
+use Rattle.std.proofs.Common.{◌-◌, ◌≤◌, length, take}
 use Rattle.symfilter_engine.specs.Filtered.{AreLinesFiltered}
 use Rattle.symfilter_engine.proofs.lines.gather_lines.Given as goal
 
 abbrev pub invariant-loop-taken : goal.invariant-loop-taken
 invariant-loop-taken l =
     record {
-      some : 0 < l.taken;
+      kept : l.gathered ≤ l.taken;
       inside : l.taken ≤ length l.lines;
       so_far : AreLinesFiltered (take l.taken l.lines) l.output.items;
     }

@@ -2,7 +2,7 @@ use Rattle.std.proofs.Common.{rules, sym, subst}
 use Rattle.std.specs.Prelude.{IsUtf8}
 use Rattle.std.proofs.lemmas.List.{take_rest}
 use Rattle.symfilter_engine.specs.Progress.{EndsInLineFeed, HasFiltered}
-use Rattle.symfilter_engine.proofs.FilteredText.{at_fault, none_filtered, lines_filtered, WritesLinesFront-append}
+use Rattle.symfilter_engine.proofs.FilteredText.{at_fault, none_filtered, lines_filtered, next_unwritten, WritesLinesFront-append}
 use Rattle.symfilter_engine.proofs.LineEnds.{ended_after, utf8_after}
 use Rattle.symfilter_engine.proofs.lines.write_lines.Goals as goal
 
@@ -12,6 +12,10 @@ loop-rest-init g c =
 
 pub returns-in_err-len-clause-err : goal.returns-in_err-len-clause-err
 returns-in_err-len-clause-err g c = at_fault _ (WritesLinesFront-append _ _ _ _ _ c.loop-rest.invariant.so_far c.in_err-len.ensures.err)
+
+pub returns-in_err-len-clause-memory : goal.returns-in_err-len-clause-memory
+returns-in_err-len-clause-memory g c = λ refused.
+    (c.loop-rest.rest.now, next_unwritten _ _ _ _ _ c.loop-rest.invariant.so_far (c.in_err-len.ensures.memory (search rules)))
 
 pub loop-rest-preserved : goal.loop-rest-preserved
 loop-rest-preserved g c =

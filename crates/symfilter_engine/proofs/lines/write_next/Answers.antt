@@ -7,10 +7,10 @@ pub returns-in_err-put_all-clause-err : goal.returns-in_err-put_all-clause-err
 returns-in_err-put_all-clause-err g c =
     at_fault _ (lines_begin c.args.lines.now _ c.ordinary_len-ordinary.result _ _ c.ordinary_len-ordinary.ensures.ordinary c.in_err-put_all.ensures.err)
 
-pub returns-in_err-len-clause-err : goal.returns-in_err-len-clause-err
-returns-in_err-len-clause-err g c = at_fault _ (lines_unwritten c.args.lines.now _)
+pub returns-in_err-first-clause-err : goal.returns-in_err-first-clause-err
+returns-in_err-first-clause-err g c = at_fault _ (lines_unwritten c.args.lines.now _)
 
 pub returns-in_err-put_all-2-clause-err : goal.returns-in_err-put_all-2-clause-err
 returns-in_err-put_all-2-clause-err g c =
-    at_fault _ (lines_begin c.args.lines.now _ c.in_ok-len.len _ _ c.in_ok-len.ensures.ok
+    at_fault _ (lines_begin c.args.lines.now _ c.gather_lines-len.result _ _ c.gather_lines-len.ensures.filtered
     (subst (λ l. WritesFront l (g.W.Sink.taken c.args.writer.now) (g.W.Sink.taken c.put_all-2.new.writer)) c.deref.ensures.value c.in_err-put_all-2.ensures.err))
