@@ -7,7 +7,7 @@ use Rattle.demangle_quals.specs.Quals.{no_quals}
 use Rattle.demangle_edit.specs.Types.{has_array, has_member_pointer, array_step, member_pointer_step, function_step}
 use Rattle.itanium_syntax.specs.declared.context.Context.{Context}
 use Rattle.itanium_syntax.specs.Context.{inside_type}
-use Rattle.itanium_syntax.specs.Scalars.{source_name, dimension_of}
+use Rattle.itanium_syntax.specs.Scalars.{source_name, optional_number}
 use Rattle.itanium_syntax.specs.Names.{source_text}
 use Rattle.itanium_syntax.specs.Args.{attached_case}
 use Rattle.itanium_syntax.specs.Types.{type_case, cv_case, function_case, params_case, types_case, cv_quals, past_cv, with_reference}
@@ -119,7 +119,7 @@ type_as_sound d complete kinds names lists VendorType x p e m y is =
     let case = vendor_sound (attached_case b.1) (shape_of (plain_text (source_text b.0))) (state_at (at b.1 p) e m) y there in
     record { tree = _; next = _; cost = _; reading = vendor_type found case; deep = omega arith }))
 type_as_sound d complete kinds names lists ArrayType x p e m y is =
-    option_and_then_some _ (dimension_of (drop 1 p.rest)) y is (λ n found more.
+    option_and_then_some _ (optional_number (drop 1 p.rest)) y is (λ n found more.
     option_and_then_some _ (parse_type d x (state_at (at n.1 p) e m)) y more (λ z elem ends.
     let inner = kinds x (at n.1 p) e m z elem in
     let i = inner.within in

@@ -15,6 +15,12 @@ pub use Rattle.itanium_syntax.specs.declared.names.FreeCase.{FreeCase}
 pub use Rattle.itanium_syntax.specs.declared.names.FreeCase.TheVariants.{SourceName, UnnamedTypeName, LambdaName, ConversionName, LiteralOperatorName, OperatorName, NoName}
 pub use Rattle.itanium_syntax.specs.declared.names.TagCase.{TagCase}
 pub use Rattle.itanium_syntax.specs.declared.names.TagCase.TheVariants.{NoTag, NextTag}
+pub use Rattle.itanium_syntax.specs.declared.encodings.ReturnCase.{ReturnCase}
+pub use Rattle.itanium_syntax.specs.declared.encodings.ReturnCase.TheVariants.{NoReturnType, SomeReturnType}
+pub use Rattle.itanium_syntax.specs.declared.encodings.SignatureCase.{SignatureCase}
+pub use Rattle.itanium_syntax.specs.declared.encodings.SignatureCase.TheVariants.{NoSignature, SomeSignature}
+pub use Rattle.itanium_syntax.specs.declared.encodings.EntityCase.{EntityCase}
+pub use Rattle.itanium_syntax.specs.declared.encodings.EntityCase.TheVariants.{StringLiteralEntity, DefaultArgumentEntity, NameEntity, NoEntity}
 pub use Rattle.itanium_syntax.specs.declared.names.SubstitutionCase.{SubstitutionCase}
 pub use Rattle.itanium_syntax.specs.declared.names.SubstitutionCase.TheVariants.{AbbreviationSubstitution, ComponentSubstitution}
 pub use Rattle.itanium_syntax.specs.declared.args.AttachedCase.{AttachedCase}

@@ -11,7 +11,7 @@ use Rattle.demangle_edit.specs.Types.{pointer_shape, cv_shape, array_step, membe
 use Rattle.demangle_edit.specs.Built.{listed_more, arguments_closed, lambda_closed}
 use Rattle.itanium_syntax.specs.declared.context.Context.{Context}
 use Rattle.itanium_syntax.specs.declared.numerals.Radix.TheVariants.{Decimal, Base36}
-use Rattle.itanium_syntax.specs.Scalars.{source_name, index_of, unnamed_type_number, lambda_number, dimension_of}
+use Rattle.itanium_syntax.specs.Scalars.{source_name, index_of, unnamed_type_number, lambda_number, optional_number}
 use Rattle.itanium_syntax.specs.Operators.{operator_here}
 use Rattle.itanium_syntax.specs.Abbreviations.{abbreviation_of}
 use Rattle.itanium_syntax.specs.Context.{opens_scope, inside_type, inside_pack, inside_lambda}
@@ -415,7 +415,7 @@ saved_by parse s = parse s >>= λ found. saved_as found.0 found.1
 -- <array-type>
 abbrev pub parse_array : Parses Shape → Parses Shape
 parse_array type s =
-    dimension_of (drop 1 s.rest) >>= λ found. type (at found.1 s) >>= λ elem. saved_array found.0 elem.0 elem.1
+    optional_number (drop 1 s.rest) >>= λ found. type (at found.1 s) >>= λ elem. saved_array found.0 elem.0 elem.1
 
 -- P <type>, R <type> and O <type>
 abbrev pub parse_pointer : Parses Shape → Pointer → Parses Shape

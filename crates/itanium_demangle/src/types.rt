@@ -13,7 +13,7 @@ use demangle_edit::{Pointer, Quals, expand, list_next, separate};
 use demangle_text::Piece;
 use itanium_syntax::args::{AttachedCase, attached_case};
 use itanium_syntax::context::Context;
-use itanium_syntax::numerals::dimension_of;
+use itanium_syntax::numerals::optional_number;
 use itanium_syntax::types::{
     CvCase, FunctionCase, ParamsCase, TypeCase, TypesCase, cv_case, cv_quals, elaborated_text,
     function_case, params_case, type_case, types_case,
@@ -117,7 +117,7 @@ impl<'a> Reader<'a> {
         ensures saved { SavedBounds 0 result (state self.old) (state self.new) }
     {
         self.skip(1);
-        let Some((dimension, rest)) = dimension_of(self.rest) else {
+        let Some((dimension, rest)) = optional_number(self.rest) else {
             return Err(Stop::Unread);
         };
         self.rest = rest;

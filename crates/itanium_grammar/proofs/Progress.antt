@@ -3,13 +3,13 @@ use Rattle.std.proofs.Common.{◌≡◌, ℕ, Bool, List, Option, drop, refl, ar
 use Rattle.demangle_quals.specs.declared.quals.Quals.{Quals}
 use Rattle.itanium_syntax.specs.declared.context.Context.{Context}
 use Rattle.itanium_syntax.specs.declared.numerals.Radix.TheVariants.{Decimal, Base36}
-use Rattle.itanium_grammar.specs.Cases.{SymbolCase, NameCase, UnscopedCase, AttachedCase, FirstCase, ComponentCase, UnqualifiedCase, FreeCase, TagCase, SubstitutionCase, ArgsCase, ArgumentCase, TypeCase, CvCase, ParamsCase, TypesCase}
+use Rattle.itanium_grammar.specs.Cases.{SymbolCase, NameCase, ReturnCase, SignatureCase, EntityCase, UnscopedCase, AttachedCase, FirstCase, ComponentCase, UnqualifiedCase, FreeCase, TagCase, SubstitutionCase, ArgsCase, ArgumentCase, TypeCase, CvCase, ParamsCase, TypesCase}
 use Rattle.itanium_syntax.specs.Names.{first_case, component_case, unqualified_case}
 use Rattle.itanium_syntax.specs.Args.{args_case}
 use Rattle.itanium_syntax.specs.Types.{type_case, past_reference}
-use Rattle.itanium_syntax.proofs.Fronts.{IsAfter, Takes, after_none, after_drop, after_then, takes_then, after_takes, takes_takes, takes_drop, internal_after, initializer_after, cv_after, quals_after, reference_after, builtin_after, builtin_shorter, abbreviation_takes, index_takes, source_takes, dimension_takes, constructor_some, destructor_some, std_shorter, components_end_shorter, arguments_end_shorter, unnamed_type_takes, lambda_takes, operator_takes}
+use Rattle.itanium_syntax.proofs.Fronts.{IsAfter, Takes, after_none, after_drop, after_then, takes_then, after_takes, takes_takes, takes_drop, internal_after, initializer_after, cv_after, quals_after, reference_after, builtin_after, builtin_shorter, abbreviation_takes, index_takes, source_takes, optional_number_takes, constructor_some, destructor_some, std_shorter, components_end_shorter, arguments_end_shorter, unnamed_type_takes, lambda_takes, operator_takes}
 use Rattle.itanium_grammar.specs.Tree.{Tree}
-use Rattle.itanium_grammar.specs.Grammar.{Position, Cost, SubstitutionAs, Substitution, Parameter, TaggedAs, UnqualifiedAs, Unqualified, FirstAs, Name, NameAs, UnscopedAs, AttachedAs, Nested, Components, ComponentsAs, Args, Arguments, ArgumentsAs, ArgumentAs, TypeOf, TypeAs, CvAs, Function, ParamsAs, TypesAs, TypeAttachedAs, SymbolAs, Symbol, abbreviation_substitution, component_substitution, substitution, parameter, no_tag, next_tag, source_free, unnamed_type_free, lambda_free, conversion_free, literal_operator_free, operator_free, FreeAs, free_component, constructor_component, destructor_component, unqualified, parameter_first, std_first, substitution_first, name_first, name, nested_name, unscoped_name, std_name, substitution_name, global_name, none_attached, args_attached, nested, components, end_of_components, args_component, name_component, args, arguments, end_of_arguments, one_more_argument, pack_argument, type_argument, Pack, PackedAs, pack, end_of_pack, one_more_packed, expansion_type, type, builtin_type, vendor_type, array_type, function_type, member_type, pointer_type, cv_type, elaborated_type, parameter_type, substitution_type, name_type, cv_function, cv_other, function, no_params, some_params, end_of_types, one_more_type, none_attached_to_type, args_attached_to_type, name_symbol, symbol}
+use Rattle.itanium_grammar.specs.Grammar.{Position, Cost, SubstitutionAs, Substitution, Parameter, TaggedAs, UnqualifiedAs, Unqualified, FirstAs, Name, NameAs, Local, EntityAs, Encoding, EncodingAs, ReturnAs, SignatureAs, UnscopedAs, AttachedAs, Nested, Components, ComponentsAs, Args, Arguments, ArgumentsAs, ArgumentAs, TypeOf, TypeAs, CvAs, Function, ParamsAs, TypesAs, TypeAttachedAs, SymbolAs, Symbol, abbreviation_substitution, component_substitution, substitution, parameter, no_tag, next_tag, source_free, unnamed_type_free, lambda_free, conversion_free, literal_operator_free, operator_free, FreeAs, free_component, constructor_component, destructor_component, unqualified, parameter_first, std_first, substitution_first, name_first, name, nested_name, local_name, local, string_literal_entity, default_argument_entity, name_entity, encoding, name_encoding, no_return_type, some_return_type, no_signature, some_signature, unscoped_name, std_name, substitution_name, global_name, none_attached, args_attached, nested, components, end_of_components, args_component, name_component, args, arguments, end_of_arguments, one_more_argument, pack_argument, type_argument, Pack, PackedAs, pack, end_of_pack, one_more_packed, expansion_type, type, builtin_type, vendor_type, array_type, function_type, member_type, pointer_type, cv_type, elaborated_type, parameter_type, substitution_type, name_type, cv_function, cv_other, function, no_params, some_params, end_of_types, one_more_type, none_attached_to_type, args_attached_to_type, name_symbol, symbol}
 
 substitution_as_takes : {case : SubstitutionCase} {p q : Position} {t : Tree} → SubstitutionAs case p t q → Takes q.rest p.rest
 substitution_as_takes (abbreviation_substitution {p = p} known) = abbreviation_takes p.rest _ known
@@ -27,12 +27,36 @@ tagged_after (next_tag {p = p} {bytes = b} {rest = r} found tags) =
     after_then (after_then (after_drop 1 p.rest) (source_takes (drop 1 p.rest) (b, r) found).after) (tagged_after tags)
 
 mutual
-  pub name_takes : {x : Context} {p q : Position} {t : Tree} {c : Cost} → Name x p t q c → Takes q.rest p.rest
+  pub name_takes : {waits : Bool} {x : Context} {p q : Position} {t : Tree} {c : Cost} → Name waits x p t q c → Takes q.rest p.rest
   name_takes (name a) = name_as_takes a
 
-  name_as_takes : {case : NameCase} {x : Context} {p q : Position} {t : Tree} {c : Cost} → NameAs case x p t q c → Takes q.rest p.rest
+  name_as_takes : {case : NameCase} {waits : Bool} {x : Context} {p q : Position} {t : Tree} {c : Cost} → NameAs case waits x p t q c → Takes q.rest p.rest
   name_as_takes (nested_name {p = p} a) = after_takes (after_drop 1 p.rest) (nested_takes a)
+  name_as_takes (local_name {p = p} a) = after_takes (after_drop 1 p.rest) (local_takes a)
   name_as_takes (unscoped_name a) = unscoped_takes a
+
+  pub local_takes : {waits : Bool} {x : Context} {p q : Position} {t : Tree} {c : Cost} → Local waits x p t q c → Takes q.rest p.rest
+  local_takes (local a b) = takes_then (encoding_takes a) (entity_after b)
+
+  entity_after : {case : EntityCase} {waits : Bool} {x : Context} {t u : Tree} {p q : Position} {c : Cost} → EntityAs case waits x t p u q c → IsAfter q.rest p.rest
+  entity_after (string_literal_entity {p = p}) = after_drop 2 p.rest
+  entity_after (default_argument_entity {p = p} {number = n} {rest = r} found a) =
+      after_then (after_drop 2 p.rest) (takes_takes (optional_number_takes (drop 2 p.rest) (n, r) found) (name_takes a)).after
+  entity_after (name_entity {p = p} a) = after_then (after_drop 1 p.rest) (name_takes a).after
+
+  pub encoding_takes : {x : Context} {p q : Position} {t : Tree} {c : Cost} → Encoding x p t q c → Takes q.rest p.rest
+  encoding_takes (encoding a) = encoding_as_takes a
+
+  encoding_as_takes : {case : SymbolCase} {x : Context} {p q : Position} {t : Tree} {c : Cost} → EncodingAs case x p t q c → Takes q.rest p.rest
+  encoding_as_takes (name_encoding a b d) = takes_then (name_takes a) (after_then (return_after b) (signature_after d))
+
+  return_after : {case : ReturnCase} {x : Context} {p q : Position} {c : Cost} → ReturnAs case x p q c → IsAfter q.rest p.rest
+  return_after (no_return_type {p = p}) = after_none p.rest
+  return_after (some_return_type a) = (type_takes a).after
+
+  signature_after : {case : SignatureCase} {x : Context} {t u : Tree} {p q : Position} {c : Cost} → SignatureAs case x t p u q c → IsAfter q.rest p.rest
+  signature_after (no_signature {p = p}) = after_none p.rest
+  signature_after (some_signature a) = params_after a
 
   unscoped_takes : {case : UnscopedCase} {x : Context} {p q : Position} {t : Tree} {c : Cost} → UnscopedAs case x p t q c → Takes q.rest p.rest
   unscoped_takes (std_name {p = p} a b) = takes_then (after_takes (after_drop 2 p.rest) (unqualified_takes a)) (attached_after b)
@@ -112,7 +136,7 @@ mutual
   type_as_takes form (expansion_type {p = p} a) = after_takes (after_drop 2 p.rest) (type_takes a)
   type_as_takes form (vendor_type {p = p} {bytes = b} {rest = r} found list) = after_takes (after_drop 1 p.rest) (source_takes (drop 1 p.rest) (b, r) found)
   type_as_takes form (array_type {p = p} {dimension = n} {rest = r} found a there) =
-      after_takes (after_drop 1 p.rest) (takes_takes (dimension_takes (drop 1 p.rest) (n, r) found) (type_takes a))
+      after_takes (after_drop 1 p.rest) (takes_takes (optional_number_takes (drop 1 p.rest) (n, r) found) (type_takes a))
   type_as_takes form (function_type a) = function_takes a
   type_as_takes form (member_type {p = p} a b there) = after_takes (after_drop 1 p.rest) (takes_takes (type_takes a) (type_takes b))
   type_as_takes form (pointer_type {p = p} a) = after_takes (after_drop 1 p.rest) (type_takes a)

@@ -1,15 +1,17 @@
 -- Of one position there is at most one reading.
-use Rattle.std.proofs.Common.{◌≡◌, ℕ, Bool, true, ◌∷◌, List, Option, length, refl, sym, subst, ap, ap₂, ◌∙◌, ◌++◌, drop, codes}
+use Rattle.std.proofs.Common.{◌≡◌, ℕ, Bool, true, false, ◌∷◌, List, Option, length, refl, sym, subst, ap, ap₂, ◌∙◌, ◌++◌, drop, codes}
 use Rattle.std.proofs.lemmas.Option.{some_pair_parts, same_Some}
 use Rattle.demangle_quals.specs.declared.quals.Quals.{Quals}
 use Rattle.itanium_syntax.specs.declared.context.Context.{Context}
-use Rattle.itanium_grammar.specs.Cases.{SymbolCase, NameCase, UnscopedCase, AttachedCase, FirstCase, ComponentCase, UnqualifiedCase, FreeCase, TagCase, SubstitutionCase, ArgsCase, ArgumentCase, TypeCase, CvCase, ParamsCase, TypesCase}
+use Rattle.itanium_grammar.specs.Cases.{SymbolCase, NameCase, ReturnCase, SignatureCase, EntityCase, UnscopedCase, AttachedCase, FirstCase, ComponentCase, UnqualifiedCase, FreeCase, TagCase, SubstitutionCase, ArgsCase, ArgumentCase, TypeCase, CvCase, ParamsCase, TypesCase}
 use Rattle.itanium_syntax.specs.Names.{source_text, tag_case, past_name_quals, name_quals, saves_first, first_case}
 use Rattle.itanium_syntax.specs.Scalars.{lambda_number}
+use Rattle.itanium_syntax.specs.Context.{inside_local}
+use Rattle.itanium_syntax.specs.Encodings.{return_case, signature_case, entity_case}
 use Rattle.itanium_syntax.specs.Args.{attached_case, args_case}
 use Rattle.itanium_syntax.specs.Types.{params_case, types_case, elaborated_text, with_reference, past_reference}
-use Rattle.itanium_grammar.specs.Tree.{Tree, tagged_with, lambda_of, conversion_to, pack_of, unnamed_text, literal_operator_text, expanded, plain_text, abbreviation, with_args, nested_of, pointer_to, cv_of, array_of, member_of, function_to, elaborated, trees, in_scope, printing, list_printing}
-use Rattle.itanium_grammar.specs.Grammar.{Position, Cost, at, skip, counted, saving, save, put, past_initializer, both, SubstitutionAs, Substitution, ParameterAs, Parameter, TaggedAs, UnqualifiedAs, Unqualified, FirstAs, Name, NameAs, UnscopedAs, AttachedAs, Nested, Components, ComponentsAs, Args, Arguments, ArgumentsAs, ArgumentAs, TypeOf, TypeAs, CvAs, Function, ParamsAs, TypesAs, TypeAttachedAs, SymbolAs, Symbol, abbreviation_substitution, component_substitution, substitution, auto_parameter, scope_parameter, parameter, no_tag, next_tag, source_free, unnamed_type_free, lambda_free, conversion_free, literal_operator_free, operator_free, FreeAs, free_component, nothing, constructor_component, destructor_component, unqualified, parameter_first, std_first, substitution_first, name_first, name, nested_name, unscoped_name, std_name, substitution_name, global_name, none_attached, args_attached, nested, components, end_of_components, args_component, name_component, args, arguments, end_of_arguments, one_more_argument, pack_argument, type_argument, Pack, PackedAs, pack, end_of_pack, one_more_packed, expansion_type, type, builtin_type, vendor_type, array_type, function_type, member_type, pointer_type, cv_type, elaborated_type, parameter_type, substitution_type, name_type, cv_function, cv_other, function, no_params, some_params, end_of_types, one_more_type, none_attached_to_type, args_attached_to_type, name_symbol, symbol}
+use Rattle.itanium_grammar.specs.Tree.{Tree, local_in, function_encoding, name_printing, shape_of, tagged_with, lambda_of, conversion_to, pack_of, unnamed_text, literal_operator_text, expanded, plain_text, abbreviation, with_args, nested_of, pointer_to, cv_of, array_of, member_of, function_to, elaborated, trees, in_scope, printing, list_printing}
+use Rattle.itanium_grammar.specs.Grammar.{Position, Cost, at, skip, counted, saving, save, put, past_initializer, both, SubstitutionAs, Substitution, ParameterAs, Parameter, TaggedAs, UnqualifiedAs, Unqualified, FirstAs, Name, NameAs, Local, EntityAs, Encoding, EncodingAs, ReturnAs, SignatureAs, UnscopedAs, AttachedAs, Nested, Components, ComponentsAs, Args, Arguments, ArgumentsAs, ArgumentAs, TypeOf, TypeAs, CvAs, Function, ParamsAs, TypesAs, TypeAttachedAs, SymbolAs, Symbol, abbreviation_substitution, component_substitution, substitution, auto_parameter, scope_parameter, parameter, no_tag, next_tag, source_free, unnamed_type_free, lambda_free, conversion_free, literal_operator_free, operator_free, FreeAs, free_component, nothing, constructor_component, destructor_component, unqualified, parameter_first, std_first, substitution_first, name_first, name, nested_name, local_name, local, string_literal_entity, default_argument_entity, name_entity, encoding, name_encoding, no_return_type, some_return_type, no_signature, some_signature, unscoped_name, std_name, substitution_name, global_name, none_attached, args_attached, nested, components, end_of_components, args_component, name_component, args, arguments, end_of_arguments, one_more_argument, pack_argument, type_argument, Pack, PackedAs, pack, end_of_pack, one_more_packed, expansion_type, type, builtin_type, vendor_type, array_type, function_type, member_type, pointer_type, cv_type, elaborated_type, parameter_type, substitution_type, name_type, cv_function, cv_other, function, no_params, some_params, end_of_types, one_more_type, none_attached_to_type, args_attached_to_type, name_symbol, symbol}
 
 -- two readings have the same tree, the same position after them and the same cost
 pub record Same {T : Type 0} (t u : T) (q r : Position) (c d : Cost) : Type 0 where
@@ -34,11 +36,11 @@ same_made : {t u : Tree} {q r : Position} {c d : Cost} (f : Tree → Tree) → S
 same_made f same = record { tree = ap f same.tree; next = same.next; cost = same.cost }
 
 -- a counted production around what was read
-same_counted : {t u : Tree} {q r : Position} {c d : Cost} → Same t u q r c d → Same t u q r (counted (length (printing t)) c) (counted (length (printing u)) d)
-same_counted same = record {
+same_counted : {t u : Tree} {q r : Position} {c d : Cost} (text : Tree → List ℕ) → Same t u q r c d → Same t u q r (counted (length (text t)) c) (counted (length (text u)) d)
+same_counted text same = record {
   tree = same.tree;
   next = same.next;
-  cost = ap₂ counted (ap (λ t. length (printing t)) same.tree) same.cost;
+  cost = ap₂ counted (ap (λ t. length (text t)) same.tree) same.cost;
 }
 
 one_substitution_as : {case : SubstitutionCase} {p q r : Position} {t u : Tree} → SubstitutionAs case p t q → SubstitutionAs case p u r
@@ -69,13 +71,50 @@ same_text : {A : Type 0} (f : A → List ℕ) (p : Position) {a b : A} {v w : Li
 same_text f p same = record { tree = ap (λ a. plain_text (f a)) same.0; next = ap (λ v. at v p) same.1; cost = refl }
 
 mutual
-  pub one_name : {x : Context} {p q r : Position} {t u : Tree} {c d : Cost} → Name x p t q c → Name x p u r d → Same t u q r c d
-  one_name (name a) (name b) = same_counted (one_name_as a b)
+  pub one_name : {waits : Bool} {x : Context} {p q r : Position} {t u : Tree} {c d : Cost} → Name waits x p t q c → Name waits x p u r d → Same t u q r c d
+  one_name (name {waits = waits} a) (name b) = same_counted (name_printing waits) (one_name_as a b)
 
-  one_name_as : {case : NameCase} {x : Context} {p q r : Position} {t u : Tree} {c d : Cost} → NameAs case x p t q c → NameAs case x p u r d
+  one_name_as : {case : NameCase} {waits : Bool} {x : Context} {p q r : Position} {t u : Tree} {c d : Cost} → NameAs case waits x p t q c → NameAs case waits x p u r d
       → Same t u q r c d
   one_name_as (nested_name a) (nested_name b) = one_nested a b
+  one_name_as (local_name a) (local_name b) = one_local a b
   one_name_as (unscoped_name a) (unscoped_name b) = one_unscoped a b
+
+  one_local : {waits : Bool} {x : Context} {p q r : Position} {t u : Tree} {c d : Cost} → Local waits x p t q c → Local waits x p u r d → Same t u q r c d
+  one_local (local {waits = waits} {x = x} a b) (local {r = r} {u = v} {d = d} f h) =
+      let first = one_encoding a f in
+      let same = one_entity b (along (λ s o. EntityAs (entity_case o.rest) waits (inside_local x) s o v r d) (sym first.tree) (sym first.next) h) in
+      record { tree = same.tree; next = same.next; cost = ap₂ both first.cost same.cost }
+
+  one_entity : {case : EntityCase} {waits : Bool} {x : Context} {t u v : Tree} {p q r : Position} {c d : Cost}
+      → EntityAs case waits x t p u q c → EntityAs case waits x t p v r d → Same u v q r c d
+  one_entity string_literal_entity string_literal_entity = record { tree = refl; next = refl; cost = refl }
+  one_entity (default_argument_entity {x = x} {t = t} {p = p} e a) (default_argument_entity {u = v} {q = r} {c = d} g b) =
+      let found = some_pair_parts _ _ _ _ (sym g ∙ e) in
+      let same = one_name a (subst (λ o. Name false x (at o p) v r d) found.1 b) in
+      record { tree = refl; next = same.next; cost = same.cost }
+  one_entity (name_entity {t = t} a) (name_entity b) = same_made (local_in t) (one_name a b)
+
+  one_encoding : {x : Context} {p q r : Position} {t u : Tree} {c d : Cost} → Encoding x p t q c → Encoding x p u r d → Same t u q r c d
+  one_encoding (encoding a) (encoding b) = one_encoding_as a b
+
+  one_encoding_as : {case : SymbolCase} {x : Context} {p q r : Position} {t u : Tree} {c d : Cost} → EncodingAs case x p t q c → EncodingAs case x p u r d
+      → Same t u q r c d
+  one_encoding_as (name_encoding {x = x} a b g) (name_encoding {r = r} {s = s} {u = u} {d = d} {e = e} f h k) =
+      let first = one_name a f in
+      let mid = one_return b (along (λ t o. ReturnAs (return_case (shape_of t).templ (shape_of t).ctor o.rest) x o r d) (sym first.tree) (sym first.next) h) in
+      let same = one_signature g (along (λ t o. SignatureAs (signature_case o.rest) x t o u s e) (sym first.tree) (sym mid.0) k) in
+      record { tree = same.tree; next = same.next; cost = ap₂ both first.cost (ap₂ both mid.1 same.cost) }
+
+  one_return : {case : ReturnCase} {x : Context} {p q r : Position} {c d : Cost} → ReturnAs case x p q c → ReturnAs case x p r d → (q ≡ r) × (c ≡ d)
+  one_return no_return_type no_return_type = (refl, refl)
+  one_return (some_return_type a) (some_return_type b) = let same = one_type a b in (same.next, same.cost)
+
+  one_signature : {case : SignatureCase} {x : Context} {t u v : Tree} {p q r : Position} {c d : Cost}
+      → SignatureAs case x t p u q c → SignatureAs case x t p v r d → Same u v q r c d
+  one_signature no_signature no_signature = record { tree = refl; next = refl; cost = refl }
+  one_signature (some_signature {t = t} a) (some_signature b) =
+      let same = one_params a b in record { tree = ap (λ ts. function_encoding t (trees ts)) same.tree; next = same.next; cost = same.cost }
 
   one_unscoped : {case : UnscopedCase} {x : Context} {p q r : Position} {t u : Tree} {c d : Cost}
       → UnscopedAs case x p t q c → UnscopedAs case x p u r d → Same t u q r c d
@@ -190,7 +229,7 @@ mutual
   one_pack : {x : Context} {p q r : Position} {t u : Tree} {c d : Cost} → Pack x p t q c → Pack x p u r d → Same t u q r c d
   one_pack (pack a) (pack b) =
       let same = one_packed a b in
-      same_counted (record { tree = ap (λ ts. pack_of (trees ts)) same.tree; next = same.next; cost = same.cost })
+      same_counted printing (record { tree = ap (λ ts. pack_of (trees ts)) same.tree; next = same.next; cost = same.cost })
 
   one_packed : {case : ArgsCase} {x : Context} {p q r : Position} {ts us : List Tree} {c d : Cost}
       → PackedAs case x p ts q c → PackedAs case x p us r d → Same ts us q r c d
@@ -201,7 +240,7 @@ mutual
       record { tree = ap₂ (λ t ts. t ∷ ts) first.tree same.tree; next = same.next; cost = ap₂ both first.cost same.cost }
 
   pub one_type : {x : Context} {p q r : Position} {t u : Tree} {c d : Cost} → TypeOf x p t q c → TypeOf x p u r d → Same t u q r c d
-  one_type (type a) (type b) = same_counted (one_type_as a b)
+  one_type (type a) (type b) = same_counted printing (one_type_as a b)
 
   one_type_as : {case : TypeCase} {x : Context} {p q r : Position} {t u : Tree} {c d : Cost} → TypeAs case x p t q c → TypeAs case x p u r d
       → Same t u q r c d

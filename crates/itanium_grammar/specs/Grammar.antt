@@ -9,15 +9,16 @@ use Rattle.demangle_edit.specs.Types.{has_array, has_member_pointer}
 use Rattle.itanium_syntax.specs.declared.abbreviations.Abbreviation.{Abbreviation}
 use Rattle.itanium_syntax.specs.declared.context.Context.{Context}
 use Rattle.itanium_syntax.specs.declared.numerals.Radix.TheVariants.{Decimal, Base36}
-use Rattle.itanium_grammar.specs.Cases.{SymbolCase, NameSymbol, NameCase, NestedName, UnscopedName, UnscopedCase, StdName, SubstitutionName, PlainName, AttachedCase, NoneAttached, ArgsAttached, FirstCase, ParameterFirst, StdFirst, SubstitutionFirst, NameFirst, ComponentCase, EndOfComponents, ArgsComponent, NameComponent, UnqualifiedCase, ConstructorName, DestructorName, FreeName, FreeCase, SourceName, UnnamedTypeName, LambdaName, ConversionName, LiteralOperatorName, OperatorName, TagCase, NoTag, NextTag, SubstitutionCase, AbbreviationSubstitution, ComponentSubstitution, ArgsCase, EndOfArguments, NextArgument, ArgumentCase, PackArgument, TypeArgument, TypeCase, BuiltinType, ExpansionType, VendorType, ArrayType, FunctionType, MemberType, PointerType, CvType, ElaboratedType, ParameterType, SubstitutionType, NameType, CvCase, CvFunction, CvOther, PlainFunction, ParamsCase, NoParams, SomeParams, TypesCase, EndOfTypes, NextType}
-use Rattle.itanium_syntax.specs.Scalars.{source_name, index_of, unnamed_type_number, lambda_number, dimension_of}
+use Rattle.itanium_grammar.specs.Cases.{SymbolCase, NameSymbol, NameCase, NestedName, LocalName, UnscopedName, ReturnCase, NoReturnType, SomeReturnType, SignatureCase, NoSignature, SomeSignature, EntityCase, StringLiteralEntity, DefaultArgumentEntity, NameEntity, UnscopedCase, StdName, SubstitutionName, PlainName, AttachedCase, NoneAttached, ArgsAttached, FirstCase, ParameterFirst, StdFirst, SubstitutionFirst, NameFirst, ComponentCase, EndOfComponents, ArgsComponent, NameComponent, UnqualifiedCase, ConstructorName, DestructorName, FreeName, FreeCase, SourceName, UnnamedTypeName, LambdaName, ConversionName, LiteralOperatorName, OperatorName, TagCase, NoTag, NextTag, SubstitutionCase, AbbreviationSubstitution, ComponentSubstitution, ArgsCase, EndOfArguments, NextArgument, ArgumentCase, PackArgument, TypeArgument, TypeCase, BuiltinType, ExpansionType, VendorType, ArrayType, FunctionType, MemberType, PointerType, CvType, ElaboratedType, ParameterType, SubstitutionType, NameType, CvCase, CvFunction, CvOther, PlainFunction, ParamsCase, NoParams, SomeParams, TypesCase, EndOfTypes, NextType}
+use Rattle.itanium_syntax.specs.Scalars.{source_name, index_of, unnamed_type_number, lambda_number, optional_number}
 use Rattle.itanium_syntax.specs.Operators.{operator_here}
 use Rattle.itanium_syntax.specs.Abbreviations.{abbreviation_of}
-use Rattle.itanium_syntax.specs.Context.{opens_scope, inside_type, inside_pack, inside_lambda}
+use Rattle.itanium_syntax.specs.Context.{opens_scope, inside_type, inside_pack, inside_lambda, inside_local, inside_encoding}
 use Rattle.itanium_syntax.specs.Names.{symbol_case, name_case, unscoped_case, first_case, component_case, unqualified_case, free_case, tag_case, past_internal, past_initializer_letter, source_text, name_quals, past_name_quals, saves_first, substitution_case}
+use Rattle.itanium_syntax.specs.Encodings.{return_case, signature_case, entity_case}
 use Rattle.itanium_syntax.specs.Args.{attached_case, args_case, argument_case}
 use Rattle.itanium_syntax.specs.Types.{type_case, builtin_text, past_builtin, cv_quals, past_cv, with_reference, past_reference, cv_case, function_case, params_case, types_case, elaborated_text}
-use Rattle.itanium_grammar.specs.Tree.{Tree, plain_text, abbreviation, ctor_dtor_of, tagged_with, with_args, lambda_of, conversion_to, nested_of, pointer_to, cv_of, array_of, member_of, function_to, elaborated, pack_of, trees, in_scope, unnamed_text, literal_operator_text, expanded, shape_of, printing, list_printing}
+use Rattle.itanium_grammar.specs.Tree.{Tree, local_in, string_literal_of, default_argument_of, encoding_of, function_encoding, name_printing, plain_text, abbreviation, ctor_dtor_of, tagged_with, with_args, lambda_of, conversion_to, nested_of, pointer_to, cv_of, array_of, member_of, function_to, elaborated, pack_of, trees, in_scope, unnamed_text, literal_operator_text, expanded, shape_of, printing, list_printing}
 
 -- where a reading stands: the bytes that are left, the trees saved so far, and the scopes with their arguments
 pub record Position : Type 0 where
@@ -149,25 +150,99 @@ pub data TaggedAs : TagCase → Tree → Position → Tree → Position → Type
       → TaggedAs NextTag t p u q
 
 mutual
-  -- <name> ::= <nested-name> | <unscoped-name> | <unscoped-template-name> <template-args>: counted
-  pub data Name : Context → Position → Tree → Position → Cost → Type 0 where
+  -- <name> ::= <nested-name> | <local-name> | <unscoped-name> | <unscoped-template-name> <template-args>: counted. The
+  -- truth value says whether its own qualifiers wait for the parameters of an encoding
+  pub data Name : Bool → Context → Position → Tree → Position → Cost → Type 0 where
     name :
-        {x : Context} {p q : Position} {t : Tree} {c : Cost}
-        → NameAs (name_case p.rest) x p t q c
-        → Name x p t q (counted (length (printing t)) c)
+        {waits : Bool} {x : Context} {p q : Position} {t : Tree} {c : Cost}
+        → NameAs (name_case p.rest) waits x p t q c
+        → Name waits x p t q (counted (length (name_printing waits t)) c)
 
   -- <name>, by what it begins with
-  pub data NameAs : NameCase → Context → Position → Tree → Position → Cost → Type 0 where
+  pub data NameAs : NameCase → Bool → Context → Position → Tree → Position → Cost → Type 0 where
     -- <nested-name>
     nested_name :
-        {x : Context} {p q : Position} {t : Tree} {c : Cost}
+        {waits : Bool} {x : Context} {p q : Position} {t : Tree} {c : Cost}
         → Nested x (skip 1 p) t q c
-        → NameAs NestedName x p t q c
+        → NameAs NestedName waits x p t q c
+    -- <local-name>
+    local_name :
+        {waits : Bool} {x : Context} {p q : Position} {t : Tree} {c : Cost}
+        → Local waits x (skip 1 p) t q c
+        → NameAs LocalName waits x p t q c
     -- <unscoped-name>, with <template-args> or without
     unscoped_name :
-        {x : Context} {p q : Position} {t : Tree} {c : Cost}
+        {waits : Bool} {x : Context} {p q : Position} {t : Tree} {c : Cost}
         → UnscopedAs (unscoped_case p.rest) x p t q c
-        → NameAs UnscopedName x p t q c
+        → NameAs UnscopedName waits x p t q c
+
+  -- <local-name> ::= Z <encoding> E <name> | Z <encoding> E s | Z <encoding> E d [<number>] _ <name>, after its Z: the
+  -- encoding has a context of its own
+  pub data Local : Bool → Context → Position → Tree → Position → Cost → Type 0 where
+    local :
+        {waits : Bool} {x : Context} {p q r : Position} {t u : Tree} {c d : Cost}
+        → Encoding (inside_encoding x) p t q c
+        → EntityAs (entity_case q.rest) waits (inside_local x) t q u r d
+        → Local waits x p u r (both c d)
+
+  -- what follows the encoding of a <local-name>, with the E in front of it
+  pub data EntityAs : EntityCase → Bool → Context → Tree → Position → Tree → Position → Cost → Type 0 where
+    -- E s
+    string_literal_entity :
+        {waits : Bool} {x : Context} {t : Tree} {p : Position}
+        → EntityAs StringLiteralEntity waits x t p (string_literal_of t) (skip 2 p) nothing
+    -- E d [<number>] _ <name>: the name isn't printed
+    default_argument_entity :
+        {waits : Bool} {x : Context} {t u : Tree} {p q : Position} {c : Cost} {number : Option ℕ} {rest : List ℕ}
+        → optional_number (drop 2 p.rest) ≡ Some (number, rest)
+        → Name false x (at rest p) u q c
+        → EntityAs DefaultArgumentEntity waits x t p (default_argument_of t) q c
+    -- E <name>
+    name_entity :
+        {waits : Bool} {x : Context} {t u : Tree} {p q : Position} {c : Cost}
+        → Name waits x (skip 1 p) u q c
+        → EntityAs NameEntity waits x t p (local_in t u) q c
+
+  -- <encoding> ::= <name> | <name> [<return type>] <parameter types>
+  pub data Encoding : Context → Position → Tree → Position → Cost → Type 0 where
+    encoding :
+        {x : Context} {p q : Position} {t : Tree} {c : Cost}
+        → EncodingAs (symbol_case p.rest) x p t q c
+        → Encoding x p t q c
+
+  -- <encoding>, by what it begins with
+  pub data EncodingAs : SymbolCase → Context → Position → Tree → Position → Cost → Type 0 where
+    -- a <name>, whose own qualifiers wait, then its return type and its parameters
+    name_encoding :
+        {x : Context} {p q r s : Position} {t u : Tree} {c d e : Cost}
+        → Name true x p t q c
+        → ReturnAs (return_case (shape_of t).templ (shape_of t).ctor q.rest) x q r d
+        → SignatureAs (signature_case r.rest) x t r u s e
+        → EncodingAs NameSymbol x p u s (both c (both d e))
+
+  -- the return type of an encoding, or none: it isn't printed, and what it saved and the scopes that it left stay
+  pub data ReturnAs : ReturnCase → Context → Position → Position → Cost → Type 0 where
+    -- no return type
+    no_return_type :
+        {x : Context} {p : Position}
+        → ReturnAs NoReturnType x p p nothing
+    -- <type>
+    some_return_type :
+        {x : Context} {p q : Position} {t : Tree} {c : Cost}
+        → TypeOf x p t q c
+        → ReturnAs SomeReturnType x p q c
+
+  -- the parameters of an encoding, or none
+  pub data SignatureAs : SignatureCase → Context → Tree → Position → Tree → Position → Cost → Type 0 where
+    -- the E after the name
+    no_signature :
+        {x : Context} {t : Tree} {p : Position}
+        → SignatureAs NoSignature x t p (encoding_of t) p nothing
+    -- <parameter types>
+    some_signature :
+        {x : Context} {t : Tree} {p q : Position} {ts : List Tree} {c : Cost}
+        → ParamsAs (params_case p.rest) false x p ts q c
+        → SignatureAs SomeSignature x t p (function_encoding t (trees ts)) q c
 
   -- <unscoped-name> [<template-args>], or a <substitution> with <template-args>
   pub data UnscopedAs : UnscopedCase → Context → Position → Tree → Position → Cost → Type 0 where
@@ -410,7 +485,7 @@ mutual
     -- <array-type> ::= A [<number>] _ <type>
     array_type :
         {x : Context} {p q : Position} {t : Tree} {c : Cost} {dimension : Option ℕ} {rest : List ℕ}
-        → dimension_of (drop 1 p.rest) ≡ Some (dimension, rest)
+        → optional_number (drop 1 p.rest) ≡ Some (dimension, rest)
         → TypeOf x (at rest p) t q c
         → has_array (shape_of t).form ≡ true
         → TypeAs ArrayType x p (array_of dimension t) (save (array_of dimension t) q) (both c (saving q))
@@ -439,7 +514,7 @@ mutual
     -- <class-enum-type> ::= Ts <name> | Tu <name> | Te <name>
     elaborated_type :
         {x : Context} {p q : Position} {t : Tree} {c : Cost}
-        → Name x (skip 2 p) t q c
+        → Name false x (skip 2 p) t q c
         → TypeAs ElaboratedType x p (elaborated (elaborated_text p.rest) t)
         (save (elaborated (elaborated_text p.rest) t) q) (both c (saving q))
     -- <template-param> [<template-args>]: saved without and with its arguments
@@ -457,7 +532,7 @@ mutual
     -- <class-enum-type> ::= <name>
     name_type :
         {x : Context} {p q : Position} {t : Tree} {c : Cost}
-        → Name x p t q c
+        → Name false x p t q c
         → TypeAs NameType x p t (save t q) (both c (saving q))
 
   -- what <CV-qualifiers> stand in front of
@@ -484,7 +559,7 @@ mutual
         → Function x quals p (function_to t (trees ts) (with_reference quals r.rest))
         (skip 1 (at (past_reference r.rest) r)) (both c d)
 
-  -- the parameters of a <function-type>, or else of a lambda: none, or types
+  -- the parameters of a <function-type>, or else of a lambda or an encoding: none, or types
   pub data ParamsAs : ParamsCase → Bool → Context → Position → List Tree → Position → Cost → Type 0 where
     -- v, right before the E
     no_params :
@@ -527,7 +602,7 @@ pub data SymbolAs : SymbolCase → Context → Position → Tree → Position �
   -- <name>
   name_symbol :
       {x : Context} {p q : Position} {t : Tree} {c : Cost}
-      → Name x p t q c
+      → Name false x p t q c
       → SymbolAs NameSymbol x p t q c
 
 -- what follows the prefix of a symbol

@@ -1,12 +1,13 @@
 -- What a symbol says, as a tree, and the shape of its printing. The shape is total: whether a step exists is a test
 -- beside it.
 use Rattle.std.specs.Prelude.{ℕ, ◌+◌, Bool, true, false, List, [], ◌∷◌, ◌++◌, map, length, codes, decimal, Option, Some, None, if◌then◌else◌}
-use Rattle.demangle_text.specs.Shape.{Shape, plain_shape, with_own, flagged, text}
+use Rattle.demangle_text.specs.Shape.{Shape, plain_shape, with_own, flagged, appended, text}
 use Rattle.demangle_quals.specs.declared.quals.Quals.{Quals}
 use Rattle.demangle_quals.specs.declared.quals.Pointer.{Pointer}
+use Rattle.demangle_quals.specs.Quals.{no_quals}
 use Rattle.demangle_edit.specs.Types.{pointer_shape, cv_shape, array_shape, member_pointer_shape, function_shape, expansion_shape}
 use Rattle.demangle_edit.specs.Built.{arguments_shape, pack_shape, lambda_shape}
-use Rattle.demangle_edit.specs.Names.{qualified, qualified_ctor, attached, tagged, with_name_qualifiers}
+use Rattle.demangle_edit.specs.Names.{qualified, qualified_ctor, attached, tagged, with_name_qualifiers, encoding_shape}
 use Rattle.itanium_syntax.specs.declared.abbreviations.Abbreviation.{Abbreviation}
 use Rattle.itanium_syntax.specs.Names.{source_text}
 use Rattle.itanium_syntax.specs.Abbreviations.{abbreviation_text, abbreviation_own}
@@ -32,6 +33,16 @@ mutual
     conversion_to : Tree → Tree
     -- a nested name with its qualifiers, and whether their words are shown
     nested_of : Tree → Quals → Bool → Tree
+    -- an entity in its encoding: encoding::entity
+    local_in : Tree → Tree → Tree
+    -- the string literal of an encoding
+    string_literal_of : Tree → Tree
+    -- an entity in a default argument of an encoding: it is printed as the encoding
+    default_argument_of : Tree → Tree
+    -- the encoding of a name without parameters
+    encoding_of : Tree → Tree
+    -- the encoding of a name with its parameters
+    function_encoding : Tree → Trees → Tree
     -- a pointer or a reference to a type
     pointer_to : Pointer → Tree → Tree
     -- a type with const, volatile or restrict
@@ -74,35 +85,61 @@ elaborated_shape word name = plain_shape (word ++ text name)
 abbrev pub conversion_shape : Shape → Shape
 conversion_shape t = flagged false true (plain_shape (codes "operator " ++ text t))
 
--- the shape that the tree prints
+-- the qualifiers of a name that follow its parameters where it has some: those of a nested name, and those of the
+-- entity of a local name
+abbrev pub own_quals : Tree → Quals
+own_quals (nested_of name quals shown) = quals
+own_quals (local_in encoding entity) = own_quals entity
+own_quals t = no_quals
+
+-- the shape that the tree prints; where its own qualifiers wait, without them
 unfoldable mutual
-  pub shape_of : Tree → Shape
-  shape_of (plain_text bytes) = plain_shape bytes
-  shape_of (abbreviation abbreviated) = abbreviation_shape abbreviated
-  shape_of (name_in scope leaf) = qualified (shape_of scope) (shape_of leaf)
-  shape_of (ctor_dtor_of scope destructor) = qualified_ctor (shape_of scope) destructor
-  shape_of (tagged_with name tag) = tagged (shape_of name) tag
-  shape_of (with_args name list) = attached (shape_of name) (arguments_shape (shape_each list))
-  shape_of (lambda_of params number) = lambda_shape (shape_each params) number
-  shape_of (conversion_to t) = conversion_shape (shape_of t)
-  shape_of (nested_of name quals shown) = with_name_qualifiers (shape_of name) quals shown
-  shape_of (pointer_to kind t) = pointer_shape kind (shape_of t)
-  shape_of (cv_of quals t) = cv_shape quals (shape_of t)
-  shape_of (array_of dimension t) = array_shape dimension (shape_of t)
-  shape_of (member_of class t) = member_pointer_shape (shape_of class) (shape_of t)
-  shape_of (function_to ret params quals) = function_shape (shape_of ret) (shape_each params) quals
-  shape_of (elaborated word name) = elaborated_shape word (shape_of name)
-  shape_of (expansion_of t) = expansion_shape (shape_of t)
-  shape_of (pack_of list) = pack_shape (shape_each list)
+  pub shape_as : Bool → Tree → Shape
+  shape_as waits (plain_text bytes) = plain_shape bytes
+  shape_as waits (abbreviation abbreviated) = abbreviation_shape abbreviated
+  shape_as waits (name_in scope leaf) = qualified (shape_as false scope) (shape_as false leaf)
+  shape_as waits (ctor_dtor_of scope destructor) = qualified_ctor (shape_as false scope) destructor
+  shape_as waits (tagged_with name tag) = tagged (shape_as false name) tag
+  shape_as waits (with_args name list) = attached (shape_as false name) (arguments_shape (shape_each list))
+  shape_as waits (lambda_of params number) = lambda_shape (shape_each params) number
+  shape_as waits (conversion_to t) = conversion_shape (shape_as false t)
+  shape_as waits (nested_of name quals shown) =
+      if waits then shape_as false name else with_name_qualifiers (shape_as false name) quals shown
+  shape_as waits (local_in encoding entity) = qualified (shape_as false encoding) (shape_as waits entity)
+  shape_as waits (string_literal_of encoding) = appended (codes "::string literal") (shape_as false encoding)
+  shape_as waits (default_argument_of encoding) = shape_as false encoding
+  shape_as waits (encoding_of name) = with_name_qualifiers (shape_as true name) (own_quals name) true
+  shape_as waits (function_encoding name params) =
+      encoding_shape (shape_as true name) (shape_each params) (own_quals name)
+  shape_as waits (pointer_to kind t) = pointer_shape kind (shape_as false t)
+  shape_as waits (cv_of quals t) = cv_shape quals (shape_as false t)
+  shape_as waits (array_of dimension t) = array_shape dimension (shape_as false t)
+  shape_as waits (member_of class t) = member_pointer_shape (shape_as false class) (shape_as false t)
+  shape_as waits (function_to ret params quals) = function_shape (shape_as false ret) (shape_each params) quals
+  shape_as waits (elaborated word name) = elaborated_shape word (shape_as false name)
+  shape_as waits (expansion_of t) = expansion_shape (shape_as false t)
+  shape_as waits (pack_of list) = pack_shape (shape_each list)
 
   -- the shapes of the trees, in order
   pub shape_each : Trees → List Shape
   shape_each no_trees = []
-  shape_each (more_trees t ts) = shape_of t ∷ shape_each ts
+  shape_each (more_trees t ts) = shape_as false t ∷ shape_each ts
+
+-- the shape that the tree prints
+abbrev pub shape_of : Tree → Shape
+shape_of = shape_as false
+
+-- the shape of a name without its own qualifiers
+abbrev pub bare_shape : Tree → Shape
+bare_shape = shape_as true
 
 -- the text that the tree prints
 abbrev pub printing : Tree → List ℕ
 printing t = text (shape_of t)
+
+-- the text that a name prints; where its own qualifiers wait, without them
+abbrev pub name_printing : Bool → Tree → List ℕ
+name_printing waits t = text (shape_as waits t)
 
 -- the text that a list of template arguments prints
 abbrev pub list_printing : List Tree → List ℕ

@@ -10,12 +10,13 @@ use Rattle.itanium_syntax.specs.declared.numerals.Radix.{Radix}
 use Rattle.itanium_syntax.specs.declared.numerals.Radix.TheVariants.{Decimal}
 use Rattle.itanium_syntax.specs.Abbreviations.{abbreviation_of}
 use Rattle.itanium_syntax.specs.Bytes.{begins, begins_one_of, past_letter}
-use Rattle.itanium_syntax.specs.Cases.{ExpansionType, LambdaName, ConversionName, UnnamedTypeName, LiteralOperatorName, OperatorName, PackArgument, StdFirst, EndOfComponents, ArgsComponent, ConstructorName, DestructorName, ArgsAttached, EndOfArguments, BuiltinType, ArrayType, FunctionType, MemberType, PointerType, CvFunction, NoParams, EndOfTypes}
+use Rattle.itanium_syntax.specs.Cases.{StringLiteralEntity, DefaultArgumentEntity, NameEntity, ExpansionType, LambdaName, ConversionName, UnnamedTypeName, LiteralOperatorName, OperatorName, PackArgument, StdFirst, EndOfComponents, ArgsComponent, ConstructorName, DestructorName, ArgsAttached, EndOfArguments, BuiltinType, ArrayType, FunctionType, MemberType, PointerType, CvFunction, NoParams, EndOfTypes}
 use Rattle.itanium_syntax.specs.Names.{first_case, component_case, unqualified_case, free_case, past_internal, past_initializer_letter, past_name_quals}
+use Rattle.itanium_syntax.specs.Encodings.{entity_case}
 use Rattle.itanium_syntax.specs.Args.{attached_case, args_case, argument_case}
 use Rattle.itanium_syntax.specs.Types.{type_case, types_case, cv_case, params_case, past_builtin, past_cv, past_reference}
 use Rattle.itanium_syntax.specs.Operators.{operator_here}
-use Rattle.itanium_syntax.specs.Scalars.{front_digits, digit_then, digit_of, weighted, base, numeral, number, source_name, past_underscore, next_number, index_by, index_of, unnamed_by, unnamed_type_number, lambda_number, dimension_by, dimension_of}
+use Rattle.itanium_syntax.specs.Scalars.{front_digits, digit_then, digit_of, weighted, base, numeral, number, source_name, past_underscore, next_number, index_by, index_of, unnamed_by, unnamed_type_number, lambda_number, optional_number_by, optional_number}
 
 -- the rest lies after a front of the bytes
 pub record IsAfter (rest bytes : List ℕ) : Type 0 where
@@ -233,6 +234,21 @@ pub expansion_some : (bytes : List ℕ) → type_case bytes ≡ ExpansionType �
 expansion_some [] e = cc
 expansion_some (b ∷ bytes) e = omega arith
 
+-- what follows an encoding has its E
+pub string_literal_some : (bytes : List ℕ) → entity_case bytes ≡ StringLiteralEntity → 0 < length bytes
+string_literal_some [] e = cc
+string_literal_some (b ∷ bytes) e = omega arith
+
+pub default_argument_some : (bytes : List ℕ) → entity_case bytes ≡ DefaultArgumentEntity → 0 < length bytes
+default_argument_some [] e = cc
+default_argument_some (b ∷ bytes) e = omega arith
+
+pub entity_some : (bytes : List ℕ) → entity_case bytes ≡ NameEntity → 0 < length bytes
+entity_some [] e = cc
+entity_some (b ∷ bytes) e = omega arith
+
+pub ruleset entities_some = (string_literal_some, default_argument_some, entity_some)
+
 pub ruleset names_some = (lambda_some, conversion_some, unnamed_type_some, literal_operator_some, operator_some)
 
 pub ruleset cases = (types_end_some, pack_some, expansion_some, array_some, member_some, function_some, pointer_some, cv_function_some, no_params_some, std_shorter, components_end_shorter, arguments_end_shorter, attached_some, component_args_some, builtin_shorter)
@@ -282,11 +298,11 @@ operator_takes [] text e = cc
 operator_takes (a ∷ []) text e = cc
 operator_takes (a ∷ b ∷ bytes) text e = takes_drop 2 (a ∷ b ∷ bytes) (omega arith) (omega arith)
 
-pub dimension_takes : (bytes : List ℕ) (found : Option ℕ × List ℕ) → dimension_of bytes ≡ Some found → Takes found.1 bytes
-unfolding dimension_of
-dimension_takes bytes found e = go (past_underscore bytes) refl e
+pub optional_number_takes : (bytes : List ℕ) (found : Option ℕ × List ℕ) → optional_number bytes ≡ Some found → Takes found.1 bytes
+unfolding optional_number
+optional_number_takes bytes found e = go (past_underscore bytes) refl e
   where
-    go : (o : Option (List ℕ)) → past_underscore bytes ≡ o → dimension_by bytes o ≡ Some found → Takes found.1 bytes
+    go : (o : Option (List ℕ)) → past_underscore bytes ≡ o → optional_number_by bytes o ≡ Some found → Takes found.1 bytes
     go (Some rest) f g = let is : rest ≡ found.1 = (some_pair_parts None found.0 rest found.1 g).1 in rw (← is) (underscore_takes bytes rest f)
     go None f g = option_and_then_some _ (number bytes) found g (λ n read more. after_number n (past_underscore n.1) refl (number_takes bytes n read) more)
       where

@@ -1,5 +1,5 @@
 -- What a production hands down to those inside it.
-use Rattle.std.specs.Prelude.{Bool, true, not, ◌&&◌}
+use Rattle.std.specs.Prelude.{Bool, true, false, not, ◌&&◌}
 use Rattle.itanium_syntax.specs.declared.context.Context.{Context}
 
 -- a list opens a scope where it is a name's and no type is around it
@@ -17,3 +17,11 @@ inside_pack x = record x { pack = true }
 -- the same, inside a lambda's signature
 abbrev pub inside_lambda : Context → Context
 inside_lambda x = record x { lambda = true }
+
+-- the same, inside a local name: the words of qualifiers are shown
+abbrev pub inside_local : Context → Context
+inside_local x = record x { shown = true }
+
+-- the same, inside the encoding of a local name: no type is around it
+abbrev pub inside_encoding : Context → Context
+inside_encoding x = record x { shown = true; in_type = false }

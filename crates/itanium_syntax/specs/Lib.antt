@@ -2,6 +2,7 @@ pub mod Bytes
 pub mod Cases
 pub mod Types
 pub mod Names
+pub mod Encodings
 pub mod Args
 pub mod Operators
 pub mod Scalars

@@ -83,12 +83,12 @@ unnamed_type_number bytes = unnamed_by bytes (past_underscore bytes)
 unfoldable pub lambda_number : List ℕ → Option (ℕ × List ℕ)
 lambda_number bytes = option_and_then (λ n. option_map (λ k. (k, n.1)) (next_number n.0)) (index_of Decimal bytes)
 
--- after the `_` of an array without a dimension; else the dimension and `_`
-abbrev pub dimension_by : List ℕ → Option (List ℕ) → Option (Option ℕ × List ℕ)
-dimension_by bytes (Some rest) = Some (None, rest)
-dimension_by bytes None =
+-- after the `_` where the number is left out; else the number and `_`
+abbrev pub optional_number_by : List ℕ → Option (List ℕ) → Option (Option ℕ × List ℕ)
+optional_number_by bytes (Some rest) = Some (None, rest)
+optional_number_by bytes None =
     option_and_then (λ n. option_map (λ rest. (Some n.0, rest)) (past_underscore n.1)) (number bytes)
 
--- [<number>] _: the dimension of an array, which may be left out
-unfoldable pub dimension_of : List ℕ → Option (Option ℕ × List ℕ)
-dimension_of bytes = dimension_by bytes (past_underscore bytes)
+-- [<number>] _: the dimension of an array or the number of a default argument, which may be left out
+unfoldable pub optional_number : List ℕ → Option (Option ℕ × List ℕ)
+optional_number bytes = optional_number_by bytes (past_underscore bytes)

@@ -51,6 +51,27 @@ impl Context {
         }
     }
 
+    /// The context inside a local name: of its entity too.
+    pub fn inside_local(self) -> Context
+        ensures context { result ≡ spec.inside_local self }
+    {
+        Context {
+            shown: true,
+            ..self
+        }
+    }
+
+    /// The context inside the encoding of a local name.
+    pub fn inside_encoding(self) -> Context
+        ensures context { result ≡ spec.inside_encoding self }
+    {
+        Context {
+            shown: true,
+            in_type: false,
+            ..self
+        }
+    }
+
     /// Whether an argument list opens a scope: a name's does, where no type is around it.
     pub fn opens_scope(self, of_name: bool) -> bool
         ensures value { result ≡ spec.opens_scope of_name self }

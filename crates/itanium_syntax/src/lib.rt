@@ -6,6 +6,7 @@
 pub mod abbreviations;
 pub mod args;
 pub mod context;
+pub mod encodings;
 pub mod names;
 pub mod numerals;
 pub mod operators;

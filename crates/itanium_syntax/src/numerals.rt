@@ -1,4 +1,4 @@
-//! Digits, and the indices and dimensions that are written with them (Itanium C++ ABI 5.1.2).
+//! Digits, and the numbers and indices that are written with them (Itanium C++ ABI 5.1.2).
 ghost use Rattle.std.specs.Prelude.{◌≡◌, ◌<◌, ◌≤◌, ◌+◌, ◌*◌, ◌^◌, SomeIff, IfSome, option_map, length, drop};
 ghost use Rattle.itanium_syntax.specs.Scalars as spec;
 
@@ -80,10 +80,11 @@ pub fn index_of(radix: Radix, bytes: &[u8]) -> Option<(usize, &[u8])>
     }
 }
 
-/// `[<number>] _`: the dimension of an array, which may be left out, and what is after the `_`.
-#[tactic(auto, unfolding(crate::specs::Scalars::dimension_of, crate::specs::Scalars::number))]
-pub fn dimension_of(bytes: &[u8]) -> Option<(Option<u64>, &[u8])>
-    ensures value { option_map (λ found. (found.0, found.1.now)) result ≡ spec.dimension_of bytes.now }
+/// `[<number>] _`: the number, which may be left out, and what is after the `_`. So an array has its dimension, and a
+/// local name the number of its default argument.
+#[tactic(auto, unfolding(crate::specs::Scalars::optional_number, crate::specs::Scalars::number))]
+pub fn optional_number(bytes: &[u8]) -> Option<(Option<u64>, &[u8])>
+    ensures value { option_map (λ found. (found.0, found.1.now)) result ≡ spec.optional_number bytes.now }
     ensures shorter { IfSome result (λ found. length found.1.now < length bytes.now) }
 {
     if let [b'_', rest @ ..] = bytes {
