@@ -1,23 +1,25 @@
 -- Of names: what the grammar reads, the parser reads.
-use Rattle.std.proofs.Common.{◌≡◌, ◌<◌, ◌≤◌, ℕ, zero, suc, ◌+◌, max, Bool, true, false, ◌++◌, drop, map, length, refl, ◌∙◌, sym, arith, Option, Some, ap}
+use Rattle.std.proofs.Common.{◌≡◌, ◌<◌, ◌≤◌, ℕ, zero, suc, ◌+◌, max, Bool, true, false, ◌++◌, drop, map, length, refl, ◌∙◌, sym, arith, Option, Some, ap, ap₂}
 use Rattle.std.proofs.lemmas.List.{length-map}
 use Rattle.std.specs.Prelude.{codes, option_map}
 use Rattle.std.proofs.lemmas.Option.{slice_get-map}
 use Rattle.demangle_text.specs.Shape.{plain_shape}
-use Rattle.demangle_edit.proofs.Built.{lambda_built}
+use Rattle.demangle_edit.proofs.Built.{lambda_built, params_built}
+use Rattle.demangle_edit.specs.Built.{params_opened}
 use Rattle.itanium_syntax.specs.declared.context.Context.{Context}
 use Rattle.itanium_syntax.specs.Names.{source_text, name_quals, tag_case}
-use Rattle.itanium_syntax.specs.Context.{inside_lambda}
+use Rattle.itanium_syntax.specs.Context.{inside_lambda, inside_local, inside_encoding}
 use Rattle.itanium_syntax.proofs.Fronts.{initializer_after, after_drop, source_takes, after-le}
-use Rattle.itanium_grammar.specs.Tree.{Tree, with_args, trees, unnamed_text, literal_operator_text, shape_of}
-use Rattle.itanium_grammar.specs.Grammar.{Position, Cost, past_initializer, last_of, SubstitutionAs, Substitution, ParameterAs, Parameter, TaggedAs, UnqualifiedAs, Unqualified, FirstAs, NameAs, UnscopedAs, AttachedAs, Nested, Components, ComponentsAs, abbreviation_substitution, component_substitution, substitution, auto_parameter, scope_parameter, parameter, no_tag, next_tag, FreeAs, source_free, unnamed_type_free, lambda_free, conversion_free, literal_operator_free, operator_free, constructor_component, destructor_component, free_component, unqualified, parameter_first, std_first, substitution_first, name_first, name, nested_name, unscoped_name, std_name, substitution_name, global_name, none_attached, args_attached, nested, components, end_of_components, args_component, name_component}
+use Rattle.itanium_grammar.specs.Tree.{Tree, bare_shape, own_quals, with_args, trees, unnamed_text, literal_operator_text, shape_of}
+use Rattle.itanium_grammar.specs.Grammar.{Position, Cost, past_initializer, last_of, SubstitutionAs, Substitution, ParameterAs, Parameter, TaggedAs, UnqualifiedAs, Unqualified, FirstAs, NameAs, Local, EntityAs, Encoding, EncodingAs, ReturnAs, SignatureAs, UnscopedAs, AttachedAs, Nested, Components, ComponentsAs, abbreviation_substitution, component_substitution, substitution, auto_parameter, scope_parameter, parameter, no_tag, next_tag, FreeAs, source_free, unnamed_type_free, lambda_free, conversion_free, literal_operator_free, operator_free, constructor_component, destructor_component, free_component, unqualified, parameter_first, std_first, substitution_first, name_first, name, nested_name, local_name, local, string_literal_entity, default_argument_entity, name_entity, encoding, name_encoding, no_return_type, some_return_type, no_signature, some_signature, unscoped_name, std_name, substitution_name, global_name, none_attached, args_attached, nested, components, end_of_components, args_component, name_component}
 use Rattle.itanium_grammar.proofs.Progress.{unqualified_takes, args_takes}
-use Rattle.itanium_demangle.specs.Cases.{SubstitutionCase, TagCase, UnqualifiedCase, FreeCase, FirstCase, NameCase, UnscopedCase, AttachedCase, ComponentCase}
-use Rattle.itanium_demangle.specs.Parser.{after_turn, loop, ◌>>=◌, tag_as, tag_turn, parse_tags, free_as, parse_type, substitution_as, parse_substitution, parameter_as, parse_parameter, unqualified_as, parse_unqualified, first_as, attached_as, unscoped_as, component_as, component_turn, parse_nested, name_as, parse_name, parse_args}
+use Rattle.itanium_demangle.specs.Cases.{SymbolCase, ReturnCase, SignatureCase, EntityCase, SubstitutionCase, TagCase, UnqualifiedCase, FreeCase, FirstCase, NameCase, UnscopedCase, AttachedCase, ComponentCase}
+use Rattle.itanium_demangle.specs.Parser.{after_turn, loop, ◌>>=◌, tag_as, tag_turn, parse_tags, free_as, parse_type, substitution_as, parse_substitution, parameter_as, parse_parameter, unqualified_as, parse_unqualified, first_as, attached_as, unscoped_as, component_as, component_turn, parse_nested, return_as, signature_as, encoding_as, parse_encoding, entity_as, parse_local, name_as, parse_bare_name, parse_name, parse_args}
 use Rattle.itanium_demangle.specs.Outcome.{state_at}
-use Rattle.itanium_demangle.proofs.Shapes.{same_read, one_more, taken-map, some-map, last-map, shape-plain_text, shape-abbreviation, shape-ctor_dtor_of, shape-tagged_with, shape-lambda_of, shape-conversion_to, shape-with_args, shape-in_scope, shape-nested_of}
+use Rattle.itanium_demangle.proofs.Shapes.{same_read, same_state, one_more, taken-map, some-map, last-map, shape-plain_text, shape-abbreviation, shape-ctor_dtor_of, shape-tagged_with, shape-lambda_of, shape-conversion_to, shape-with_args, shape-in_scope, shape-encoding_of, shape-function_encoding}
 use Rattle.itanium_demangle.proofs.CompleteLists.{typed_params_complete}
-use Rattle.itanium_demangle.proofs.Readings.{given, ArgsComplete, TypesComplete, NamesComplete}
+use Rattle.itanium_demangle.proofs.Readings.{given, bare_of, ArgsComplete, TypesComplete, BareNamesComplete, NamesComplete}
+use Rattle.itanium_demangle.proofs.Waiting.{unscoped_none, bare-nested_of, bare-string_literal_of, bare-default_argument_of, bare-local_in, same_return, whole_name}
 
 -- without a counted production the depth is no matter
 substitution_as_complete : {case : SubstitutionCase} {p q : Position} {t : Tree} → SubstitutionAs case p t q → (e m : ℕ)
@@ -145,17 +147,75 @@ module _ (d : ℕ) (lists : ArgsComplete d) (kinds : TypesComplete d) where
         (same_read refl refl refl (omega arith) (omega (arith, length-map q.saved shape_of)))
 
   nested_complete : {x : Context} {p q : Position} {t : Tree} {c : Cost} → Nested x p t q c → c.depth ≤ d → (e m : ℕ)
-      → parse_nested (parse_unqualified (parse_type d x) (parse_type d (inside_lambda x))) (parse_args d x true) x (state_at p e m) ≡ given shape_of t q c e m
+      → parse_nested (parse_unqualified (parse_type d x) (parse_type d (inside_lambda x))) (parse_args d x true) x (state_at p e m) ≡ given bare_of t q c e m
   unfolding parse_nested
   nested_complete (nested {x = x} {p = p} {q = q} {u = u} {c = c} a b) deep e m =
-      rw (first_complete a (omega arith) e m, components_complete b (omega arith) (e + c.count) (max m c.peak) (length (past_initializer q).rest + 1) (omega arith), ← shape-nested_of u (name_quals p.rest) x.shown)
+      rw (first_complete a (omega arith) e m, components_complete b (omega arith) (e + c.count) (max m c.peak) (length (past_initializer q).rest + 1) (omega arith), ← bare-nested_of u (name_quals p.rest) x.shown)
       (same_read refl refl refl (omega arith) (omega arith))
 
-  name_as_complete : {case : NameCase} {x : Context} {p q : Position} {t : Tree} {c : Cost} → NameAs case x p t q c → c.depth ≤ d → (e m : ℕ)
-      → name_as case (parse_unqualified (parse_type d x) (parse_type d (inside_lambda x))) (parse_args d x true) x (state_at p e m) ≡ given shape_of t q c e m
-  name_as_complete (nested_name a) deep e m = nested_complete a deep e m
-  name_as_complete (unscoped_name a) deep e m = unscoped_complete a deep e m
+-- the return type of an encoding
+return_complete : (d : ℕ) → TypesComplete d → {case : ReturnCase} {x : Context} {p q : Position} {c : Cost} → ReturnAs case x p q c → c.depth ≤ d → (e m : ℕ)
+    → return_as case (parse_type d x) (state_at p e m) ≡ Some (state_at q (e + c.count) (max m c.peak))
+return_complete d kinds no_return_type deep e m = same_state refl refl (omega arith) (omega arith)
+return_complete d kinds (some_return_type a) deep e m = rw (kinds _ _ _ _ _ a deep e m) refl
 
-pub names_complete : (d : ℕ) → ArgsComplete d → TypesComplete d → NamesComplete (suc d)
+-- the parameters of an encoding
+signature_complete : (d : ℕ) → TypesComplete d → {case : SignatureCase} {x : Context} {t u : Tree} {p q : Position} {c : Cost} → SignatureAs case x t p u q c → c.depth ≤ d → (e m : ℕ)
+    → signature_as case (parse_type d x) (bare_of t) (state_at p e m) ≡ given shape_of u q c e m
+signature_complete d kinds (no_signature {t = t}) deep e m = same_read (sym (shape-encoding_of t)) refl refl (omega arith) (omega arith)
+signature_complete d kinds (some_signature {t = t} {ts = ts} params) deep e m =
+    rw (typed_params_complete d kinds params deep e m (params_opened (bare_shape t)))
+    (same_read (params_built (bare_shape t) (map shape_of ts) (own_quals t) ∙ sym (shape-function_encoding t ts)) refl refl refl refl)
+
+module _ (d : ℕ) (kinds : TypesComplete d) (bares : BareNamesComplete d) where
+  encoding_as_complete : {case : SymbolCase} {x : Context} {p q : Position} {t : Tree} {c : Cost} → EncodingAs case x p t q c → c.depth ≤ d → (e m : ℕ)
+      → encoding_as case (parse_bare_name d x) (parse_type d x) (state_at p e m) ≡ given shape_of t q c e m
+  encoding_as_complete (name_encoding {q = q} {r = r} {c = c} {d = f} a b g) deep e m =
+      rw (
+        bares true _ _ _ _ _ a (omega arith) e m,
+        same_return a q.rest,
+        return_complete d kinds b (omega arith) (e + c.count) (max m c.peak),
+        signature_complete d kinds g (omega arith) (e + c.count + f.count) (max (max m c.peak) f.peak),
+      )
+      (same_read refl refl refl (omega arith) (omega arith))
+
+  pub encoding_complete : {x : Context} {p q : Position} {t : Tree} {c : Cost} → Encoding x p t q c → c.depth ≤ d → (e m : ℕ)
+      → parse_encoding (parse_bare_name d x) (parse_type d x) (state_at p e m) ≡ given shape_of t q c e m
+  unfolding parse_encoding
+  encoding_complete (encoding a) deep e m = encoding_as_complete a deep e m
+
+  entity_complete : {case : EntityCase} {waits : Bool} {x : Context} {t u : Tree} {p q : Position} {c : Cost} → EntityAs case waits x t p u q c → c.depth ≤ d → (e m : ℕ)
+      → entity_as case (parse_bare_name d x) (shape_of t) (state_at p e m) ≡ given bare_of u q c e m
+  entity_complete (string_literal_entity {t = t}) deep e m = same_read (bare-string_literal_of t) refl refl (omega arith) (omega arith)
+  entity_complete (default_argument_entity {t = t} found a) deep e m =
+      rw (found, bares false _ _ _ _ _ a deep e m) (same_read (bare-default_argument_of t) refl refl refl refl)
+  entity_complete (name_entity {waits = waits} {t = t} {u = u} a) deep e m =
+      rw (bares waits _ _ _ _ _ a deep e m) (same_read (ap (λ s. (s, own_quals u)) (sym (bare-local_in t u))) refl refl refl refl)
+
+  pub local_complete : {waits : Bool} {x : Context} {p q : Position} {t : Tree} {c : Cost} → Local waits x p t q c → c.depth ≤ d → (e m : ℕ)
+      → parse_local (parse_encoding (parse_bare_name d (inside_encoding x)) (parse_type d (inside_encoding x))) (parse_bare_name d (inside_local x)) (state_at p e m) ≡ given bare_of t q c e m
+  unfolding parse_local
+  local_complete (local {c = c} a b) deep e m =
+      rw (encoding_complete a (omega arith) e m, entity_complete b (omega arith) (e + c.count) (max m c.peak)) (same_read refl refl refl (omega arith) (omega arith))
+
+module _ (d : ℕ) (lists : ArgsComplete d) (kinds : TypesComplete d) (bares : BareNamesComplete d) where
+  pub name_as_complete : {case : NameCase} {waits : Bool} {x : Context} {p q : Position} {t : Tree} {c : Cost} → NameAs case waits x p t q c → c.depth ≤ d → (e m : ℕ)
+      → name_as case (parse_unqualified (parse_type d x) (parse_type d (inside_lambda x))) (parse_args d x true)
+      (parse_local (parse_encoding (parse_bare_name d (inside_encoding x)) (parse_type d (inside_encoding x))) (parse_bare_name d (inside_local x))) x (state_at p e m)
+      ≡ given bare_of t q c e m
+  name_as_complete (nested_name a) deep e m = nested_complete d lists kinds a deep e m
+  name_as_complete (local_name a) deep e m = local_complete d kinds bares a deep e m
+  name_as_complete (unscoped_name a) deep e m =
+      let none = unscoped_none a in
+      rw (unscoped_complete d lists kinds a deep e m) (same_read (ap₂ (λ s q. (s, q)) (sym none.bare) (sym none.quals)) refl refl refl refl)
+
+pub bare_names_complete : (d : ℕ) → ArgsComplete d → TypesComplete d → BareNamesComplete d → BareNamesComplete (suc d)
+unfolding parse_bare_name
+bare_names_complete d lists kinds bares waits x p q t c (name a) deep e m =
+    name_as_complete d lists kinds bares a (omega arith) (e + 1) m ∙ same_read refl refl refl (omega arith) refl
+
+-- a name with its own qualifiers
+pub names_complete : (d : ℕ) → BareNamesComplete d → NamesComplete d
 unfolding parse_name
-names_complete d lists kinds x p q t c (name a) deep e m = name_as_complete d lists kinds a (omega arith) (e + 1) m ∙ same_read refl refl refl (omega arith) refl
+names_complete d bares x p q t c a deep e m =
+    rw (bares false x p q t c a deep e m) (same_read (whole_name a) refl refl refl refl)

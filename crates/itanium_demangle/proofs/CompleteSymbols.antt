@@ -6,14 +6,14 @@ use Rattle.itanium_grammar.specs.Grammar.{Position, Cost, SymbolAs, Symbol, name
 use Rattle.itanium_demangle.specs.Cases.{SymbolCase}
 use Rattle.itanium_demangle.specs.Parser.{symbol_as, parse_symbol}
 use Rattle.itanium_demangle.specs.Outcome.{state_at}
-use Rattle.itanium_demangle.proofs.Readings.{given, NamesComplete, ArgsComplete, PacksComplete, TypesComplete}
-use Rattle.itanium_demangle.proofs.CompleteNames.{names_complete}
+use Rattle.itanium_demangle.proofs.Readings.{given, BareNamesComplete, ArgsComplete, PacksComplete, TypesComplete}
+use Rattle.itanium_demangle.proofs.CompleteNames.{bare_names_complete, names_complete}
 use Rattle.itanium_demangle.proofs.CompleteArgs.{args_complete, packs_complete}
 use Rattle.itanium_demangle.proofs.CompleteTypes.{types_complete_at}
 
 -- each counted production has a depth
-no_names : NamesComplete 0
-no_names x p q t c (name a) deep e m = absurd (omega arith)
+no_names : BareNamesComplete 0
+no_names waits x p q t c (name a) deep e m = absurd (omega arith)
 
 no_lists : ArgsComplete 0
 no_lists x of_name p q t c (args a) deep e m = absurd (omega arith)
@@ -24,15 +24,15 @@ no_packs x p q t c (pack a) deep e m = absurd (omega arith)
 no_kinds : TypesComplete 0
 no_kinds x p q t c (type a) deep e m = absurd (omega arith)
 
-pub all_complete : (d : ℕ) → NamesComplete d × ArgsComplete d × PacksComplete d × TypesComplete d
+pub all_complete : (d : ℕ) → BareNamesComplete d × ArgsComplete d × PacksComplete d × TypesComplete d
 all_complete zero = (no_names, no_lists, no_packs, no_kinds)
 all_complete (suc d) =
-    let (names, lists, packs, kinds) = all_complete d in
-    (names_complete d lists kinds, args_complete d packs kinds, packs_complete d packs kinds, types_complete_at d kinds names lists)
+    let (bares, lists, packs, kinds) = all_complete d in
+    (bare_names_complete d lists kinds bares, args_complete d packs kinds, packs_complete d packs kinds, types_complete_at d kinds (names_complete d bares) lists)
 
 symbol_as_complete : {case : SymbolCase} {x : Context} {p q : Position} {t : Tree} {c : Cost} → SymbolAs case x p t q c → (d : ℕ) → c.depth ≤ d → (e m : ℕ)
     → symbol_as case d x (state_at p e m) ≡ given shape_of t q c e m
-symbol_as_complete (name_symbol a) d deep e m = (all_complete d).0 _ _ _ _ _ a deep e m
+symbol_as_complete (name_symbol a) d deep e m = names_complete d (all_complete d).0 _ _ _ _ _ a deep e m
 
 pub symbol_complete : {x : Context} {p q : Position} {t : Tree} {c : Cost} → Symbol x p t q c → (d : ℕ) → c.depth ≤ d → (e m : ℕ)
     → parse_symbol d x (state_at p e m) ≡ given shape_of t q c e m

@@ -99,6 +99,6 @@ type_as_complete d kinds names lists (name_type {q = q} {t = t} a) deep e m =
     rw (names _ _ _ _ _ a (omega arith) e m) (same_read refl (one_more q.saved t) refl (omega arith) (omega (arith, length-map q.saved shape_of)))
 
 pub types_complete_at : (d : ℕ) → TypesComplete d → NamesComplete d → ArgsComplete d → TypesComplete (suc d)
-unfolding parse_type
+unfolding parse_type parse_name
 types_complete_at d kinds names lists x p q t c (type a) deep e m =
     type_as_complete d kinds names lists a (omega arith) (e + 1) m ∙ same_read refl refl refl (omega arith) refl

@@ -8,7 +8,7 @@ use Rattle.std.proofs.lemmas.Option.{some_pair_parts}
 use Rattle.demangle_text.specs.Shape.{Shape, text}
 use Rattle.itanium_syntax.specs.Scalars.{front_digits, weighted, number, index_of, unnamed_type_number, lambda_number, optional_number, source_name}
 use Rattle.itanium_grammar.specs.Answer.{after_prefix, start, outside, suffix, max_depth, IsAnswer}
-use Rattle.itanium_demangle.specs.Parser.{ParserState, begun, loop, component_turn, tag_turn, list_turn, typed_turn, types_turn, parse_unqualified, parse_substitution, parse_parameter, parse_nested, parse_name, parse_symbol}
+use Rattle.itanium_demangle.specs.Parser.{ParserState, begun, loop, component_turn, tag_turn, list_turn, typed_turn, types_turn, parse_unqualified, parse_substitution, parse_parameter, parse_nested, parse_bare_name, parse_encoding, parse_local, parse_name, parse_symbol}
 use Rattle.itanium_demangle.specs.Examples.{WorkedSymbols, e_acute}
 use Rattle.itanium_demangle.proofs.Symbols.{found_reading, found_none, no_prefix, not_read, printed}
 
@@ -42,7 +42,7 @@ not_text symbol inside answer prefix is = go (parse_symbol max_depth outside (be
         printed symbol inside 0 0 s after None prefix (found_reading max_depth outside (start inside) 0 0 s after e) (λ u. let yes = is_utf8-from_IsUtf8 (text s) u in cc)
 
 pub worked_symbols : WorkedSymbols
-unfolding parse_symbol parse_name parse_nested loop component_turn tag_turn list_turn typed_turn types_turn parse_unqualified parse_substitution parse_parameter source_name number index_of unnamed_type_number lambda_number optional_number front_digits weighted digits is_utf8 chars lib.Utf8.encode
+unfolding parse_symbol parse_name parse_bare_name parse_encoding parse_local parse_nested loop component_turn tag_turn list_turn typed_turn types_turn parse_unqualified parse_substitution parse_parameter source_name number index_of unnamed_type_number lambda_number optional_number front_digits weighted digits is_utf8 chars lib.Utf8.encode
 worked_symbols = record {
   nested = some_answer (codes "_ZN3Foo3barEv") (codes "N3Foo3barEv") (codes "Foo::bar") refl refl;
   reference_qualified = some_answer (codes "_ZNO3Foo3barEv") (codes "NO3Foo3barEv") (codes "Foo::bar &&") refl refl;
@@ -80,4 +80,14 @@ worked_symbols = record {
   literal_operator = some_answer (codes "_Zli4_fooe") (codes "li4_fooe") (codes "operator\"\" _foo") refl refl;
   unnamed_type = some_answer (codes "_ZN3FooUt_3barEv") (codes "N3FooUt_3barEv") (codes "Foo::{unnamed type#1}::bar") refl refl;
   tag_of_a_destructor = some_answer (codes "_ZN3FooD0B8nn180100Ev") (codes "N3FooD0B8nn180100Ev") (codes "Foo::~Foo[abi:nn180100]") refl refl;
+  local_name = some_answer (codes "_ZZ1fvE1x") (codes "Z1fvE1x") (codes "f()::x") refl refl;
+  string_literal = some_answer (codes "_ZZ1fvEss") (codes "Z1fvEss") (codes "f()::string literal") refl refl;
+  dropped_return_type = some_answer (codes "_ZZ1fIiEvT_E1x") (codes "Z1fIiEvT_E1x") (codes "f<int>(int)::x") refl refl;
+  return_type_alone = some_answer (codes "_ZZ1fIiEvE1x") (codes "Z1fIiEvE1x") (codes "f<int>::x") refl refl;
+  encoding_without_parameters = some_answer (codes "_ZZ1fE1x") (codes "Z1fE1x") (codes "f::x") refl refl;
+  scope_of_an_encoding = some_answer (codes "_Z1fIJZ1gIcEvE1xT_EEvv") (codes "1fIJZ1gIcEvE1xT_EEvv") (codes "f<g<char>::x, char>") refl refl;
+  default_argument = some_answer (codes "_Z1fIZ1gvEd_N1A1BES0_Evv") (codes "1fIZ1gvEd_N1A1BES0_Evv") (codes "f<g(), A>") refl refl;
+  qualifiers_after_parameters = some_answer (codes "_ZZNK3Foo3barEvE3baz") (codes "ZNK3Foo3barEvE3baz") (codes "Foo::bar() const::baz") refl refl;
+  qualifiers_of_an_entity = some_answer (codes "_ZZN3Foo3barEvENKUlvE_clEv") (codes "ZN3Foo3barEvENKUlvE_clEv") (codes "Foo::bar()::{lambda()#1}::operator() const") refl refl;
+  constructor_has_no_return_type = some_answer (codes "_ZZN3FooC1IiEET_E3bar") (codes "ZN3FooC1IiEET_E3bar") (codes "Foo::Foo<int>(int)::bar") refl refl;
 }

@@ -1,6 +1,7 @@
 pub mod Loops
 pub mod Unfold
 pub mod Shapes
+pub mod Waiting
 pub mod Readings
 pub mod CompleteLists
 pub mod CompleteNames

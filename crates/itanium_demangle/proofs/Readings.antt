@@ -1,11 +1,12 @@
 -- How the parser and the grammar are compared: what is read within a depth.
-use Rattle.std.proofs.Common.{◌≡◌, ◌≤◌, ℕ, ◌+◌, max, Bool, List, map, Option, Some}
+use Rattle.std.proofs.Common.{◌≡◌, ◌≤◌, ℕ, ◌+◌, max, Bool, false, List, map, Option, Some}
 use Rattle.demangle_text.specs.Shape.{Shape}
 use Rattle.demangle_edit.specs.Built.{arguments_shape}
+use Rattle.demangle_quals.specs.declared.quals.Quals.{Quals}
 use Rattle.itanium_syntax.specs.declared.context.Context.{Context}
-use Rattle.itanium_grammar.specs.Tree.{Tree, shape_of}
+use Rattle.itanium_grammar.specs.Tree.{Tree, shape_of, bare_shape, own_quals}
 use Rattle.itanium_grammar.specs.Grammar.{Position, Cost, Name, Args, Pack, TypeOf}
-use Rattle.itanium_demangle.specs.Parser.{ParserState, Parses, parse_name, parse_args, parse_pack, parse_type}
+use Rattle.itanium_demangle.specs.Parser.{ParserState, Parses, parse_bare_name, parse_name, parse_args, parse_pack, parse_type}
 use Rattle.itanium_demangle.specs.Outcome.{state_at}
 
 -- what a reading of cost c gives, from so many entered and saved
@@ -37,8 +38,15 @@ IsSound {T} {A} R show d parse = (p : Position) (e m : ℕ) (y : A × ParserStat
 abbrev pub shape_of_args : List Tree → Shape
 shape_of_args ts = arguments_shape (map shape_of ts)
 
+-- the shape of a name without its own qualifiers, and these
+abbrev pub bare_of : Tree → Shape × Quals
+bare_of t = (bare_shape t, own_quals t)
+
+abbrev pub BareNamesComplete : ℕ → Type 0
+BareNamesComplete d = (waits : Bool) (x : Context) → IsComplete (Name waits x) bare_of d (parse_bare_name d x)
+
 abbrev pub NamesComplete : ℕ → Type 0
-NamesComplete d = (x : Context) → IsComplete (Name x) shape_of d (parse_name d x)
+NamesComplete d = (x : Context) → IsComplete (Name false x) shape_of d (parse_name d x)
 
 abbrev pub ArgsComplete : ℕ → Type 0
 ArgsComplete d = (x : Context) (of_name : Bool) → IsComplete (Args x of_name) shape_of_args d (parse_args d x of_name)
@@ -49,8 +57,11 @@ PacksComplete d = (x : Context) → IsComplete (Pack x) shape_of d (parse_pack d
 abbrev pub TypesComplete : ℕ → Type 0
 TypesComplete d = (x : Context) → IsComplete (TypeOf x) shape_of d (parse_type d x)
 
+abbrev pub BareNamesSound : ℕ → Type 0
+BareNamesSound d = (waits : Bool) (x : Context) → IsSound (Name waits x) bare_of d (parse_bare_name d x)
+
 abbrev pub NamesSound : ℕ → Type 0
-NamesSound d = (x : Context) → IsSound (Name x) shape_of d (parse_name d x)
+NamesSound d = (x : Context) → IsSound (Name false x) shape_of d (parse_name d x)
 
 abbrev pub ArgsSound : ℕ → Type 0
 ArgsSound d = (x : Context) (of_name : Bool) → IsSound (Args x of_name) shape_of_args d (parse_args d x of_name)

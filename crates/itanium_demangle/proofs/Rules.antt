@@ -1,9 +1,9 @@
 -- What the check may use: for the readers the laws of the buffer and what unfolds each, for an answer the theorems over
 -- the grammar.
 use Rattle.demangle_text.proofs.Laws.{laws, runs}
-use Rattle.itanium_syntax.proofs.Fronts.{cases, names_some}
+use Rattle.itanium_syntax.proofs.Fronts.{cases, names_some, entities_some}
 use Rattle.itanium_grammar.proofs.Agreement.{one_reading}
-use Rattle.itanium_demangle.proofs.Unfold.{name_opens, no_name, args_opens, no_args, pack_opens, no_pack, type_opens, no_type, substitution_opens, parameter_opens, unqualified_opens, symbol_opens, nested_opens, kept_scope, some_scope}
+use Rattle.itanium_demangle.proofs.Unfold.{bare_name_opens, no_bare_name, name_opens, encoding_opens, local_opens, args_opens, no_args, pack_opens, no_pack, type_opens, no_type, substitution_opens, parameter_opens, unqualified_opens, symbol_opens, nested_opens, kept_scope, some_scope}
 use Rattle.itanium_demangle.proofs.Loops.{loop_start}
 use Rattle.itanium_demangle.proofs.Symbols.{reads_as, stands_at_start, no_prefix, not_read}
 
@@ -23,7 +23,15 @@ pub ruleset unqualified_names = (fronts, unqualified_opens, kept_scope, some_sco
 
 pub ruleset nested_names = (buffers, nested_opens)
 
-pub ruleset names = (fronts, name_opens, no_name)
+pub ruleset bare_names = (fronts, bare_name_opens, no_bare_name)
+
+pub ruleset names = (buffers, name_opens)
+
+pub ruleset encodings = (fronts, encoding_opens)
+
+pub ruleset entities = (fronts, entities_some)
+
+pub ruleset local_names = (buffers, local_opens)
 
 pub ruleset symbols = (buffers, symbol_opens, reads_as)
 

@@ -1,96 +1,108 @@
 -- The shapes of trees, and the states at positions.
-use Rattle.std.proofs.Common.{◌≡◌, ℕ, suc, ◌-◌, get_or, arith, Bool, true, false, List, [], ◌∷◌, ◌++◌, map, length, take, refl, sym, ap, Option, Some, None, ◌∙◌, if◌then◌else◌}
+use Rattle.std.proofs.Common.{◌≡◌, ℕ, suc, ◌-◌, get_or, arith, Bool, true, false, List, [], ◌∷◌, ◌++◌, map, length, take, refl, sym, ap, Option, Some, None, ◌∙◌, if◌then◌else◌, codes}
 use Rattle.std.proofs.lemmas.List.{map-append, length-map, map-set, get_or-map}
 use Rattle.std.specs.Prelude.{option_map, is_some}
 use Rattle.std.specs.List.{take-map}
-use Rattle.demangle_text.specs.Shape.{Shape, plain_shape}
+use Rattle.demangle_text.specs.Shape.{Shape, plain_shape, appended}
 use Rattle.demangle_text.specs.State.{with_arg, last_args}
 use Rattle.demangle_quals.specs.declared.quals.Quals.{Quals}
 use Rattle.demangle_quals.specs.declared.quals.Pointer.{Pointer}
 use Rattle.demangle_edit.specs.Types.{pointer_shape, cv_shape, array_shape, member_pointer_shape, function_shape, expansion_shape}
 use Rattle.demangle_edit.specs.Built.{arguments_shape, pack_shape, lambda_shape}
-use Rattle.demangle_edit.specs.Names.{qualified, qualified_ctor, attached, tagged, with_name_qualifiers}
+use Rattle.demangle_edit.specs.Names.{qualified, qualified_ctor, attached, tagged, with_name_qualifiers, encoding_shape}
 use Rattle.itanium_syntax.specs.declared.abbreviations.Abbreviation.{Abbreviation}
-use Rattle.itanium_grammar.specs.Tree.{Tree, plain_text, abbreviation, name_in, ctor_dtor_of, with_args, nested_of, pointer_to, cv_of, array_of, member_of, function_to, elaborated, elaborated_shape, abbreviation_shape, trees, shape_of, shape_each, in_scope, tagged_with, lambda_of, conversion_to, conversion_shape, pack_of, expansion_of, expanded}
+use Rattle.itanium_grammar.specs.Tree.{Tree, shape_as, bare_shape, own_quals, string_literal_of, encoding_of, function_encoding, plain_text, abbreviation, name_in, ctor_dtor_of, with_args, nested_of, pointer_to, cv_of, array_of, member_of, function_to, elaborated, elaborated_shape, abbreviation_shape, trees, shape_of, shape_each, in_scope, tagged_with, lambda_of, conversion_to, conversion_shape, pack_of, expansion_of, expanded}
 use Rattle.itanium_grammar.specs.Grammar.{last_of, with_last}
 use Rattle.itanium_demangle.specs.Parser as parser
 use Rattle.itanium_demangle.specs.Parser.{ParserState}
 
 pub shape-plain_text : (bytes : List ℕ) → shape_of (plain_text bytes) ≡ plain_shape bytes
-unfolding shape_of
+unfolding shape_as
 shape-plain_text bytes = refl
 
 pub shape-name_in : (scope leaf : Tree) → shape_of (name_in scope leaf) ≡ qualified (shape_of scope) (shape_of leaf)
-unfolding shape_of
+unfolding shape_as
 shape-name_in scope leaf = refl
 
 pub shape-abbreviation : (abbreviated : Abbreviation) → shape_of (abbreviation abbreviated) ≡ abbreviation_shape abbreviated
-unfolding shape_of
+unfolding shape_as
 shape-abbreviation abbreviated = refl
 
 pub shape-ctor_dtor_of : (scope : Tree) (destructor : Bool) → shape_of (ctor_dtor_of scope destructor) ≡ qualified_ctor (shape_of scope) destructor
-unfolding shape_of
+unfolding shape_as
 shape-ctor_dtor_of scope destructor = refl
 
 shape_each-trees : (ts : List Tree) → shape_each (trees ts) ≡ map shape_of ts
-unfolding shape_of
+unfolding shape_as
 shape_each-trees [] = refl
 shape_each-trees (t ∷ ts) = ap (λ us. shape_of t ∷ us) (shape_each-trees ts)
 
 pub shape-with_args : (name : Tree) (list : List Tree) → shape_of (with_args name (trees list)) ≡ attached (shape_of name) (arguments_shape (map shape_of list))
-unfolding shape_of
+unfolding shape_as
 shape-with_args name list = ap (λ us. attached (shape_of name) (arguments_shape us)) (shape_each-trees list)
 
 pub shape-pointer_to : (kind : Pointer) (t : Tree) → shape_of (pointer_to kind t) ≡ pointer_shape kind (shape_of t)
-unfolding shape_of
+unfolding shape_as
 shape-pointer_to kind t = refl
 
 pub shape-cv_of : (quals : Quals) (t : Tree) → shape_of (cv_of quals t) ≡ cv_shape quals (shape_of t)
-unfolding shape_of
+unfolding shape_as
 shape-cv_of quals t = refl
 
 pub shape-array_of : (dimension : Option ℕ) (t : Tree) → shape_of (array_of dimension t) ≡ array_shape dimension (shape_of t)
-unfolding shape_of
+unfolding shape_as
 shape-array_of dimension t = refl
 
 pub shape-member_of : (class t : Tree) → shape_of (member_of class t) ≡ member_pointer_shape (shape_of class) (shape_of t)
-unfolding shape_of
+unfolding shape_as
 shape-member_of class t = refl
 
 pub shape-function_to : (ret : Tree) (params : List Tree) (quals : Quals) → shape_of (function_to ret (trees params) quals) ≡ function_shape (shape_of ret) (map shape_of params) quals
-unfolding shape_of
+unfolding shape_as
 shape-function_to ret params quals = ap (λ us. function_shape (shape_of ret) us quals) (shape_each-trees params)
 
 pub shape-elaborated : (word : List ℕ) (t : Tree) → shape_of (elaborated word t) ≡ elaborated_shape word (shape_of t)
-unfolding shape_of
+unfolding shape_as
 shape-elaborated word t = refl
 
 pub shape-tagged_with : (name : Tree) (tag : List ℕ) → shape_of (tagged_with name tag) ≡ tagged (shape_of name) tag
-unfolding shape_of
+unfolding shape_as
 shape-tagged_with name tag = refl
 
 pub shape-lambda_of : (params : List Tree) (number : ℕ) → shape_of (lambda_of (trees params) number) ≡ lambda_shape (map shape_of params) number
-unfolding shape_of
+unfolding shape_as
 shape-lambda_of params number = ap (λ us. lambda_shape us number) (shape_each-trees params)
 
 pub shape-conversion_to : (t : Tree) → shape_of (conversion_to t) ≡ conversion_shape (shape_of t)
-unfolding shape_of
+unfolding shape_as
 shape-conversion_to t = refl
 
 pub shape-pack_of : (list : List Tree) → shape_of (pack_of (trees list)) ≡ pack_shape (map shape_of list)
-unfolding shape_of
+unfolding shape_as
 shape-pack_of list = ap pack_shape (shape_each-trees list)
 
 shape-expansion_of : (t : Tree) → shape_of (expansion_of t) ≡ expansion_shape (shape_of t)
-unfolding shape_of
+unfolding shape_as
 shape-expansion_of t = refl
 
 pub shape-expanded : (in_pack : Bool) (t : Tree) → shape_of (expanded in_pack t) ≡ (if in_pack then shape_of t else expansion_shape (shape_of t))
 shape-expanded true t = refl
 shape-expanded false t = shape-expansion_of t
 
+pub shape-string_literal_of : (encoding : Tree) → shape_of (string_literal_of encoding) ≡ appended (codes "::string literal") (shape_of encoding)
+unfolding shape_as
+shape-string_literal_of encoding = refl
+
+pub shape-encoding_of : (name : Tree) → shape_of (encoding_of name) ≡ with_name_qualifiers (bare_shape name) (own_quals name) true
+unfolding shape_as
+shape-encoding_of name = refl
+
+pub shape-function_encoding : (name : Tree) (params : List Tree) → shape_of (function_encoding name (trees params)) ≡ encoding_shape (bare_shape name) (map shape_of params) (own_quals name)
+unfolding shape_as
+shape-function_encoding name params = ap (λ us. encoding_shape (bare_shape name) us (own_quals name)) (shape_each-trees params)
+
 pub shape-nested_of : (name : Tree) (quals : Quals) (shown : Bool) → shape_of (nested_of name quals shown) ≡ with_name_qualifiers (shape_of name) quals shown
-unfolding shape_of
+unfolding shape_as
 shape-nested_of name quals shown = refl
 
 pub shape-in_scope : (scope : Option Tree) (leaf : Tree) → shape_of (in_scope scope leaf) ≡ parser.in_scope (option_map shape_of scope) (shape_of leaf)
@@ -101,6 +113,11 @@ shape-in_scope (Some scope) leaf = shape-name_in scope leaf
 pub same_read : {A : Type 0} {a b : A} {r : List ℕ} {xs ys : List Shape} {vs ws : List (List Shape)} {e f m n : ℕ} → a ≡ b → xs ≡ ys → vs ≡ ws → e ≡ f → m ≡ n
     → ◌≡◌ {A = Option (A × ParserState)} (Some (a, record { rest = r; saved = xs; scopes = vs; entered = e; most_saved = m })) (Some (b, record { rest = r; saved = ys; scopes = ws; entered = f; most_saved = n }))
 same_read p q w r s = cc
+
+-- two states that are the same, part by part
+pub same_state : {r : List ℕ} {xs ys : List Shape} {vs ws : List (List Shape)} {e f m n : ℕ} → xs ≡ ys → vs ≡ ws → e ≡ f → m ≡ n
+    → ◌≡◌ {A = Option ParserState} (Some (record { rest = r; saved = xs; scopes = vs; entered = e; most_saved = m })) (Some (record { rest = r; saved = ys; scopes = ws; entered = f; most_saved = n }))
+same_state q w r s = cc
 
 pub one_more : (ts : List Tree) (t : Tree) → map shape_of ts ++ shape_of t ∷ [] ≡ map shape_of (ts ++ t ∷ [])
 one_more ts t = sym (map-append shape_of ts (t ∷ []))

@@ -7,30 +7,31 @@ use Rattle.itanium_syntax.specs.Names.{symbol_case}
 use Rattle.itanium_grammar.specs.Tree.{shape_of}
 use Rattle.itanium_grammar.specs.Grammar.{Position, SymbolAs, Symbol, name_symbol, symbol}
 use Rattle.itanium_demangle.specs.Cases.{SymbolCase, SpecialSymbol, NameSymbol}
-use Rattle.itanium_demangle.specs.Parser.{ParserState, parse_name, symbol_as, parse_symbol}
+use Rattle.itanium_demangle.specs.Parser.{ParserState, parse_bare_name, symbol_as, parse_symbol}
 use Rattle.itanium_demangle.specs.Outcome.{state_at}
-use Rattle.itanium_demangle.proofs.Readings.{Within, Found, NamesSound, ArgsSound, PacksSound, TypesSound}
+use Rattle.itanium_demangle.proofs.Readings.{Within, Found, BareNamesSound, ArgsSound, PacksSound, TypesSound}
 use Rattle.itanium_demangle.proofs.CompleteSymbols.{all_complete, symbol_complete}
-use Rattle.itanium_demangle.proofs.SoundNames.{names_sound}
+use Rattle.itanium_demangle.proofs.CompleteNames.{names_complete}
+use Rattle.itanium_demangle.proofs.SoundNames.{bare_names_sound, names_sound}
 use Rattle.itanium_demangle.proofs.SoundArgs.{args_sound, packs_sound}
 use Rattle.itanium_demangle.proofs.SoundTypes.{types_sound_at}
 
-all_sound : (d : ℕ) → NamesSound d × ArgsSound d × PacksSound d × TypesSound d
-unfolding parse_name
-all_sound zero = (λ x p e m y is. cc, λ x of_name p e m y is. cc, λ x p e m y is. cc, λ x p e m y is. cc)
+all_sound : (d : ℕ) → BareNamesSound d × ArgsSound d × PacksSound d × TypesSound d
+unfolding parse_bare_name
+all_sound zero = (λ waits x p e m y is. cc, λ x of_name p e m y is. cc, λ x p e m y is. cc, λ x p e m y is. cc)
 all_sound (suc d) =
-    let (names_are, lists_are, packs_are, kinds_are) = all_complete d in
-    let (names, lists, packs, kinds) = all_sound d in (
-      names_sound d lists_are kinds_are lists kinds,
+    let (bares_are, lists_are, packs_are, kinds_are) = all_complete d in
+    let (bares, lists, packs, kinds) = all_sound d in (
+      bare_names_sound d lists_are kinds_are bares_are lists kinds bares,
       args_sound d packs_are kinds_are packs kinds,
       packs_sound d packs_are kinds_are packs kinds,
-      types_sound_at d kinds_are names_are lists_are kinds names lists,
+      types_sound_at d kinds_are (names_complete d bares_are) lists_are kinds (names_sound d bares_are bares) lists,
     )
 
 symbol_as_sound : (d : ℕ) (case : SymbolCase) (x : Context) (p : Position) (e m : ℕ) (y : Shape × ParserState) → symbol_as case d x (state_at p e m) ≡ Some y → Within (SymbolAs case x p) d
 symbol_as_sound d SpecialSymbol x p e m y is = cc
 symbol_as_sound d NameSymbol x p e m y is =
-    let i = ((all_sound d).0 x p e m y is).within in record { tree = _; next = _; cost = _; reading = name_symbol i.reading; deep = i.deep }
+    let i = (names_sound d (all_complete d).0 (all_sound d).0 x p e m y is).within in record { tree = _; next = _; cost = _; reading = name_symbol i.reading; deep = i.deep }
 
 pub symbol_sound : (d : ℕ) (x : Context) (p : Position) (e m : ℕ) (y : Shape × ParserState) → parse_symbol d x (state_at p e m) ≡ Some y → Found (Symbol x p) shape_of d e m y
 unfolding parse_symbol

@@ -169,7 +169,7 @@ type_as_sound d complete kinds names lists NameType x p e m y is =
     let i = (names x p e m z inner).within in record { tree = _; next = _; cost = _; reading = name_type i.reading; deep = omega (arith, i.deep) })
 
 pub types_sound_at : (d : ℕ) → TypesComplete d → NamesComplete d → ArgsComplete d → TypesSound d → NamesSound d → ArgsSound d → TypesSound (suc d)
-unfolding parse_type
+unfolding parse_type parse_name
 types_sound_at d complete names_are lists_are kinds names lists x p e m y is =
     let r = type_as_sound d complete kinds names lists (type_case p.rest) (inside_type x) p (e + 1) m y is in
     let w : Within (TypeOf x p) (suc d) = record { tree = _; next = _; cost = _; reading = type r.reading; deep = omega (arith, r.deep) } in

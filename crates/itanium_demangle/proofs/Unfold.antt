@@ -5,13 +5,14 @@ use Rattle.demangle_text.specs.declared.shape.Piece.{Piece}
 use Rattle.demangle_text.specs.declared.buffer.Buffer.{Buffer}
 use Rattle.demangle_text.specs.State.{IsLiving, shape, SameFrame}
 use Rattle.demangle_text.specs.Shape.{Shape, plain_shape, whole_shape}
-use Rattle.demangle_edit.specs.Names.{tagged, with_name_qualifiers}
+use Rattle.demangle_edit.specs.Names.{tagged}
 use Rattle.demangle_edit.specs.Built.{listed_more, arguments_closed}
 use Rattle.itanium_syntax.specs.declared.context.Context.{Context}
 use Rattle.itanium_syntax.specs.declared.numerals.Radix.TheVariants.{Decimal}
 use Rattle.itanium_syntax.specs.Scalars.{index_of, source_name}
-use Rattle.itanium_syntax.specs.Context.{opens_scope, inside_type, inside_pack, inside_lambda}
+use Rattle.itanium_syntax.specs.Context.{opens_scope, inside_type, inside_pack, inside_lambda, inside_local, inside_encoding}
 use Rattle.itanium_syntax.specs.Names.{symbol_case, name_case, component_case, unqualified_case, tag_case, source_text, first_case, substitution_case, past_internal, past_name_quals, name_quals, saves_first}
+use Rattle.itanium_syntax.specs.Encodings.{entity_case}
 use Rattle.itanium_syntax.specs.Args.{args_case}
 use Rattle.itanium_syntax.specs.Types.{types_case, type_case}
 use Rattle.itanium_demangle.specs.declared.reader.Reader.{Reader}
@@ -20,17 +21,31 @@ use Rattle.itanium_demangle.specs.declared.stop.Stop.TheVariants.{Unread, Memory
 use Rattle.itanium_demangle.specs.Outcome.{Gives, GivesList, SavedBounds}
 use Rattle.itanium_demangle.proofs.Loops.{LoopSoFar, loop_end, loop_more, loop_fail, ListSoFar, list_start, list_end, list_more, list_fail}
 use Rattle.itanium_demangle.specs.Cases.{FreeName, NoTag, NextTag, EndOfComponents, ArgsComponent, NameComponent, EndOfArguments, NextArgument, EndOfTypes, NextType}
-use Rattle.itanium_demangle.specs.Parser.{ParserState, Parses, ParsesName, ◌>>=◌, enter, at, save, skip, begin, put, put_nowhere, taken_back, past_initializer, substitution_as, parse_substitution, parameter_as, parse_parameter, tag_turn, unqualified_as, parse_unqualified, parse_free, in_scope, first_as, attached_by, component_turn, parse_components, parse_nested, name_as, parse_name, argument_by, list_turn, typed_turn, parse_list, parse_packed, parse_args, parse_pack, types_turn, type_as, parse_type, symbol_as, parse_symbol}
+use Rattle.itanium_demangle.specs.Parser.{ParserState, Parses, ParsesName, ParsesBareName, ◌>>=◌, enter, at, save, skip, begin, put, put_nowhere, taken_back, past_initializer, substitution_as, parse_substitution, parameter_as, parse_parameter, tag_turn, unqualified_as, parse_unqualified, parse_free, in_scope, first_as, attached_by, component_turn, parse_components, parse_nested, name_as, qualified_by, parse_bare_name, parse_name, encoding_as, parse_encoding, entity_as, parse_local, argument_by, list_turn, typed_turn, parse_list, parse_packed, parse_args, parse_pack, types_turn, type_as, parse_type, symbol_as, parse_symbol}
 
-pub name_opens : (d : ℕ) (x : Context) (s : ParserState) → 0 < d → parse_name d x s
-    ≡ name_as (name_case s.rest) (parse_unqualified (parse_type (d - 1) x) (parse_type (d - 1) (inside_lambda x))) (parse_args (d - 1) x true) x (enter s)
-unfolding parse_name
-name_opens zero x s h = absurd (omega arith)
-name_opens (suc d) x s h = let less : suc d - 1 ≡ d = omega arith in rw less refl
+pub bare_name_opens : (d : ℕ) (x : Context) (s : ParserState) → 0 < d → parse_bare_name d x s
+    ≡ name_as (name_case s.rest) (parse_unqualified (parse_type (d - 1) x) (parse_type (d - 1) (inside_lambda x))) (parse_args (d - 1) x true)
+    (parse_local (parse_encoding (parse_bare_name (d - 1) (inside_encoding x)) (parse_type (d - 1) (inside_encoding x))) (parse_bare_name (d - 1) (inside_local x))) x (enter s)
+unfolding parse_bare_name
+bare_name_opens zero x s h = absurd (omega arith)
+bare_name_opens (suc d) x s h = let less : suc d - 1 ≡ d = omega arith in rw less refl
 
-pub no_name : (x : Context) (s : ParserState) → parse_name 0 x s ≡ None
+pub no_bare_name : (x : Context) (s : ParserState) → parse_bare_name 0 x s ≡ None
+unfolding parse_bare_name
+no_bare_name x s = refl
+
+pub name_opens : (d : ℕ) (x : Context) (s : ParserState) → parse_name d x s ≡ qualified_by (parse_bare_name d x) x s
 unfolding parse_name
-no_name x s = refl
+name_opens d x s = refl
+
+pub encoding_opens : (bare : ParsesBareName) (type : Parses Shape) (s : ParserState) → parse_encoding bare type s ≡ encoding_as (symbol_case s.rest) bare type s
+unfolding parse_encoding
+encoding_opens bare type s = refl
+
+pub local_opens : (encoding : Parses Shape) (bare : ParsesBareName) (s : ParserState)
+    → parse_local encoding bare s ≡ (encoding s >>= λ found. entity_as (entity_case found.1.rest) bare found.0 found.1)
+unfolding parse_local
+local_opens encoding bare s = refl
 
 pub args_opens : (d : ℕ) (x : Context) (of_name : Bool) (s : ParserState) → 0 < d
     → parse_args d x of_name s ≡ parse_list (argument_by (parse_pack (d - 1) x) (parse_type (d - 1) x)) (opens_scope of_name x) (enter s)
@@ -54,7 +69,7 @@ no_pack x s = refl
 
 pub type_opens : (d : ℕ) (x : Context) (s : ParserState) → 0 < d → parse_type d x s
     ≡ type_as (type_case s.rest) (parse_type (d - 1) (inside_type x)) (parse_name (d - 1) (inside_type x)) (parse_args (d - 1) (inside_type x) false) (inside_type x) (enter s)
-unfolding parse_type
+unfolding parse_type parse_name
 type_opens zero x s h = absurd (omega arith)
 type_opens (suc d) x s h = let less : suc d - 1 ≡ d = omega arith in rw less refl
 
@@ -89,7 +104,7 @@ symbol_opens d x s = refl
 pub nested_opens : (unqualified : ParsesName) (args : Parses Shape) (x : Context) (s : ParserState) → parse_nested unqualified args x s
     ≡ (first_as (first_case (past_name_quals s.rest)) unqualified x (at (past_name_quals s.rest) s) >>= λ first.
     parse_components unqualified args (saves_first (first_case (past_name_quals s.rest))) first.0 (past_initializer first.1) >>= λ name.
-    Some (with_name_qualifiers name.0 (name_quals s.rest) x.shown, name.1))
+    Some ((name.0, name_quals s.rest), name.1))
 unfolding parse_nested
 nested_opens unqualified args x s = refl
 

@@ -4,6 +4,7 @@ use Rattle.std.specs.Global.{Global}
 use Rattle.demangle_text.specs.declared.shape.Piece.{Piece}
 use Rattle.demangle_text.specs.Shape.{Shape}
 use Rattle.demangle_text.specs.State.{IsLiving, shape, saved, scopes}
+use Rattle.demangle_quals.specs.declared.quals.Quals.{Quals}
 use Rattle.itanium_syntax.specs.declared.context.Context.{Context}
 use Rattle.itanium_grammar.specs.Tree.{Tree, shape_of}
 use Rattle.itanium_grammar.specs.Grammar.{Position, Cost, Symbol}
@@ -30,6 +31,20 @@ Gives (Ok u) after parsed =
     × (parsed ≡ Some (shape after.buffer after.found, state after))
 Gives (Err Unread) after parsed = parsed ≡ None
 Gives (Err Memory) after parsed = Unit {0}
+
+-- the same of a name without its own qualifiers, which the call answers
+abbrev pub GivesBareName : Result Quals Stop → Reader → Option ((Shape × Quals) × ParserState) → Type 0
+GivesBareName (Ok quals) after parsed =
+    IsLiving after.buffer after.found
+    × (parsed ≡ Some ((shape after.buffer after.found, quals), state after))
+GivesBareName (Err Unread) after parsed = parsed ≡ None
+GivesBareName (Err Memory) after parsed = Unit {0}
+
+-- the same of a call that finds no piece: it leaves the state that the parser leaves
+abbrev pub Leaves : Result (Unit {0}) Stop → Reader → Option ParserState → Type 0
+Leaves (Ok u) after parsed = parsed ≡ Some (state after)
+Leaves (Err Unread) after parsed = parsed ≡ None
+Leaves (Err Memory) after parsed = Unit {0}
 
 -- the same of a call that answers several pieces
 abbrev pub GivesList : Result (Vec Piece Global) Stop → Reader → Option (List Shape × ParserState) → Type 0

@@ -1,25 +1,26 @@
 -- A bridge between the readers and the grammar, and no definition: what the readers do, as functions over shapes. The
 -- grammar is what is promised; theorems over it say that these functions read what it reads, and nothing else.
 use Rattle.std.specs.Prelude.{ℕ, zero, suc, ◌+◌, ◌-◌, max, Bool, true, false, if◌then◌else◌, is_some, slice_get, List, [], ◌∷◌, ◌++◌, Option, Some, None, option_and_then, take, drop, length, codes}
-use Rattle.demangle_text.specs.Shape.{Shape, plain_shape, whole_shape}
+use Rattle.demangle_text.specs.Shape.{Shape, plain_shape, whole_shape, appended}
 use Rattle.demangle_text.specs.State.{last_args, with_arg}
 use Rattle.demangle_quals.specs.declared.quals.Quals.{Quals}
 use Rattle.demangle_quals.specs.declared.quals.Pointer.{Pointer}
 use Rattle.demangle_quals.specs.Quals.{no_quals}
 use Rattle.demangle_edit.specs.Names.{qualified, qualified_ctor, attached, tagged, with_name_qualifiers}
 use Rattle.demangle_edit.specs.Types.{pointer_shape, cv_shape, array_step, member_pointer_step, function_step, expansion_shape}
-use Rattle.demangle_edit.specs.Built.{listed_more, arguments_closed, lambda_closed}
+use Rattle.demangle_edit.specs.Built.{listed_more, arguments_closed, lambda_closed, params_opened, params_closed}
 use Rattle.itanium_syntax.specs.declared.context.Context.{Context}
 use Rattle.itanium_syntax.specs.declared.numerals.Radix.TheVariants.{Decimal, Base36}
 use Rattle.itanium_syntax.specs.Scalars.{source_name, index_of, unnamed_type_number, lambda_number, optional_number}
 use Rattle.itanium_syntax.specs.Operators.{operator_here}
 use Rattle.itanium_syntax.specs.Abbreviations.{abbreviation_of}
-use Rattle.itanium_syntax.specs.Context.{opens_scope, inside_type, inside_pack, inside_lambda}
+use Rattle.itanium_syntax.specs.Context.{opens_scope, inside_type, inside_pack, inside_lambda, inside_local, inside_encoding}
 use Rattle.itanium_syntax.specs.Names.{symbol_case, name_case, unscoped_case, first_case, component_case, unqualified_case, free_case, tag_case, past_internal, past_initializer_letter, source_text, name_quals, past_name_quals, saves_first, substitution_case}
+use Rattle.itanium_syntax.specs.Encodings.{return_case, signature_case, entity_case, shows_words}
 use Rattle.itanium_syntax.specs.Args.{attached_case, args_case, argument_case}
 use Rattle.itanium_syntax.specs.Types.{type_case, builtin_text, past_builtin, cv_quals, past_cv, with_reference, past_reference, cv_case, function_case, params_case, types_case, elaborated_text}
 use Rattle.itanium_grammar.specs.Tree.{abbreviation_shape, conversion_shape, elaborated_shape, unnamed_text, literal_operator_text}
-use Rattle.itanium_demangle.specs.Cases.{SymbolCase, SpecialSymbol, NameSymbol, NameCase, NestedName, LocalName, UnscopedName, UnscopedCase, StdName, SubstitutionName, PlainName, AttachedCase, NoneAttached, ArgsAttached, FirstCase, ParameterFirst, StdFirst, SubstitutionFirst, NameFirst, ComponentCase, EndOfComponents, ArgsComponent, NameComponent, UnqualifiedCase, ConstructorName, DestructorName, FreeName, FreeCase, SourceName, UnnamedTypeName, LambdaName, ConversionName, LiteralOperatorName, OperatorName, NoName, TagCase, NoTag, NextTag, SubstitutionCase, AbbreviationSubstitution, ComponentSubstitution, ArgsCase, EndOfArguments, NextArgument, ArgumentCase, ExpressionArgument, PackArgument, LiteralArgument, ConstraintArgument, TypeArgument, TypeCase, BuiltinType, ExpansionType, VendorType, ArrayType, FunctionType, MemberType, PointerType, CvType, ElaboratedType, ParameterType, SubstitutionType, UnreadType, NameType, CvCase, CvFunction, CvOther, FunctionCase, ExternFunction, PlainFunction, ParamsCase, NoParams, SomeParams, TypesCase, EndOfTypes, NextType}
+use Rattle.itanium_demangle.specs.Cases.{SymbolCase, SpecialSymbol, NameSymbol, NameCase, NestedName, LocalName, UnscopedName, ReturnCase, NoReturnType, SomeReturnType, SignatureCase, NoSignature, SomeSignature, EntityCase, StringLiteralEntity, DefaultArgumentEntity, NameEntity, NoEntity, UnscopedCase, StdName, SubstitutionName, PlainName, AttachedCase, NoneAttached, ArgsAttached, FirstCase, ParameterFirst, StdFirst, SubstitutionFirst, NameFirst, ComponentCase, EndOfComponents, ArgsComponent, NameComponent, UnqualifiedCase, ConstructorName, DestructorName, FreeName, FreeCase, SourceName, UnnamedTypeName, LambdaName, ConversionName, LiteralOperatorName, OperatorName, NoName, TagCase, NoTag, NextTag, SubstitutionCase, AbbreviationSubstitution, ComponentSubstitution, ArgsCase, EndOfArguments, NextArgument, ArgumentCase, ExpressionArgument, PackArgument, LiteralArgument, ConstraintArgument, TypeArgument, TypeCase, BuiltinType, ExpansionType, VendorType, ArrayType, FunctionType, MemberType, PointerType, CvType, ElaboratedType, ParameterType, SubstitutionType, UnreadType, NameType, CvCase, CvFunction, CvOther, FunctionCase, ExternFunction, PlainFunction, ParamsCase, NoParams, SomeParams, TypesCase, EndOfTypes, NextType}
 
 infixl 10 ◌>>=◌
 abbrev pub ◌>>=◌ : {A B : Type 0} → Option A → (A → Option B) → Option B
@@ -291,19 +292,76 @@ component_turn unqualified args so_far s = component_as (component_case s.rest) 
 abbrev pub parse_components : ParsesName → Parses Shape → Bool → Shape → Parses Shape
 parse_components unqualified args takes name s = parse_loop (component_turn unqualified args) (takes, name) s
 
+-- a parser of names without their own qualifiers, and with these beside them
+abbrev pub ParsesBareName : Type 0
+ParsesBareName = Parses (Shape × Quals)
+
 -- what is after the N of a <nested-name>
-unfoldable pub parse_nested : ParsesName → Parses Shape → Context → Parses Shape
+unfoldable pub parse_nested : ParsesName → Parses Shape → Context → ParsesBareName
 parse_nested unqualified args x s =
     first_as (first_case (past_name_quals s.rest)) unqualified x (at (past_name_quals s.rest) s) >>= λ first.
     parse_components unqualified args (saves_first (first_case (past_name_quals s.rest))) first.0
     (past_initializer first.1) >>= λ name.
-    Some (with_name_qualifiers name.0 (name_quals s.rest) x.shown, name.1)
+    Some ((name.0, name_quals s.rest), name.1)
+
+-- what was parsed is dropped, but for what it saved and the scopes that it left
+abbrev pub dropped : {A : Type 0} → Option (A × ParserState) → Option ParserState
+dropped parsed = parsed >>= λ found. Some found.1
+
+-- the return type of an encoding, which is dropped, or none
+abbrev pub return_as : ReturnCase → Parses Shape → ParserState → Option ParserState
+return_as NoReturnType type s = Some s
+return_as SomeReturnType type s = dropped (type s)
+
+-- the parameters of an encoding after its name, or none: and then the qualifiers that waited
+abbrev pub signature_as : SignatureCase → Parses Shape → Shape × Quals → Parses Shape
+signature_as NoSignature type name s = Some (with_name_qualifiers name.0 name.1 true, s)
+signature_as SomeSignature type name s =
+    typed_params_as (params_case s.rest) type (params_opened name.0) s >>= λ list.
+    Some (params_closed name.1 list.0, list.1)
+
+-- what is after the name of an encoding
+abbrev pub encoding_end : Parses Shape → Shape × Quals → Parses Shape
+encoding_end type name s =
+    return_as (return_case name.0.templ name.0.ctor s.rest) type s >>= λ after.
+    signature_as (signature_case after.rest) type name after
+
+-- <encoding>, by what it begins with
+abbrev pub encoding_as : SymbolCase → ParsesBareName → Parses Shape → Parses Shape
+encoding_as SpecialSymbol bare type s = None
+encoding_as NameSymbol bare type s = bare s >>= λ name. encoding_end type name.0 name.1
+
+-- <encoding>
+unfoldable pub parse_encoding : ParsesBareName → Parses Shape → Parses Shape
+parse_encoding bare type s = encoding_as (symbol_case s.rest) bare type s
+
+-- what follows the encoding of a <local-name>
+abbrev pub entity_as : EntityCase → ParsesBareName → Shape → ParsesBareName
+entity_as StringLiteralEntity bare encoding s =
+    Some ((appended (codes "::string literal") encoding, no_quals), skip 2 s)
+entity_as DefaultArgumentEntity bare encoding s =
+    optional_number (drop 2 s.rest) >>= λ found. dropped (bare (at found.1 s)) >>= λ after.
+    Some ((encoding, no_quals), after)
+entity_as NameEntity bare encoding s =
+    bare (skip 1 s) >>= λ entity. Some ((qualified encoding entity.0.0, entity.0.1), entity.1)
+entity_as NoEntity bare encoding s = None
+
+-- what is after the Z of a <local-name>: an encoding, and a name in it
+unfoldable pub parse_local : Parses Shape → ParsesBareName → ParsesBareName
+parse_local encoding bare s = encoding s >>= λ found. entity_as (entity_case found.1.rest) bare found.0 found.1
 
 -- <name>, by what it begins with
-abbrev pub name_as : NameCase → ParsesName → Parses Shape → Context → Parses Shape
-name_as NestedName unqualified args x s = parse_nested unqualified args x (skip 1 s)
-name_as LocalName unqualified args x s = None
-name_as UnscopedName unqualified args x s = unscoped_as (unscoped_case s.rest) unqualified args s
+abbrev pub name_as : NameCase → ParsesName → Parses Shape → ParsesBareName → Context → ParsesBareName
+name_as NestedName unqualified args local x s = parse_nested unqualified args x (skip 1 s)
+name_as LocalName unqualified args local x s = local (skip 1 s)
+name_as UnscopedName unqualified args local x s =
+    unscoped_as (unscoped_case s.rest) unqualified args s >>= λ name. Some ((name.0, no_quals), name.1)
+
+-- a name with its own qualifiers
+abbrev pub qualified_by : ParsesBareName → Context → Parses Shape
+qualified_by bare x s =
+    bare s >>= λ name.
+    Some (with_name_qualifiers name.0.0 name.0.1 (shows_words (name_case s.rest) x.shown), name.1)
 
 -- <template-arg>, by what it begins with: a pack by the first parser, a type by the second
 abbrev pub argument_as : ArgumentCase → Parses Shape → Parses Shape → Parses Shape
@@ -459,12 +517,15 @@ type_as NameType type name args x s = saved_by name s
 
 -- The first number is how many counted productions may still open.
 unfoldable mutual
-  -- <name>
-  pub parse_name : ℕ → Context → Parses Shape
-  parse_name zero x s = None
-  parse_name (suc d) x s =
+  -- <name>, without its own qualifiers
+  pub parse_bare_name : ℕ → Context → ParsesBareName
+  parse_bare_name zero x s = None
+  parse_bare_name (suc d) x s =
       name_as (name_case s.rest) (parse_unqualified (parse_type d x) (parse_type d (inside_lambda x)))
-      (parse_args d x true) x (enter s)
+      (parse_args d x true)
+      (parse_local (parse_encoding (parse_bare_name d (inside_encoding x)) (parse_type d (inside_encoding x)))
+      (parse_bare_name d (inside_local x)))
+      x (enter s)
 
   -- <template-args>
   pub parse_args : ℕ → Context → Bool → Parses Shape
@@ -482,8 +543,13 @@ unfoldable mutual
   pub parse_type : ℕ → Context → Parses Shape
   parse_type zero x s = None
   parse_type (suc d) x s =
-      type_as (type_case s.rest) (parse_type d (inside_type x)) (parse_name d (inside_type x))
+      type_as (type_case s.rest) (parse_type d (inside_type x))
+      (qualified_by (parse_bare_name d (inside_type x)) (inside_type x))
       (parse_args d (inside_type x) false) (inside_type x) (enter s)
+
+-- <name>
+unfoldable pub parse_name : ℕ → Context → Parses Shape
+parse_name d x = qualified_by (parse_bare_name d x) x
 
 -- what follows the prefix of a symbol, by what it begins with
 abbrev pub symbol_as : SymbolCase → ℕ → Context → Parses Shape

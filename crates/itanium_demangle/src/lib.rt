@@ -31,6 +31,7 @@
 mod args;
 mod declarators;
 mod demangler;
+mod encodings;
 pub mod laws;
 mod names;
 mod reader;

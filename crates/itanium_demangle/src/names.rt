@@ -6,16 +6,17 @@ ghost use Rattle.itanium_syntax.specs.Context.{inside_lambda};
 ghost use Rattle.itanium_grammar.specs.Tree.{conversion_shape};
 ghost use Rattle.itanium_syntax.specs.Args.{attached_case};
 ghost use Rattle.itanium_demangle.specs.Parser as spec;
-ghost use Rattle.itanium_demangle.specs.Outcome.{state, Gives, ReadsAs, HasRoom, Bounds, OptionalBounds, SavedBounds};
+ghost use Rattle.itanium_demangle.specs.Outcome.{state, Gives, GivesBareName, ReadsAs, HasRoom, Bounds, OptionalBounds, SavedBounds};
 
 use crate::reader::Reader;
 use crate::stop::Stop;
 use demangle_edit::{
-    append_number, apply_name_qualifiers, close_lambda, qualify, qualify_ctor, tag,
+    Quals, append_number, apply_name_qualifiers, close_lambda, qualify, qualify_ctor, tag,
 };
 use demangle_text::{Piece, Place};
 use itanium_syntax::args::{AttachedCase, attached_case};
 use itanium_syntax::context::Context;
+use itanium_syntax::encodings::shows_words;
 use itanium_syntax::names::{
     ComponentCase, FirstCase, FreeCase, NameCase, SymbolCase, TagCase, UnqualifiedCase,
     UnscopedCase, component_case, first_case, free_case, name_case, name_quals, past_internal,
@@ -302,12 +303,13 @@ impl<'a> Reader<'a> {
         }
     }
 
-    /// `<nested-name> ::= N [<CV-qualifiers>] [<ref-qualifier>] <prefix> <unqualified-name> E`, after its `N`.
+    /// `<nested-name> ::= N [<CV-qualifiers>] [<ref-qualifier>] <prefix> <unqualified-name> E`, after its `N`: its own
+    /// qualifiers are answered.
     #[tactic(auto, using(crate::proofs::Rules::nested_names))]
     #[cycle(reader)]
-    fn read_nested(&mut self, depth: usize, context: Context) -> Result<(), Stop>
+    fn read_nested(&mut self, depth: usize, context: Context) -> Result<Quals, Stop>
         requires room { HasRoom 2 (state self.old) }
-        ensures reads { Gives result self.new (spec.parse_nested
+        ensures reads { GivesBareName result self.new (spec.parse_nested
             (spec.parse_unqualified (spec.parse_type depth context)
             (spec.parse_type depth (inside_lambda context)))
             (spec.parse_args depth context true) context (state self.old)) }
@@ -322,8 +324,7 @@ impl<'a> Reader<'a> {
         let first = self.found;
         self.skip_initializer();
         self.read_components(depth, context, takes, first)?;
-        self.found = apply_name_qualifiers(&mut self.buffer, self.found, quals, context.shown)?;
-        Ok(())
+        Ok(quals)
     }
 
     /// The later components of a `<nested-name>` after what stands, up to its `E`.
@@ -442,13 +443,13 @@ impl<'a> Reader<'a> {
         }
     }
 
-    /// `<name> ::= <nested-name> | <unscoped-name> | <unscoped-template-name> <template-args>`, within `depth` open
-    /// productions.
-    #[tactic(auto, using(crate::proofs::Rules::names))]
+    /// `<name> ::= <nested-name> | <local-name> | <unscoped-name> | <unscoped-template-name> <template-args>`, within
+    /// `depth` open productions, without its own qualifiers: they are answered.
+    #[tactic(auto, using(crate::proofs::Rules::bare_names))]
     #[cycle(reader)]
-    pub fn read_name(&mut self, depth: usize, context: Context) -> Result<(), Stop>
+    pub fn read_bare_name(&mut self, depth: usize, context: Context) -> Result<Quals, Stop>
         requires room { HasRoom 1 (state self.old) }
-        ensures reads { Gives result self.new (spec.parse_name depth context (state self.old)) }
+        ensures reads { GivesBareName result self.new (spec.parse_bare_name depth context (state self.old)) }
         ensures run { OnOk result (IsRun self.old.buffer self.new.buffer) }
         ensures bounds { Bounds 1 result (state self.old) (state self.new) }
         ensures saved { SavedBounds 1 result (state self.old) (state self.new) }
@@ -462,9 +463,31 @@ impl<'a> Reader<'a> {
                 self.skip(1);
                 self.read_nested(depth - 1, context)
             }
-            NameCase::LocalName => Err(Stop::Unread),
-            NameCase::UnscopedName => self.read_unscoped(depth - 1, context),
+            NameCase::LocalName => {
+                self.skip(1);
+                self.read_local(depth - 1, context)
+            }
+            NameCase::UnscopedName => {
+                self.read_unscoped(depth - 1, context)?;
+                Ok(Quals::none())
+            }
         }
+    }
+
+    /// `<name>` with its own qualifiers, within `depth` open productions.
+    #[tactic(auto, using(crate::proofs::Rules::names))]
+    #[cycle(reader)]
+    pub fn read_name(&mut self, depth: usize, context: Context) -> Result<(), Stop>
+        requires room { HasRoom 1 (state self.old) }
+        ensures reads { Gives result self.new (spec.parse_name depth context (state self.old)) }
+        ensures run { OnOk result (IsRun self.old.buffer self.new.buffer) }
+        ensures bounds { Bounds 1 result (state self.old) (state self.new) }
+        ensures saved { SavedBounds 1 result (state self.old) (state self.new) }
+    {
+        let shown = shows_words(name_case(self.rest), context.shown);
+        let quals = self.read_bare_name(depth, context)?;
+        self.found = apply_name_qualifiers(&mut self.buffer, self.found, quals, shown)?;
+        Ok(())
     }
 
     /// What follows the prefix of a symbol, within `depth` open productions: a name, without its parameters.

@@ -8,8 +8,35 @@ use Rattle.itanium_syntax.specs.Context.{inside_lambda}
 use Rattle.itanium_demangle.proofs.Loops.{LoopSoFar, ListSoFar}
 use Rattle.itanium_demangle.proofs.reader.Reader.+reader.Given as goal
 
+abbrev pub decreases-read_bare_name : goal.decreases-read_bare_name
+decreases-read_bare_name l = 16 * l.depth
+
 abbrev pub decreases-read_name : goal.decreases-read_name
-decreases-read_name l = 16 * l.depth
+decreases-read_name l = 16 * l.depth + 1
+
+abbrev pub decreases-framed_bare_name : goal.decreases-framed_bare_name
+decreases-framed_bare_name l = 16 * l.depth + 1
+
+abbrev pub decreases-drop_name : goal.decreases-drop_name
+decreases-drop_name l = 16 * l.depth + 1
+
+abbrev pub decreases-drop_type : goal.decreases-drop_type
+decreases-drop_type l = 16 * l.depth + 1
+
+abbrev pub decreases-read_return : goal.decreases-read_return
+decreases-read_return l = 16 * l.depth + 2
+
+abbrev pub decreases-end_encoding : goal.decreases-end_encoding
+decreases-end_encoding l = 16 * l.depth + 4
+
+abbrev pub decreases-read_encoding : goal.decreases-read_encoding
+decreases-read_encoding l = 16 * l.depth + 5
+
+abbrev pub decreases-read_entity : goal.decreases-read_entity
+decreases-read_entity l = 16 * l.depth + 2
+
+abbrev pub decreases-read_local : goal.decreases-read_local
+decreases-read_local l = 16 * l.depth + 6
 
 abbrev pub decreases-read_args : goal.decreases-read_args
 decreases-read_args l = 16 * l.depth
@@ -129,7 +156,7 @@ abbrev pub decreases-read_cv_type : goal.decreases-read_cv_type
 decreases-read_cv_type l = 16 * l.depth + 6
 
 abbrev pub decreases-read_elaborated : goal.decreases-read_elaborated
-decreases-read_elaborated l = 16 * l.depth + 1
+decreases-read_elaborated l = 16 * l.depth + 2
 
 abbrev pub decreases-read_parameter_type : goal.decreases-read_parameter_type
 decreases-read_parameter_type l = 16 * l.depth + 4
@@ -138,7 +165,7 @@ abbrev pub decreases-read_substitution_type : goal.decreases-read_substitution_t
 decreases-read_substitution_type l = 16 * l.depth + 4
 
 abbrev pub decreases-read_name_type : goal.decreases-read_name_type
-decreases-read_name_type l = 16 * l.depth + 1
+decreases-read_name_type l = 16 * l.depth + 2
 
 abbrev pub decreases-read_typed : goal.decreases-read_typed
 decreases-read_typed l = 16 * l.depth + 2

@@ -1,0 +1,141 @@
+-- The own qualifiers of a name, which wait: what is left where they do, and that the whole is the same afterwards.
+use Rattle.std.proofs.Common.{◌≡◌, ℕ, ◌+◌, Bool, true, false, List, [], ◌++◌, length, drop, refl, ap, ap₂, ◌∙◌, sym, codes, if◌then◌else◌, arith, nat_le, Option, Some, None}
+use Rattle.std.proofs.lemmas.List.{append_assoc, length-append}
+use Rattle.std.proofs.lemmas.Bool.Decides.{nat_tests}
+use Rattle.demangle_text.specs.Shape.{Shape, Form, Plain, text, flattened, appended, inserted, moved}
+use Rattle.demangle_text.specs.declared.shape.Place.TheVariants.{Start, End}
+use Rattle.demangle_quals.specs.declared.quals.Quals.{Quals}
+use Rattle.demangle_quals.specs.Quals.{no_quals, has_quals, words_text, reference_text}
+use Rattle.demangle_edit.specs.Names.{qualified, with_name_qualifiers}
+use Rattle.itanium_syntax.specs.declared.context.Context.{Context}
+use Rattle.itanium_syntax.specs.Names.{name_case}
+use Rattle.itanium_syntax.specs.Encodings.{return_case, shows_words}
+use Rattle.itanium_grammar.specs.Tree.{Tree, shape_as, shape_of, bare_shape, own_quals, local_in, nested_of, string_literal_of, default_argument_of}
+use Rattle.itanium_grammar.specs.Grammar.{Position, Cost, TaggedAs, FreeAs, UnqualifiedAs, Unqualified, UnscopedAs, AttachedAs, Name, NameAs, Local, EntityAs, Nested, no_tag, next_tag, source_free, unnamed_type_free, lambda_free, conversion_free, literal_operator_free, operator_free, constructor_component, destructor_component, free_component, unqualified, std_name, substitution_name, global_name, none_attached, args_attached, name, nested_name, local_name, unscoped_name, nested, local, string_literal_entity, default_argument_entity, name_entity}
+use Rattle.itanium_demangle.specs.Cases.{NameCase, NestedName, LocalName, UnscopedName, TagCase, FreeCase, UnqualifiedCase, UnscopedCase, AttachedCase, EntityCase}
+
+-- a name without own qualifiers
+pub record HasNoOwn (t : Tree) : Type 0 where
+  pub quals : own_quals t ≡ no_quals
+  pub bare : bare_shape t ≡ shape_of t
+
+tagged_none : {case : TagCase} {t u : Tree} {p q : Position} → TaggedAs case t p u q → HasNoOwn t → HasNoOwn u
+unfolding shape_as
+tagged_none no_tag none = none
+tagged_none (next_tag found tags) none = tagged_none tags (record { quals = refl; bare = refl })
+
+free_none : {case : FreeCase} {x : Context} {p q : Position} {t : Tree} {c : Cost} → FreeAs case x p t q c → HasNoOwn t
+unfolding shape_as
+free_none (source_free found) = record { quals = refl; bare = refl }
+free_none (unnamed_type_free found) = record { quals = refl; bare = refl }
+free_none (lambda_free a found) = record { quals = refl; bare = refl }
+free_none (conversion_free a) = record { quals = refl; bare = refl }
+free_none (literal_operator_free found) = record { quals = refl; bare = refl }
+free_none (operator_free found) = record { quals = refl; bare = refl }
+
+unqualified_as_none : {case : UnqualifiedCase} {x : Context} {scope : Option Tree} {p q : Position} {t : Tree} {c : Cost} → UnqualifiedAs case x scope p t q c → HasNoOwn t
+unfolding shape_as
+unqualified_as_none (constructor_component tags) = tagged_none tags (record { quals = refl; bare = refl })
+unqualified_as_none (destructor_component tags) = tagged_none tags (record { quals = refl; bare = refl })
+unqualified_as_none (free_component {scope = None} a tags) = tagged_none tags (free_none a)
+unqualified_as_none (free_component {scope = Some scope} a tags) = record { quals = refl; bare = refl }
+
+unqualified_none : {x : Context} {scope : Option Tree} {p q : Position} {t : Tree} {c : Cost} → Unqualified x scope p t q c → HasNoOwn t
+unqualified_none (unqualified a) = unqualified_as_none a
+
+attached_none : {case : AttachedCase} {x : Context} {t u : Tree} {p q : Position} {c : Cost} → AttachedAs case x t p u q c → HasNoOwn t → HasNoOwn u
+unfolding shape_as
+attached_none none_attached none = none
+attached_none (args_attached a) none = record { quals = refl; bare = refl }
+
+pub unscoped_none : {case : UnscopedCase} {x : Context} {p q : Position} {t : Tree} {c : Cost} → UnscopedAs case x p t q c → HasNoOwn t
+unfolding shape_as
+unscoped_none (std_name a b) = attached_none b (unqualified_none a)
+unscoped_none (substitution_name a case b) = record { quals = refl; bare = refl }
+unscoped_none (global_name a b) = attached_none b (unqualified_none a)
+
+pub bare-nested_of : (t : Tree) (quals : Quals) (shown : Bool) → bare_shape (nested_of t quals shown) ≡ shape_of t
+unfolding shape_as
+bare-nested_of t quals shown = refl
+
+pub bare-string_literal_of : (encoding : Tree) → ◌≡◌ {A = Shape × Quals} (appended (codes "::string literal") (shape_of encoding), no_quals) (bare_shape (string_literal_of encoding), own_quals (string_literal_of encoding))
+unfolding shape_as
+bare-string_literal_of encoding = refl
+
+pub bare-default_argument_of : (encoding : Tree) → ◌≡◌ {A = Shape × Quals} (shape_of encoding, no_quals) (bare_shape (default_argument_of encoding), own_quals (default_argument_of encoding))
+unfolding shape_as
+bare-default_argument_of encoding = refl
+
+pub bare-local_in : (encoding entity : Tree) → bare_shape (local_in encoding entity) ≡ qualified (shape_of encoding) (bare_shape entity)
+unfolding shape_as
+bare-local_in encoding entity = refl
+
+-- the qualifiers of an entity before or after its encoding is put in front
+moved_both : (n at k : ℕ) (own : ℕ × ℕ) → moved 0 n (moved at k own) ≡ moved (n + at) k (moved 0 n own)
+moved_both n at k (from, to) = grind (arith, nat_tests)
+
+entity_words : (encoding entity : Shape) (words : List ℕ) → qualified encoding (appended words (flattened entity)) ≡ appended words (flattened (qualified encoding entity))
+entity_words encoding entity words =
+    let front = text encoding ++ codes "::" in
+    λ j. record {
+      form = Plain (sym (append_assoc front (text entity) words) j);
+      own = (moved_both (length front) (length (text entity)) (length words) entity.own ∙ ap (λ n. moved n (length words) (moved 0 (length front) entity.own)) (sym (length-append front (text entity)))) j;
+      templ = entity.templ;
+      ctor = entity.ctor;
+    }
+
+entity_quals : (encoding entity : Shape) (quals : Quals)
+    → qualified encoding (with_name_qualifiers entity quals true) ≡ with_name_qualifiers (qualified encoding entity) quals true
+entity_quals encoding entity quals = go (has_quals quals)
+  where
+    go : (b : Bool) → qualified encoding (if b then appended (words_text quals ++ reference_text quals.reference) (flattened entity) else entity)
+        ≡ (if b then appended (words_text quals ++ reference_text quals.reference) (flattened (qualified encoding entity)) else qualified encoding entity)
+    go true = entity_words encoding entity (words_text quals ++ reference_text quals.reference)
+    go false = refl
+
+shown_inside : (case : NameCase) → shows_words case true ≡ true
+shown_inside NestedName = refl
+shown_inside LocalName = refl
+shown_inside UnscopedName = refl
+
+-- a name's own qualifiers, applied to what is left without them, give the whole
+mutual
+  unfolding shape_as
+
+  pub whole_name : {waits : Bool} {x : Context} {p q : Position} {t : Tree} {c : Cost} → Name waits x p t q c
+      → with_name_qualifiers (bare_shape t) (own_quals t) (shows_words (name_case p.rest) x.shown) ≡ shape_of t
+  whole_name (name a) = whole_name_as a
+
+  whole_name_as : {case : NameCase} {waits : Bool} {x : Context} {p q : Position} {t : Tree} {c : Cost} → NameAs case waits x p t q c
+      → with_name_qualifiers (bare_shape t) (own_quals t) (shows_words case x.shown) ≡ shape_of t
+  whole_name_as (nested_name (nested a b)) = refl
+  whole_name_as (local_name (local a b)) = whole_entity b refl
+  whole_name_as (unscoped_name a) = let none = unscoped_none a in rw (none.quals, none.bare) refl
+
+  whole_entity : {case : EntityCase} {waits : Bool} {x : Context} {t u : Tree} {p q : Position} {c : Cost} → EntityAs case waits x t p u q c → x.shown ≡ true
+      → with_name_qualifiers (bare_shape u) (own_quals u) true ≡ shape_of u
+  whole_entity string_literal_entity on = refl
+  whole_entity (default_argument_entity found a) on = refl
+  whole_entity (name_entity {t = t} {u = u} {p = p} a) on =
+      sym (entity_quals (shape_of t) (bare_shape u) (own_quals u))
+      ∙ ap (λ (b : Bool). qualified (shape_of t) (with_name_qualifiers (bare_shape u) (own_quals u) b)) (sym (ap (shows_words (name_case (drop 1 p.rest))) on ∙ shown_inside (name_case (drop 1 p.rest))))
+      ∙ ap (qualified (shape_of t)) (whole_name a)
+
+-- qualifiers change no flag
+quals_flags : (bare : Shape) (quals : Quals) (shown : Bool)
+    → ((with_name_qualifiers bare quals shown).templ ≡ bare.templ) × ((with_name_qualifiers bare quals shown).ctor ≡ bare.ctor)
+quals_flags bare quals shown = go (has_quals quals)
+  where
+    go : (b : Bool) → ((if b then appended ((if shown then words_text quals else []) ++ reference_text quals.reference) (flattened bare) else bare).templ ≡ bare.templ)
+        × ((if b then appended ((if shown then words_text quals else []) ++ reference_text quals.reference) (flattened bare) else bare).ctor ≡ bare.ctor)
+    go true = (refl, refl)
+    go false = (refl, refl)
+
+-- so the same return type follows a name with and without its own qualifiers
+pub same_return : {waits : Bool} {x : Context} {p q : Position} {t : Tree} {c : Cost} → Name waits x p t q c → (bytes : List ℕ)
+    → return_case (bare_shape t).templ (bare_shape t).ctor bytes ≡ return_case (shape_of t).templ (shape_of t).ctor bytes
+same_return {x = x} {p = p} {t = t} a bytes =
+    let flags = quals_flags (bare_shape t) (own_quals t) (shows_words (name_case p.rest) x.shown) in
+    ap₂ (λ templ ctor. return_case templ ctor bytes)
+    (sym flags.0 ∙ ap (λ (s : Shape). s.templ) (whole_name a))
+    (sym flags.1 ∙ ap (λ (s : Shape). s.ctor) (whole_name a))
