@@ -12,6 +12,9 @@ use Rattle.itanium_syntax.specs.Abbreviations.{abbreviation_of}
 use Rattle.itanium_syntax.specs.Bytes.{begins, begins_one_of, past_letter}
 use Rattle.itanium_syntax.specs.Cases.{StringLiteralEntity, DefaultArgumentEntity, NameEntity, ExpansionType, LambdaName, ConversionName, UnnamedTypeName, LiteralOperatorName, OperatorName, PackArgument, StdFirst, EndOfComponents, ArgsComponent, ConstructorName, DestructorName, ArgsAttached, EndOfArguments, BuiltinType, ArrayType, FunctionType, MemberType, PointerType, CvFunction, NoParams, EndOfTypes}
 use Rattle.itanium_syntax.specs.Names.{first_case, component_case, unqualified_case, free_case, past_internal, past_initializer_letter, past_name_quals}
+use Rattle.std.specs.Str.{is_utf8}
+use Rattle.std.specs.Prelude.{take}
+use Rattle.itanium_syntax.specs.Expressions.{value_len, literal_value}
 use Rattle.itanium_syntax.specs.Encodings.{entity_case}
 use Rattle.itanium_syntax.specs.Args.{attached_case, args_case, argument_case}
 use Rattle.itanium_syntax.specs.Types.{type_case, types_case, cv_case, params_case, past_builtin, past_cv, past_reference}
@@ -314,3 +317,14 @@ optional_number_takes bytes found e = go (past_underscore bytes) refl e
 
 pub reference_after : (bytes : List ℕ) → IsAfter (past_reference bytes) bytes
 reference_after bytes = if_after _ 1 bytes
+
+pub literal_value_takes : (bytes : List ℕ) (found : List ℕ × List ℕ) → literal_value bytes ≡ Some found → Takes found.1 bytes
+unfolding literal_value
+literal_value_takes bytes found e =
+    let parts = cond_some (nat_lt (value_len bytes) (length bytes) && is_utf8 (take (value_len bytes) bytes)) _ found e in
+    let is : drop (value_len bytes + 1) bytes ≡ found.1 = ap (λ (f : List ℕ × List ℕ). f.1) parts.1 in
+    let within : value_len bytes < length bytes = grind (arith, common_steps, parts.0) in
+    record {
+      after = record { count = value_len bytes + 1; is = sym is };
+      shorter = omega (arith, ap length is, length-drop (value_len bytes + 1) bytes);
+    }
