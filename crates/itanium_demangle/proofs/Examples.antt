@@ -8,7 +8,8 @@ use Rattle.std.proofs.lemmas.Option.{some_pair_parts}
 use Rattle.demangle_text.specs.Shape.{Shape, text}
 use Rattle.itanium_syntax.specs.Scalars.{front_digits, weighted, number, index_of, unnamed_type_number, lambda_number, optional_number, source_name}
 use Rattle.itanium_grammar.specs.Answer.{after_prefix, start, outside, suffix, max_depth, IsAnswer}
-use Rattle.itanium_demangle.specs.Parser.{ParserState, begun, loop, component_turn, tag_turn, list_turn, typed_turn, types_turn, parse_unqualified, parse_substitution, parse_parameter, parse_nested, parse_bare_name, parse_encoding, parse_local, parse_name, parse_symbol}
+use Rattle.itanium_syntax.specs.Expressions.{literal_value}
+use Rattle.itanium_demangle.specs.Parser.{ParserState, begun, loop, component_turn, tag_turn, list_turn, typed_turn, types_turn, parse_unqualified, parse_substitution, parse_parameter, parse_nested, parse_bare_name, parse_encoding, parse_local, parse_primary, parse_expression, parse_argument, parse_name, parse_symbol}
 use Rattle.itanium_demangle.specs.Examples.{WorkedSymbols, e_acute}
 use Rattle.itanium_demangle.proofs.Symbols.{found_reading, found_none, no_prefix, not_read, printed}
 
@@ -42,7 +43,7 @@ not_text symbol inside answer prefix is = go (parse_symbol max_depth outside (be
         printed symbol inside 0 0 s after None prefix (found_reading max_depth outside (start inside) 0 0 s after e) (λ u. let yes = is_utf8-from_IsUtf8 (text s) u in cc)
 
 pub worked_symbols : WorkedSymbols
-unfolding parse_symbol parse_name parse_bare_name parse_encoding parse_local parse_nested loop component_turn tag_turn list_turn typed_turn types_turn parse_unqualified parse_substitution parse_parameter source_name number index_of unnamed_type_number lambda_number optional_number front_digits weighted digits is_utf8 chars lib.Utf8.encode
+unfolding parse_symbol parse_name parse_bare_name parse_encoding parse_local parse_primary parse_expression parse_argument literal_value parse_nested loop component_turn tag_turn list_turn typed_turn types_turn parse_unqualified parse_substitution parse_parameter source_name number index_of unnamed_type_number lambda_number optional_number front_digits weighted digits is_utf8 chars lib.Utf8.encode
 worked_symbols = record {
   nested = some_answer (codes "_ZN3Foo3barEv") (codes "N3Foo3barEv") (codes "Foo::bar") refl refl;
   reference_qualified = some_answer (codes "_ZNO3Foo3barEv") (codes "NO3Foo3barEv") (codes "Foo::bar &&") refl refl;
@@ -90,4 +91,16 @@ worked_symbols = record {
   qualifiers_after_parameters = some_answer (codes "_ZZNK3Foo3barEvE3baz") (codes "ZNK3Foo3barEvE3baz") (codes "Foo::bar() const::baz") refl refl;
   qualifiers_of_an_entity = some_answer (codes "_ZZN3Foo3barEvENKUlvE_clEv") (codes "ZN3Foo3barEvENKUlvE_clEv") (codes "Foo::bar()::{lambda()#1}::operator() const") refl refl;
   constructor_has_no_return_type = some_answer (codes "_ZZN3FooC1IiEET_E3bar") (codes "ZN3FooC1IiEET_E3bar") (codes "Foo::Foo<int>(int)::bar") refl refl;
+  operands = some_answer (codes "_Z1fIL_Z1gEXplT_Li1EEEvv") (codes "1fIL_Z1gEXplT_Li1EEEvv") (codes "f<g, (g)+(1)>") refl refl;
+  external_name_as_operand = some_answer (codes "_Z1fIXplL_Z1gELi1EEEvv") (codes "1fIXplL_Z1gELi1EEEvv") (codes "f<g+(1)>") refl refl;
+  post_increment = some_answer (codes "_Z1fIXppL_Z1gEEEvv") (codes "1fIXppL_Z1gEEEvv") (codes "f<g++>") refl refl;
+  pre_increment = some_answer (codes "_Z1fIXpp_L_Z1gEEEvv") (codes "1fIXpp_L_Z1gEEEvv") (codes "f<++g>") refl refl;
+  greater = some_answer (codes "_Z1fIXgtL_Z1gELi1EEEvv") (codes "1fIXgtL_Z1gELi1EEEvv") (codes "f<((g)>(1))>") refl refl;
+  floating_literal = some_answer (codes "_Z1fILf3f800000EEvv") (codes "1fILf3f800000EEvv") (codes "f<[3f800000]>") refl refl;
+  leading_zeros = some_answer (codes "_Z1fILi007EEvv") (codes "1fILi007EEvv") (codes "f<007>") refl refl;
+  empty_value = some_answer (codes "_Z1fIXngLiEEEvv") (codes "1fIXngLiEEEvv") (codes "f<-()>") refl refl;
+  no_value = some_answer (codes "_Z1fILiEEvv") (codes "1fILiEEvv") (codes "f<>") refl refl;
+  address_of_a_function = some_answer (codes "_Z1fIXadL_ZN3Foo3barEiEEEv") (codes "1fIXadL_ZN3Foo3barEiEEEv") (codes "f<&Foo::bar(int)>") refl refl;
+  nested_operators = some_answer (codes "_Z1fIXmlplLi1ELi2ELi3EEEvv") (codes "1fIXmlplLi1ELi2ELi3EEEvv") (codes "f<((1)+(2))*(3)>") refl refl;
+  cast_literal = some_answer (codes "_ZN3FooIiLm4EE3barEv") (codes "N3FooIiLm4EE3barEv") (codes "Foo<int, (unsigned long)4>::bar") refl refl;
 }

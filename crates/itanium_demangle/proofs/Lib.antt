@@ -5,11 +5,13 @@ pub mod Waiting
 pub mod Readings
 pub mod CompleteLists
 pub mod CompleteNames
+pub mod CompleteExpressions
 pub mod CompleteArgs
 pub mod CompleteTypes
 pub mod CompleteSymbols
 pub mod SoundLists
 pub mod SoundNames
+pub mod SoundExpressions
 pub mod SoundArgs
 pub mod SoundTypes
 pub mod SoundSymbols

@@ -4,9 +4,10 @@ use Rattle.demangle_text.specs.Shape.{Shape}
 use Rattle.demangle_edit.specs.Built.{arguments_shape}
 use Rattle.demangle_quals.specs.declared.quals.Quals.{Quals}
 use Rattle.itanium_syntax.specs.declared.context.Context.{Context}
+use Rattle.itanium_syntax.specs.Args.{argument_case}
 use Rattle.itanium_grammar.specs.Tree.{Tree, shape_of, bare_shape, own_quals}
-use Rattle.itanium_grammar.specs.Grammar.{Position, Cost, Name, Args, Pack, TypeOf}
-use Rattle.itanium_demangle.specs.Parser.{ParserState, Parses, parse_bare_name, parse_name, parse_args, parse_pack, parse_type}
+use Rattle.itanium_grammar.specs.Grammar.{Position, Cost, Name, Args, ArgumentAs, Pack, Expression, TypeOf}
+use Rattle.itanium_demangle.specs.Parser.{ParserState, Parses, parse_bare_name, parse_name, parse_args, parse_pack, parse_type, parse_expression, parse_argument}
 use Rattle.itanium_demangle.specs.Outcome.{state_at}
 
 -- what a reading of cost c gives, from so many entered and saved
@@ -54,6 +55,16 @@ ArgsComplete d = (x : Context) (of_name : Bool) → IsComplete (Args x of_name) 
 abbrev pub PacksComplete : ℕ → Type 0
 PacksComplete d = (x : Context) → IsComplete (Pack x) shape_of d (parse_pack d x)
 
+abbrev pub ExpressionsComplete : ℕ → Type 0
+ExpressionsComplete d = (x : Context) → IsComplete (Expression x) shape_of d (parse_expression d x)
+
+-- an argument, by what it begins with
+abbrev pub Argument : Context → Position → Tree → Position → Cost → Type 0
+Argument x p = ArgumentAs (argument_case p.rest) x p
+
+abbrev pub ArgumentsComplete : ℕ → Type 0
+ArgumentsComplete d = (x : Context) → IsComplete (Argument x) shape_of d (parse_argument d x)
+
 abbrev pub TypesComplete : ℕ → Type 0
 TypesComplete d = (x : Context) → IsComplete (TypeOf x) shape_of d (parse_type d x)
 
@@ -68,6 +79,12 @@ ArgsSound d = (x : Context) (of_name : Bool) → IsSound (Args x of_name) shape_
 
 abbrev pub PacksSound : ℕ → Type 0
 PacksSound d = (x : Context) → IsSound (Pack x) shape_of d (parse_pack d x)
+
+abbrev pub ExpressionsSound : ℕ → Type 0
+ExpressionsSound d = (x : Context) → IsSound (Expression x) shape_of d (parse_expression d x)
+
+abbrev pub ArgumentsSound : ℕ → Type 0
+ArgumentsSound d = (x : Context) → IsSound (Argument x) shape_of d (parse_argument d x)
 
 abbrev pub TypesSound : ℕ → Type 0
 TypesSound d = (x : Context) → IsSound (TypeOf x) shape_of d (parse_type d x)

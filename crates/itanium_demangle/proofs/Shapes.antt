@@ -1,17 +1,18 @@
 -- The shapes of trees, and the states at positions.
 use Rattle.std.proofs.Common.{◌≡◌, ℕ, suc, ◌-◌, get_or, arith, Bool, true, false, List, [], ◌∷◌, ◌++◌, map, length, take, refl, sym, ap, Option, Some, None, ◌∙◌, if◌then◌else◌, codes}
 use Rattle.std.proofs.lemmas.List.{map-append, length-map, map-set, get_or-map}
-use Rattle.std.specs.Prelude.{option_map, is_some}
+use Rattle.std.specs.Prelude.{option_map, is_some, not}
 use Rattle.std.specs.List.{take-map}
 use Rattle.demangle_text.specs.Shape.{Shape, plain_shape, appended}
 use Rattle.demangle_text.specs.State.{with_arg, last_args}
 use Rattle.demangle_quals.specs.declared.quals.Quals.{Quals}
 use Rattle.demangle_quals.specs.declared.quals.Pointer.{Pointer}
 use Rattle.demangle_edit.specs.Types.{pointer_shape, cv_shape, array_shape, member_pointer_shape, function_shape, expansion_shape}
+use Rattle.demangle_edit.specs.Expressions.{literal_shape, address_shape, operand_shape}
 use Rattle.demangle_edit.specs.Built.{arguments_shape, pack_shape, lambda_shape}
 use Rattle.demangle_edit.specs.Names.{qualified, qualified_ctor, attached, tagged, with_name_qualifiers, encoding_shape}
 use Rattle.itanium_syntax.specs.declared.abbreviations.Abbreviation.{Abbreviation}
-use Rattle.itanium_grammar.specs.Tree.{Tree, shape_as, bare_shape, own_quals, string_literal_of, encoding_of, function_encoding, plain_text, abbreviation, name_in, ctor_dtor_of, with_args, nested_of, pointer_to, cv_of, array_of, member_of, function_to, elaborated, elaborated_shape, abbreviation_shape, trees, shape_of, shape_each, in_scope, tagged_with, lambda_of, conversion_to, conversion_shape, pack_of, expansion_of, expanded}
+use Rattle.itanium_grammar.specs.Tree.{Tree, Operand, operand, shape_of_operand, literal_of, address_of, pre_of, unary_of, post_of, binary_of, greater_of, conditional_of, pre_shape, post_shape, binary_shape, greater_shape, conditional_shape, shape_as, bare_shape, own_quals, string_literal_of, encoding_of, function_encoding, plain_text, abbreviation, name_in, ctor_dtor_of, with_args, nested_of, pointer_to, cv_of, array_of, member_of, function_to, elaborated, elaborated_shape, abbreviation_shape, trees, shape_of, shape_each, in_scope, tagged_with, lambda_of, conversion_to, conversion_shape, pack_of, expansion_of, expanded}
 use Rattle.itanium_grammar.specs.Grammar.{last_of, with_last}
 use Rattle.itanium_demangle.specs.Parser as parser
 use Rattle.itanium_demangle.specs.Parser.{ParserState}
@@ -100,6 +101,42 @@ shape-encoding_of name = refl
 pub shape-function_encoding : (name : Tree) (params : List Tree) → shape_of (function_encoding name (trees params)) ≡ encoding_shape (bare_shape name) (map shape_of params) (own_quals name)
 unfolding shape_as
 shape-function_encoding name params = ap (λ us. encoding_shape (bare_shape name) us (own_quals name)) (shape_each-trees params)
+
+pub shape-literal_of : (t : Tree) (value : List ℕ) → shape_of (literal_of t value) ≡ literal_shape (shape_of t) value
+unfolding shape_as
+shape-literal_of t value = refl
+
+pub shape-address_of : (t : Tree) → shape_of (address_of t) ≡ address_shape (shape_of t)
+unfolding shape_as
+shape-address_of t = refl
+
+pub shape-operand : (external : Bool) (t : Tree) → shape_of_operand (operand external t) ≡ operand_shape (not external) (shape_of t)
+unfolding shape_as
+shape-operand external t = refl
+
+pub shape-pre_of : (op : List ℕ) (t : Tree) → shape_of (pre_of op t) ≡ pre_shape op (shape_of t)
+unfolding shape_as
+shape-pre_of op t = refl
+
+pub shape-unary_of : (op : List ℕ) (o : Operand) → shape_of (unary_of op o) ≡ pre_shape op (shape_of_operand o)
+unfolding shape_as
+shape-unary_of op o = refl
+
+pub shape-post_of : (o : Operand) (op : List ℕ) → shape_of (post_of o op) ≡ post_shape (shape_of_operand o) op
+unfolding shape_as
+shape-post_of o op = refl
+
+pub shape-binary_of : (o : Operand) (op : List ℕ) (m : Operand) → shape_of (binary_of o op m) ≡ binary_shape (shape_of_operand o) op (shape_of_operand m)
+unfolding shape_as
+shape-binary_of o op m = refl
+
+pub shape-greater_of : (t u : Tree) → shape_of (greater_of t u) ≡ greater_shape (shape_of t) (shape_of u)
+unfolding shape_as
+shape-greater_of t u = refl
+
+pub shape-conditional_of : (o m n : Operand) → shape_of (conditional_of o m n) ≡ conditional_shape (shape_of_operand o) (shape_of_operand m) (shape_of_operand n)
+unfolding shape_as
+shape-conditional_of o m n = refl
 
 pub shape-nested_of : (name : Tree) (quals : Quals) (shown : Bool) → shape_of (nested_of name quals shown) ≡ with_name_qualifiers (shape_of name) quals shown
 unfolding shape_as

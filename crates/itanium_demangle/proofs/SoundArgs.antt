@@ -12,48 +12,34 @@ use Rattle.itanium_grammar.specs.Grammar.{Position, put, begin, skip, both, Args
 use Rattle.itanium_grammar.proofs.Progress.{argument_takes}
 use Rattle.itanium_demangle.specs.Cases.{ArgsCase, EndOfArguments, NextArgument, ArgumentCase, ExpressionArgument, PackArgument, LiteralArgument, ConstraintArgument, TypeArgument}
 use Rattle.itanium_demangle.specs.Parser as parser
-use Rattle.itanium_demangle.specs.Parser.{ParserState, Turn, after_turn, loop, parse_loop, put_nowhere, ◌>>=◌, argument_as, argument_by, list_as, list_turn, parse_args, parse_pack, parse_type}
+use Rattle.itanium_demangle.specs.Parser.{ParserState, Turn, after_turn, loop, parse_loop, put_nowhere, ◌>>=◌, parse_argument, list_as, list_turn, parse_args, parse_pack}
 use Rattle.itanium_demangle.specs.Outcome.{state_at}
 use Rattle.itanium_demangle.proofs.Shapes.{put-scopes, begin-scopes}
-use Rattle.itanium_demangle.proofs.Readings.{Within, Found, PacksSound, PacksComplete, TypesSound, TypesComplete, ArgsSound}
-use Rattle.itanium_demangle.proofs.CompleteArgs.{argument_complete, args_complete, packs_complete}
+use Rattle.itanium_demangle.proofs.Readings.{Within, PacksSound, ArgsSound, ArgumentsComplete, ArgumentsSound}
+use Rattle.itanium_demangle.proofs.CompleteArgs.{args_complete, packs_complete}
 use Rattle.demangle_edit.specs.Built.{listed_more}
 
 -- the arguments after what stands of a list, in n turns
-abbrev ArgumentsSound : ℕ → ℕ → Type 0
-ArgumentsSound d n = (x : Context) (o : Bool) (k : ℕ) (first : Bool) (front : Shape) (p : Position) (e m : ℕ) (y : Shape × ParserState) → length p.rest < n
-    → loop (list_turn (parser.put o k) (argument_by (parse_pack d x) (parse_type d x))) n (first, front) (state_at p e m) ≡ Some y → Within (Arguments x o k p) d
+abbrev TurnsSound : ℕ → ℕ → Type 0
+TurnsSound d n = (x : Context) (o : Bool) (k : ℕ) (first : Bool) (front : Shape) (p : Position) (e m : ℕ) (y : Shape × ParserState) → length p.rest < n
+    → loop (list_turn (parser.put o k) (parse_argument d x)) n (first, front) (state_at p e m) ≡ Some y → Within (Arguments x o k p) d
 
 -- a pack's arguments after what stands of its list, in n turns
 abbrev PackedSound : ℕ → ℕ → Type 0
 PackedSound d n = (x : Context) (first : Bool) (front : Shape) (p : Position) (e m : ℕ) (y : Shape × ParserState) → length p.rest < n
-    → loop (list_turn put_nowhere (argument_by (parse_pack d x) (parse_type d x))) n (first, front) (state_at p e m) ≡ Some y → Within (PackedAs (args_case p.rest) x p) d
+    → loop (list_turn put_nowhere (parse_argument d x)) n (first, front) (state_at p e m) ≡ Some y → Within (PackedAs (args_case p.rest) x p) d
 
-module _ (d : ℕ) (packs_are : PacksComplete d) (kinds_are : TypesComplete d) (packs : PacksSound d) (kinds : TypesSound d) where
-  argument_sound : (case : ArgumentCase) (x : Context) (p : Position) (e m : ℕ) (y : Shape × ParserState)
-      → argument_as case (parse_pack d x) (parse_type d x) (state_at p e m) ≡ Some y → Found (ArgumentAs case x p) shape_of d e m y
-  argument_sound ExpressionArgument x p e m y is = cc
-  argument_sound LiteralArgument x p e m y is = cc
-  argument_sound ConstraintArgument x p e m y is = cc
-  argument_sound PackArgument x p e m y is =
-      let i = (packs x p e m y is).within in
-      let w : Within (ArgumentAs PackArgument x p) d = record { tree = i.tree; next = i.next; cost = i.cost; reading = pack_argument i.reading; deep = i.deep } in
-      record { within = w; is = same_Some _ _ (sym is ∙ argument_complete d packs_are kinds_are w.reading w.deep e m) }
-  argument_sound TypeArgument x p e m y is =
-      let i = (kinds x p e m y is).within in
-      let w : Within (ArgumentAs TypeArgument x p) d = record { tree = i.tree; next = i.next; cost = i.cost; reading = type_argument i.reading; deep = i.deep } in
-      record { within = w; is = same_Some _ _ (sym is ∙ argument_complete d packs_are kinds_are w.reading w.deep e m) }
-
-  arguments_as_sound : (n : ℕ) → ArgumentsSound d n → (case : ArgsCase) (x : Context) (o : Bool) (k : ℕ) (first : Bool) (front : Shape) (p : Position) (e m : ℕ) (y : Shape × ParserState)
+module _ (d : ℕ) (each : ArgumentsSound d) where
+  arguments_as_sound : (n : ℕ) → TurnsSound d n → (case : ArgsCase) (x : Context) (o : Bool) (k : ℕ) (first : Bool) (front : Shape) (p : Position) (e m : ℕ) (y : Shape × ParserState)
       → length p.rest < suc n
-      → (list_as case (parser.put o k) (argument_by (parse_pack d x) (parse_type d x)) (first, front) (state_at p e m)
-      >>= λ r. after_turn r.0 (loop (list_turn (parser.put o k) (argument_by (parse_pack d x) (parse_type d x))) n) r.1) ≡ Some y
+      → (list_as case (parser.put o k) (parse_argument d x) (first, front) (state_at p e m)
+      >>= λ r. after_turn r.0 (loop (list_turn (parser.put o k) (parse_argument d x)) n) r.1) ≡ Some y
       → Within (ArgumentsAs case x o k p) d
   arguments_as_sound n again EndOfArguments x o k first front p e m y room is = record { tree = _; next = _; cost = _; reading = end_of_arguments; deep = omega arith }
   arguments_as_sound n again NextArgument x o k first front p e m y room is =
-      option_and_then_some _ (list_as NextArgument (parser.put o k) (argument_by (parse_pack d x) (parse_type d x)) (first, front) (state_at p e m)) y is (λ v turned rest.
-      option_and_then_some _ (argument_as (argument_case p.rest) (parse_pack d x) (parse_type d x) (state_at p e m)) v turned (λ z arg made.
-      let found = argument_sound (argument_case p.rest) x p e m z arg in
+      option_and_then_some _ (list_as NextArgument (parser.put o k) (parse_argument d x) (first, front) (state_at p e m)) y is (λ v turned rest.
+      option_and_then_some _ (parse_argument d x (state_at p e m)) v turned (λ z arg made.
+      let found = each x p e m z arg in
       let i = found.within in
       let shorter = (argument_takes i.reading).shorter in
       let there = rw (← same_Some _ _ made, found.is, put-scopes o k i.tree i.next.scopes) at rest in
@@ -66,7 +52,7 @@ module _ (d : ℕ) (packs_are : PacksComplete d) (kinds_are : TypesComplete d) (
         deep = omega (arith, i.deep, r.deep);
       }))
 
-  arguments_sound : (n : ℕ) → ArgumentsSound d n
+  arguments_sound : (n : ℕ) → TurnsSound d n
   unfolding loop list_turn
   arguments_sound zero x o k first front p e m y room is = cc
   arguments_sound (suc n) x o k first front p e m y room is =
@@ -75,14 +61,14 @@ module _ (d : ℕ) (packs_are : PacksComplete d) (kinds_are : TypesComplete d) (
 
   packed_as_sound : (n : ℕ) → PackedSound d n → (case : ArgsCase) (x : Context) (first : Bool) (front : Shape) (p : Position) (e m : ℕ) (y : Shape × ParserState)
       → length p.rest < suc n
-      → (list_as case put_nowhere (argument_by (parse_pack d x) (parse_type d x)) (first, front) (state_at p e m)
-      >>= λ r. after_turn r.0 (loop (list_turn put_nowhere (argument_by (parse_pack d x) (parse_type d x))) n) r.1) ≡ Some y
+      → (list_as case put_nowhere (parse_argument d x) (first, front) (state_at p e m)
+      >>= λ r. after_turn r.0 (loop (list_turn put_nowhere (parse_argument d x)) n) r.1) ≡ Some y
       → Within (PackedAs case x p) d
   packed_as_sound n again EndOfArguments x first front p e m y room is = record { tree = _; next = _; cost = _; reading = end_of_pack; deep = omega arith }
   packed_as_sound n again NextArgument x first front p e m y room is =
-      option_and_then_some _ (list_as NextArgument put_nowhere (argument_by (parse_pack d x) (parse_type d x)) (first, front) (state_at p e m)) y is (λ v turned rest.
-      option_and_then_some _ (argument_as (argument_case p.rest) (parse_pack d x) (parse_type d x) (state_at p e m)) v turned (λ z arg made.
-      let found = argument_sound (argument_case p.rest) x p e m z arg in
+      option_and_then_some _ (list_as NextArgument put_nowhere (parse_argument d x) (first, front) (state_at p e m)) y is (λ v turned rest.
+      option_and_then_some _ (parse_argument d x (state_at p e m)) v turned (λ z arg made.
+      let found = each x p e m z arg in
       let i = found.within in
       let shorter = (argument_takes i.reading).shorter in
       let there = rw (← same_Some _ _ made, found.is) at rest in
@@ -100,25 +86,25 @@ module _ (d : ℕ) (packs_are : PacksComplete d) (kinds_are : TypesComplete d) (
   packed_sound zero x first front p e m y room is = cc
   packed_sound (suc n) x first front p e m y room is = packed_as_sound n (packed_sound n) (args_case p.rest) x first front p e m y room is
 
-pub args_sound : (d : ℕ) → PacksComplete d → TypesComplete d → PacksSound d → TypesSound d → ArgsSound (suc d)
-unfolding parse_args
-args_sound d packs_are kinds_are packs kinds x of_name p e m y is =
+pub args_sound : (d : ℕ) → ArgumentsComplete d → ArgumentsSound d → ArgsSound (suc d)
+unfolding parse_args parse_argument
+args_sound d each_is each x of_name p e m y is =
     let opens = opens_scope of_name x in
     let begun = begin opens (skip 1 p) in
     let there = rw (begin-scopes opens p.scopes, length-map begun.scopes (map shape_of)) at is in
     let within = after-le (after_drop 1 p.rest) in
-    option_and_then_some _ (parse_loop (list_turn (parser.put opens (length begun.scopes)) (argument_by (parse_pack d x) (parse_type d x))) (true, plain_shape (codes "<")) (state_at begun (e + 1) m)) y there
+    option_and_then_some _ (parse_loop (list_turn (parser.put opens (length begun.scopes)) (parse_argument d x)) (true, plain_shape (codes "<")) (state_at begun (e + 1) m)) y there
     (λ z list _.
-    let r = arguments_sound d packs_are kinds_are packs kinds _ x opens (length begun.scopes) true (plain_shape (codes "<")) begun (e + 1) m z (omega arith) list in
+    let r = arguments_sound d each _ x opens (length begun.scopes) true (plain_shape (codes "<")) begun (e + 1) m z (omega arith) list in
     let w : Within (Args x of_name p) (suc d) = record { tree = _; next = _; cost = _; reading = args r.reading; deep = omega (arith, r.deep) } in
-    record { within = w; is = same_Some _ _ (sym is ∙ args_complete d packs_are kinds_are x of_name _ _ _ _ w.reading w.deep e m) })
+    record { within = w; is = same_Some _ _ (sym is ∙ args_complete d each_is x of_name _ _ _ _ w.reading w.deep e m) })
 
-pub packs_sound : (d : ℕ) → PacksComplete d → TypesComplete d → PacksSound d → TypesSound d → PacksSound (suc d)
-unfolding parse_pack
-packs_sound d packs_are kinds_are packs kinds x p e m y is =
+pub packs_sound : (d : ℕ) → ArgumentsComplete d → ArgumentsSound d → PacksSound (suc d)
+unfolding parse_pack parse_argument
+packs_sound d each_is each x p e m y is =
     let inside = inside_pack x in
-    option_and_then_some _ (parse_loop (list_turn put_nowhere (argument_by (parse_pack d inside) (parse_type d inside))) (true, plain_shape []) (state_at (skip 1 p) (e + 1) m)) y is
+    option_and_then_some _ (parse_loop (list_turn put_nowhere (parse_argument d inside)) (true, plain_shape []) (state_at (skip 1 p) (e + 1) m)) y is
     (λ z list _.
-    let r = packed_sound d packs_are kinds_are packs kinds _ inside true (plain_shape []) (skip 1 p) (e + 1) m z (omega arith) list in
+    let r = packed_sound d each _ inside true (plain_shape []) (skip 1 p) (e + 1) m z (omega arith) list in
     let w : Within (Pack x p) (suc d) = record { tree = _; next = _; cost = _; reading = pack r.reading; deep = omega (arith, r.deep) } in
-    record { within = w; is = same_Some _ _ (sym is ∙ packs_complete d packs_are kinds_are x _ _ _ _ w.reading w.deep e m) })
+    record { within = w; is = same_Some _ _ (sym is ∙ packs_complete d each_is x _ _ _ _ w.reading w.deep e m) })

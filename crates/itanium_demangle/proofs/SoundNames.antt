@@ -345,7 +345,7 @@ module _ (d : ℕ) (complete : TypesComplete d) (bares_are : BareNamesComplete d
       let s = signature_sound d complete kinds (signature_case r.next.rest) x i.tree r.next (e + i.cost.count + r.cost.count) (max (max m i.cost.peak) r.cost.peak) y (rw r.is at signed) in
       record { tree = _; next = _; cost = _; reading = name_encoding i.reading r.reading s.reading; deep = omega (arith, i.deep, r.deep, s.deep) }))
 
-  encoding_sound : (x : Context) (p : Position) (e m : ℕ) (y : Shape × ParserState) → parse_encoding (parse_bare_name d x) (parse_type d x) (state_at p e m) ≡ Some y → Found (Encoding x p) shape_of d e m y
+  pub encoding_sound : (x : Context) (p : Position) (e m : ℕ) (y : Shape × ParserState) → parse_encoding (parse_bare_name d x) (parse_type d x) (state_at p e m) ≡ Some y → Found (Encoding x p) shape_of d e m y
   unfolding parse_encoding
   encoding_sound x p e m y is =
       let r = encoding_as_sound (symbol_case p.rest) x p e m y is in

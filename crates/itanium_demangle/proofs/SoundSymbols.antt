@@ -9,23 +9,28 @@ use Rattle.itanium_grammar.specs.Grammar.{Position, SymbolAs, Symbol, name_symbo
 use Rattle.itanium_demangle.specs.Cases.{SymbolCase, SpecialSymbol, NameSymbol}
 use Rattle.itanium_demangle.specs.Parser.{ParserState, parse_bare_name, symbol_as, parse_symbol}
 use Rattle.itanium_demangle.specs.Outcome.{state_at}
-use Rattle.itanium_demangle.proofs.Readings.{Within, Found, BareNamesSound, ArgsSound, PacksSound, TypesSound}
+use Rattle.itanium_demangle.proofs.Readings.{Within, Found, BareNamesSound, ArgsSound, PacksSound, TypesSound, ExpressionsSound}
 use Rattle.itanium_demangle.proofs.CompleteSymbols.{all_complete, symbol_complete}
 use Rattle.itanium_demangle.proofs.CompleteNames.{names_complete}
 use Rattle.itanium_demangle.proofs.SoundNames.{bare_names_sound, names_sound}
+use Rattle.itanium_demangle.proofs.CompleteExpressions.{each_argument_complete}
+use Rattle.itanium_demangle.proofs.SoundExpressions.{each_argument_sound, expressions_sound}
 use Rattle.itanium_demangle.proofs.SoundArgs.{args_sound, packs_sound}
 use Rattle.itanium_demangle.proofs.SoundTypes.{types_sound_at}
 
-all_sound : (d : ℕ) → BareNamesSound d × ArgsSound d × PacksSound d × TypesSound d
+all_sound : (d : ℕ) → BareNamesSound d × ArgsSound d × PacksSound d × TypesSound d × ExpressionsSound d
 unfolding parse_bare_name
-all_sound zero = (λ waits x p e m y is. cc, λ x of_name p e m y is. cc, λ x p e m y is. cc, λ x p e m y is. cc)
+all_sound zero = (λ waits x p e m y is. cc, λ x of_name p e m y is. cc, λ x p e m y is. cc, λ x p e m y is. cc, λ x p e m y is. cc)
 all_sound (suc d) =
-    let (bares_are, lists_are, packs_are, kinds_are) = all_complete d in
-    let (bares, lists, packs, kinds) = all_sound d in (
+    let (bares_are, lists_are, packs_are, kinds_are, values_are) = all_complete d in
+    let (bares, lists, packs, kinds, values) = all_sound d in
+    let each_is = each_argument_complete d packs_are kinds_are bares_are values_are in
+    let each = each_argument_sound d packs_are kinds_are bares_are values_are packs kinds bares values in (
       bare_names_sound d lists_are kinds_are bares_are lists kinds bares,
-      args_sound d packs_are kinds_are packs kinds,
-      packs_sound d packs_are kinds_are packs kinds,
+      args_sound d each_is each,
+      packs_sound d each_is each,
       types_sound_at d kinds_are (names_complete d bares_are) lists_are kinds (names_sound d bares_are bares) lists,
+      expressions_sound d kinds_are bares_are values_are kinds bares values,
     )
 
 symbol_as_sound : (d : ℕ) (case : SymbolCase) (x : Context) (p : Position) (e m : ℕ) (y : Shape × ParserState) → symbol_as case d x (state_at p e m) ≡ Some y → Within (SymbolAs case x p) d

@@ -12,6 +12,7 @@ use Rattle.itanium_syntax.specs.declared.numerals.Radix.TheVariants.{Decimal}
 use Rattle.itanium_syntax.specs.Scalars.{index_of, source_name}
 use Rattle.itanium_syntax.specs.Context.{opens_scope, inside_type, inside_pack, inside_lambda, inside_local, inside_encoding}
 use Rattle.itanium_syntax.specs.Names.{symbol_case, name_case, component_case, unqualified_case, tag_case, source_text, first_case, substitution_case, past_internal, past_name_quals, name_quals, saves_first}
+use Rattle.itanium_syntax.specs.Expressions.{literal_case, expression_case}
 use Rattle.itanium_syntax.specs.Encodings.{entity_case}
 use Rattle.itanium_syntax.specs.Args.{args_case}
 use Rattle.itanium_syntax.specs.Types.{types_case, type_case}
@@ -21,7 +22,7 @@ use Rattle.itanium_demangle.specs.declared.stop.Stop.TheVariants.{Unread, Memory
 use Rattle.itanium_demangle.specs.Outcome.{Gives, GivesList, SavedBounds}
 use Rattle.itanium_demangle.proofs.Loops.{LoopSoFar, loop_end, loop_more, loop_fail, ListSoFar, list_start, list_end, list_more, list_fail}
 use Rattle.itanium_demangle.specs.Cases.{FreeName, NoTag, NextTag, EndOfComponents, ArgsComponent, NameComponent, EndOfArguments, NextArgument, EndOfTypes, NextType}
-use Rattle.itanium_demangle.specs.Parser.{ParserState, Parses, ParsesName, ParsesBareName, ◌>>=◌, enter, at, save, skip, begin, put, put_nowhere, taken_back, past_initializer, substitution_as, parse_substitution, parameter_as, parse_parameter, tag_turn, unqualified_as, parse_unqualified, parse_free, in_scope, first_as, attached_by, component_turn, parse_components, parse_nested, name_as, qualified_by, parse_bare_name, parse_name, encoding_as, parse_encoding, entity_as, parse_local, argument_by, list_turn, typed_turn, parse_list, parse_packed, parse_args, parse_pack, types_turn, type_as, parse_type, symbol_as, parse_symbol}
+use Rattle.itanium_demangle.specs.Parser.{ParserState, Parses, ParsesName, ParsesBareName, ◌>>=◌, enter, at, save, skip, begin, put, put_nowhere, taken_back, past_initializer, substitution_as, parse_substitution, parameter_as, parse_parameter, tag_turn, unqualified_as, parse_unqualified, parse_free, in_scope, first_as, attached_by, component_turn, parse_components, parse_nested, name_as, qualified_by, parse_bare_name, parse_name, encoding_as, parse_encoding, entity_as, parse_local, literal_as, parse_primary, expression_as, parse_expression, primary_at, parse_argument, argument_by, list_turn, typed_turn, parse_list, parse_packed, parse_args, parse_pack, types_turn, type_as, parse_type, symbol_as, parse_symbol}
 
 pub bare_name_opens : (d : ℕ) (x : Context) (s : ParserState) → 0 < d → parse_bare_name d x s
     ≡ name_as (name_case s.rest) (parse_unqualified (parse_type (d - 1) x) (parse_type (d - 1) (inside_lambda x))) (parse_args (d - 1) x true)
@@ -38,6 +39,25 @@ pub name_opens : (d : ℕ) (x : Context) (s : ParserState) → parse_name d x s 
 unfolding parse_name
 name_opens d x s = refl
 
+pub expression_opens : (d : ℕ) (x : Context) (s : ParserState) → 0 < d → parse_expression d x s
+    ≡ expression_as (expression_case s.rest) (parse_expression (d - 1) x) (primary_at (d - 1) x) x (enter s)
+unfolding parse_expression
+expression_opens zero x s h = absurd (omega arith)
+expression_opens (suc d) x s h = let less : suc d - 1 ≡ d = omega arith in rw less refl
+
+pub no_expression : (x : Context) (s : ParserState) → parse_expression 0 x s ≡ None
+unfolding parse_expression
+no_expression x s = refl
+
+pub primary_opens : (type encoding : Parses Shape) (s : ParserState) → parse_primary type encoding s ≡ literal_as (literal_case s.rest) type encoding s
+unfolding parse_primary
+primary_opens type encoding s = refl
+
+pub argument_opens : (d : ℕ) (x : Context) (s : ParserState)
+    → parse_argument d x s ≡ argument_by (parse_pack d x) (parse_type d x) (parse_expression d x) (primary_at d x) s
+unfolding parse_argument
+argument_opens d x s = refl
+
 pub encoding_opens : (bare : ParsesBareName) (type : Parses Shape) (s : ParserState) → parse_encoding bare type s ≡ encoding_as (symbol_case s.rest) bare type s
 unfolding parse_encoding
 encoding_opens bare type s = refl
@@ -48,8 +68,8 @@ unfolding parse_local
 local_opens encoding bare s = refl
 
 pub args_opens : (d : ℕ) (x : Context) (of_name : Bool) (s : ParserState) → 0 < d
-    → parse_args d x of_name s ≡ parse_list (argument_by (parse_pack (d - 1) x) (parse_type (d - 1) x)) (opens_scope of_name x) (enter s)
-unfolding parse_args
+    → parse_args d x of_name s ≡ parse_list (parse_argument (d - 1) x) (opens_scope of_name x) (enter s)
+unfolding parse_args parse_argument
 args_opens zero x of_name s h = absurd (omega arith)
 args_opens (suc d) x of_name s h = let less : suc d - 1 ≡ d = omega arith in rw less refl
 
@@ -58,8 +78,8 @@ unfolding parse_args
 no_args x of_name s = refl
 
 pub pack_opens : (d : ℕ) (x : Context) (s : ParserState) → 0 < d
-    → parse_pack d x s ≡ parse_packed (argument_by (parse_pack (d - 1) (inside_pack x)) (parse_type (d - 1) (inside_pack x))) (enter s)
-unfolding parse_pack
+    → parse_pack d x s ≡ parse_packed (parse_argument (d - 1) (inside_pack x)) (enter s)
+unfolding parse_pack parse_argument
 pack_opens zero x s h = absurd (omega arith)
 pack_opens (suc d) x s h = let less : suc d - 1 ≡ d = omega arith in rw less refl
 
@@ -170,12 +190,12 @@ module _ {whole : Option (Shape × ParserState)} {name : Shape} {s : ParserState
 -- a list begins
 pub args_start : (d : ℕ) (x : Context) (of_name : Bool) (s : ParserState) {opens : Bool} {n : ℕ} {list : Shape} {after : ParserState} → 0 < d → opens ≡ opens_scope of_name x
     → list ≡ plain_shape (codes "<") → after ≡ begin opens (skip 1 (enter s)) → n ≡ length after.scopes
-    → ListSoFar (parse_args d x of_name s) (list_turn (put opens n) (argument_by (parse_pack (d - 1) x) (parse_type (d - 1) x))) (λ found. whole_shape (arguments_closed found)) (true, list) after
+    → ListSoFar (parse_args d x of_name s) (list_turn (put opens n) (parse_argument (d - 1) x)) (λ found. whole_shape (arguments_closed found)) (true, list) after
 args_start d x of_name s deep opened built left scopes = rw (scopes, left, opened, built) (list_start (args_opens d x of_name s deep))
 
 -- a pack begins
 pub pack_start : (d : ℕ) (x : Context) (s : ParserState) {inside : Context} {list : Shape} {after : ParserState} → 0 < d → inside ≡ inside_pack x → list ≡ plain_shape [] → after ≡ skip 1 (enter s)
-    → ListSoFar (parse_pack d x s) (list_turn put_nowhere (argument_by (parse_pack (d - 1) inside) (parse_type (d - 1) inside))) whole_shape (true, list) after
+    → ListSoFar (parse_pack d x s) (list_turn put_nowhere (parse_argument (d - 1) inside)) whole_shape (true, list) after
 pack_start d x s deep within built left = rw (left, within, built) (list_start (pack_opens d x s deep))
 
 -- the turns of a list up to its E

@@ -1,6 +1,6 @@
 -- A bridge between the readers and the grammar, and no definition: what the readers do, as functions over shapes. The
 -- grammar is what is promised; theorems over it say that these functions read what it reads, and nothing else.
-use Rattle.std.specs.Prelude.{ℕ, zero, suc, ◌+◌, ◌-◌, max, Bool, true, false, if◌then◌else◌, is_some, slice_get, List, [], ◌∷◌, ◌++◌, Option, Some, None, option_and_then, take, drop, length, codes}
+use Rattle.std.specs.Prelude.{ℕ, zero, suc, ◌+◌, ◌-◌, max, Bool, true, false, not, if◌then◌else◌, is_some, slice_get, List, [], ◌∷◌, ◌++◌, Option, Some, None, option_and_then, take, drop, length, codes}
 use Rattle.demangle_text.specs.Shape.{Shape, plain_shape, whole_shape, appended}
 use Rattle.demangle_text.specs.State.{last_args, with_arg}
 use Rattle.demangle_quals.specs.declared.quals.Quals.{Quals}
@@ -8,6 +8,7 @@ use Rattle.demangle_quals.specs.declared.quals.Pointer.{Pointer}
 use Rattle.demangle_quals.specs.Quals.{no_quals}
 use Rattle.demangle_edit.specs.Names.{qualified, qualified_ctor, attached, tagged, with_name_qualifiers}
 use Rattle.demangle_edit.specs.Types.{pointer_shape, cv_shape, array_step, member_pointer_step, function_step, expansion_shape}
+use Rattle.demangle_edit.specs.Expressions.{literal_step, operand_shape, address_shape}
 use Rattle.demangle_edit.specs.Built.{listed_more, arguments_closed, lambda_closed, params_opened, params_closed}
 use Rattle.itanium_syntax.specs.declared.context.Context.{Context}
 use Rattle.itanium_syntax.specs.declared.numerals.Radix.TheVariants.{Decimal, Base36}
@@ -16,11 +17,13 @@ use Rattle.itanium_syntax.specs.Operators.{operator_here}
 use Rattle.itanium_syntax.specs.Abbreviations.{abbreviation_of}
 use Rattle.itanium_syntax.specs.Context.{opens_scope, inside_type, inside_pack, inside_lambda, inside_local, inside_encoding}
 use Rattle.itanium_syntax.specs.Names.{symbol_case, name_case, unscoped_case, first_case, component_case, unqualified_case, free_case, tag_case, past_internal, past_initializer_letter, source_text, name_quals, past_name_quals, saves_first, substitution_case}
+use Rattle.itanium_syntax.specs.Bytes.{begins}
+use Rattle.itanium_syntax.specs.Expressions.{is_external, literal_case, literal_value, expression_text, expression_case}
 use Rattle.itanium_syntax.specs.Encodings.{return_case, signature_case, entity_case, shows_words}
 use Rattle.itanium_syntax.specs.Args.{attached_case, args_case, argument_case}
 use Rattle.itanium_syntax.specs.Types.{type_case, builtin_text, past_builtin, cv_quals, past_cv, with_reference, past_reference, cv_case, function_case, params_case, types_case, elaborated_text}
-use Rattle.itanium_grammar.specs.Tree.{abbreviation_shape, conversion_shape, elaborated_shape, unnamed_text, literal_operator_text}
-use Rattle.itanium_demangle.specs.Cases.{SymbolCase, SpecialSymbol, NameSymbol, NameCase, NestedName, LocalName, UnscopedName, ReturnCase, NoReturnType, SomeReturnType, SignatureCase, NoSignature, SomeSignature, EntityCase, StringLiteralEntity, DefaultArgumentEntity, NameEntity, NoEntity, UnscopedCase, StdName, SubstitutionName, PlainName, AttachedCase, NoneAttached, ArgsAttached, FirstCase, ParameterFirst, StdFirst, SubstitutionFirst, NameFirst, ComponentCase, EndOfComponents, ArgsComponent, NameComponent, UnqualifiedCase, ConstructorName, DestructorName, FreeName, FreeCase, SourceName, UnnamedTypeName, LambdaName, ConversionName, LiteralOperatorName, OperatorName, NoName, TagCase, NoTag, NextTag, SubstitutionCase, AbbreviationSubstitution, ComponentSubstitution, ArgsCase, EndOfArguments, NextArgument, ArgumentCase, ExpressionArgument, PackArgument, LiteralArgument, ConstraintArgument, TypeArgument, TypeCase, BuiltinType, ExpansionType, VendorType, ArrayType, FunctionType, MemberType, PointerType, CvType, ElaboratedType, ParameterType, SubstitutionType, UnreadType, NameType, CvCase, CvFunction, CvOther, FunctionCase, ExternFunction, PlainFunction, ParamsCase, NoParams, SomeParams, TypesCase, EndOfTypes, NextType}
+use Rattle.itanium_grammar.specs.Tree.{pre_shape, post_shape, binary_shape, greater_shape, conditional_shape, abbreviation_shape, conversion_shape, elaborated_shape, unnamed_text, literal_operator_text}
+use Rattle.itanium_demangle.specs.Cases.{SymbolCase, SpecialSymbol, NameSymbol, NameCase, NestedName, LocalName, UnscopedName, ReturnCase, NoReturnType, SomeReturnType, SignatureCase, NoSignature, SomeSignature, EntityCase, StringLiteralEntity, DefaultArgumentEntity, NameEntity, NoEntity, UnscopedCase, StdName, SubstitutionName, PlainName, AttachedCase, NoneAttached, ArgsAttached, FirstCase, ParameterFirst, StdFirst, SubstitutionFirst, NameFirst, ComponentCase, EndOfComponents, ArgsComponent, NameComponent, UnqualifiedCase, ConstructorName, DestructorName, FreeName, FreeCase, SourceName, UnnamedTypeName, LambdaName, ConversionName, LiteralOperatorName, OperatorName, NoName, TagCase, NoTag, NextTag, SubstitutionCase, AbbreviationSubstitution, ComponentSubstitution, ArgsCase, EndOfArguments, NextArgument, LiteralCase, ExternalName, ValueLiteral, NoLiteral, ExpressionCase, PreExpression, AddressExpression, UnaryExpression, PostExpression, BinaryExpression, GreaterExpression, ConditionalExpression, ParameterExpression, LiteralExpression, NoExpression, ArgumentCase, ExpressionArgument, PackArgument, LiteralArgument, ConstraintArgument, TypeArgument, TypeCase, BuiltinType, ExpansionType, VendorType, ArrayType, FunctionType, MemberType, PointerType, CvType, ElaboratedType, ParameterType, SubstitutionType, UnreadType, NameType, CvCase, CvFunction, CvOther, FunctionCase, ExternFunction, PlainFunction, ParamsCase, NoParams, SomeParams, TypesCase, EndOfTypes, NextType}
 
 infixl 10 ◌>>=◌
 abbrev pub ◌>>=◌ : {A B : Type 0} → Option A → (A → Option B) → Option B
@@ -363,17 +366,97 @@ qualified_by bare x s =
     bare s >>= λ name.
     Some (with_name_qualifiers name.0.0 name.0.1 (shows_words (name_case s.rest) x.shown), name.1)
 
--- <template-arg>, by what it begins with: a pack by the first parser, a type by the second
-abbrev pub argument_as : ArgumentCase → Parses Shape → Parses Shape → Parses Shape
-argument_as ExpressionArgument pack type s = None
-argument_as PackArgument pack type s = pack s
-argument_as LiteralArgument pack type s = None
-argument_as ConstraintArgument pack type s = None
-argument_as TypeArgument pack type s = type s
+-- past an E, which stands there
+abbrev pub past_end : ParserState → Option ParserState
+past_end s = if begins (codes "E") s.rest then Some (skip 1 s) else None
+
+-- what was parsed, with an E after it
+abbrev pub ended : Option (Shape × ParserState) → Option (Shape × ParserState)
+ended parsed = parsed >>= λ found. past_end found.1 >>= λ after. Some (found.0, after)
+
+-- the value of a literal after its type
+abbrev pub literal_end : Shape → Parses Shape
+literal_end type s =
+    literal_value s.rest >>= λ found. literal_step type found.0 >>= λ literal. Some (literal, at found.1 s)
+
+-- <expr-primary>, by what it begins with
+abbrev pub literal_as : LiteralCase → Parses Shape → Parses Shape → Parses Shape
+literal_as ExternalName type encoding s = ended (encoding (skip 3 s))
+literal_as ValueLiteral type encoding s = type (skip 1 s) >>= λ t. literal_end t.0 t.1
+literal_as NoLiteral type encoding s = None
+
+-- <expr-primary>
+unfoldable pub parse_primary : Parses Shape → Parses Shape → Parses Shape
+parse_primary type encoding s = literal_as (literal_case s.rest) type encoding s
+
+-- an operand of an expression
+abbrev pub operand_by : Parses Shape → Parses Shape
+operand_by expression s = expression s >>= λ t. Some (operand_shape (not (is_external s.rest)) t.0, t.1)
+
+-- pp_ <expression> and mm_ <expression>
+abbrev pub parse_pre : Parses Shape → Parses Shape
+parse_pre expression s = expression (skip 3 s) >>= λ t. Some (pre_shape (expression_text s.rest) t.0, t.1)
+
+-- ad and an external name
+abbrev pub parse_address : Parses Shape → Parses Shape
+parse_address expression s = expression (skip 2 s) >>= λ t. Some (address_shape t.0, t.1)
+
+-- an operator in front of its operand
+abbrev pub parse_unary : Parses Shape → Parses Shape
+parse_unary expression s =
+    operand_by expression (skip 2 s) >>= λ t. Some (pre_shape (expression_text s.rest) t.0, t.1)
+
+-- pp <expression> and mm <expression>
+abbrev pub parse_post : Parses Shape → Parses Shape
+parse_post expression s =
+    operand_by expression (skip 2 s) >>= λ t. Some (post_shape t.0 (expression_text s.rest), t.1)
+
+-- an operator between its operands
+abbrev pub parse_binary : Parses Shape → Parses Shape
+parse_binary expression s =
+    operand_by expression (skip 2 s) >>= λ t. operand_by expression t.1 >>= λ u.
+    Some (binary_shape t.0 (expression_text s.rest) u.0, u.1)
+
+-- gt <expression> <expression>
+abbrev pub parse_greater : Parses Shape → Parses Shape
+parse_greater expression s =
+    expression (skip 2 s) >>= λ t. expression t.1 >>= λ u. Some (greater_shape t.0 u.0, u.1)
+
+-- the two operands between which a condition chooses
+abbrev pub parse_alternatives : Parses Shape → Shape → Parses Shape
+parse_alternatives expression condition s =
+    operand_by expression s >>= λ t. operand_by expression t.1 >>= λ u.
+    Some (conditional_shape condition t.0 u.0, u.1)
+
+-- qu <expression> <expression> <expression>
+abbrev pub parse_conditional : Parses Shape → Parses Shape
+parse_conditional expression s =
+    operand_by expression (skip 2 s) >>= λ condition. parse_alternatives expression condition.0 condition.1
+
+-- <expression>, by what it begins with
+abbrev pub expression_as : ExpressionCase → Parses Shape → Parses Shape → Context → Parses Shape
+expression_as PreExpression expression primary x s = parse_pre expression s
+expression_as AddressExpression expression primary x s = parse_address expression s
+expression_as UnaryExpression expression primary x s = parse_unary expression s
+expression_as PostExpression expression primary x s = parse_post expression s
+expression_as BinaryExpression expression primary x s = parse_binary expression s
+expression_as GreaterExpression expression primary x s = parse_greater expression s
+expression_as ConditionalExpression expression primary x s = parse_conditional expression s
+expression_as ParameterExpression expression primary x s = parse_parameter x s
+expression_as LiteralExpression expression primary x s = primary s
+expression_as NoExpression expression primary x s = None
+
+-- <template-arg>, by what it begins with
+abbrev pub argument_as : ArgumentCase → Parses Shape → Parses Shape → Parses Shape → Parses Shape → Parses Shape
+argument_as ExpressionArgument pack type expression primary s = ended (expression (skip 1 s))
+argument_as PackArgument pack type expression primary s = pack s
+argument_as LiteralArgument pack type expression primary s = primary s
+argument_as ConstraintArgument pack type expression primary s = None
+argument_as TypeArgument pack type expression primary s = type s
 
 -- <template-arg>
-abbrev pub argument_by : Parses Shape → Parses Shape → Parses Shape
-argument_by pack type s = argument_as (argument_case s.rest) pack type s
+abbrev pub argument_by : Parses Shape → Parses Shape → Parses Shape → Parses Shape → Parses Shape
+argument_by pack type expression primary s = argument_as (argument_case s.rest) pack type expression primary s
 
 -- a pack from its J to its E
 abbrev pub parse_packed : Parses Shape → Parses Shape
@@ -531,13 +614,19 @@ unfoldable mutual
   pub parse_args : ℕ → Context → Bool → Parses Shape
   parse_args zero x of_name s = None
   parse_args (suc d) x of_name s =
-      parse_list (argument_by (parse_pack d x) (parse_type d x)) (opens_scope of_name x) (enter s)
+      parse_list (argument_by (parse_pack d x) (parse_type d x) (parse_expression d x)
+      (parse_primary (parse_type d x)
+      (parse_encoding (parse_bare_name d (inside_encoding x)) (parse_type d (inside_encoding x)))))
+      (opens_scope of_name x) (enter s)
 
   -- J <template-arg>* E
   pub parse_pack : ℕ → Context → Parses Shape
   parse_pack zero x s = None
   parse_pack (suc d) x s =
-      parse_packed (argument_by (parse_pack d (inside_pack x)) (parse_type d (inside_pack x))) (enter s)
+      parse_packed (argument_by (parse_pack d (inside_pack x)) (parse_type d (inside_pack x))
+      (parse_expression d (inside_pack x)) (parse_primary (parse_type d (inside_pack x))
+      (parse_encoding (parse_bare_name d (inside_encoding (inside_pack x)))
+      (parse_type d (inside_encoding (inside_pack x)))))) (enter s)
 
   -- <type>
   pub parse_type : ℕ → Context → Parses Shape
@@ -546,6 +635,23 @@ unfoldable mutual
       type_as (type_case s.rest) (parse_type d (inside_type x))
       (qualified_by (parse_bare_name d (inside_type x)) (inside_type x))
       (parse_args d (inside_type x) false) (inside_type x) (enter s)
+
+  -- <expression>
+  pub parse_expression : ℕ → Context → Parses Shape
+  parse_expression zero x s = None
+  parse_expression (suc d) x s =
+      expression_as (expression_case s.rest) (parse_expression d x) (parse_primary (parse_type d x)
+      (parse_encoding (parse_bare_name d (inside_encoding x)) (parse_type d (inside_encoding x)))) x (enter s)
+
+-- <expr-primary> within a depth
+abbrev pub primary_at : ℕ → Context → Parses Shape
+primary_at d x =
+    parse_primary (parse_type d x)
+    (parse_encoding (parse_bare_name d (inside_encoding x)) (parse_type d (inside_encoding x)))
+
+-- <template-arg> within a depth
+unfoldable pub parse_argument : ℕ → Context → Parses Shape
+parse_argument d x = argument_by (parse_pack d x) (parse_type d x) (parse_expression d x) (primary_at d x)
 
 -- <name>
 unfoldable pub parse_name : ℕ → Context → Parses Shape

@@ -130,22 +130,38 @@ impl<'a> Reader<'a> {
         }
     }
 
-    /// `<template-arg> ::= <type> | J <template-arg>* E`
-    #[tactic(auto, using(crate::proofs::Rules::fronts))]
+    /// `X <expression> E`
+    #[cycle(reader)]
+    fn read_expression_argument(&mut self, depth: usize, context: Context) -> Result<(), Stop>
+        requires room { HasRoom 2 (state self.old) }
+        requires some { 0 < length self.old.rest.now }
+        ensures reads { Gives result self.new
+            (spec.ended (spec.parse_expression depth context (spec.skip 1 (state self.old)))) }
+        ensures run { OnOk result (IsRun self.old.buffer self.new.buffer) }
+        ensures bounds { Bounds 0 result (state self.old) (state self.new) }
+        ensures saved { SavedBounds 0 result (state self.old) (state self.new) }
+    {
+        self.skip(1);
+        self.read_expression(depth, context)?;
+        self.read_end()
+    }
+
+    /// `<template-arg> ::= <type> | X <expression> E | <expr-primary> | J <template-arg>* E`
+    #[tactic(auto, using(crate::proofs::Rules::arguments))]
     #[cycle(reader)]
     fn read_argument(&mut self, depth: usize, context: Context) -> Result<(), Stop>
         requires room { HasRoom 2 (state self.old) }
         ensures reads { Gives result self.new
-            (spec.argument_by (spec.parse_pack depth context) (spec.parse_type depth context) (state self.old)) }
+            (spec.parse_argument depth context (state self.old)) }
         ensures run { OnOk result (IsRun self.old.buffer self.new.buffer) }
         ensures bounds { Bounds 0 result (state self.old) (state self.new) }
         ensures saved { SavedBounds 0 result (state self.old) (state self.new) }
     {
         match argument_case(self.rest) {
             ArgumentCase::PackArgument => self.read_pack(depth, context),
-            ArgumentCase::ExpressionArgument
-            | ArgumentCase::LiteralArgument
-            | ArgumentCase::ConstraintArgument => Err(Stop::Unread),
+            ArgumentCase::ExpressionArgument => self.read_expression_argument(depth, context),
+            ArgumentCase::LiteralArgument => self.read_primary(depth, context),
+            ArgumentCase::ConstraintArgument => Err(Stop::Unread),
             ArgumentCase::TypeArgument => self.read_type(depth, context),
         }
     }
@@ -155,7 +171,7 @@ impl<'a> Reader<'a> {
     fn framed_argument(&mut self, depth: usize, context: Context) -> Result<(), Stop>
         requires room { HasRoom 2 (state self.old) }
         ensures reads { Gives result self.new
-            (spec.argument_by (spec.parse_pack depth context) (spec.parse_type depth context) (state self.old)) }
+            (spec.parse_argument depth context (state self.old)) }
         ensures kept { OnOk result (SameFrame self.old.buffer self.new.buffer) }
         ensures bounds { Bounds 0 result (state self.old) (state self.new) }
         ensures saved { SavedBounds 0 result (state self.old) (state self.new) }

@@ -125,7 +125,7 @@ impl<'a> Reader<'a> {
     /// `<encoding> ::= <name> | <name> [<return type>] <parameter types>`
     #[tactic(auto, using(crate::proofs::Rules::encodings))]
     #[cycle(reader)]
-    fn read_encoding(&mut self, depth: usize, context: Context) -> Result<(), Stop>
+    pub fn read_encoding(&mut self, depth: usize, context: Context) -> Result<(), Stop>
         requires room { HasRoom 1 (state self.old) }
         ensures reads { Gives result self.new (spec.parse_encoding (spec.parse_bare_name depth context)
             (spec.parse_type depth context) (state self.old)) }

@@ -32,6 +32,7 @@ mod args;
 mod declarators;
 mod demangler;
 mod encodings;
+mod expressions;
 pub mod laws;
 mod names;
 mod reader;

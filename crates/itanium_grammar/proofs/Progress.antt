@@ -3,13 +3,13 @@ use Rattle.std.proofs.Common.{◌≡◌, ℕ, Bool, List, Option, drop, refl, ar
 use Rattle.demangle_quals.specs.declared.quals.Quals.{Quals}
 use Rattle.itanium_syntax.specs.declared.context.Context.{Context}
 use Rattle.itanium_syntax.specs.declared.numerals.Radix.TheVariants.{Decimal, Base36}
-use Rattle.itanium_grammar.specs.Cases.{SymbolCase, NameCase, ReturnCase, SignatureCase, EntityCase, UnscopedCase, AttachedCase, FirstCase, ComponentCase, UnqualifiedCase, FreeCase, TagCase, SubstitutionCase, ArgsCase, ArgumentCase, TypeCase, CvCase, ParamsCase, TypesCase}
+use Rattle.itanium_grammar.specs.Cases.{SymbolCase, LiteralCase, ExpressionCase, NameCase, ReturnCase, SignatureCase, EntityCase, UnscopedCase, AttachedCase, FirstCase, ComponentCase, UnqualifiedCase, FreeCase, TagCase, SubstitutionCase, ArgsCase, ArgumentCase, TypeCase, CvCase, ParamsCase, TypesCase}
 use Rattle.itanium_syntax.specs.Names.{first_case, component_case, unqualified_case}
 use Rattle.itanium_syntax.specs.Args.{args_case}
 use Rattle.itanium_syntax.specs.Types.{type_case, past_reference}
-use Rattle.itanium_syntax.proofs.Fronts.{IsAfter, Takes, after_none, after_drop, after_then, takes_then, after_takes, takes_takes, takes_drop, internal_after, initializer_after, cv_after, quals_after, reference_after, builtin_after, builtin_shorter, abbreviation_takes, index_takes, source_takes, optional_number_takes, constructor_some, destructor_some, std_shorter, components_end_shorter, arguments_end_shorter, unnamed_type_takes, lambda_takes, operator_takes}
-use Rattle.itanium_grammar.specs.Tree.{Tree}
-use Rattle.itanium_grammar.specs.Grammar.{Position, Cost, SubstitutionAs, Substitution, Parameter, TaggedAs, UnqualifiedAs, Unqualified, FirstAs, Name, NameAs, Local, EntityAs, Encoding, EncodingAs, ReturnAs, SignatureAs, UnscopedAs, AttachedAs, Nested, Components, ComponentsAs, Args, Arguments, ArgumentsAs, ArgumentAs, TypeOf, TypeAs, CvAs, Function, ParamsAs, TypesAs, TypeAttachedAs, SymbolAs, Symbol, abbreviation_substitution, component_substitution, substitution, parameter, no_tag, next_tag, source_free, unnamed_type_free, lambda_free, conversion_free, literal_operator_free, operator_free, FreeAs, free_component, constructor_component, destructor_component, unqualified, parameter_first, std_first, substitution_first, name_first, name, nested_name, local_name, local, string_literal_entity, default_argument_entity, name_entity, encoding, name_encoding, no_return_type, some_return_type, no_signature, some_signature, unscoped_name, std_name, substitution_name, global_name, none_attached, args_attached, nested, components, end_of_components, args_component, name_component, args, arguments, end_of_arguments, one_more_argument, pack_argument, type_argument, Pack, PackedAs, pack, end_of_pack, one_more_packed, expansion_type, type, builtin_type, vendor_type, array_type, function_type, member_type, pointer_type, cv_type, elaborated_type, parameter_type, substitution_type, name_type, cv_function, cv_other, function, no_params, some_params, end_of_types, one_more_type, none_attached_to_type, args_attached_to_type, name_symbol, symbol}
+use Rattle.itanium_syntax.proofs.Fronts.{IsAfter, Takes, after_none, after_drop, after_then, takes_then, after_takes, takes_takes, takes_drop, internal_after, initializer_after, cv_after, quals_after, reference_after, builtin_after, builtin_shorter, abbreviation_takes, index_takes, source_takes, optional_number_takes, constructor_some, destructor_some, std_shorter, components_end_shorter, arguments_end_shorter, unnamed_type_takes, lambda_takes, operator_takes, literal_value_takes}
+use Rattle.itanium_grammar.specs.Tree.{Tree, Operand}
+use Rattle.itanium_grammar.specs.Grammar.{Position, Cost, Expression, ExpressionAs, OperandOf, LiteralAs, expression_argument, literal_argument, external_name, value_literal, expression, operand_of, pre_expression, address_expression, unary_expression, post_expression, binary_expression, greater_expression, conditional_expression, parameter_expression, literal_expression, SubstitutionAs, Substitution, Parameter, TaggedAs, UnqualifiedAs, Unqualified, FirstAs, Name, NameAs, Local, EntityAs, Encoding, EncodingAs, ReturnAs, SignatureAs, UnscopedAs, AttachedAs, Nested, Components, ComponentsAs, Args, Arguments, ArgumentsAs, ArgumentAs, TypeOf, TypeAs, CvAs, Function, ParamsAs, TypesAs, TypeAttachedAs, SymbolAs, Symbol, abbreviation_substitution, component_substitution, substitution, parameter, no_tag, next_tag, source_free, unnamed_type_free, lambda_free, conversion_free, literal_operator_free, operator_free, FreeAs, free_component, constructor_component, destructor_component, unqualified, parameter_first, std_first, substitution_first, name_first, name, nested_name, local_name, local, string_literal_entity, default_argument_entity, name_entity, encoding, name_encoding, no_return_type, some_return_type, no_signature, some_signature, unscoped_name, std_name, substitution_name, global_name, none_attached, args_attached, nested, components, end_of_components, args_component, name_component, args, arguments, end_of_arguments, one_more_argument, pack_argument, type_argument, Pack, PackedAs, pack, end_of_pack, one_more_packed, expansion_type, type, builtin_type, vendor_type, array_type, function_type, member_type, pointer_type, cv_type, elaborated_type, parameter_type, substitution_type, name_type, cv_function, cv_other, function, no_params, some_params, end_of_types, one_more_type, none_attached_to_type, args_attached_to_type, name_symbol, symbol}
 
 substitution_as_takes : {case : SubstitutionCase} {p q : Position} {t : Tree} → SubstitutionAs case p t q → Takes q.rest p.rest
 substitution_as_takes (abbreviation_substitution {p = p} known) = abbreviation_takes p.rest _ known
@@ -118,8 +118,33 @@ mutual
   arguments_as_takes form (one_more_argument a b) = takes_takes (argument_takes a) (arguments_takes b)
 
   pub argument_takes : {case : ArgumentCase} {x : Context} {p q : Position} {t : Tree} {c : Cost} → ArgumentAs case x p t q c → Takes q.rest p.rest
+  argument_takes (expression_argument {p = p} {q = q} a end) = takes_then (after_takes (after_drop 1 p.rest) (expression_takes a)) (after_drop 1 q.rest)
   argument_takes (pack_argument a) = pack_takes a
+  argument_takes (literal_argument a) = literal_takes a
   argument_takes (type_argument a) = type_takes a
+
+  pub literal_takes : {case : LiteralCase} {x : Context} {p q : Position} {t : Tree} {c : Cost} → LiteralAs case x p t q c → Takes q.rest p.rest
+  literal_takes (external_name {p = p} {q = q} a end) = takes_then (after_takes (after_drop 3 p.rest) (encoding_takes a)) (after_drop 1 q.rest)
+  literal_takes (value_literal {p = p} {q = q} {value = v} {rest = r} a found has) =
+      takes_takes (after_takes (after_drop 1 p.rest) (type_takes a)) (literal_value_takes q.rest (v, r) found)
+
+  pub expression_takes : {x : Context} {p q : Position} {t : Tree} {c : Cost} → Expression x p t q c → Takes q.rest p.rest
+  expression_takes (expression a) = expression_as_takes a
+
+  operand_takes : {x : Context} {p q : Position} {o : Operand} {c : Cost} → OperandOf x p o q c → Takes q.rest p.rest
+  operand_takes (operand_of a) = expression_takes a
+
+  expression_as_takes : {case : ExpressionCase} {x : Context} {p q : Position} {t : Tree} {c : Cost} → ExpressionAs case x p t q c → Takes q.rest p.rest
+  expression_as_takes (pre_expression {p = p} a) = after_takes (after_drop 3 p.rest) (expression_takes a)
+  expression_as_takes (address_expression {p = p} a) = after_takes (after_drop 2 p.rest) (expression_takes a)
+  expression_as_takes (unary_expression {p = p} a) = after_takes (after_drop 2 p.rest) (operand_takes a)
+  expression_as_takes (post_expression {p = p} a) = after_takes (after_drop 2 p.rest) (operand_takes a)
+  expression_as_takes (binary_expression {p = p} a b) = after_takes (after_drop 2 p.rest) (takes_takes (operand_takes a) (operand_takes b))
+  expression_as_takes (greater_expression {p = p} a b) = after_takes (after_drop 2 p.rest) (takes_takes (expression_takes a) (expression_takes b))
+  expression_as_takes (conditional_expression {p = p} a b d) =
+      after_takes (after_drop 2 p.rest) (takes_takes (operand_takes a) (takes_takes (operand_takes b) (operand_takes d)))
+  expression_as_takes (parameter_expression a) = parameter_takes a
+  expression_as_takes (literal_expression a) = literal_takes a
 
   pub pack_takes : {x : Context} {p q : Position} {t : Tree} {c : Cost} → Pack x p t q c → Takes q.rest p.rest
   pack_takes (pack {p = p} a) = after_takes (after_drop 1 p.rest) (packed_takes refl a)

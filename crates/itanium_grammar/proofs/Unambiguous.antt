@@ -3,15 +3,16 @@ use Rattle.std.proofs.Common.{◌≡◌, ℕ, Bool, true, false, ◌∷◌, List
 use Rattle.std.proofs.lemmas.Option.{some_pair_parts, same_Some}
 use Rattle.demangle_quals.specs.declared.quals.Quals.{Quals}
 use Rattle.itanium_syntax.specs.declared.context.Context.{Context}
-use Rattle.itanium_grammar.specs.Cases.{SymbolCase, NameCase, ReturnCase, SignatureCase, EntityCase, UnscopedCase, AttachedCase, FirstCase, ComponentCase, UnqualifiedCase, FreeCase, TagCase, SubstitutionCase, ArgsCase, ArgumentCase, TypeCase, CvCase, ParamsCase, TypesCase}
+use Rattle.itanium_grammar.specs.Cases.{SymbolCase, LiteralCase, ExpressionCase, NameCase, ReturnCase, SignatureCase, EntityCase, UnscopedCase, AttachedCase, FirstCase, ComponentCase, UnqualifiedCase, FreeCase, TagCase, SubstitutionCase, ArgsCase, ArgumentCase, TypeCase, CvCase, ParamsCase, TypesCase}
 use Rattle.itanium_syntax.specs.Names.{source_text, tag_case, past_name_quals, name_quals, saves_first, first_case}
 use Rattle.itanium_syntax.specs.Scalars.{lambda_number}
 use Rattle.itanium_syntax.specs.Context.{inside_local}
+use Rattle.itanium_syntax.specs.Expressions.{is_external, literal_value, expression_text}
 use Rattle.itanium_syntax.specs.Encodings.{return_case, signature_case, entity_case}
 use Rattle.itanium_syntax.specs.Args.{attached_case, args_case}
 use Rattle.itanium_syntax.specs.Types.{params_case, types_case, elaborated_text, with_reference, past_reference}
-use Rattle.itanium_grammar.specs.Tree.{Tree, local_in, function_encoding, name_printing, shape_of, tagged_with, lambda_of, conversion_to, pack_of, unnamed_text, literal_operator_text, expanded, plain_text, abbreviation, with_args, nested_of, pointer_to, cv_of, array_of, member_of, function_to, elaborated, trees, in_scope, printing, list_printing}
-use Rattle.itanium_grammar.specs.Grammar.{Position, Cost, at, skip, counted, saving, save, put, past_initializer, both, SubstitutionAs, Substitution, ParameterAs, Parameter, TaggedAs, UnqualifiedAs, Unqualified, FirstAs, Name, NameAs, Local, EntityAs, Encoding, EncodingAs, ReturnAs, SignatureAs, UnscopedAs, AttachedAs, Nested, Components, ComponentsAs, Args, Arguments, ArgumentsAs, ArgumentAs, TypeOf, TypeAs, CvAs, Function, ParamsAs, TypesAs, TypeAttachedAs, SymbolAs, Symbol, abbreviation_substitution, component_substitution, substitution, auto_parameter, scope_parameter, parameter, no_tag, next_tag, source_free, unnamed_type_free, lambda_free, conversion_free, literal_operator_free, operator_free, FreeAs, free_component, nothing, constructor_component, destructor_component, unqualified, parameter_first, std_first, substitution_first, name_first, name, nested_name, local_name, local, string_literal_entity, default_argument_entity, name_entity, encoding, name_encoding, no_return_type, some_return_type, no_signature, some_signature, unscoped_name, std_name, substitution_name, global_name, none_attached, args_attached, nested, components, end_of_components, args_component, name_component, args, arguments, end_of_arguments, one_more_argument, pack_argument, type_argument, Pack, PackedAs, pack, end_of_pack, one_more_packed, expansion_type, type, builtin_type, vendor_type, array_type, function_type, member_type, pointer_type, cv_type, elaborated_type, parameter_type, substitution_type, name_type, cv_function, cv_other, function, no_params, some_params, end_of_types, one_more_type, none_attached_to_type, args_attached_to_type, name_symbol, symbol}
+use Rattle.itanium_grammar.specs.Tree.{Tree, Operand, operand, literal_of, address_of, pre_of, unary_of, post_of, binary_of, greater_of, conditional_of, local_in, function_encoding, name_printing, shape_of, tagged_with, lambda_of, conversion_to, pack_of, unnamed_text, literal_operator_text, expanded, plain_text, abbreviation, with_args, nested_of, pointer_to, cv_of, array_of, member_of, function_to, elaborated, trees, in_scope, printing, list_printing}
+use Rattle.itanium_grammar.specs.Grammar.{Position, Cost, Expression, ExpressionAs, OperandOf, LiteralAs, expression_argument, literal_argument, external_name, value_literal, expression, operand_of, pre_expression, address_expression, unary_expression, post_expression, binary_expression, greater_expression, conditional_expression, parameter_expression, literal_expression, at, skip, counted, saving, save, put, past_initializer, both, SubstitutionAs, Substitution, ParameterAs, Parameter, TaggedAs, UnqualifiedAs, Unqualified, FirstAs, Name, NameAs, Local, EntityAs, Encoding, EncodingAs, ReturnAs, SignatureAs, UnscopedAs, AttachedAs, Nested, Components, ComponentsAs, Args, Arguments, ArgumentsAs, ArgumentAs, TypeOf, TypeAs, CvAs, Function, ParamsAs, TypesAs, TypeAttachedAs, SymbolAs, Symbol, abbreviation_substitution, component_substitution, substitution, auto_parameter, scope_parameter, parameter, no_tag, next_tag, source_free, unnamed_type_free, lambda_free, conversion_free, literal_operator_free, operator_free, FreeAs, free_component, nothing, constructor_component, destructor_component, unqualified, parameter_first, std_first, substitution_first, name_first, name, nested_name, local_name, local, string_literal_entity, default_argument_entity, name_entity, encoding, name_encoding, no_return_type, some_return_type, no_signature, some_signature, unscoped_name, std_name, substitution_name, global_name, none_attached, args_attached, nested, components, end_of_components, args_component, name_component, args, arguments, end_of_arguments, one_more_argument, pack_argument, type_argument, Pack, PackedAs, pack, end_of_pack, one_more_packed, expansion_type, type, builtin_type, vendor_type, array_type, function_type, member_type, pointer_type, cv_type, elaborated_type, parameter_type, substitution_type, name_type, cv_function, cv_other, function, no_params, some_params, end_of_types, one_more_type, none_attached_to_type, args_attached_to_type, name_symbol, symbol}
 
 -- two readings have the same tree, the same position after them and the same cost
 pub record Same {T : Type 0} (t u : T) (q r : Position) (c d : Cost) : Type 0 where
@@ -34,6 +35,14 @@ same_saved same = record {
 -- a tree that is made of the one that was read
 same_made : {t u : Tree} {q r : Position} {c d : Cost} (f : Tree → Tree) → Same t u q r c d → Same (f t) (f u) q r c d
 same_made f same = record { tree = ap f same.tree; next = same.next; cost = same.cost }
+
+-- what is made of a part that was read
+same_from : {A B : Type 0} {a b : A} {q r : Position} {c d : Cost} (f : A → B) → Same a b q r c d → Same (f a) (f b) q r c d
+same_from f same = record { tree = ap f same.tree; next = same.next; cost = same.cost }
+
+-- a tree whose E is gone past
+same_skipped : {t u : Tree} {q r : Position} {c d : Cost} → Same t u q r c d → Same t u (skip 1 q) (skip 1 r) c d
+same_skipped same = record { tree = same.tree; next = ap (skip 1) same.next; cost = same.cost }
 
 -- a counted production around what was read
 same_counted : {t u : Tree} {q r : Position} {c d : Cost} (text : Tree → List ℕ) → Same t u q r c d → Same t u q r (counted (length (text t)) c) (counted (length (text u)) d)
@@ -223,8 +232,50 @@ mutual
 
   one_argument : {case : ArgumentCase} {x : Context} {p q r : Position} {t u : Tree} {c d : Cost}
       → ArgumentAs case x p t q c → ArgumentAs case x p u r d → Same t u q r c d
+  one_argument (expression_argument a end) (expression_argument b other) = same_skipped (one_expression a b)
   one_argument (pack_argument a) (pack_argument b) = one_pack a b
+  one_argument (literal_argument a) (literal_argument b) = one_literal a b
   one_argument (type_argument a) (type_argument b) = one_type a b
+
+  one_literal : {case : LiteralCase} {x : Context} {p q r : Position} {t u : Tree} {c d : Cost}
+      → LiteralAs case x p t q c → LiteralAs case x p u r d → Same t u q r c d
+  one_literal (external_name a end) (external_name b other) = same_skipped (one_encoding a b)
+  one_literal (value_literal a e has) (value_literal b g also) =
+      let same = one_type a b in
+      let found = some_pair_parts _ _ _ _ (sym e ∙ ap (λ o. literal_value o.rest) same.next ∙ g) in
+      record { tree = ap₂ literal_of same.tree found.0; next = ap₂ at found.1 same.next; cost = same.cost }
+
+  pub one_expression : {x : Context} {p q r : Position} {t u : Tree} {c d : Cost} → Expression x p t q c → Expression x p u r d → Same t u q r c d
+  one_expression (expression a) (expression b) = same_counted printing (one_expression_as a b)
+
+  one_operand : {x : Context} {p q r : Position} {o m : Operand} {c d : Cost} → OperandOf x p o q c → OperandOf x p m r d → Same o m q r c d
+  one_operand (operand_of {p = p} a) (operand_of b) = same_from (operand (is_external p.rest)) (one_expression a b)
+
+  one_expression_as : {case : ExpressionCase} {x : Context} {p q r : Position} {t u : Tree} {c d : Cost}
+      → ExpressionAs case x p t q c → ExpressionAs case x p u r d → Same t u q r c d
+  one_expression_as (pre_expression {p = p} a) (pre_expression b) = same_made (pre_of (expression_text p.rest)) (one_expression a b)
+  one_expression_as (address_expression a) (address_expression b) = same_made address_of (one_expression a b)
+  one_expression_as (unary_expression {p = p} a) (unary_expression b) = same_from (unary_of (expression_text p.rest)) (one_operand a b)
+  one_expression_as (post_expression {p = p} a) (post_expression b) = same_from (λ o. post_of o (expression_text p.rest)) (one_operand a b)
+  one_expression_as (binary_expression {x = x} {p = p} a b) (binary_expression {r = r} {m = n} {d = d} f h) =
+      let first = one_operand a f in
+      let same = one_operand b (subst (λ o. OperandOf x o n r d) (sym first.next) h) in
+      record { tree = ap₂ (λ o m. binary_of o (expression_text p.rest) m) first.tree same.tree; next = same.next; cost = ap₂ both first.cost same.cost }
+  one_expression_as (greater_expression {x = x} a b) (greater_expression {r = r} {u = v} {d = d} f h) =
+      let first = one_expression a f in
+      let same = one_expression b (subst (λ o. Expression x o v r d) (sym first.next) h) in
+      record { tree = ap₂ greater_of first.tree same.tree; next = same.next; cost = ap₂ both first.cost same.cost }
+  one_expression_as (conditional_expression {x = x} a b g) (conditional_expression {r = r} {s = s} {m = v} {n = w} {d = d} {e = e} f h k) =
+      let first = one_operand a f in
+      let mid = one_operand b (subst (λ o. OperandOf x o v r d) (sym first.next) h) in
+      let same = one_operand g (subst (λ o. OperandOf x o w s e) (sym mid.next) k) in
+      record {
+        tree = λ j. conditional_of (first.tree j) (mid.tree j) (same.tree j);
+        next = same.next;
+        cost = ap₂ both first.cost (ap₂ both mid.cost same.cost);
+      }
+  one_expression_as (parameter_expression a) (parameter_expression b) = let same = one_parameter a b in record { tree = same.0; next = same.1; cost = refl }
+  one_expression_as (literal_expression a) (literal_expression b) = one_literal a b
 
   one_pack : {x : Context} {p q r : Position} {t u : Tree} {c d : Cost} → Pack x p t q c → Pack x p u r d → Same t u q r c d
   one_pack (pack a) (pack b) =

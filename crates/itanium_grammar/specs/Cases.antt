@@ -29,6 +29,10 @@ pub use Rattle.itanium_syntax.specs.declared.args.ArgsCase.{ArgsCase}
 pub use Rattle.itanium_syntax.specs.declared.args.ArgsCase.TheVariants.{EndOfArguments, NextArgument}
 pub use Rattle.itanium_syntax.specs.declared.args.ArgumentCase.{ArgumentCase}
 pub use Rattle.itanium_syntax.specs.declared.args.ArgumentCase.TheVariants.{ExpressionArgument, PackArgument, LiteralArgument, ConstraintArgument, TypeArgument}
+pub use Rattle.itanium_syntax.specs.declared.expressions.LiteralCase.{LiteralCase}
+pub use Rattle.itanium_syntax.specs.declared.expressions.LiteralCase.TheVariants.{ExternalName, ValueLiteral, NoLiteral}
+pub use Rattle.itanium_syntax.specs.declared.expressions.ExpressionCase.{ExpressionCase}
+pub use Rattle.itanium_syntax.specs.declared.expressions.ExpressionCase.TheVariants.{PreExpression, AddressExpression, UnaryExpression, PostExpression, BinaryExpression, GreaterExpression, ConditionalExpression, ParameterExpression, LiteralExpression, NoExpression}
 pub use Rattle.itanium_syntax.specs.declared.types.TypeCase.{TypeCase}
 pub use Rattle.itanium_syntax.specs.declared.types.TypeCase.TheVariants.{BuiltinType, ExpansionType, VendorType, ArrayType, FunctionType, MemberType, PointerType, CvType, ElaboratedType, ParameterType, SubstitutionType, UnreadType, NameType}
 pub use Rattle.itanium_syntax.specs.declared.types.CvCase.{CvCase}

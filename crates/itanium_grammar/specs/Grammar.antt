@@ -6,19 +6,22 @@ use Rattle.demangle_quals.specs.declared.quals.Pointer.{Pointer}
 use Rattle.demangle_quals.specs.declared.quals.Quals.{Quals}
 use Rattle.demangle_quals.specs.Quals.{no_quals}
 use Rattle.demangle_edit.specs.Types.{has_array, has_member_pointer}
+use Rattle.demangle_edit.specs.Expressions.{has_literal}
 use Rattle.itanium_syntax.specs.declared.abbreviations.Abbreviation.{Abbreviation}
 use Rattle.itanium_syntax.specs.declared.context.Context.{Context}
 use Rattle.itanium_syntax.specs.declared.numerals.Radix.TheVariants.{Decimal, Base36}
-use Rattle.itanium_grammar.specs.Cases.{SymbolCase, NameSymbol, NameCase, NestedName, LocalName, UnscopedName, ReturnCase, NoReturnType, SomeReturnType, SignatureCase, NoSignature, SomeSignature, EntityCase, StringLiteralEntity, DefaultArgumentEntity, NameEntity, UnscopedCase, StdName, SubstitutionName, PlainName, AttachedCase, NoneAttached, ArgsAttached, FirstCase, ParameterFirst, StdFirst, SubstitutionFirst, NameFirst, ComponentCase, EndOfComponents, ArgsComponent, NameComponent, UnqualifiedCase, ConstructorName, DestructorName, FreeName, FreeCase, SourceName, UnnamedTypeName, LambdaName, ConversionName, LiteralOperatorName, OperatorName, TagCase, NoTag, NextTag, SubstitutionCase, AbbreviationSubstitution, ComponentSubstitution, ArgsCase, EndOfArguments, NextArgument, ArgumentCase, PackArgument, TypeArgument, TypeCase, BuiltinType, ExpansionType, VendorType, ArrayType, FunctionType, MemberType, PointerType, CvType, ElaboratedType, ParameterType, SubstitutionType, NameType, CvCase, CvFunction, CvOther, PlainFunction, ParamsCase, NoParams, SomeParams, TypesCase, EndOfTypes, NextType}
+use Rattle.itanium_grammar.specs.Cases.{SymbolCase, NameSymbol, NameCase, NestedName, LocalName, UnscopedName, ReturnCase, NoReturnType, SomeReturnType, SignatureCase, NoSignature, SomeSignature, EntityCase, StringLiteralEntity, DefaultArgumentEntity, NameEntity, UnscopedCase, StdName, SubstitutionName, PlainName, AttachedCase, NoneAttached, ArgsAttached, FirstCase, ParameterFirst, StdFirst, SubstitutionFirst, NameFirst, ComponentCase, EndOfComponents, ArgsComponent, NameComponent, UnqualifiedCase, ConstructorName, DestructorName, FreeName, FreeCase, SourceName, UnnamedTypeName, LambdaName, ConversionName, LiteralOperatorName, OperatorName, TagCase, NoTag, NextTag, SubstitutionCase, AbbreviationSubstitution, ComponentSubstitution, ArgsCase, EndOfArguments, NextArgument, ArgumentCase, ExpressionArgument, PackArgument, LiteralArgument, TypeArgument, LiteralCase, ExternalName, ValueLiteral, ExpressionCase, PreExpression, AddressExpression, UnaryExpression, PostExpression, BinaryExpression, GreaterExpression, ConditionalExpression, ParameterExpression, LiteralExpression, TypeCase, BuiltinType, ExpansionType, VendorType, ArrayType, FunctionType, MemberType, PointerType, CvType, ElaboratedType, ParameterType, SubstitutionType, NameType, CvCase, CvFunction, CvOther, PlainFunction, ParamsCase, NoParams, SomeParams, TypesCase, EndOfTypes, NextType}
 use Rattle.itanium_syntax.specs.Scalars.{source_name, index_of, unnamed_type_number, lambda_number, optional_number}
 use Rattle.itanium_syntax.specs.Operators.{operator_here}
 use Rattle.itanium_syntax.specs.Abbreviations.{abbreviation_of}
 use Rattle.itanium_syntax.specs.Context.{opens_scope, inside_type, inside_pack, inside_lambda, inside_local, inside_encoding}
 use Rattle.itanium_syntax.specs.Names.{symbol_case, name_case, unscoped_case, first_case, component_case, unqualified_case, free_case, tag_case, past_internal, past_initializer_letter, source_text, name_quals, past_name_quals, saves_first, substitution_case}
+use Rattle.itanium_syntax.specs.Bytes.{begins}
+use Rattle.itanium_syntax.specs.Expressions.{is_external, literal_case, literal_value, expression_text, expression_case}
 use Rattle.itanium_syntax.specs.Encodings.{return_case, signature_case, entity_case}
 use Rattle.itanium_syntax.specs.Args.{attached_case, args_case, argument_case}
 use Rattle.itanium_syntax.specs.Types.{type_case, builtin_text, past_builtin, cv_quals, past_cv, with_reference, past_reference, cv_case, function_case, params_case, types_case, elaborated_text}
-use Rattle.itanium_grammar.specs.Tree.{Tree, local_in, string_literal_of, default_argument_of, encoding_of, function_encoding, name_printing, plain_text, abbreviation, ctor_dtor_of, tagged_with, with_args, lambda_of, conversion_to, nested_of, pointer_to, cv_of, array_of, member_of, function_to, elaborated, pack_of, trees, in_scope, unnamed_text, literal_operator_text, expanded, shape_of, printing, list_printing}
+use Rattle.itanium_grammar.specs.Tree.{Tree, Operand, operand, literal_of, address_of, pre_of, unary_of, post_of, binary_of, greater_of, conditional_of, local_in, string_literal_of, default_argument_of, encoding_of, function_encoding, name_printing, plain_text, abbreviation, ctor_dtor_of, tagged_with, with_args, lambda_of, conversion_to, nested_of, pointer_to, cv_of, array_of, member_of, function_to, elaborated, pack_of, trees, in_scope, unnamed_text, literal_operator_text, expanded, shape_of, printing, list_printing}
 
 -- where a reading stands: the bytes that are left, the trees saved so far, and the scopes with their arguments
 pub record Position : Type 0 where
@@ -446,16 +449,109 @@ mutual
 
   -- <template-arg>
   pub data ArgumentAs : ArgumentCase → Context → Position → Tree → Position → Cost → Type 0 where
+    -- X <expression> E
+    expression_argument :
+        {x : Context} {p q : Position} {t : Tree} {c : Cost}
+        → Expression x (skip 1 p) t q c
+        → begins (codes "E") q.rest ≡ true
+        → ArgumentAs ExpressionArgument x p t (skip 1 q) c
     -- J <template-arg>* E
     pack_argument :
         {x : Context} {p q : Position} {t : Tree} {c : Cost}
         → Pack x p t q c
         → ArgumentAs PackArgument x p t q c
+    -- <expr-primary>
+    literal_argument :
+        {x : Context} {p q : Position} {t : Tree} {c : Cost}
+        → LiteralAs (literal_case p.rest) x p t q c
+        → ArgumentAs LiteralArgument x p t q c
     -- <type>
     type_argument :
         {x : Context} {p q : Position} {t : Tree} {c : Cost}
         → TypeOf x p t q c
         → ArgumentAs TypeArgument x p t q c
+
+  -- <expr-primary>: a literal, or an external name
+  pub data LiteralAs : LiteralCase → Context → Position → Tree → Position → Cost → Type 0 where
+    -- L _Z <encoding> E: an external name
+    external_name :
+        {x : Context} {p q : Position} {t : Tree} {c : Cost}
+        → Encoding (inside_encoding x) (skip 3 p) t q c
+        → begins (codes "E") q.rest ≡ true
+        → LiteralAs ExternalName x p t (skip 1 q) c
+    -- L <type> <value> E, where the type as it is printed has such a value
+    value_literal :
+        {x : Context} {p q : Position} {t : Tree} {c : Cost} {value rest : List ℕ}
+        → TypeOf x (skip 1 p) t q c
+        → literal_value q.rest ≡ Some (value, rest)
+        → has_literal (printing t) value ≡ true
+        → LiteralAs ValueLiteral x p (literal_of t value) (at rest q) c
+
+  -- <expression>: counted
+  pub data Expression : Context → Position → Tree → Position → Cost → Type 0 where
+    expression :
+        {x : Context} {p q : Position} {t : Tree} {c : Cost}
+        → ExpressionAs (expression_case p.rest) x p t q c
+        → Expression x p t q (counted (length (printing t)) c)
+
+  -- an operand: an <expression>, and whether it is spelled as an external name
+  pub data OperandOf : Context → Position → Operand → Position → Cost → Type 0 where
+    operand_of :
+        {x : Context} {p q : Position} {t : Tree} {c : Cost}
+        → Expression x p t q c
+        → OperandOf x p (operand (is_external p.rest) t) q c
+
+  -- <expression>, by what it begins with
+  pub data ExpressionAs : ExpressionCase → Context → Position → Tree → Position → Cost → Type 0 where
+    -- pp_ <expression> | mm_ <expression>
+    pre_expression :
+        {x : Context} {p q : Position} {t : Tree} {c : Cost}
+        → Expression x (skip 3 p) t q c
+        → ExpressionAs PreExpression x p (pre_of (expression_text p.rest) t) q c
+    -- ad L _Z <encoding> E
+    address_expression :
+        {x : Context} {p q : Position} {t : Tree} {c : Cost}
+        → Expression x (skip 2 p) t q c
+        → ExpressionAs AddressExpression x p (address_of t) q c
+    -- <unary operator-name> <expression>
+    unary_expression :
+        {x : Context} {p q : Position} {o : Operand} {c : Cost}
+        → OperandOf x (skip 2 p) o q c
+        → ExpressionAs UnaryExpression x p (unary_of (expression_text p.rest) o) q c
+    -- pp <expression> | mm <expression>
+    post_expression :
+        {x : Context} {p q : Position} {o : Operand} {c : Cost}
+        → OperandOf x (skip 2 p) o q c
+        → ExpressionAs PostExpression x p (post_of o (expression_text p.rest)) q c
+    -- <binary operator-name> <expression> <expression>
+    binary_expression :
+        {x : Context} {p q r : Position} {o m : Operand} {c d : Cost}
+        → OperandOf x (skip 2 p) o q c
+        → OperandOf x q m r d
+        → ExpressionAs BinaryExpression x p (binary_of o (expression_text p.rest) m) r (both c d)
+    -- gt <expression> <expression>
+    greater_expression :
+        {x : Context} {p q r : Position} {t u : Tree} {c d : Cost}
+        → Expression x (skip 2 p) t q c
+        → Expression x q u r d
+        → ExpressionAs GreaterExpression x p (greater_of t u) r (both c d)
+    -- qu <expression> <expression> <expression>
+    conditional_expression :
+        {x : Context} {p q r s : Position} {o m n : Operand} {c d e : Cost}
+        → OperandOf x (skip 2 p) o q c
+        → OperandOf x q m r d
+        → OperandOf x r n s e
+        → ExpressionAs ConditionalExpression x p (conditional_of o m n) s (both c (both d e))
+    -- <template-param>
+    parameter_expression :
+        {x : Context} {p q : Position} {t : Tree}
+        → Parameter x p t q
+        → ExpressionAs ParameterExpression x p t q nothing
+    -- <expr-primary>
+    literal_expression :
+        {x : Context} {p q : Position} {t : Tree} {c : Cost}
+        → LiteralAs (literal_case p.rest) x p t q c
+        → ExpressionAs LiteralExpression x p t q c
 
   -- <type>: counted
   pub data TypeOf : Context → Position → Tree → Position → Cost → Type 0 where

@@ -1,11 +1,13 @@
 -- What a symbol says, as a tree, and the shape of its printing. The shape is total: whether a step exists is a test
 -- beside it.
-use Rattle.std.specs.Prelude.{ℕ, ◌+◌, Bool, true, false, List, [], ◌∷◌, ◌++◌, map, length, codes, decimal, Option, Some, None, if◌then◌else◌}
+use Rattle.std.specs.Prelude.{ℕ, ◌+◌, Bool, true, false, not, List, [], ◌∷◌, ◌++◌, map, length, codes, decimal, Option, Some, None, if◌then◌else◌}
 use Rattle.demangle_text.specs.Shape.{Shape, plain_shape, with_own, flagged, appended, text}
 use Rattle.demangle_quals.specs.declared.quals.Quals.{Quals}
 use Rattle.demangle_quals.specs.declared.quals.Pointer.{Pointer}
 use Rattle.demangle_quals.specs.Quals.{no_quals}
 use Rattle.demangle_edit.specs.Types.{pointer_shape, cv_shape, array_shape, member_pointer_shape, function_shape, expansion_shape}
+use Rattle.demangle_edit.specs.Lists.{glued}
+use Rattle.demangle_edit.specs.Expressions.{literal_shape, operand_shape, address_shape}
 use Rattle.demangle_edit.specs.Built.{arguments_shape, pack_shape, lambda_shape}
 use Rattle.demangle_edit.specs.Names.{qualified, qualified_ctor, attached, tagged, with_name_qualifiers, encoding_shape}
 use Rattle.itanium_syntax.specs.declared.abbreviations.Abbreviation.{Abbreviation}
@@ -59,6 +61,27 @@ mutual
     expansion_of : Tree → Tree
     -- a pack of arguments
     pack_of : Trees → Tree
+    -- a literal: its type, and its value as it stands in the bytes
+    literal_of : Tree → List ℕ → Tree
+    -- the address of an external name
+    address_of : Tree → Tree
+    -- an operator's text in front of an expression without parentheses
+    pre_of : List ℕ → Tree → Tree
+    -- an operator's text in front of its operand
+    unary_of : List ℕ → Operand → Tree
+    -- an operator's text after its operand
+    post_of : Operand → List ℕ → Tree
+    -- an operator's text between its operands
+    binary_of : Operand → List ℕ → Operand → Tree
+    -- > between two expressions, each in parentheses, and all in parentheses
+    greater_of : Tree → Tree → Tree
+    -- ? and : between three operands
+    conditional_of : Operand → Operand → Operand → Tree
+
+  -- an operand of an expression
+  pub data Operand : Type 0 where
+    -- an expression, and whether it was spelled as an external name: then it has no parentheses
+    operand : Bool → Tree → Operand
 
   -- a list of trees
   pub data Trees : Type 0 where
@@ -84,6 +107,26 @@ elaborated_shape word name = plain_shape (word ++ text name)
 -- a conversion's name, as a plain text: it counts as a constructor's
 abbrev pub conversion_shape : Shape → Shape
 conversion_shape t = flagged false true (plain_shape (codes "operator " ++ text t))
+
+-- an operator's text in front of a text
+abbrev pub pre_shape : List ℕ → Shape → Shape
+pre_shape op t = glued (op ∷ text t ∷ [])
+
+-- an operator's text after a text
+abbrev pub post_shape : Shape → List ℕ → Shape
+post_shape t op = glued (text t ∷ op ∷ [])
+
+-- an operator's text between two texts
+abbrev pub binary_shape : Shape → List ℕ → Shape → Shape
+binary_shape t op u = glued (text t ∷ op ∷ text u ∷ [])
+
+-- > between two texts in parentheses, and all in parentheses
+abbrev pub greater_shape : Shape → Shape → Shape
+greater_shape t u = glued (codes "((" ∷ text t ∷ codes ")>(" ∷ text u ∷ codes "))" ∷ [])
+
+-- ? and : between three texts
+abbrev pub conditional_shape : Shape → Shape → Shape → Shape
+conditional_shape t u v = glued (text t ∷ codes "?" ∷ text u ∷ codes " : " ∷ text v ∷ [])
 
 -- the qualifiers of a name that follow its parameters where it has some: those of a nested name, and those of the
 -- entity of a local name
@@ -119,6 +162,20 @@ unfoldable mutual
   shape_as waits (elaborated word name) = elaborated_shape word (shape_as false name)
   shape_as waits (expansion_of t) = expansion_shape (shape_as false t)
   shape_as waits (pack_of list) = pack_shape (shape_each list)
+
+  shape_as waits (literal_of t value) = literal_shape (shape_as false t) value
+  shape_as waits (address_of name) = address_shape (shape_as false name)
+  shape_as waits (pre_of op t) = pre_shape op (shape_as false t)
+  shape_as waits (unary_of op t) = pre_shape op (shape_of_operand t)
+  shape_as waits (post_of t op) = post_shape (shape_of_operand t) op
+  shape_as waits (binary_of t op u) = binary_shape (shape_of_operand t) op (shape_of_operand u)
+  shape_as waits (greater_of t u) = greater_shape (shape_as false t) (shape_as false u)
+  shape_as waits (conditional_of t u v) =
+      conditional_shape (shape_of_operand t) (shape_of_operand u) (shape_of_operand v)
+
+  -- the shape of an operand: in parentheses, but for an external name
+  pub shape_of_operand : Operand → Shape
+  shape_of_operand (operand external t) = operand_shape (not external) (shape_as false t)
 
   -- the shapes of the trees, in order
   pub shape_each : Trees → List Shape

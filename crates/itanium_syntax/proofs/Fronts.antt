@@ -10,8 +10,11 @@ use Rattle.itanium_syntax.specs.declared.numerals.Radix.{Radix}
 use Rattle.itanium_syntax.specs.declared.numerals.Radix.TheVariants.{Decimal}
 use Rattle.itanium_syntax.specs.Abbreviations.{abbreviation_of}
 use Rattle.itanium_syntax.specs.Bytes.{begins, begins_one_of, past_letter}
-use Rattle.itanium_syntax.specs.Cases.{StringLiteralEntity, DefaultArgumentEntity, NameEntity, ExpansionType, LambdaName, ConversionName, UnnamedTypeName, LiteralOperatorName, OperatorName, PackArgument, StdFirst, EndOfComponents, ArgsComponent, ConstructorName, DestructorName, ArgsAttached, EndOfArguments, BuiltinType, ArrayType, FunctionType, MemberType, PointerType, CvFunction, NoParams, EndOfTypes}
+use Rattle.itanium_syntax.specs.Cases.{PreExpression, AddressExpression, UnaryExpression, PostExpression, BinaryExpression, GreaterExpression, ConditionalExpression, LiteralExpression, ExpressionArgument, LiteralArgument, StringLiteralEntity, DefaultArgumentEntity, NameEntity, ExpansionType, LambdaName, ConversionName, UnnamedTypeName, LiteralOperatorName, OperatorName, PackArgument, StdFirst, EndOfComponents, ArgsComponent, ConstructorName, DestructorName, ArgsAttached, EndOfArguments, BuiltinType, ArrayType, FunctionType, MemberType, PointerType, CvFunction, NoParams, EndOfTypes}
 use Rattle.itanium_syntax.specs.Names.{first_case, component_case, unqualified_case, free_case, past_internal, past_initializer_letter, past_name_quals}
+use Rattle.std.specs.Str.{is_utf8}
+use Rattle.std.specs.Prelude.{take}
+use Rattle.itanium_syntax.specs.Expressions.{value_len, literal_value, expression_case}
 use Rattle.itanium_syntax.specs.Encodings.{entity_case}
 use Rattle.itanium_syntax.specs.Args.{attached_case, args_case, argument_case}
 use Rattle.itanium_syntax.specs.Types.{type_case, types_case, cv_case, params_case, past_builtin, past_cv, past_reference}
@@ -249,6 +252,51 @@ entity_some (b ∷ bytes) e = omega arith
 
 pub ruleset entities_some = (string_literal_some, default_argument_some, entity_some)
 
+-- these expressions have a byte
+pub pre_some : (bytes : List ℕ) → expression_case bytes ≡ PreExpression → 0 < length bytes
+pre_some [] e = cc
+pre_some (b ∷ bytes) e = omega arith
+
+pub address_some : (bytes : List ℕ) → expression_case bytes ≡ AddressExpression → 0 < length bytes
+address_some [] e = cc
+address_some (b ∷ bytes) e = omega arith
+
+pub unary_some : (bytes : List ℕ) → expression_case bytes ≡ UnaryExpression → 0 < length bytes
+unary_some [] e = cc
+unary_some (b ∷ bytes) e = omega arith
+
+pub post_some : (bytes : List ℕ) → expression_case bytes ≡ PostExpression → 0 < length bytes
+post_some [] e = cc
+post_some (b ∷ bytes) e = omega arith
+
+pub binary_some : (bytes : List ℕ) → expression_case bytes ≡ BinaryExpression → 0 < length bytes
+binary_some [] e = cc
+binary_some (b ∷ bytes) e = omega arith
+
+pub greater_some : (bytes : List ℕ) → expression_case bytes ≡ GreaterExpression → 0 < length bytes
+greater_some [] e = cc
+greater_some (b ∷ bytes) e = omega arith
+
+pub conditional_some : (bytes : List ℕ) → expression_case bytes ≡ ConditionalExpression → 0 < length bytes
+conditional_some [] e = cc
+conditional_some (b ∷ bytes) e = omega arith
+
+pub primary_some : (bytes : List ℕ) → expression_case bytes ≡ LiteralExpression → 0 < length bytes
+primary_some [] e = cc
+primary_some (b ∷ bytes) e = omega arith
+
+pub ruleset expressions_some = (pre_some, address_some, unary_some, post_some, binary_some, greater_some, conditional_some, primary_some)
+
+pub expression_argument_some : (bytes : List ℕ) → argument_case bytes ≡ ExpressionArgument → 0 < length bytes
+expression_argument_some [] e = cc
+expression_argument_some (b ∷ bytes) e = omega arith
+
+pub literal_argument_some : (bytes : List ℕ) → argument_case bytes ≡ LiteralArgument → 0 < length bytes
+literal_argument_some [] e = cc
+literal_argument_some (b ∷ bytes) e = omega arith
+
+pub ruleset arguments_some = (expression_argument_some, literal_argument_some)
+
 pub ruleset names_some = (lambda_some, conversion_some, unnamed_type_some, literal_operator_some, operator_some)
 
 pub ruleset cases = (types_end_some, pack_some, expansion_some, array_some, member_some, function_some, pointer_some, cv_function_some, no_params_some, std_shorter, components_end_shorter, arguments_end_shorter, attached_some, component_args_some, builtin_shorter)
@@ -314,3 +362,14 @@ optional_number_takes bytes found e = go (past_underscore bytes) refl e
 
 pub reference_after : (bytes : List ℕ) → IsAfter (past_reference bytes) bytes
 reference_after bytes = if_after _ 1 bytes
+
+pub literal_value_takes : (bytes : List ℕ) (found : List ℕ × List ℕ) → literal_value bytes ≡ Some found → Takes found.1 bytes
+unfolding literal_value
+literal_value_takes bytes found e =
+    let parts = cond_some (nat_lt (value_len bytes) (length bytes) && is_utf8 (take (value_len bytes) bytes)) _ found e in
+    let is : drop (value_len bytes + 1) bytes ≡ found.1 = ap (λ (f : List ℕ × List ℕ). f.1) parts.1 in
+    let within : value_len bytes < length bytes = grind (arith, common_steps, parts.0) in
+    record {
+      after = record { count = value_len bytes + 1; is = sym is };
+      shorter = omega (arith, ap length is, length-drop (value_len bytes + 1) bytes);
+    }

@@ -5,6 +5,7 @@ pub mod Names
 pub mod Encodings
 pub mod Args
 pub mod Operators
+pub mod Expressions
 pub mod Scalars
 pub mod Abbreviations
 pub mod Context

@@ -7,6 +7,7 @@ pub mod abbreviations;
 pub mod args;
 pub mod context;
 pub mod encodings;
+pub mod expressions;
 pub mod names;
 pub mod numerals;
 pub mod operators;

@@ -3,6 +3,7 @@
 ghost use Rattle.std.specs.Prelude.{◌≡◌, ◌<◌, ◌≤◌, IfSome, option_map, length, drop, slice_range};
 ghost use Rattle.itanium_syntax.specs.Scalars as spec;
 
+pub use crate::expressions::expression_refused;
 use crate::numerals::{Radix, numeral};
 pub use crate::operators::{operator_arity, operator_text};
 

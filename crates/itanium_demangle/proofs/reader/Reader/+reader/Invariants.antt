@@ -48,10 +48,10 @@ abbrev pub decreases-framed_args : goal.decreases-framed_args
 decreases-framed_args l = 16 * l.depth + 1
 
 abbrev pub decreases-read_argument : goal.decreases-read_argument
-decreases-read_argument l = 16 * l.depth + 1
+decreases-read_argument l = 16 * l.depth + 7
 
 abbrev pub decreases-framed_argument : goal.decreases-framed_argument
-decreases-framed_argument l = 16 * l.depth + 2
+decreases-framed_argument l = 16 * l.depth + 8
 
 abbrev pub decreases-read_attached : goal.decreases-read_attached
 decreases-read_attached l = 16 * l.depth + 2
@@ -94,7 +94,7 @@ abbrev pub invariant-read_args-loop-self : goal.invariant-read_args-loop-self
 invariant-read_args-loop-self l = record {
   positive : 0 < l.depth;
   reads : ListSoFar (spec.parse_args l.depth l.context l.of_name (state l.fn.self))
-      (spec.list_turn (spec.put l.opens l.scopes) (spec.argument_by (spec.parse_pack (l.depth - 1) l.context) (spec.parse_type (l.depth - 1) l.context)))
+      (spec.list_turn (spec.put l.opens l.scopes) (spec.parse_argument (l.depth - 1) l.context))
       (λ list. whole_shape (arguments_closed list)) (l.first, shape l.self.buffer l.list) (state l.self);
   living : IsLiving l.self.buffer l.list;
   run : IsRun l.fn.self.buffer l.self.buffer;
@@ -198,7 +198,7 @@ abbrev pub invariant-read_pack-loop-self : goal.invariant-read_pack-loop-self
 invariant-read_pack-loop-self l = record {
   positive : 0 < l.depth;
   reads : ListSoFar (spec.parse_pack l.depth l.fn.context (state l.fn.self))
-      (spec.list_turn spec.put_nowhere (spec.argument_by (spec.parse_pack (l.depth - 1) l.inside) (spec.parse_type (l.depth - 1) l.inside)))
+      (spec.list_turn spec.put_nowhere (spec.parse_argument (l.depth - 1) l.inside))
       whole_shape (l.first, shape l.self.buffer l.list) (state l.self);
   living : IsLiving l.self.buffer l.list;
   run : IsRun l.fn.self.buffer l.self.buffer;
@@ -227,3 +227,45 @@ invariant-read_typed-loop-list l = record {
 
 abbrev pub decreases-read_typed-loop-list : goal.decreases-read_typed-loop-list
 decreases-read_typed-loop-list l = length l.self.rest.now
+
+abbrev pub decreases-read_expression : goal.decreases-read_expression
+decreases-read_expression l = 16 * l.depth
+
+abbrev pub decreases-framed_expression : goal.decreases-framed_expression
+decreases-framed_expression l = 16 * l.depth + 1
+
+abbrev pub decreases-read_operand : goal.decreases-read_operand
+decreases-read_operand l = 16 * l.depth + 1
+
+abbrev pub decreases-framed_operand : goal.decreases-framed_operand
+decreases-framed_operand l = 16 * l.depth + 2
+
+abbrev pub decreases-read_pre : goal.decreases-read_pre
+decreases-read_pre l = 16 * l.depth + 1
+
+abbrev pub decreases-read_address : goal.decreases-read_address
+decreases-read_address l = 16 * l.depth + 1
+
+abbrev pub decreases-read_unary : goal.decreases-read_unary
+decreases-read_unary l = 16 * l.depth + 3
+
+abbrev pub decreases-read_post : goal.decreases-read_post
+decreases-read_post l = 16 * l.depth + 3
+
+abbrev pub decreases-read_binary : goal.decreases-read_binary
+decreases-read_binary l = 16 * l.depth + 3
+
+abbrev pub decreases-read_greater : goal.decreases-read_greater
+decreases-read_greater l = 16 * l.depth + 2
+
+abbrev pub decreases-read_conditional : goal.decreases-read_conditional
+decreases-read_conditional l = 16 * l.depth + 4
+
+abbrev pub decreases-read_primary : goal.decreases-read_primary
+decreases-read_primary l = 16 * l.depth + 6
+
+abbrev pub decreases-read_expression_argument : goal.decreases-read_expression_argument
+decreases-read_expression_argument l = 16 * l.depth + 1
+
+abbrev pub decreases-read_alternatives : goal.decreases-read_alternatives
+decreases-read_alternatives l = 16 * l.depth + 3

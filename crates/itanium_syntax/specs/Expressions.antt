@@ -1,0 +1,108 @@
+-- The cases of literals and of expressions. Of several cases the first one that fits holds.
+use Rattle.std.specs.Prelude.{ℕ, ◌+◌, List, [], ◌∷◌, length, take, drop, Bool, false, not, ◌&&◌, ◌||◌, ◌==◌, nat_lt, codes, if◌then◌else◌, Option, Some, None}
+use Rattle.std.specs.List.{prefix_len}
+use Rattle.std.specs.Str.{is_utf8}
+use Rattle.itanium_syntax.specs.Bytes.{begins, begins_one_of}
+use Rattle.itanium_syntax.specs.Cases.{LiteralCase, ExternalName, ValueLiteral, NoLiteral, ExpressionCase, PreExpression, AddressExpression, UnaryExpression, PostExpression, BinaryExpression, GreaterExpression, ConditionalExpression, ParameterExpression, LiteralExpression, NoExpression}
+use Rattle.itanium_syntax.specs.Operators.{is_code, operator_here, operator_arity}
+
+-- an external name, in place of a literal
+abbrev pub is_external : List ℕ → Bool
+is_external bytes = begins (codes "L_Z") bytes
+
+-- a literal, from its L on
+abbrev pub literal_case : List ℕ → LiteralCase
+literal_case bytes =
+    if is_external bytes then ExternalName else
+    if begins (codes "L_") bytes || begins (codes "LZ") bytes then NoLiteral else ValueLiteral
+
+-- how many bytes come before the first E: all where there is none
+abbrev pub value_len : List ℕ → ℕ
+value_len bytes = prefix_len (λ b. not (b == 69)) bytes
+
+-- the value of a literal, all bytes up to the first E, which are UTF-8, and what follows the E
+unfoldable pub literal_value : List ℕ → Option (List ℕ × List ℕ)
+literal_value bytes =
+    let value = take (value_len bytes) bytes in
+    if nat_lt (value_len bytes) (length bytes) && is_utf8 value
+    then Some (value, drop (value_len bytes + 1) bytes) else None
+
+-- the codes of expressions that aren't read
+abbrev pub expression_refused : ℕ → ℕ → Bool
+expression_refused first second =
+    is_code (codes "cl") first second ||
+    is_code (codes "cv") first second ||
+    is_code (codes "tl") first second ||
+    is_code (codes "il") first second ||
+    is_code (codes "dc") first second ||
+    is_code (codes "sc") first second ||
+    is_code (codes "cc") first second ||
+    is_code (codes "rc") first second ||
+    is_code (codes "ti") first second ||
+    is_code (codes "te") first second ||
+    is_code (codes "st") first second ||
+    is_code (codes "sz") first second ||
+    is_code (codes "at") first second ||
+    is_code (codes "az") first second ||
+    is_code (codes "nx") first second ||
+    is_code (codes "so") first second ||
+    is_code (codes "dt") first second ||
+    is_code (codes "pt") first second ||
+    is_code (codes "ds") first second ||
+    is_code (codes "sZ") first second ||
+    is_code (codes "sP") first second ||
+    is_code (codes "sp") first second ||
+    is_code (codes "tw") first second ||
+    is_code (codes "tr") first second ||
+    is_code (codes "gs") first second ||
+    is_code (codes "nw") first second ||
+    is_code (codes "na") first second ||
+    is_code (codes "dl") first second ||
+    is_code (codes "da") first second
+
+-- such a code is next
+abbrev pub refused_here : List ℕ → Bool
+refused_here [] = false
+refused_here (first ∷ []) = false
+refused_here (first ∷ second ∷ bytes) = expression_refused first second
+
+-- how many operands the code has that is next
+abbrev pub arity_here : List ℕ → Option ℕ
+arity_here [] = None
+arity_here (first ∷ []) = None
+arity_here (first ∷ second ∷ bytes) = operator_arity first second
+
+-- the text of a code, and no text where it is none
+abbrev pub text_or : Option (List ℕ) → List ℕ
+text_or None = []
+text_or (Some text) = text
+
+-- the text of the operator whose code is next
+abbrev pub expression_text : List ℕ → List ℕ
+expression_text bytes = text_or (operator_here bytes)
+
+-- an expression that isn't an operator's: a <template-param>, or a literal or an external name
+abbrev pub operand_case : List ℕ → ExpressionCase
+operand_case bytes =
+    if begins (codes "T") bytes && not (begins_one_of (codes "sueL") (drop 1 bytes)) then ParameterExpression else
+    if begins (codes "L") bytes then LiteralExpression else NoExpression
+
+-- an expression by the number of its operator's operands
+abbrev pub operator_case : List ℕ → Option ℕ → ExpressionCase
+operator_case bytes None = operand_case bytes
+operator_case bytes (Some arity) =
+    if begins (codes "ad") bytes && is_external (drop 2 bytes) then AddressExpression else
+    if begins (codes "pp") bytes || begins (codes "mm") bytes then PostExpression else
+    if begins (codes "gt") bytes then GreaterExpression else
+    if arity == 1 then UnaryExpression else
+    if arity == 3 then ConditionalExpression else BinaryExpression
+
+-- ++ or -- is next, and is printed in front of its operand
+abbrev pub is_pre : List ℕ → Bool
+is_pre bytes = begins (codes "pp_") bytes || begins (codes "mm_") bytes
+
+-- <expression>
+abbrev pub expression_case : List ℕ → ExpressionCase
+expression_case bytes =
+    if is_pre bytes then PreExpression else
+    if refused_here bytes then NoExpression else operator_case bytes (arity_here bytes)
