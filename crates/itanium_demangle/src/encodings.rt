@@ -1,4 +1,4 @@
-//! Encodings and local names (Itanium C++ ABI 5.1.2 and 5.1.6).
+//! Encodings and local names (Itanium C++ ABI 5.1, "General Structure" and "Scope Encoding").
 ghost use Rattle.std.specs.Prelude.{OnOk};
 ghost use Rattle.demangle_text.specs.State.{IsLiving, shape, IsRun, SameFrame};
 ghost use Rattle.itanium_syntax.specs.Context.{inside_encoding, inside_local};
@@ -122,7 +122,7 @@ impl<'a> Reader<'a> {
         }
     }
 
-    /// `<encoding> ::= <name> | <name> [<return type>] <parameter types>`
+    /// `<encoding> ::= <name> [<return type>] [<parameter types>]`
     #[tactic(auto, using(crate::proofs::Rules::encodings))]
     #[cycle(reader)]
     pub fn read_encoding(&mut self, depth: usize, context: Context) -> Result<(), Stop>
@@ -186,8 +186,8 @@ impl<'a> Reader<'a> {
         }
     }
 
-    /// `<local-name> ::= Z <encoding> E <name> | Z <encoding> E s | Z <encoding> E d [<number>] _ <name>`, after its `Z`:
-    /// the own qualifiers of its entity are answered.
+    /// `<local-name> ::= Z <encoding> E <name> | Z <encoding> E s | Z <encoding> E d [<number>] _ <name>`, after its
+    /// `Z`: the own qualifiers of its entity are answered.
     #[tactic(auto, using(crate::proofs::Rules::local_names))]
     #[cycle(reader)]
     pub fn read_local(&mut self, depth: usize, context: Context) -> Result<Quals, Stop>

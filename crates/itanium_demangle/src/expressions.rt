@@ -1,4 +1,4 @@
-//! Literals, external names and expressions (Itanium C++ ABI 5.1.6).
+//! Literals, external names and expressions (Itanium C++ ABI 5.1, "Expressions").
 ghost use Rattle.std.specs.Prelude.{◌≡◌, ◌<◌, OnOk, length};
 ghost use Rattle.demangle_text.specs.State.{IsLiving, Lives, shape, IsRun, SameFrame};
 ghost use Rattle.itanium_grammar.specs.Tree.{pre_shape, post_shape, binary_shape, greater_shape, conditional_shape};

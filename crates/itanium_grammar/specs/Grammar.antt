@@ -179,8 +179,8 @@ mutual
         → UnscopedAs (unscoped_case p.rest) x p t q c
         → NameAs UnscopedName waits x p t q c
 
-  -- <local-name> ::= Z <encoding> E <name> | Z <encoding> E s | Z <encoding> E d [<number>] _ <name>, after its Z: the
-  -- encoding has a context of its own
+  -- <local-name> ::= Z <encoding> E <name> | Z <encoding> E s | Z <encoding> E d [<number>] _ <name>, after its Z: in
+  -- the encoding words are shown, and no type is around it
   pub data Local : Bool → Context → Position → Tree → Position → Cost → Type 0 where
     local :
         {waits : Bool} {x : Context} {p q r : Position} {t u : Tree} {c d : Cost}
@@ -206,7 +206,7 @@ mutual
         → Name waits x (skip 1 p) u q c
         → EntityAs NameEntity waits x t p (local_in t u) q c
 
-  -- <encoding> ::= <name> | <name> [<return type>] <parameter types>
+  -- <encoding> ::= <name> [<return type>] [<parameter types>]
   pub data Encoding : Context → Position → Tree → Position → Cost → Type 0 where
     encoding :
         {x : Context} {p q : Position} {t : Tree} {c : Cost}
@@ -237,7 +237,7 @@ mutual
 
   -- the parameters of an encoding, or none
   pub data SignatureAs : SignatureCase → Context → Tree → Position → Tree → Position → Cost → Type 0 where
-    -- the E after the name
+    -- the E after the name or its return type
     no_signature :
         {x : Context} {t : Tree} {p : Position}
         → SignatureAs NoSignature x t p (encoding_of t) p nothing

@@ -3,10 +3,11 @@ use Rattle.std.specs.Prelude.{ℕ, List, Bool, true, false, not, ◌&&◌, ◌||
 use Rattle.itanium_syntax.specs.Bytes.{begins, begins_digit}
 use Rattle.itanium_syntax.specs.Cases.{NameCase, LocalName, ReturnCase, NoReturnType, SomeReturnType, SignatureCase, NoSignature, SomeSignature, EntityCase, StringLiteralEntity, DefaultArgumentEntity, NameEntity, NoEntity}
 
--- the return type in an encoding, or none: a template has one, but for constructors and conversions, where its name
--- isn't all of the encoding
+-- the return type in an encoding, or none: a template has one, unless it is a constructor or a conversion, or its name
+-- is all of the encoding
 abbrev pub return_case : Bool → Bool → List ℕ → ReturnCase
-return_case templ ctor bytes = if templ && not ctor && not (begins (codes "E") bytes) then SomeReturnType else NoReturnType
+return_case templ ctor bytes =
+    if templ && not ctor && not (begins (codes "E") bytes) then SomeReturnType else NoReturnType
 
 -- the parameters of an encoding, or its end
 abbrev pub signature_case : List ℕ → SignatureCase

@@ -28,8 +28,8 @@ pub enum EntityCase {
     NoEntity,
 }
 
-/// Whether a return type stands there, after a name with these flags: a template has one, but for constructors and
-/// conversions.
+/// Whether a return type stands there, after a name with these flags: a template has one, unless it is a constructor or
+/// a conversion, or its name is all of the encoding.
 pub fn return_case(templ: bool, ctor: bool, bytes: &[u8]) -> ReturnCase
     ensures case { result ≡ spec.return_case templ ctor bytes.now }
 {

@@ -1,4 +1,4 @@
-//! The cases of literals and of expressions (Itanium C++ ABI 5.1.6): which one the next bytes begin. Of several cases the
+//! The cases of literals and of expressions (Itanium C++ ABI 5.1, "Expressions"): which one the next bytes begin. Of several cases the
 //! first one that fits holds.
 ghost use Rattle.std.specs.Prelude.{◌≡◌, ◌<◌, ◌≤◌, IfSome, option_map, length};
 ghost use Rattle.itanium_syntax.specs.Expressions as spec;
@@ -84,7 +84,7 @@ pub fn literal_value(bytes: &[u8]) -> Option<(&str, &[u8])>
     }
 }
 
-/// Whether an expression with this code isn't read (Itanium C++ ABI 5.1.6).
+/// Whether an expression with this code isn't read (Itanium C++ ABI 5.1, "Expressions").
 pub fn expression_refused(first: u8, second: u8) -> bool
     ensures value { result ≡ spec.expression_refused first second }
 {
