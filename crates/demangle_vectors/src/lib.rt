@@ -15,6 +15,8 @@ mod edits;
 #[cfg(test)]
 mod filter;
 #[cfg(test)]
+mod local_names;
+#[cfg(test)]
 mod memory;
 #[cfg(test)]
 mod names;

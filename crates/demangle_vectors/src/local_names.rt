@@ -1,0 +1,107 @@
+//! Local names, and the encodings in them: parameters, return types that aren't printed, and own qualifiers.
+
+use crate::tables::assert_answers;
+use itanium_demangle::Demangler;
+use std::test::Fail;
+
+#[test]
+fn encodings(rt: HostRuntime) -> Result<(), Fail> {
+    let rows = [
+        ("_ZZ1fE1x", "f::x"),
+        ("_ZZ1fvE1x", "f()::x"),
+        ("_ZZN3Foo3barEvE3baz", "Foo::bar()::baz"),
+        ("_ZZN3FooC1EDnE3bar", "Foo::Foo(std::nullptr_t)::bar"),
+    ];
+    assert_answers(&rt, rt.alloc(), rows.as_slice())
+}
+
+#[test]
+fn return_types_of_templates(rt: HostRuntime) -> Result<(), Fail> {
+    let rows = [
+        // The `v` is the return type, and so there are no parameters.
+        ("_ZZ1fIiEvE1x", "f<int>::x"),
+        ("_ZZ1fIiEvT_E1x", "f<int>(int)::x"),
+        ("_ZZN3Foo3barIiE3bazET_E1x", "Foo::bar<int>::baz(int)::x"),
+    ];
+    assert_answers(&rt, rt.alloc(), rows.as_slice())
+}
+
+#[test]
+fn own_qualifiers(rt: HostRuntime) -> Result<(), Fail> {
+    let rows = [
+        ("_ZZNK3Foo3barEvE3baz", "Foo::bar() const::baz"),
+        (
+            "_ZZN3Foo3barEvENUlT_E_4callEv",
+            "Foo::bar()::{lambda(auto)#1}::call",
+        ),
+        (
+            "_ZZN3Foo3barEvENKUlvE_clEv",
+            "Foo::bar()::{lambda()#1}::operator() const",
+        ),
+        // Those of a local name are those of its entity.
+        (
+            "_ZZZNK1A1fEvENKUlvE_clEvE1x",
+            "A::f() const::{lambda()#1}::operator()() const::x",
+        ),
+        // Those of a conversion's type are the type's own.
+        (
+            "_ZZZN1AcvN1B1CEEvENKUlvE_clEvE1x",
+            "A::operator B::C()::{lambda()#1}::operator()() const::x",
+        ),
+    ];
+    assert_answers(&rt, rt.alloc(), rows.as_slice())
+}
+
+#[test]
+fn string_literals_and_default_arguments(rt: HostRuntime) -> Result<(), Fail> {
+    let rows = [
+        // The second `s` is ignored with the rest.
+        ("_ZZ1fvEss", "f()::string literal"),
+        ("_ZUlZ1fvEd_1xE_", "{lambda(f())#1}"),
+        // The name is cut inside `é`, and isn't printed.
+        ("_ZZ1fvEd_1é", "f()"),
+        // What the name saved is there.
+        ("_Z1fIZ1gvEd_N1A1BES0_Evv", "f<g(), A>"),
+    ];
+    assert_answers(&rt, rt.alloc(), rows.as_slice())
+}
+
+#[test]
+fn local_names_in_types(rt: HostRuntime) -> Result<(), Fail> {
+    let rows = [
+        // The scope that the encoding of `g` opened is the last one for the rest of the pack.
+        ("_Z1fIJZ1gIcEvE1xT_EEvv", "f<g<char>::x, char>"),
+        (
+            "_ZN3Foo3barIZN3Bar3bazIcEEvRNS_4ListIT_EEEUlvE_EEv",
+            "Foo::bar<Bar::baz<char>(Foo::List<char>&)::{lambda()#1}>",
+        ),
+    ];
+    assert_answers(&rt, rt.alloc(), rows.as_slice())
+}
+
+#[test]
+fn what_follows_is_ignored(rt: HostRuntime) -> Result<(), Fail> {
+    let rows = [("_ZZ1fvEN1A1gE_0v", "f()::A::g")];
+    assert_answers(&rt, rt.alloc(), rows.as_slice())
+}
+
+#[test]
+fn a_local_name_is_over_when_its_symbol_is(rt: HostRuntime) -> Result<(), Fail> {
+    let mut demangler = Demangler::new();
+    let alloc = rt.alloc();
+    assert_eq!(rt;
+        demangler.demangle(alloc, "_ZZNK3Foo3barEvE3baz")?,
+        Some("Foo::bar() const::baz")
+    );
+    // Outside a local name the words of qualifiers aren't shown.
+    assert_eq!(rt;
+        demangler.demangle(alloc, "_ZNK3Foo3barEv")?,
+        Some("Foo::bar")
+    );
+    assert_eq!(rt; demangler.demangle(alloc, "_ZZNK3Foo")?, None);
+    assert_eq!(rt;
+        demangler.demangle(alloc, "_ZNK3Foo3barEv")?,
+        Some("Foo::bar")
+    );
+    Ok(())
+}
