@@ -422,11 +422,16 @@ abbrev pub parse_greater : Parses Shape → Parses Shape
 parse_greater expression s =
     expression (skip 2 s) >>= λ t. expression t.1 >>= λ u. Some (greater_shape t.0 u.0, u.1)
 
+-- the two operands between which a condition chooses
+abbrev pub parse_alternatives : Parses Shape → Shape → Parses Shape
+parse_alternatives expression condition s =
+    operand_by expression s >>= λ t. operand_by expression t.1 >>= λ u.
+    Some (conditional_shape condition t.0 u.0, u.1)
+
 -- qu <expression> <expression> <expression>
 abbrev pub parse_conditional : Parses Shape → Parses Shape
 parse_conditional expression s =
-    operand_by expression (skip 2 s) >>= λ t. operand_by expression t.1 >>= λ u. operand_by expression u.1 >>= λ v.
-    Some (conditional_shape t.0 u.0 v.0, v.1)
+    operand_by expression (skip 2 s) >>= λ condition. parse_alternatives expression condition.0 condition.1
 
 -- <expression>, by what it begins with
 abbrev pub expression_as : ExpressionCase → Parses Shape → Parses Shape → Context → Parses Shape

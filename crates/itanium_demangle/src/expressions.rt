@@ -278,6 +278,29 @@ impl<'a> Reader<'a> {
         Ok(())
     }
 
+    /// The two operands between which a condition chooses.
+    #[cycle(reader)]
+    fn read_alternatives(
+        &mut self,
+        depth: usize,
+        context: Context,
+        condition: Piece,
+    ) -> Result<(), Stop>
+        requires room { HasRoom 1 (state self.old) }
+        requires condition { IsLiving self.old.buffer condition }
+        ensures reads { Gives result self.new (spec.parse_alternatives (spec.parse_expression depth context)
+            (shape self.old.buffer condition) (state self.old)) }
+        ensures run { OnOk result (IsRun self.old.buffer self.new.buffer) }
+        ensures bounds { Bounds 1 result (state self.old) (state self.new) }
+        ensures saved { SavedBounds 1 result (state self.old) (state self.new) }
+    {
+        self.framed_operand(depth, context)?;
+        let then = self.found;
+        self.framed_operand(depth, context)?;
+        self.print_conditional(condition, then)?;
+        Ok(())
+    }
+
     /// `qu <expression> <expression> <expression>`
     #[cycle(reader)]
     fn read_conditional(&mut self, depth: usize, context: Context) -> Result<(), Stop>
@@ -291,12 +314,7 @@ impl<'a> Reader<'a> {
     {
         self.skip(2);
         self.read_operand(depth, context)?;
-        let condition = self.found;
-        self.framed_operand(depth, context)?;
-        let then = self.found;
-        self.framed_operand(depth, context)?;
-        self.print_conditional(condition, then)?;
-        Ok(())
+        self.read_alternatives(depth, context, self.found)
     }
 
     /// `<expression>`, within `depth` open productions.

@@ -259,10 +259,13 @@ abbrev pub decreases-read_greater : goal.decreases-read_greater
 decreases-read_greater l = 16 * l.depth + 2
 
 abbrev pub decreases-read_conditional : goal.decreases-read_conditional
-decreases-read_conditional l = 16 * l.depth + 3
+decreases-read_conditional l = 16 * l.depth + 4
 
 abbrev pub decreases-read_primary : goal.decreases-read_primary
 decreases-read_primary l = 16 * l.depth + 6
 
 abbrev pub decreases-read_expression_argument : goal.decreases-read_expression_argument
 decreases-read_expression_argument l = 16 * l.depth + 1
+
+abbrev pub decreases-read_alternatives : goal.decreases-read_alternatives
+decreases-read_alternatives l = 16 * l.depth + 3
