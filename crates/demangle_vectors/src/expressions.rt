@@ -55,6 +55,10 @@ fn external_names(rt: HostRuntime) -> Result<(), Fail> {
         ("_Z1fIL_Z1gEEvv", "f<g>"),
         ("_Z1fIXadL_Z1gEEEvv", "f<&g>"),
         ("_Z1fIXadL_ZN3Foo3barEiEEEv", "f<&Foo::bar(int)>"),
+        (
+            "_Z1fIXadL_ZN3Foo3barEiEELm4EEvv",
+            "f<&Foo::bar(int), (unsigned long)4>",
+        ),
         ("_Z1fI1AXadL_ZNS0_EEEEvv", "f<A, &A>"),
         // What is named has an empty text.
         ("_Z1fIJEXadL_ZNT_EEEEvv", "f<, &>"),
