@@ -13,6 +13,8 @@ mod declarators;
 #[cfg(test)]
 mod edits;
 #[cfg(test)]
+mod expressions;
+#[cfg(test)]
 mod filter;
 #[cfg(test)]
 mod local_names;

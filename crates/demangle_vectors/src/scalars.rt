@@ -56,3 +56,23 @@ fn operator_codes(rt: HostRuntime) {
     assert_eq!(rt; operator_arity(b'q', b'u'), Some(3));
     assert_eq!(rt; operator_arity(b'c', b'v'), None);
 }
+
+#[test]
+fn refused_expressions(rt: HostRuntime) {
+    let refused = [
+        *b"cl", *b"cv", *b"tl", *b"il", *b"dc", *b"sc", *b"cc", *b"rc", *b"ti", *b"te", *b"st",
+        *b"sz", *b"at", *b"az", *b"nx", *b"so", *b"dt", *b"pt", *b"ds", *b"sZ", *b"sP", *b"sp",
+        *b"tw", *b"tr", *b"gs", *b"nw", *b"na", *b"dl", *b"da",
+    ];
+    for [first, second] in refused {
+        assert_eq!(rt; itanium_demangle::scalar::expression_refused(first, second), true);
+    }
+    // Operators that are read, literals and parameters, and no codes at all.
+    let others = [
+        *b"ps", *b"mi", *b"gt", *b"qu", *b"pp", *b"mm", *b"ix", *b"pm", *b"ss", *b"ad", *b"L_",
+        *b"LZ", *b"Li", *b"T_", *b"TL", *b"CL", *b"lc", *b"sr", *b"on", *b"fp", *b"__",
+    ];
+    for [first, second] in others {
+        assert_eq!(rt; itanium_demangle::scalar::expression_refused(first, second), false);
+    }
+}
