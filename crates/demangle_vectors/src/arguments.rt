@@ -1,11 +1,10 @@
 //! Builtin types, argument lists, substitutions, template parameters and constructors.
 
 use crate::tables::{assert_answers, assert_unread};
-use std::test::Fail;
 
 #[test]
-fn builtin_types(rt: HostRuntime) -> Result<(), Fail> {
-    let rows = [
+fn builtin_types(rt: HostRuntime) {
+    let rows = &[
         ("_Z1fIvEvv", "f<void>"),
         ("_Z1fIwEvv", "f<wchar_t>"),
         ("_Z1fIbEvv", "f<bool>"),
@@ -28,12 +27,12 @@ fn builtin_types(rt: HostRuntime) -> Result<(), Fail> {
         ("_Z1fIgEvv", "f<__float128>"),
         ("_Z1fIzEvv", "f<...>"),
     ];
-    assert_answers(&rt, rt.alloc(), rows.as_slice())
+    assert_answers(&rt, rt.alloc(), rows);
 }
 
 #[test]
-fn builtin_types_of_two_letters(rt: HostRuntime) -> Result<(), Fail> {
-    let rows = [
+fn builtin_types_of_two_letters(rt: HostRuntime) {
+    let rows = &[
         ("_Z1fIDsEvv", "f<char16_t>"),
         ("_Z1fIDiEvv", "f<char32_t>"),
         ("_Z1fIDuEvv", "f<char8_t>"),
@@ -45,12 +44,12 @@ fn builtin_types_of_two_letters(rt: HostRuntime) -> Result<(), Fail> {
         ("_Z1fIDeEvv", "f<decimal128>"),
         ("_Z1fIDfEvv", "f<decimal32>"),
     ];
-    assert_answers(&rt, rt.alloc(), rows.as_slice())
+    assert_answers(&rt, rt.alloc(), rows);
 }
 
 #[test]
-fn unread_types(rt: HostRuntime) -> Result<(), Fail> {
-    let symbols = [
+fn unread_types(rt: HostRuntime) {
+    let symbols = &[
         "_Z1fIDv4_fEvv",
         "_Z1fIUlvE_Evv",
         "_Z1fIDoEvv",
@@ -60,12 +59,12 @@ fn unread_types(rt: HostRuntime) -> Result<(), Fail> {
         "_Z1fI",
         "_Z1fIi",
     ];
-    assert_unread(&rt, rt.alloc(), symbols.as_slice())
+    assert_unread(&rt, rt.alloc(), symbols);
 }
 
 #[test]
-fn argument_lists(rt: HostRuntime) -> Result<(), Fail> {
-    let rows = [
+fn argument_lists(rt: HostRuntime) {
+    let rows = &[
         ("_Z1fIiEvv", "f<int>"),
         ("_Z1fIEvv", "f<>"),
         ("_Z1fIicEvv", "f<int, char>"),
@@ -75,12 +74,12 @@ fn argument_lists(rt: HostRuntime) -> Result<(), Fail> {
         ("_ZN1AIiE1BIcE1fEv", "A<int>::B<char>::f"),
         ("_ZSt4swapIiEvRT_S1_", "std::swap<int>"),
     ];
-    assert_answers(&rt, rt.alloc(), rows.as_slice())
+    assert_answers(&rt, rt.alloc(), rows);
 }
 
 #[test]
-fn vectors(rt: HostRuntime) -> Result<(), Fail> {
-    let rows = [
+fn vectors(rt: HostRuntime) {
+    let rows = &[
         (
             "_ZNSt6vectorIiE9push_backERKi",
             "std::vector<int>::push_back",
@@ -90,12 +89,12 @@ fn vectors(rt: HostRuntime) -> Result<(), Fail> {
             "std::vector<std::vector<int> >::size",
         ),
     ];
-    assert_answers(&rt, rt.alloc(), rows.as_slice())
+    assert_answers(&rt, rt.alloc(), rows);
 }
 
 #[test]
-fn substitutions(rt: HostRuntime) -> Result<(), Fail> {
-    let rows = [
+fn substitutions(rt: HostRuntime) {
+    let rows = &[
         (
             "_Z1fI1A1BIS0_S0_ES1_IS2_S2_EEvv",
             "f<A, B<A, A>, B<B<A, A>, B<A, A> > >",
@@ -109,15 +108,15 @@ fn substitutions(rt: HostRuntime) -> Result<(), Fail> {
             "f<A, std::allocator, std::allocator, A>",
         ),
     ];
-    assert_answers(&rt, rt.alloc(), rows.as_slice())?;
+    assert_answers(&rt, rt.alloc(), rows);
     // The component isn't saved yet.
-    let symbols = ["_Z1fIS0_Evv", "_Z1fI1AS1_Evv", "_Z1fIS_IS0_EEvv", "_ZS_IiE"];
-    assert_unread(&rt, rt.alloc(), symbols.as_slice())
+    let symbols = &["_Z1fIS0_Evv", "_Z1fI1AS1_Evv", "_Z1fIS_IS0_EEvv", "_ZS_IiE"];
+    assert_unread(&rt, rt.alloc(), symbols);
 }
 
 #[test]
-fn abbreviations(rt: HostRuntime) -> Result<(), Fail> {
-    let rows = [
+fn abbreviations(rt: HostRuntime) {
+    let rows = &[
         ("_ZNSaIcED2Ev", "std::allocator<char>::~allocator"),
         ("_ZNSsC1Ev", "std::string::string"),
         ("_ZNSbIcE4sizeEv", "std::basic_string<char>::size"),
@@ -132,14 +131,14 @@ fn abbreviations(rt: HostRuntime) -> Result<(), Fail> {
             "std::basic_iostream<char, std::char_traits<char> >::~basic_iostream",
         ),
     ];
-    assert_answers(&rt, rt.alloc(), rows.as_slice())?;
+    assert_answers(&rt, rt.alloc(), rows);
     // Outside a nested name only arguments make a name of an abbreviation.
-    assert_unread(&rt, rt.alloc(), ["_ZSa", "_ZSs3foo", "_ZNSqE"].as_slice())
+    assert_unread(&rt, rt.alloc(), &["_ZSa", "_ZSs3foo", "_ZNSqE"]);
 }
 
 #[test]
-fn constructors_and_destructors(rt: HostRuntime) -> Result<(), Fail> {
-    let rows = [
+fn constructors_and_destructors(rt: HostRuntime) {
+    let rows = &[
         ("_ZN3FooC1Ev", "Foo::Foo"),
         ("_ZN3FooC5Ev", "Foo::Foo"),
         ("_ZN3FooD0Ev", "Foo::~Foo"),
@@ -152,20 +151,20 @@ fn constructors_and_destructors(rt: HostRuntime) -> Result<(), Fail> {
         ("_ZNStD1IEC1E", "std::~std<>::~std"),
         ("__ZNSt1aC1IS_IEEE", "std::a::a<std::a<> >"),
     ];
-    assert_answers(&rt, rt.alloc(), rows.as_slice())?;
-    let symbols = [
+    assert_answers(&rt, rt.alloc(), rows);
+    let symbols = &[
         "_ZN3FooC0Ev",
         "_ZN3FooC6Ev",
         "_ZN3FooD3Ev",
         "_ZNC1Ev",
         "_ZC1v",
     ];
-    assert_unread(&rt, rt.alloc(), symbols.as_slice())
+    assert_unread(&rt, rt.alloc(), symbols);
 }
 
 #[test]
-fn template_parameters(rt: HostRuntime) -> Result<(), Fail> {
-    let rows = [
+fn template_parameters(rt: HostRuntime) {
+    let rows = &[
         ("_Z1fIiT_Evv", "f<int, int>"),
         ("_Z1fIicT0_T_Evv", "f<int, char, char, int>"),
         // A type's list opens no scope.
@@ -173,7 +172,7 @@ fn template_parameters(rt: HostRuntime) -> Result<(), Fail> {
         // A parameter is saved, too.
         ("_Z1fIiT_S0_Evv", "f<int, int, int>"),
     ];
-    assert_answers(&rt, rt.alloc(), rows.as_slice())?;
-    let symbols = ["_Z1fIT_iEvv", "_Z1fIiT0_Evv", "_Z1fI1AIT_EiEvv", "_ZNT_E"];
-    assert_unread(&rt, rt.alloc(), symbols.as_slice())
+    assert_answers(&rt, rt.alloc(), rows);
+    let symbols = &["_Z1fIT_iEvv", "_Z1fIiT0_Evv", "_Z1fI1AIT_EiEvv", "_ZNT_E"];
+    assert_unread(&rt, rt.alloc(), symbols);
 }

@@ -1,12 +1,10 @@
 //! Pointers, references, qualifiers, arrays, pointers to members, functions and elaborated types.
 
-use crate::tables::{assert_answers, assert_unread};
-use std::alloc::{AllocError, Global};
-use std::test::Fail;
+use crate::tables::{assert_answers, assert_unread, repeated};
 
 #[test]
-fn pointers_to_functions(rt: HostRuntime) -> Result<(), Fail> {
-    let rows = [
+fn pointers_to_functions(rt: HostRuntime) {
+    let rows = &[
         ("_Z1fIPFvvES1_Evv", "f<void (*)(), void (*)()>"),
         ("_Z1fIPFvvES0_Evv", "f<void (*)(), void ()>"),
         ("_Z1fIPPFvvEEvv", "f<void (**)()>"),
@@ -15,23 +13,23 @@ fn pointers_to_functions(rt: HostRuntime) -> Result<(), Fail> {
         ("_Z1fIRKPFvvEEvv", "f<void (* const&)()>"),
         ("_Z1fIPFbRKiS1_EEv", "f<bool (*)(int const&, int const&)>"),
     ];
-    assert_answers(&rt, rt.alloc(), rows.as_slice())
+    assert_answers(&rt, rt.alloc(), rows);
 }
 
 #[test]
-fn functions(rt: HostRuntime) -> Result<(), Fail> {
-    let rows = [
+fn functions(rt: HostRuntime) {
+    let rows = &[
         ("_Z1fIFvvEEvv", "f<void ()>"),
         ("_Z1fIKFvvEEvv", "f<void () const>"),
         ("_Z1fIFivREEvv", "f<int (void) &>"),
         ("_Z1fIFiiOEEvv", "f<int (int) &&>"),
     ];
-    assert_answers(&rt, rt.alloc(), rows.as_slice())
+    assert_answers(&rt, rt.alloc(), rows);
 }
 
 #[test]
-fn references(rt: HostRuntime) -> Result<(), Fail> {
-    let rows = [
+fn references(rt: HostRuntime) {
+    let rows = &[
         ("_Z1fIOiRS0_Evv", "f<int&&, int&>"),
         ("_Z1fIRiOS0_Evv", "f<int&, int&>"),
         ("_Z1fIRKiEvv", "f<int const&>"),
@@ -39,12 +37,12 @@ fn references(rt: HostRuntime) -> Result<(), Fail> {
         // In a group no reference collapses.
         ("_Z1fIORA3_iEvv", "f<int (&&&) [3]>"),
     ];
-    assert_answers(&rt, rt.alloc(), rows.as_slice())
+    assert_answers(&rt, rt.alloc(), rows);
 }
 
 #[test]
-fn arrays(rt: HostRuntime) -> Result<(), Fail> {
-    let rows = [
+fn arrays(rt: HostRuntime) {
+    let rows = &[
         ("_Z1fIA2_A3_iS0_Evv", "f<int [2][3], int [3]>"),
         ("_Z1fIRKA3_iEvv", "f<int const (&) [3]>"),
         ("_Z1fIA10_iEv", "f<int [10]>"),
@@ -57,12 +55,12 @@ fn arrays(rt: HostRuntime) -> Result<(), Fail> {
             "f<int [18446744073709551615]>",
         ),
     ];
-    assert_answers(&rt, rt.alloc(), rows.as_slice())
+    assert_answers(&rt, rt.alloc(), rows);
 }
 
 #[test]
-fn pointers_to_members(rt: HostRuntime) -> Result<(), Fail> {
-    let rows = [
+fn pointers_to_members(rt: HostRuntime) {
+    let rows = &[
         ("_Z1fIM3FooiE", "f<int Foo::*>"),
         ("_Z1fIM3FooFvvEE", "f<void (Foo::*)()>"),
         ("_Z1fIM3FooKFbvEE", "f<bool (Foo::*)() const>"),
@@ -72,12 +70,12 @@ fn pointers_to_members(rt: HostRuntime) -> Result<(), Fail> {
         // A parenthesis inside a name is no group.
         ("_Z1fIPM2a)FvvEEvv", "f<void (a)::**)()>"),
     ];
-    assert_answers(&rt, rt.alloc(), rows.as_slice())
+    assert_answers(&rt, rt.alloc(), rows);
 }
 
 #[test]
-fn constant_members(rt: HostRuntime) -> Result<(), Fail> {
-    let rows = [
+fn constant_members(rt: HostRuntime) {
+    let rows = &[
         ("_Z1fIN3Foo3BarERKS1_Ev", "f<Foo::Bar, Foo::Bar const&>"),
         (
             "_Z1fIN3Foo3BarENS1_3BazERKS2_Ev",
@@ -100,23 +98,23 @@ fn constant_members(rt: HostRuntime) -> Result<(), Fail> {
             "f<Foo::Bar, Foo::Bar<int>::Baz, Foo::Bar<int>::Baz const&>",
         ),
     ];
-    assert_answers(&rt, rt.alloc(), rows.as_slice())
+    assert_answers(&rt, rt.alloc(), rows);
 }
 
 #[test]
-fn elaborated_types(rt: HostRuntime) -> Result<(), Fail> {
-    let rows = [
+fn elaborated_types(rt: HostRuntime) {
+    let rows = &[
         ("_Z1fITs1AEvv", "f<struct A>"),
         ("_Z1fITu1AEvv", "f<union A>"),
         ("_Z1fITe1AEvv", "f<enum A>"),
         ("_Z1fIu3fooEvv", "f<foo>"),
     ];
-    assert_answers(&rt, rt.alloc(), rows.as_slice())
+    assert_answers(&rt, rt.alloc(), rows);
 }
 
 #[test]
-fn back_references(rt: HostRuntime) -> Result<(), Fail> {
-    let rows = [
+fn back_references(rt: HostRuntime) {
+    let rows = &[
         ("_ZSbI1bOT_IS0_EE", "std::basic_string<b, b<b>&&>"),
         (
             "_Z1TIiMS_T_S1_vSaE",
@@ -143,12 +141,12 @@ fn back_references(rt: HostRuntime) -> Result<(), Fail> {
             "ab<ab<ab, ab, ab>&, ab<ab, ab, ab>&, ab<ab, ab, ab>&>::B.cold",
         ),
     ];
-    assert_answers(&rt, rt.alloc(), rows.as_slice())
+    assert_answers(&rt, rt.alloc(), rows);
 }
 
 #[test]
-fn groups(rt: HostRuntime) -> Result<(), Fail> {
-    let rows = [
+fn groups(rt: HostRuntime) {
+    let rows = &[
         // No space stands between a `*` and a group after it.
         (
             "_ZSsIPMPRA3_Mt1AdcnwS2_E",
@@ -164,12 +162,12 @@ fn groups(rt: HostRuntime) -> Result<(), Fail> {
             "std::string<char, void, float (*) (f::*)()>",
         ),
     ];
-    assert_answers(&rt, rt.alloc(), rows.as_slice())
+    assert_answers(&rt, rt.alloc(), rows);
 }
 
 #[test]
-fn no_declarators(rt: HostRuntime) -> Result<(), Fail> {
-    let symbols = [
+fn no_declarators(rt: HostRuntime) {
+    let symbols = &[
         // A pointer to a member of an array type, an array of functions, a function that returns a
         // pointer to a function.
         "_Z1fIM1AA3_iEvv",
@@ -180,26 +178,14 @@ fn no_declarators(rt: HostRuntime) -> Result<(), Fail> {
         "_Z1fIu3fooIiEEvv",
         "_Z1fIPEvv",
     ];
-    assert_unread(&rt, rt.alloc(), symbols.as_slice())
-}
-
-/// The text that many times.
-fn times(alloc: Global, text: &str, count: usize) -> Result<String, AllocError> {
-    let mut all = String::new(alloc);
-    for _ in 0..count {
-        all.push_str(text)?;
-    }
-    Ok(all)
+    assert_unread(&rt, rt.alloc(), symbols);
 }
 
 #[test]
-fn nested_pointers(rt: HostRuntime) -> Result<(), Fail> {
-    let alloc = rt.alloc();
-    let marks = times(alloc, "P", 125)?;
-    let stars = times(alloc, "*", 125)?;
-    let deepest = format!(in alloc; "_Z1fI{marks}iEvv")?;
-    let answer = format!(in alloc; "f<int{stars}>")?;
-    assert_answers(&rt, alloc, [(deepest.as_str(), answer.as_str())].as_slice())?;
-    let deeper = format!(in alloc; "_Z1fIP{marks}iEvv")?;
-    assert_unread(&rt, alloc, [deeper.as_str()].as_slice())
+fn nested_pointers(rt: HostRuntime) {
+    let deepest = repeated(&rt, rt.alloc(), "_Z1fI", "P", 125, "iEvv");
+    let answer = repeated(&rt, rt.alloc(), "f<int", "*", 125, ">");
+    assert_answers(&rt, rt.alloc(), &[(&deepest, &answer)]);
+    let deeper = repeated(&rt, rt.alloc(), "_Z1fI", "P", 126, "iEvv");
+    assert_unread(&rt, rt.alloc(), &[&deeper]);
 }

@@ -1,12 +1,11 @@
 //! Literals, external names and expressions.
 
-use crate::tables::{assert_answers, assert_unread};
+use crate::tables::{assert_answers, assert_refused, assert_rows, assert_unread, repeated};
 use itanium_demangle::Demangler;
-use std::test::Fail;
 
 #[test]
-fn literals(rt: HostRuntime) -> Result<(), Fail> {
-    let rows = [
+fn literals(rt: HostRuntime) {
+    let rows = &[
         ("_Z1fILi1EEvv", "f<1>"),
         ("_Z1fILi007EEvv", "f<007>"),
         ("_Z1fILiEEvv", "f<>"),
@@ -22,12 +21,12 @@ fn literals(rt: HostRuntime) -> Result<(), Fail> {
         ("_Z1fIiLT_1EEvv", "f<int, 1>"),
         ("_Z11long doubleILS_1EE", "long double<[1]>"),
     ];
-    assert_answers(&rt, rt.alloc(), rows.as_slice())
+    assert_answers(&rt, rt.alloc(), rows);
 }
 
 #[test]
-fn no_literals(rt: HostRuntime) -> Result<(), Fail> {
-    let symbols = [
+fn no_literals(rt: HostRuntime) {
+    let symbols = &[
         "_Z1fILb2EEvv",
         // The value has no end.
         "_Z1fILi1",
@@ -37,21 +36,21 @@ fn no_literals(rt: HostRuntime) -> Result<(), Fail> {
         // An external name without its `E`.
         "_Z1fIL_Z1g",
     ];
-    assert_unread(&rt, rt.alloc(), symbols.as_slice())
+    assert_unread(&rt, rt.alloc(), symbols);
 }
 
 #[test]
-fn values_are_utf8(rt: HostRuntime) -> Result<(), Fail> {
+fn values_are_utf8(rt: HostRuntime) {
     // A name that is read and not printed has a literal, whose type is cut inside `é` or after it.
-    let rows = [("_ZZ1fvEd_1gIL12_GLOBAL__NéEE", "f()")];
-    assert_answers(&rt, rt.alloc(), rows.as_slice())?;
-    let symbols = ["_ZZ1fvEd_1gIL11_GLOBAL__NéEE"];
-    assert_unread(&rt, rt.alloc(), symbols.as_slice())
+    let rows = &[("_ZZ1fvEd_1gIL12_GLOBAL__NéEE", "f()")];
+    assert_answers(&rt, rt.alloc(), rows);
+    let symbols = &["_ZZ1fvEd_1gIL11_GLOBAL__NéEE"];
+    assert_unread(&rt, rt.alloc(), symbols);
 }
 
 #[test]
-fn external_names(rt: HostRuntime) -> Result<(), Fail> {
-    let rows = [
+fn external_names(rt: HostRuntime) {
+    let rows = &[
         ("_Z1fIL_Z1gEEvv", "f<g>"),
         ("_Z1fIXadL_Z1gEEEvv", "f<&g>"),
         ("_Z1fIXadL_ZN3Foo3barEiEEEv", "f<&Foo::bar(int)>"),
@@ -65,12 +64,12 @@ fn external_names(rt: HostRuntime) -> Result<(), Fail> {
         // The words of qualifiers are shown inside an external name, and not outside.
         ("_ZNK1AIL_ZNK1B1gEvEE1fEv", "A<B::g() const>::f"),
     ];
-    assert_answers(&rt, rt.alloc(), rows.as_slice())
+    assert_answers(&rt, rt.alloc(), rows);
 }
 
 #[test]
-fn expressions(rt: HostRuntime) -> Result<(), Fail> {
-    let rows = [
+fn expressions(rt: HostRuntime) {
+    let rows = &[
         ("_Z1fIXngLi1EEEvv", "f<-(1)>"),
         ("_Z1fIXngLiEEEvv", "f<-()>"),
         ("_Z1fIXplLi1ELi2EEEvv", "f<(1)+(2)>"),
@@ -82,12 +81,12 @@ fn expressions(rt: HostRuntime) -> Result<(), Fail> {
             "expr<2>(A<(2)+(1)>)::var",
         ),
     ];
-    assert_answers(&rt, rt.alloc(), rows.as_slice())
+    assert_answers(&rt, rt.alloc(), rows);
 }
 
 #[test]
-fn operands_that_are_external_names(rt: HostRuntime) -> Result<(), Fail> {
-    let rows = [
+fn operands_that_are_external_names(rt: HostRuntime) {
+    let rows = &[
         ("_Z1fIXplL_Z1gELi1EEEvv", "f<g+(1)>"),
         ("_Z1fIXppL_Z1gEEEvv", "f<g++>"),
         ("_Z1fIXpp_L_Z1gEEEvv", "f<++g>"),
@@ -95,12 +94,12 @@ fn operands_that_are_external_names(rt: HostRuntime) -> Result<(), Fail> {
         // A parameter that names an external name isn't spelled as one.
         ("_Z1fIL_Z1gEXplT_Li1EEEvv", "f<g, (g)+(1)>"),
     ];
-    assert_answers(&rt, rt.alloc(), rows.as_slice())
+    assert_answers(&rt, rt.alloc(), rows);
 }
 
 #[test]
-fn no_expressions(rt: HostRuntime) -> Result<(), Fail> {
-    let symbols = [
+fn no_expressions(rt: HostRuntime) {
+    let symbols = &[
         // Refused codes, with one that is an operator's too.
         "_Z1fIXszLi1EEEvv",
         "_Z1fIXclLi1EEEvv",
@@ -112,38 +111,28 @@ fn no_expressions(rt: HostRuntime) -> Result<(), Fail> {
         "_Z1fIXLi1EiEvv",
         "_Z1fIXplLi1EEEvv",
     ];
-    assert_unread(&rt, rt.alloc(), symbols.as_slice())
+    assert_unread(&rt, rt.alloc(), symbols);
 }
 
 #[test]
-fn nested_expressions(rt: HostRuntime) -> Result<(), Fail> {
-    let alloc = rt.alloc();
-    let codes = "ng".repeat(alloc, 124)?;
-    let opened = "-(".repeat(alloc, 124)?;
-    let closed = ")".repeat(alloc, 124)?;
-    let deepest = format!(in alloc; "_Z1fIX{codes}Li1EEE")?;
-    let answer = format!(in alloc; "f<{opened}1{closed}>")?;
-    assert_answers(&rt, alloc, [(deepest.as_str(), answer.as_str())].as_slice())?;
-    let deeper = format!(in alloc; "_Z1fIXng{codes}Li1EEE")?;
-    assert_unread(&rt, alloc, [deeper.as_str()].as_slice())
+fn nested_expressions(rt: HostRuntime) {
+    let deepest = repeated(&rt, rt.alloc(), "_Z1fIX", "ng", 124, "Li1EEE");
+    let opened = repeated(&rt, rt.alloc(), "f<", "-(", 124, "1");
+    let answer = repeated(&rt, rt.alloc(), &opened, ")", 124, ">");
+    assert_answers(&rt, rt.alloc(), &[(&deepest, &answer)]);
+    let deeper = repeated(&rt, rt.alloc(), "_Z1fIX", "ng", 125, "Li1EEE");
+    assert_unread(&rt, rt.alloc(), &[&deeper]);
 }
 
 #[test]
-fn an_external_name_is_over_when_its_symbol_is(rt: HostRuntime) -> Result<(), Fail> {
-    let mut demangler = Demangler::new();
-    let alloc = rt.alloc();
-    assert_eq!(rt;
-        demangler.demangle(alloc, "_Z1fIL_ZNK1A1gEvEEvv")?,
-        Some("f<A::g() const>")
-    );
-    assert_eq!(rt;
-        demangler.demangle(alloc, "_ZNK1A1gEv")?,
-        Some("A::g")
-    );
-    assert_eq!(rt; demangler.demangle(alloc, "_Z1fIL_ZNK1A")?, None);
-    assert_eq!(rt;
-        demangler.demangle(alloc, "_ZNK1A1gEv")?,
-        Some("A::g")
-    );
-    Ok(())
+fn an_external_name_is_over_when_its_symbol_is(rt: HostRuntime) {
+    let mut kept = Demangler::new();
+    let rows = &[
+        ("_Z1fIL_ZNK1A1gEvEEvv", "f<A::g() const>"),
+        ("_ZNK1A1gEv", "A::g"),
+    ];
+    assert_rows(&rt, rt.alloc(), &mut kept, rows);
+    assert_refused(&rt, rt.alloc(), &mut kept, &["_Z1fIL_ZNK1A"]);
+    assert_rows(&rt, rt.alloc(), &mut kept, &[("_ZNK1A1gEv", "A::g")]);
+    drop(kept);
 }

@@ -10,15 +10,39 @@ use symfilter_engine::{FilterFault, Sink, Source, filter};
 /// How many bytes one read asks for, at least.
 const CHUNK_LEN: usize = 131072;
 
+/// The filter ends as expected.
+fn assert_outcome(
+    rt: &impl Abort,
+    outcome: Result<(), FilterFault>,
+    expected: Result<(), FilterFault>,
+) {
+    assert_eq!(rt; outcome, expected);
+}
+
+/// The bytes are as expected. A message leaves them out where there are many.
+fn assert_bytes(rt: &impl Abort, found: &[u8], expected: &[u8]) {
+    if expected.len() < 1000 {
+        assert_eq!(rt; found, expected);
+    }
+    assert!(rt; found == expected);
+}
+
+/// The filtered text of some bytes is as expected, where the ends give and take so many bytes a call.
+fn assert_copied(rt: &impl Abort, alloc: Global, text: &[u8], expected: &[u8], most: usize)
+    requires { 0 < most }
+{
+    let mut reader = MemorySource::new(text, most, 1000);
+    let mut writer = MemorySink::new(alloc, most, 1000);
+    assert_outcome(rt, filter(alloc, &mut reader, &mut writer), Ok(()));
+    assert_bytes(rt, &writer.bytes, expected);
+    assert!(rt; reader.rest.is_empty());
+}
+
 /// The filtered text of some bytes is as expected, whether the ends give and take one byte a call, two, some or all.
 /// So lines are cut at each place.
 fn assert_filtered(rt: &impl Abort, alloc: Global, text: &[u8], expected: &[u8]) {
     for most in [1, 2, 3, 7, 1000] {
-        let mut reader = MemorySource::new(text, most, 1000);
-        let mut writer = MemorySink::new(alloc, most, 1000);
-        assert_eq!(rt; filter(alloc, &mut reader, &mut writer), Ok(()));
-        assert_eq!(rt; writer.bytes.as_slice(), expected);
-        assert!(rt; reader.rest.is_empty());
+        assert_copied(rt, alloc, text, expected, most);
     }
 }
 
@@ -72,65 +96,80 @@ fn other_lines_among_symbols(rt: HostRuntime) {
     );
 }
 
-/// The bytes so many times one after another.
-fn repeated(rt: &impl Abort, alloc: Global, bytes: &[u8], count: usize) -> Vec<u8> {
-    let mut all = Vec::new(alloc);
+/// The bytes so many times more.
+fn append(rt: &impl Abort, all: &mut Vec<u8>, bytes: &[u8], count: usize) {
     for _ in 0..count {
         assert!(rt; all.extend_from_slice(bytes).is_ok());
     }
-    all
 }
 
 /// The same where there are more bytes than a chunk holds, and the ends give and take many a call.
 fn assert_filtered_by_chunks(rt: &impl Abort, alloc: Global, text: &[u8], expected: &[u8]) {
     for most in [9973, CHUNK_LEN - 1, CHUNK_LEN, 10 * CHUNK_LEN] {
-        let mut reader = MemorySource::new(text, most, 1000);
-        let mut writer = MemorySink::new(alloc, most, 1000);
-        assert_eq!(rt; filter(alloc, &mut reader, &mut writer), Ok(()));
-        assert!(rt; writer.bytes.as_slice() == expected);
-        assert!(rt; reader.rest.is_empty());
+        assert_copied(rt, alloc, text, expected, most);
     }
 }
 
 #[test]
 fn a_line_of_three_chunks(rt: HostRuntime) {
-    let mut text = repeated(&rt, rt.alloc(), b"x", 3 * CHUNK_LEN);
+    let mut text = Vec::new(rt.alloc());
+    append(&rt, &mut text, b"x", 3 * CHUNK_LEN);
     assert_filtered_by_chunks(&rt, rt.alloc(), &text, &text);
-    let mut expected = repeated(&rt, rt.alloc(), b"x", 3 * CHUNK_LEN);
-    assert!(rt; text.extend_from_slice(b"\n_Z3foo\n").is_ok());
-    assert!(rt; expected.extend_from_slice(b"\nfoo\n").is_ok());
+    let mut expected = Vec::new(rt.alloc());
+    append(&rt, &mut expected, b"x", 3 * CHUNK_LEN);
+    append(&rt, &mut text, b"\n_Z3foo\n", 1);
+    append(&rt, &mut expected, b"\nfoo\n", 1);
     assert_filtered_by_chunks(&rt, rt.alloc(), &text, &expected);
 }
 
 #[test]
 fn many_lines(rt: HostRuntime) {
     // 162,000 bytes of symbols: lines are cut where a chunk ends, and their answers are longer than a chunk.
-    let symbols = b"_ZNSt6vectorIS_IiEE4sizeEv\n";
-    let answers = b"std::vector<std::vector<int> >::size\n";
-    let mut text = repeated(&rt, rt.alloc(), symbols, 6000);
-    let mut expected = repeated(&rt, rt.alloc(), answers, 6000);
+    let mut text = Vec::new(rt.alloc());
+    append(&rt, &mut text, b"_ZNSt6vectorIS_IiEE4sizeEv\n", 6000);
+    let mut expected = Vec::new(rt.alloc());
+    append(
+        &rt,
+        &mut expected,
+        b"std::vector<std::vector<int> >::size\n",
+        6000,
+    );
     assert_filtered_by_chunks(&rt, rt.alloc(), &text, &expected);
     // Then a long run of other lines, and one that isn't UTF-8, among symbols.
-    for (given, written, count) in [
-        (b"malloc\n".as_slice(), b"malloc\n".as_slice(), 30000),
+    let rows: &[(&[u8], &[u8], usize)] = &[
+        (b"malloc\n", b"malloc\n", 30000),
         (b"_Z3foov\n", b"foo\n", 3),
         (b"\xff\n", b"\xff\n", 1),
         (b"_Z3barv\n", b"bar\n", 3),
-    ] {
-        assert!(rt;
-            text.extend_from_slice(&repeated(&rt, rt.alloc(), given, count))
-                .is_ok()
-        );
-        assert!(rt;
-            expected
-                .extend_from_slice(&repeated(&rt, rt.alloc(), written, count))
-                .is_ok()
-        );
+    ];
+    for (given, written, count) in rows {
+        append(&rt, &mut text, given, *count);
+        append(&rt, &mut expected, written, *count);
     }
     assert_filtered_by_chunks(&rt, rt.alloc(), &text, &expected);
 }
 
-/// Whenever the source is asked, the sink has taken so many bytes.
+/// Whenever the source is asked, the sink, which takes at most `put` bytes a call, has taken so many bytes.
+fn assert_put_by(
+    rt: &impl Abort,
+    alloc: Global,
+    text: &[u8],
+    most: usize,
+    put: usize,
+    expected: &[usize],
+)
+    requires gives_some { 0 < most }
+    requires takes_some { 0 < put }
+{
+    let taken = Cell::new(0);
+    let mut reader = WatchingSource::new(text, most, &taken, expected);
+    let mut writer = CountingSink::new(&taken, put);
+    assert_outcome(rt, filter(alloc, &mut reader, &mut writer), Ok(()));
+    assert!(rt; reader.as_expected);
+    assert!(rt; reader.calls == expected.len());
+}
+
+/// The same, whether the sink takes one byte a call or all.
 fn assert_put_before_asked(
     rt: &impl Abort,
     alloc: Global,
@@ -141,12 +180,7 @@ fn assert_put_before_asked(
     requires { 0 < most }
 {
     for put in [1, 1000] {
-        let taken = Cell::new(0);
-        let mut reader = WatchingSource::new(text, most, &taken, expected);
-        let mut writer = CountingSink::new(&taken, put);
-        assert_eq!(rt; filter(alloc, &mut reader, &mut writer), Ok(()));
-        assert!(rt; reader.as_expected);
-        assert_eq!(rt; reader.calls, expected.len());
+        assert_put_by(rt, alloc, text, most, put, expected);
     }
 }
 
@@ -160,18 +194,35 @@ fn whole_lines_are_put_before_the_source_is_asked(rt: HostRuntime) {
     assert_put_before_asked(&rt, rt.alloc(), text, 100, &[0, 8]);
 }
 
+/// The reader, whether it has failed, and whether it was called after that.
+fn assert_reader(rt: &impl Abort, reader: &MemorySource, failed: bool, called_after: bool) {
+    assert!(rt; reader.failed() == failed);
+    assert!(rt; reader.called_after == called_after);
+}
+
+/// The writer: what it took, whether it has failed, and whether it was called after that.
+fn assert_writer(
+    rt: &impl Abort,
+    writer: &MemorySink,
+    bytes: &[u8],
+    failed: bool,
+    called_after: bool,
+) {
+    assert_bytes(rt, &writer.bytes, bytes);
+    assert!(rt; writer.failed() == failed);
+    assert!(rt; writer.called_after == called_after);
+}
+
 #[test]
 fn a_reader_that_fails(rt: HostRuntime) {
     let mut reader = MemorySource::new(b"_Z3foov\n_Z3barv\n", 8, 1);
     let mut writer = MemorySink::new(rt.alloc(), 100, 100);
     let outcome = filter(rt.alloc(), &mut reader, &mut writer);
-    assert_eq!(rt; outcome, Err(FilterFault::Read));
+    assert_outcome(&rt, outcome, Err(FilterFault::Read));
     // The line before the fault is written.
-    assert_eq!(rt; writer.bytes.as_slice(), b"foo\n".as_slice());
-    assert!(rt; reader.failed());
-    assert!(rt; !writer.failed());
+    assert_writer(&rt, &writer, b"foo\n", false, false);
     // The reader wasn't called again.
-    assert!(rt; !reader.called_after);
+    assert_reader(&rt, &reader, true, false);
 }
 
 #[test]
@@ -179,11 +230,9 @@ fn a_writer_that_fails(rt: HostRuntime) {
     let mut reader = MemorySource::new(b"_Z3foov\nx\n", 100, 100);
     let mut writer = MemorySink::new(rt.alloc(), 2, 1);
     let outcome = filter(rt.alloc(), &mut reader, &mut writer);
-    assert_eq!(rt; outcome, Err(FilterFault::Write));
-    assert_eq!(rt; writer.bytes.as_slice(), b"fo".as_slice());
-    assert!(rt; writer.failed());
-    assert!(rt; !reader.failed());
+    assert_outcome(&rt, outcome, Err(FilterFault::Write));
     // Neither end was called again.
-    assert!(rt; !writer.called_after);
-    assert_eq!(rt; reader.calls_left, 99);
+    assert_writer(&rt, &writer, b"fo", true, false);
+    assert_reader(&rt, &reader, false, false);
+    assert!(rt; reader.calls_left == 99);
 }

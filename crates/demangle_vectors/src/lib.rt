@@ -1,5 +1,4 @@
-//! Tests that cross crates: symbols with their answers, scripts over the buffer, each edit, and the filter between two
-//! ends in memory.
+//! Tests that cross crates: symbols with their answers, and the filter between two ends in memory.
 //!
 //! The expected texts come from the grammar's definition, and not from what the crates answer.
 #![tactic(auto)]
@@ -7,11 +6,7 @@
 #[cfg(test)]
 mod arguments;
 #[cfg(test)]
-mod buffer;
-#[cfg(test)]
 mod declarators;
-#[cfg(test)]
-mod edits;
 #[cfg(test)]
 mod expressions;
 #[cfg(test)]

@@ -1,34 +1,33 @@
 //! Local names, and the encodings in them: parameters, return types that aren't printed, and own qualifiers.
 
-use crate::tables::assert_answers;
+use crate::tables::{assert_answers, assert_refused, assert_rows};
 use itanium_demangle::Demangler;
-use std::test::Fail;
 
 #[test]
-fn encodings(rt: HostRuntime) -> Result<(), Fail> {
-    let rows = [
+fn encodings(rt: HostRuntime) {
+    let rows = &[
         ("_ZZ1fE1x", "f::x"),
         ("_ZZ1fvE1x", "f()::x"),
         ("_ZZN3Foo3barEvE3baz", "Foo::bar()::baz"),
         ("_ZZN3FooC1EDnE3bar", "Foo::Foo(std::nullptr_t)::bar"),
     ];
-    assert_answers(&rt, rt.alloc(), rows.as_slice())
+    assert_answers(&rt, rt.alloc(), rows);
 }
 
 #[test]
-fn return_types_of_templates(rt: HostRuntime) -> Result<(), Fail> {
-    let rows = [
+fn return_types_of_templates(rt: HostRuntime) {
+    let rows = &[
         // The `v` is the return type, and so there are no parameters.
         ("_ZZ1fIiEvE1x", "f<int>::x"),
         ("_ZZ1fIiEvT_E1x", "f<int>(int)::x"),
         ("_ZZN3Foo3barIiE3bazET_E1x", "Foo::bar<int>::baz(int)::x"),
     ];
-    assert_answers(&rt, rt.alloc(), rows.as_slice())
+    assert_answers(&rt, rt.alloc(), rows);
 }
 
 #[test]
-fn own_qualifiers(rt: HostRuntime) -> Result<(), Fail> {
-    let rows = [
+fn own_qualifiers(rt: HostRuntime) {
+    let rows = &[
         ("_ZZNK3Foo3barEvE3baz", "Foo::bar() const::baz"),
         (
             "_ZZN3Foo3barEvENUlT_E_4callEv",
@@ -49,12 +48,12 @@ fn own_qualifiers(rt: HostRuntime) -> Result<(), Fail> {
             "A::operator B::C()::{lambda()#1}::operator()() const::x",
         ),
     ];
-    assert_answers(&rt, rt.alloc(), rows.as_slice())
+    assert_answers(&rt, rt.alloc(), rows);
 }
 
 #[test]
-fn string_literals_and_default_arguments(rt: HostRuntime) -> Result<(), Fail> {
-    let rows = [
+fn string_literals_and_default_arguments(rt: HostRuntime) {
+    let rows = &[
         // The second `s` is ignored with the rest.
         ("_ZZ1fvEss", "f()::string literal"),
         ("_ZUlZ1fvEd_1xE_", "{lambda(f())#1}"),
@@ -63,12 +62,12 @@ fn string_literals_and_default_arguments(rt: HostRuntime) -> Result<(), Fail> {
         // What the name saved is there.
         ("_Z1fIZ1gvEd_N1A1BES0_Evv", "f<g(), A>"),
     ];
-    assert_answers(&rt, rt.alloc(), rows.as_slice())
+    assert_answers(&rt, rt.alloc(), rows);
 }
 
 #[test]
-fn local_names_in_types(rt: HostRuntime) -> Result<(), Fail> {
-    let rows = [
+fn local_names_in_types(rt: HostRuntime) {
+    let rows = &[
         // The scope that the encoding of `g` opened is the last one for the rest of the pack.
         ("_Z1fIJZ1gIcEvE1xT_EEvv", "f<g<char>::x, char>"),
         (
@@ -76,32 +75,30 @@ fn local_names_in_types(rt: HostRuntime) -> Result<(), Fail> {
             "Foo::bar<Bar::baz<char>(Foo::List<char>&)::{lambda()#1}>",
         ),
     ];
-    assert_answers(&rt, rt.alloc(), rows.as_slice())
+    assert_answers(&rt, rt.alloc(), rows);
 }
 
 #[test]
-fn what_follows_is_ignored(rt: HostRuntime) -> Result<(), Fail> {
-    let rows = [("_ZZ1fvEN1A1gE_0v", "f()::A::g")];
-    assert_answers(&rt, rt.alloc(), rows.as_slice())
+fn what_follows_is_ignored(rt: HostRuntime) {
+    let rows = &[("_ZZ1fvEN1A1gE_0v", "f()::A::g")];
+    assert_answers(&rt, rt.alloc(), rows);
 }
 
 #[test]
-fn a_local_name_is_over_when_its_symbol_is(rt: HostRuntime) -> Result<(), Fail> {
-    let mut demangler = Demangler::new();
-    let alloc = rt.alloc();
-    assert_eq!(rt;
-        demangler.demangle(alloc, "_ZZNK3Foo3barEvE3baz")?,
-        Some("Foo::bar() const::baz")
+fn a_local_name_is_over_when_its_symbol_is(rt: HostRuntime) {
+    let mut kept = Demangler::new();
+    let rows = &[
+        ("_ZZNK3Foo3barEvE3baz", "Foo::bar() const::baz"),
+        // Outside a local name the words of qualifiers aren't shown.
+        ("_ZNK3Foo3barEv", "Foo::bar"),
+    ];
+    assert_rows(&rt, rt.alloc(), &mut kept, rows);
+    assert_refused(&rt, rt.alloc(), &mut kept, &["_ZZNK3Foo"]);
+    assert_rows(
+        &rt,
+        rt.alloc(),
+        &mut kept,
+        &[("_ZNK3Foo3barEv", "Foo::bar")],
     );
-    // Outside a local name the words of qualifiers aren't shown.
-    assert_eq!(rt;
-        demangler.demangle(alloc, "_ZNK3Foo3barEv")?,
-        Some("Foo::bar")
-    );
-    assert_eq!(rt; demangler.demangle(alloc, "_ZZNK3Foo")?, None);
-    assert_eq!(rt;
-        demangler.demangle(alloc, "_ZNK3Foo3barEv")?,
-        Some("Foo::bar")
-    );
-    Ok(())
+    drop(kept);
 }

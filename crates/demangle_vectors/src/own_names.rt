@@ -1,12 +1,11 @@
 //! Names that are no plain words: operators, conversions, unnamed types, lambdas and tags; packs and their expansions.
 
-use crate::tables::{assert_answers, assert_unread};
+use crate::tables::{assert_answers, assert_refused, assert_rows, assert_unread};
 use itanium_demangle::Demangler;
-use std::test::Fail;
 
 #[test]
-fn operators(rt: HostRuntime) -> Result<(), Fail> {
-    let rows = [
+fn operators(rt: HostRuntime) {
+    let rows = &[
         ("_ZN1AlsIiEEvv", "A::operator<< <int>"),
         ("_ZltIiEvv", "operator< <int>"),
         ("_ZN3FoonwEm", "Foo::operator new"),
@@ -17,14 +16,14 @@ fn operators(rt: HostRuntime) -> Result<(), Fail> {
         ("_ZN3FoocviEv", "Foo::operator int"),
         ("_ZN3FoocvM1AiEv", "Foo::operator int A::*"),
     ];
-    assert_answers(&rt, rt.alloc(), rows.as_slice())?;
+    assert_answers(&rt, rt.alloc(), rows);
     // The parameter is read before the list that it would be of.
-    assert_unread(&rt, rt.alloc(), ["_ZN1AcvT_IiEEv"].as_slice())
+    assert_unread(&rt, rt.alloc(), &["_ZN1AcvT_IiEEv"]);
 }
 
 #[test]
-fn unnamed_types_and_lambdas(rt: HostRuntime) -> Result<(), Fail> {
-    let rows = [
+fn unnamed_types_and_lambdas(rt: HostRuntime) {
+    let rows = &[
         ("_ZN3FooUt_3barEv", "Foo::{unnamed type#1}::bar"),
         ("_ZN1AUlvE0_E", "A::{lambda()#2}"),
         ("_ZN1AUlE_E", "A::{lambda()#1}"),
@@ -49,12 +48,12 @@ fn unnamed_types_and_lambdas(rt: HostRuntime) -> Result<(), Fail> {
             "f<A::B, A::B::{lambda(C*)#1}, C>",
         ),
     ];
-    assert_answers(&rt, rt.alloc(), rows.as_slice())
+    assert_answers(&rt, rt.alloc(), rows);
 }
 
 #[test]
-fn tags(rt: HostRuntime) -> Result<(), Fail> {
-    let rows = [
+fn tags(rt: HostRuntime) {
+    let rows = &[
         (
             "_ZN1A12_GLOBAL__N_1B12_GLOBAL__N_1E",
             "A::(anonymous namespace)[abi:(anonymous namespace)]",
@@ -63,12 +62,12 @@ fn tags(rt: HostRuntime) -> Result<(), Fail> {
         ("_ZN3Foo3barB3abcEv", "Foo::bar[abi:abc]"),
         ("_ZN3FooD0B8nn180100Ev", "Foo::~Foo[abi:nn180100]"),
     ];
-    assert_answers(&rt, rt.alloc(), rows.as_slice())
+    assert_answers(&rt, rt.alloc(), rows);
 }
 
 #[test]
-fn packs(rt: HostRuntime) -> Result<(), Fail> {
-    let rows = [
+fn packs(rt: HostRuntime) {
+    let rows = &[
         ("_Z1fIiJEEvv", "f<int, >"),
         ("_Z1fIJDpiEEvv", "f<int>"),
         ("_Z1fIDpiEvv", "f<int...>"),
@@ -85,22 +84,15 @@ fn packs(rt: HostRuntime) -> Result<(), Fail> {
         ("_Z1fIJM1DKFvN1N1TEOEEEvv", "f<void (D::*)(N::T) const &&>"),
         ("_Z1fIJM1DFvN1N1TEREEEvv", "f<void (D::*)(N::T) &>"),
     ];
-    assert_answers(&rt, rt.alloc(), rows.as_slice())
+    assert_answers(&rt, rt.alloc(), rows);
 }
 
 #[test]
-fn a_pack_is_over_when_its_symbol_is(rt: HostRuntime) -> Result<(), Fail> {
-    let mut demangler = Demangler::new();
-    let alloc = rt.alloc();
-    assert_eq!(rt; demangler.demangle(alloc, "_Z1fIiJEEvv")?, Some("f<int, >"));
-    assert_eq!(rt;
-        demangler.demangle(alloc, "_Z1fIDpiEvv")?,
-        Some("f<int...>")
-    );
-    assert_eq!(rt; demangler.demangle(alloc, "_Z1fIJDp")?, None);
-    assert_eq!(rt;
-        demangler.demangle(alloc, "_Z1fIDpiEvv")?,
-        Some("f<int...>")
-    );
-    Ok(())
+fn a_pack_is_over_when_its_symbol_is(rt: HostRuntime) {
+    let mut kept = Demangler::new();
+    let before = &[("_Z1fIiJEEvv", "f<int, >"), ("_Z1fIDpiEvv", "f<int...>")];
+    assert_rows(&rt, rt.alloc(), &mut kept, before);
+    assert_refused(&rt, rt.alloc(), &mut kept, &["_Z1fIJDp"]);
+    assert_rows(&rt, rt.alloc(), &mut kept, &[("_Z1fIDpiEvv", "f<int...>")]);
+    drop(kept);
 }

@@ -1,8 +1,8 @@
 //! Symbols of compiled programs and symbols made at random, with the answers of the grammar's
 //! definition.
 
-use crate::tables::{assert_answers, assert_unread};
-use std::test::Fail;
+use crate::tables::{assert_answers, assert_rows, assert_unread};
+use itanium_demangle::Demangler;
 
 /// Names without arguments.
 const NAMES: [(&str, &str); 40] = [
@@ -67,7 +67,7 @@ const NAMES: [(&str, &str); 40] = [
 ];
 
 /// Names with lists of builtin types and of names.
-const LISTS: [(&str, &str); 80] = [
+const FIRST_LISTS: [(&str, &str); 20] = [
     (
         "_Z11CppTraverseI14RDepListStructEiP7_objectPFiS2_PvES3_",
         "CppTraverse<RDepListStruct>",
@@ -103,6 +103,10 @@ const LISTS: [(&str, &str); 80] = [
     ("_ZNHSoImEE", "std::ostream<unsigned long>"),
     ("_ZNHSs2abC5C1E", "std::string::ab::ab::ab"),
     ("_ZNK2abD5IiEE", "ab::~ab<int>"),
+];
+
+/// More of them.
+const SECOND_LISTS: [(&str, &str); 20] = [
     ("_ZNKOSa1fE", "std::allocator::f &&"),
     ("_ZNKRSaC3E", "std::allocator::allocator &"),
     (
@@ -144,6 +148,10 @@ const LISTS: [(&str, &str); 80] = [
         "_ZNSbMC33a b3intE",
         "std::basic_string::basic_string::a b::int",
     ),
+];
+
+/// More of them.
+const THIRD_LISTS: [(&str, &str); 20] = [
     (
         "_ZNSiC2E.cold",
         "std::basic_istream<char, std::char_traits<char> >::basic_istream.cold",
@@ -176,6 +184,10 @@ const LISTS: [(&str, &str); 80] = [
         "_ZNrOSd3fooME",
         "std::basic_iostream<char, std::char_traits<char> >::foo &&",
     ),
+];
+
+/// More of them.
+const FOURTH_LISTS: [(&str, &str); 20] = [
     ("_ZNrRL1aMC4E", "a::a &"),
     ("_ZNrSoE", "std::ostream"),
     ("_ZNrStC41b2(bE", "std::std::b::(b"),
@@ -214,7 +226,7 @@ const LISTS: [(&str, &str); 80] = [
 ];
 
 /// Names with lists of declarators.
-const DECLARATORS: [(&str, &str); 85] = [
+const FIRST_DECLARATORS: [(&str, &str); 17] = [
     (
         "_Z1(IPFhOSt2d_OA9_u1(EE",
         "(<unsigned char (*)(std::d_&&, ((&&) [9])>",
@@ -262,6 +274,10 @@ const DECLARATORS: [(&str, &str); 85] = [
         "_Z1xIA2_OclT_bcE",
         "x<char&& [2], long, char&& [2], bool, char>",
     ),
+];
+
+/// More of them.
+const SECOND_DECLARATORS: [(&str, &str); 17] = [
     (
         "_Z2::IPVKFw3foobRElS0_S_T2_Ev",
         "::<wchar_t (*)(foo, bool) const volatile &, long, foo, ::, ::>",
@@ -318,6 +334,10 @@ const DECLARATORS: [(&str, &str); 85] = [
         "_ZNH1aIEIFfju1)OET_IT_EEE",
         "a<><float (unsigned int, )) &&, float (unsigned int, )) &&<float (unsigned int, )) &&> >",
     ),
+];
+
+/// More of them.
+const THIRD_DECLARATORS: [(&str, &str); 17] = [
     (
         "_ZNHSaIFDhDuFjEEEE",
         "std::allocator<half (char8_t, unsigned int ())>",
@@ -371,6 +391,10 @@ const DECLARATORS: [(&str, &str); 85] = [
         "_ZNSt1f1xIS0_IA33_u1AERcrS_EE",
         "std::f::x<std::f::x<A [33]>, char&, std::f restrict>",
     ),
+];
+
+/// More of them.
+const FOURTH_DECLARATORS: [(&str, &str); 17] = [
     (
         "_ZNSt3__16__sortIRNS_6__lessImmEEPmEEvT0_S5_T_",
         "std::__1::__sort<std::__1::__less<unsigned long, unsigned long>&, unsigned long*>",
@@ -433,6 +457,10 @@ const DECLARATORS: [(&str, &str); 85] = [
         "_ZSbIRMu3fooFaNS_2éC15floatExEiE",
         "std::basic_string<signed char (foo::*&)(foo::é::é::float, long long), int>",
     ),
+];
+
+/// More of them.
+const FIFTH_DECLARATORS: [(&str, &str); 17] = [
     (
         "_ZSbIrPMSoIEPeE",
         "std::basic_string<long double* std::ostream<>::** restrict>",
@@ -569,21 +597,32 @@ const UNREAD: [&str; 64] = [
 ];
 
 #[test]
-fn names(rt: HostRuntime) -> Result<(), Fail> {
-    assert_answers(&rt, rt.alloc(), NAMES.as_slice())
+fn names(rt: HostRuntime) {
+    assert_answers(&rt, rt.alloc(), &NAMES);
 }
 
 #[test]
-fn lists(rt: HostRuntime) -> Result<(), Fail> {
-    assert_answers(&rt, rt.alloc(), LISTS.as_slice())
+fn lists(rt: HostRuntime) {
+    let mut kept = Demangler::new();
+    assert_rows(&rt, rt.alloc(), &mut kept, &FIRST_LISTS);
+    assert_rows(&rt, rt.alloc(), &mut kept, &SECOND_LISTS);
+    assert_rows(&rt, rt.alloc(), &mut kept, &THIRD_LISTS);
+    assert_rows(&rt, rt.alloc(), &mut kept, &FOURTH_LISTS);
+    drop(kept);
 }
 
 #[test]
-fn declarators(rt: HostRuntime) -> Result<(), Fail> {
-    assert_answers(&rt, rt.alloc(), DECLARATORS.as_slice())
+fn declarators(rt: HostRuntime) {
+    let mut kept = Demangler::new();
+    assert_rows(&rt, rt.alloc(), &mut kept, &FIRST_DECLARATORS);
+    assert_rows(&rt, rt.alloc(), &mut kept, &SECOND_DECLARATORS);
+    assert_rows(&rt, rt.alloc(), &mut kept, &THIRD_DECLARATORS);
+    assert_rows(&rt, rt.alloc(), &mut kept, &FOURTH_DECLARATORS);
+    assert_rows(&rt, rt.alloc(), &mut kept, &FIFTH_DECLARATORS);
+    drop(kept);
 }
 
 #[test]
-fn unread_symbols(rt: HostRuntime) -> Result<(), Fail> {
-    assert_unread(&rt, rt.alloc(), UNREAD.as_slice())
+fn unread_symbols(rt: HostRuntime) {
+    assert_unread(&rt, rt.alloc(), &UNREAD);
 }

@@ -1,60 +1,104 @@
 //! Numbers, sequence ids, source names and operator codes, read by themselves.
 
 use itanium_demangle::scalar::{number, operator_arity, operator_text, sequence_id, source_name};
+use std::process::Abort;
+
+/// What was read at this place of the text is as expected.
+fn assert_value(
+    rt: &impl Abort,
+    text: &str,
+    found: Option<(u64, usize)>,
+    expected: Option<(u64, usize)>,
+) {
+    assert_eq!(rt; found, expected, "{text}");
+}
+
+/// As `assert_value`, for a source name.
+fn assert_name(
+    rt: &impl Abort,
+    text: &str,
+    found: Option<(usize, usize)>,
+    expected: Option<(usize, usize)>,
+) {
+    assert_eq!(rt; found, expected, "{text}");
+}
 
 #[test]
 fn numbers(rt: HostRuntime) {
-    assert_eq!(rt; number(b"0", 0), Some((0, 1)));
-    assert_eq!(rt; number(b"x0070y", 1), Some((70, 5)));
-    assert_eq!(rt;
-        number(b"18446744073709551615_", 0),
-        Some((18_446_744_073_709_551_615, 20))
-    );
-    assert_eq!(rt; number(b"18446744073709551616", 0), None);
-    assert_eq!(rt; number(b"184467440737095516150", 0), None);
-    assert_eq!(rt; number(b"n1", 0), None);
-    assert_eq!(rt; number(b"1", 1), None);
-    assert_eq!(rt; number(b"", 0), None);
+    let rows: &[(&str, usize, Option<(u64, usize)>)] = &[
+        ("0", 0, Some((0, 1))),
+        ("x0070y", 1, Some((70, 5))),
+        (
+            "18446744073709551615_",
+            0,
+            Some((18_446_744_073_709_551_615, 20)),
+        ),
+        ("18446744073709551616", 0, None),
+        ("184467440737095516150", 0, None),
+        ("n1", 0, None),
+        ("1", 1, None),
+        ("", 0, None),
+    ];
+    for (text, at, expected) in rows {
+        assert_value(&rt, text, number(text.as_bytes(), *at), *expected);
+    }
 }
 
 #[test]
 fn sequence_ids(rt: HostRuntime) {
-    assert_eq!(rt; sequence_id(b"S1_", 1), Some((1, 2)));
-    assert_eq!(rt; sequence_id(b"Z_", 0), Some((35, 1)));
-    assert_eq!(rt; sequence_id(b"10_", 0), Some((36, 2)));
-    assert_eq!(rt;
-        sequence_id(b"3W5E11264SGSF_", 0),
-        Some((18_446_744_073_709_551_615, 13))
-    );
-    assert_eq!(rt; sequence_id(b"3W5E11264SGSG_", 0), None);
-    assert_eq!(rt; sequence_id(b"_", 0), None);
-    assert_eq!(rt; sequence_id(b"a_", 0), None);
+    let rows: &[(&str, usize, Option<(u64, usize)>)] = &[
+        ("S1_", 1, Some((1, 2))),
+        ("Z_", 0, Some((35, 1))),
+        ("10_", 0, Some((36, 2))),
+        ("3W5E11264SGSF_", 0, Some((18_446_744_073_709_551_615, 13))),
+        ("3W5E11264SGSG_", 0, None),
+        ("_", 0, None),
+        ("a_", 0, None),
+    ];
+    for (text, at, expected) in rows {
+        assert_value(&rt, text, sequence_id(text.as_bytes(), *at), *expected);
+    }
 }
 
 #[test]
 fn source_names(rt: HostRuntime) {
-    assert_eq!(rt; source_name(b"3foo", 0), Some((1, 4)));
-    assert_eq!(rt; source_name(b"N03food", 1), Some((3, 6)));
-    assert_eq!(rt; source_name(b"12_GLOBAL__N_1x", 0), Some((2, 14)));
-    assert_eq!(rt; source_name(b"4foo", 0), None);
-    assert_eq!(rt; source_name(b"0", 0), None);
-    assert_eq!(rt; source_name(b"18446744073709551615", 0), None);
-    assert_eq!(rt; source_name(b"foo", 0), None);
+    let rows: &[(&str, usize, Option<(usize, usize)>)] = &[
+        ("3foo", 0, Some((1, 4))),
+        ("N03food", 1, Some((3, 6))),
+        ("12_GLOBAL__N_1x", 0, Some((2, 14))),
+        ("4foo", 0, None),
+        ("0", 0, None),
+        ("18446744073709551615", 0, None),
+        ("foo", 0, None),
+    ];
+    for (text, at, expected) in rows {
+        assert_name(&rt, text, source_name(text.as_bytes(), *at), *expected);
+    }
+}
+
+/// The operator of this code has the text and the arity, or none.
+fn assert_text(rt: &impl Abort, first: u8, second: u8, expected: Option<&str>) {
+    assert_eq!(rt; operator_text(first, second), expected);
+}
+
+/// The operator of this code has so many operands, or isn't one of a fixed number.
+fn assert_arity(rt: &impl Abort, first: u8, second: u8, expected: Option<u8>) {
+    assert_eq!(rt; operator_arity(first, second), expected);
 }
 
 #[test]
 fn operator_codes(rt: HostRuntime) {
-    assert_eq!(rt; operator_text(b'n', b'w'), Some(" new"));
-    assert_eq!(rt; operator_text(b'd', b'a'), Some(" delete[]"));
-    assert_eq!(rt; operator_text(b'p', b's'), Some("+"));
-    assert_eq!(rt; operator_text(b'm', b'I'), Some("-="));
-    assert_eq!(rt; operator_text(b's', b's'), Some("<=>"));
-    assert_eq!(rt; operator_text(b'c', b'v'), None);
-    assert_eq!(rt; operator_text(b'l', b'i'), None);
-    assert_eq!(rt; operator_arity(b'p', b's'), Some(1));
-    assert_eq!(rt; operator_arity(b'm', b'i'), Some(2));
-    assert_eq!(rt; operator_arity(b'q', b'u'), Some(3));
-    assert_eq!(rt; operator_arity(b'c', b'v'), None);
+    assert_text(&rt, b'n', b'w', Some(" new"));
+    assert_text(&rt, b'd', b'a', Some(" delete[]"));
+    assert_text(&rt, b'p', b's', Some("+"));
+    assert_text(&rt, b'm', b'I', Some("-="));
+    assert_text(&rt, b's', b's', Some("<=>"));
+    assert_text(&rt, b'c', b'v', None);
+    assert_text(&rt, b'l', b'i', None);
+    assert_arity(&rt, b'p', b's', Some(1));
+    assert_arity(&rt, b'm', b'i', Some(2));
+    assert_arity(&rt, b'q', b'u', Some(3));
+    assert_arity(&rt, b'c', b'v', None);
 }
 
 #[test]
@@ -65,7 +109,10 @@ fn refused_expressions(rt: HostRuntime) {
         *b"tw", *b"tr", *b"gs", *b"nw", *b"na", *b"dl", *b"da",
     ];
     for [first, second] in refused {
-        assert_eq!(rt; itanium_demangle::scalar::expression_refused(first, second), true);
+        assert_eq!(rt;
+            itanium_demangle::scalar::expression_refused(first, second),
+            true
+        );
     }
     // Operators that are read, literals and parameters, and no codes at all.
     let others = [
@@ -73,6 +120,9 @@ fn refused_expressions(rt: HostRuntime) {
         *b"LZ", *b"Li", *b"T_", *b"TL", *b"CL", *b"lc", *b"sr", *b"on", *b"fp", *b"__",
     ];
     for [first, second] in others {
-        assert_eq!(rt; itanium_demangle::scalar::expression_refused(first, second), false);
+        assert_eq!(rt;
+            itanium_demangle::scalar::expression_refused(first, second),
+            false
+        );
     }
 }

@@ -1,7 +1,9 @@
 //! One value that serves symbol after symbol.
 
+use crate::tables::{assert_demangled, assert_text};
 use itanium_demangle::{Demangler, MAX_DEPTH};
-use std::test::Fail;
+use std::alloc::Global;
+use std::process::Abort;
 
 /// A name with two lists and its answer.
 const SIZE_OF_VECTORS: (&str, &str) = (
@@ -21,83 +23,140 @@ const OTHERS: [&str; 8] = [
     "_Z1fI1AIiET_Evv",
 ];
 
-#[test]
-fn a_new_value_answers(rt: HostRuntime) -> Result<(), Fail> {
+/// The symbol is prepared with this text, or none.
+fn assert_prepared(
+    rt: &impl Abort,
+    alloc: Global,
+    demangler: &mut Demangler,
+    symbol: &str,
+    expected: Option<&str>,
+) {
+    let found = demangler.prepare(alloc, symbol).expect(rt, "no memory");
+    assert!(rt; found == expected.is_some(), "{symbol}");
+    assert_text(rt, demangler.text(), expected, symbol);
+}
+
+/// The print of the value.
+fn assert_printed(rt: &impl Abort, alloc: Global, demangler: &Demangler, expected: &str) {
+    let printed = format!(in alloc; "{demangler:?}").expect(rt, "no memory");
+    assert_eq!(rt; printed.as_str(), expected);
+}
+
+/// The name with two lists has its answer.
+fn assert_answered(rt: &impl Abort, alloc: Global, demangler: &mut Demangler, after: &str) {
     let (symbol, answer) = SIZE_OF_VECTORS;
-    let mut demangler = Demangler::new();
-    let found = demangler.demangle(rt.alloc(), symbol)?;
-    assert_eq!(rt; found, Some(answer));
-    Ok(())
+    assert_demangled(rt, alloc, demangler, symbol, Some(answer), after);
+}
+
+/// What is asked first may have an answer or not.
+fn ask(rt: &impl Abort, alloc: Global, demangler: &mut Demangler, symbol: &str) {
+    let outcome = demangler.demangle(alloc, symbol);
+    assert!(rt; outcome.is_ok());
 }
 
 #[test]
-fn a_used_value_answers(rt: HostRuntime) -> Result<(), Fail> {
-    let (symbol, answer) = SIZE_OF_VECTORS;
+fn a_new_value_answers(rt: HostRuntime) {
     let mut demangler = Demangler::new();
-    for other in OTHERS {
-        demangler.demangle(rt.alloc(), other)?;
-        let found = demangler.demangle(rt.alloc(), symbol)?;
-        assert_eq!(rt; found, Some(answer), "after {other}");
+    assert_answered(&rt, rt.alloc(), &mut demangler, "nothing");
+    drop(demangler);
+}
+
+/// The name with two lists has its answer after each of these.
+fn assert_answered_after(
+    rt: &impl Abort,
+    alloc: Global,
+    demangler: &mut Demangler,
+    symbols: &[&str],
+) {
+    for symbol in symbols {
+        ask(rt, alloc, demangler, symbol);
+        assert_answered(rt, alloc, demangler, symbol);
     }
-    Ok(())
 }
 
 #[test]
-fn no_answer_after_an_answer(rt: HostRuntime) -> Result<(), Fail> {
+fn a_used_value_answers(rt: HostRuntime) {
     let mut demangler = Demangler::new();
-    assert!(rt; demangler.prepare(rt.alloc(), "_ZN3Foo3barEv")?);
-    assert_eq!(rt; demangler.text(), Some("Foo::bar"));
-    assert!(rt; !demangler.prepare(rt.alloc(), "malloc")?);
-    assert_eq!(rt; demangler.text(), None);
-    assert!(rt; demangler.prepare(rt.alloc(), "__Z3foo.cold")?);
-    assert_eq!(rt; demangler.text(), Some("foo.cold"));
-    assert!(rt; !demangler.prepare(rt.alloc(), "_Z1fIT_iEvv")?);
-    assert_eq!(rt; demangler.text(), None);
-    Ok(())
+    assert_answered_after(&rt, rt.alloc(), &mut demangler, &OTHERS);
+    drop(demangler);
 }
 
 #[test]
-fn arguments_of_an_earlier_symbol_are_gone(rt: HostRuntime) -> Result<(), Fail> {
+fn no_answer_after_an_answer(rt: HostRuntime) {
+    let mut demangler = Demangler::new();
+    assert_prepared(
+        &rt,
+        rt.alloc(),
+        &mut demangler,
+        "_ZN3Foo3barEv",
+        Some("Foo::bar"),
+    );
+    assert_prepared(&rt, rt.alloc(), &mut demangler, "malloc", None);
+    assert_prepared(
+        &rt,
+        rt.alloc(),
+        &mut demangler,
+        "__Z3foo.cold",
+        Some("foo.cold"),
+    );
+    assert_prepared(&rt, rt.alloc(), &mut demangler, "_Z1fIT_iEvv", None);
+    drop(demangler);
+}
+
+/// No argument and no component of a refused symbol is there for the next ones.
+fn assert_gone(rt: &impl Abort, alloc: Global, demangler: &mut Demangler, refused: &str) {
+    assert_demangled(rt, alloc, demangler, refused, None, "others");
+    assert_demangled(rt, alloc, demangler, "_Z1fIT_E", None, refused);
+    assert_demangled(rt, alloc, demangler, "_ZS0_IiE", None, refused);
+    assert_demangled(
+        rt,
+        alloc,
+        demangler,
+        "_Z1fIcT_E",
+        Some("f<char, char>"),
+        refused,
+    );
+}
+
+#[test]
+fn arguments_of_an_earlier_symbol_are_gone(rt: HostRuntime) {
     let mut demangler = Demangler::new();
     // Both are refused while a list is open.
-    for refused in ["_Z1fIiT0_E", "_Z1fIi1A1B"] {
-        assert_eq!(rt; demangler.demangle(rt.alloc(), refused)?, None, "{refused}");
-        assert_eq!(rt;
-            demangler.demangle(rt.alloc(), "_Z1fIT_E")?,
-            None,
-            "after {refused}"
-        );
-        assert_eq!(rt;
-            demangler.demangle(rt.alloc(), "_ZS0_IiE")?,
-            None,
-            "after {refused}"
-        );
-        let found = demangler.demangle(rt.alloc(), "_Z1fIcT_E")?;
-        assert_eq!(rt; found, Some("f<char, char>"), "after {refused}");
-    }
-    Ok(())
+    assert_gone(&rt, rt.alloc(), &mut demangler, "_Z1fIiT0_E");
+    assert_gone(&rt, rt.alloc(), &mut demangler, "_Z1fIi1A1B");
+    drop(demangler);
+}
+
+/// An empty value has no text, and answers.
+fn assert_empty(rt: &impl Abort, alloc: Global, demangler: &mut Demangler) {
+    assert_text(rt, demangler.text(), None, "nothing");
+    assert_demangled(
+        rt,
+        alloc,
+        demangler,
+        "_ZN3Foo3barEv",
+        Some("Foo::bar"),
+        "nothing",
+    );
 }
 
 #[test]
-fn empty_values(rt: HostRuntime) -> Result<(), Fail> {
-    let new = Demangler::new();
-    assert_eq!(rt; new.text(), None);
+fn empty_values(rt: HostRuntime) {
+    let mut new = Demangler::new();
+    assert_empty(&rt, rt.alloc(), &mut new);
+    drop(new);
     let mut default = Demangler::default();
-    assert_eq!(rt; default.text(), None);
-    let found = default.demangle(rt.alloc(), "_ZN3Foo3barEv")?;
-    assert_eq!(rt; found, Some("Foo::bar"));
-    Ok(())
+    assert_empty(&rt, rt.alloc(), &mut default);
+    drop(default);
 }
 
 #[test]
-fn the_print_of_a_value(rt: HostRuntime) -> Result<(), Fail> {
+fn the_print_of_a_value(rt: HostRuntime) {
     let mut demangler = Demangler::new();
-    let empty = format!(in rt.alloc(); "{demangler:?}")?;
-    assert_eq!(rt; empty.as_str(), "Demangler");
-    demangler.demangle(rt.alloc(), "_ZN3Foo3barEv")?;
-    let used = format!(in rt.alloc(); "{demangler:?}")?;
-    assert_eq!(rt; used.as_str(), "Demangler");
-    Ok(())
+    assert_printed(&rt, rt.alloc(), &demangler, "Demangler");
+    ask(&rt, rt.alloc(), &mut demangler, "_ZN3Foo3barEv");
+    assert_printed(&rt, rt.alloc(), &demangler, "Demangler");
+    drop(demangler);
 }
 
 #[test]

@@ -1,0 +1,9 @@
+//! Tests of each edit.
+//!
+//! The expected texts come from the grammar's definition, and not from what the edits answer.
+#![tactic(auto)]
+
+#[cfg(test)]
+mod edits;
+#[cfg(test)]
+mod pieces;
