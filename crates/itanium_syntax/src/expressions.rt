@@ -1,5 +1,5 @@
-//! The cases of literals and of expressions (Itanium C++ ABI 5.1, "Expressions"): which one the next bytes begin. Of several cases the
-//! first one that fits holds.
+//! The cases of literals and of expressions (Itanium C++ ABI 5.1, "Expressions"): which one the next bytes begin. Of
+//! several cases the first one that fits holds.
 ghost use Rattle.std.specs.Prelude.{◌≡◌, ◌<◌, ◌≤◌, IfSome, option_map, length};
 ghost use Rattle.itanium_syntax.specs.Expressions as spec;
 
@@ -67,8 +67,8 @@ fn value_len(bytes: &[u8]) -> usize
     bytes.len()
 }
 
-/// The value of a literal, all bytes up to the first `E`, and what is after the `E`; `None` where there is no `E` or the
-/// value isn't UTF-8.
+/// The value of a literal, all bytes up to the first `E`, and what is after the `E`; `None` where there is no `E` or
+/// the value isn't UTF-8.
 #[tactic(auto, unfolding(crate::specs::Expressions::literal_value))]
 pub fn literal_value(bytes: &[u8]) -> Option<(&str, &[u8])>
     ensures value { option_map (λ found. (found.0.now, found.1.now)) result ≡ spec.literal_value bytes.now }
