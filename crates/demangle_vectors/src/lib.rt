@@ -1,6 +1,6 @@
-//! Tests that cross crates: symbols with their answers, and the filter between two ends in memory.
+//! Tests of the demangler: symbols with their answers, one value for symbol after symbol, and the scalars.
 //!
-//! The expected texts come from the grammar's definition, and not from what the crates answer.
+//! The expected texts come from the grammar's definition, and not from what the demangler answers.
 #![tactic(auto)]
 
 #[cfg(test)]
@@ -10,11 +10,7 @@ mod declarators;
 #[cfg(test)]
 mod expressions;
 #[cfg(test)]
-mod filter;
-#[cfg(test)]
 mod local_names;
-#[cfg(test)]
-mod memory;
 #[cfg(test)]
 mod names;
 #[cfg(test)]

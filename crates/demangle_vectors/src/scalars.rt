@@ -10,7 +10,7 @@ fn assert_value(
     found: Option<(u64, usize)>,
     expected: Option<(u64, usize)>,
 ) {
-    assert_eq!(rt; found, expected, "{text}");
+    assert!(rt; found == expected, "{text}");
 }
 
 /// As `assert_value`, for a source name.
@@ -20,7 +20,7 @@ fn assert_name(
     found: Option<(usize, usize)>,
     expected: Option<(usize, usize)>,
 ) {
-    assert_eq!(rt; found, expected, "{text}");
+    assert!(rt; found == expected, "{text}");
 }
 
 #[test]
@@ -78,12 +78,12 @@ fn source_names(rt: HostRuntime) {
 
 /// The operator of this code has the text and the arity, or none.
 fn assert_text(rt: &impl Abort, first: u8, second: u8, expected: Option<&str>) {
-    assert_eq!(rt; operator_text(first, second), expected);
+    assert!(rt; operator_text(first, second) == expected);
 }
 
 /// The operator of this code has so many operands, or isn't one of a fixed number.
 fn assert_arity(rt: &impl Abort, first: u8, second: u8, expected: Option<u8>) {
-    assert_eq!(rt; operator_arity(first, second), expected);
+    assert!(rt; operator_arity(first, second) == expected);
 }
 
 #[test]

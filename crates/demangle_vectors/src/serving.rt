@@ -39,7 +39,7 @@ fn assert_prepared(
 /// The print of the value.
 fn assert_printed(rt: &impl Abort, alloc: Global, demangler: &Demangler, expected: &str) {
     let printed = format!(in alloc; "{demangler:?}").expect(rt, "no memory");
-    assert_eq!(rt; printed.as_str(), expected);
+    assert_text(rt, Some(printed.as_str()), Some(expected), "printed");
 }
 
 /// The name with two lists has its answer.

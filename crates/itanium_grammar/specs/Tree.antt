@@ -162,7 +162,6 @@ unfoldable mutual
   shape_as waits (elaborated word name) = elaborated_shape word (shape_as false name)
   shape_as waits (expansion_of t) = expansion_shape (shape_as false t)
   shape_as waits (pack_of list) = pack_shape (shape_each list)
-
   shape_as waits (literal_of t value) = literal_shape (shape_as false t) value
   shape_as waits (address_of name) = address_shape (shape_as false name)
   shape_as waits (pre_of op t) = pre_shape op (shape_as false t)

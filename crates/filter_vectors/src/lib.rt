@@ -1,0 +1,9 @@
+//! Tests of the filter between two ends in memory.
+//!
+//! The expected texts come from the grammar's definition, and not from what the filter writes.
+#![tactic(auto)]
+
+#[cfg(test)]
+mod filter;
+#[cfg(test)]
+mod memory;
