@@ -36,7 +36,6 @@ mod expressions;
 pub mod laws;
 mod names;
 mod reader;
-mod specials;
 mod stop;
 mod types;
 
