@@ -5,6 +5,7 @@
 //! of a function takes grows with the square of its length, with all that is let go at its end.
 ghost use Rattle.demangle_text.specs.State.{IsLiving};
 
+use crate::kinds::is_function;
 use demangle_text::{Buffer, Kind, Piece, Place};
 use std::process::Abort;
 
@@ -25,8 +26,7 @@ fn assert_function(rt: &impl Abort, buf: &Buffer, piece: Piece, text: &[u8], gro
     requires living { IsLiving buf.now piece }
 {
     assert_text(rt, buf, piece, text);
-    assert_eq!(rt; buf.kind(piece), Some(Kind::Function));
-    assert!(rt; buf.has_group(piece) == group);
+    assert!(rt; is_function(buf, piece, group));
 }
 
 /// The piece has this last own name.

@@ -5,5 +5,6 @@
 
 #[cfg(test)]
 mod edits;
+pub mod flags;
 #[cfg(test)]
 mod pieces;

@@ -4,6 +4,7 @@
 ghost use Rattle.std.specs.Prelude.{◌≡◌, Some, None, Ok};
 ghost use Rattle.demangle_text.specs.State.{IsLiving, KeepsAll};
 
+use crate::flags::has_flags;
 use demangle_text::{Buffer, Kind, Piece};
 use std::alloc::AllocError;
 use std::process::Abort;
@@ -103,8 +104,7 @@ pub(crate) fn assert_named(
 
 /// The piece has these flags.
 pub(crate) fn assert_flags(rt: &impl Abort, buf: &Buffer, piece: Piece, templ: bool, ctor: bool) {
-    assert!(rt; buf.templ(piece) == templ);
-    assert!(rt; buf.ctor(piece) == ctor);
+    assert!(rt; has_flags(buf, piece, templ, ctor));
 }
 
 /// The piece has this kind.

@@ -5,5 +5,4 @@
 
 #[cfg(test)]
 mod filter;
-#[cfg(test)]
-mod memory;
+pub mod memory;

@@ -8,18 +8,18 @@ use symfilter_engine::{Failed, Sink, Source};
 /// Bytes in memory, of which each call gives at most `most`. It fails once `calls_left` calls were made, and keeps
 /// whether it was called after that.
 #[derive(Drop)]
-pub(crate) struct MemorySource<'a> {
-    pub(crate) rest: &'a [u8],
+pub struct MemorySource<'a> {
+    pub rest: &'a [u8],
     most: usize,
-    pub(crate) calls_left: usize,
+    pub calls_left: usize,
     failed: bool,
-    pub(crate) called_after: bool,
+    pub called_after: bool,
     ghost gives_some: { 0 < most },
 }
 
 impl<'a> MemorySource<'a> {
     /// A source of these bytes, which hasn't failed.
-    pub(crate) fn new(bytes: &'a [u8], most: usize, calls_left: usize) -> Self
+    pub fn new(bytes: &'a [u8], most: usize, calls_left: usize) -> Self
         requires some { 0 < most }
         ensures not_failed { result.failed ≡ false }
     {
@@ -64,18 +64,18 @@ impl Source for MemorySource<'_> {
 /// Memory that takes at most `most` bytes a call. It fails once `calls_left` calls were made, and keeps whether it was
 /// called after that.
 #[derive(Drop)]
-pub(crate) struct MemorySink {
-    pub(crate) bytes: Vec<u8>,
+pub struct MemorySink {
+    pub bytes: Vec<u8>,
     most: usize,
-    pub(crate) calls_left: usize,
+    pub calls_left: usize,
     failed: bool,
-    pub(crate) called_after: bool,
+    pub called_after: bool,
     ghost takes_some: { 0 < most },
 }
 
 impl MemorySink {
     /// An empty sink, which hasn't failed.
-    pub(crate) fn new(alloc: Global, most: usize, calls_left: usize) -> Self
+    pub fn new(alloc: Global, most: usize, calls_left: usize) -> Self
         requires some { 0 < most }
         ensures not_failed { result.failed ≡ false }
     {
@@ -115,24 +115,19 @@ impl Sink for MemorySink {
 /// Bytes in memory, of which each call gives at most `most`. At each call it looks how many bytes the sink has taken,
 /// and keeps whether these are as expected.
 #[derive(Drop)]
-pub(crate) struct WatchingSource<'a> {
+pub struct WatchingSource<'a> {
     rest: &'a [u8],
     most: usize,
     taken: &'a Cell<usize>,
     expected: &'a [usize],
-    pub(crate) calls: usize,
-    pub(crate) as_expected: bool,
+    pub calls: usize,
+    pub as_expected: bool,
     ghost gives_some: { 0 < most },
 }
 
 impl<'a> WatchingSource<'a> {
     /// A source of these bytes, which expects so many bytes to be taken at its calls.
-    pub(crate) fn new(
-        bytes: &'a [u8],
-        most: usize,
-        taken: &'a Cell<usize>,
-        expected: &'a [usize],
-    ) -> Self
+    pub fn new(bytes: &'a [u8], most: usize, taken: &'a Cell<usize>, expected: &'a [usize]) -> Self
         requires some { 0 < most }
     {
         WatchingSource {
@@ -172,7 +167,7 @@ impl Source for WatchingSource<'_> {
 
 /// It takes at most `most` bytes a call, and keeps no more than their number.
 #[derive(Drop)]
-pub(crate) struct CountingSink<'a> {
+pub struct CountingSink<'a> {
     taken: &'a Cell<usize>,
     most: usize,
     ghost takes_some: { 0 < most },
@@ -180,7 +175,7 @@ pub(crate) struct CountingSink<'a> {
 
 impl<'a> CountingSink<'a> {
     /// A sink that counts there.
-    pub(crate) fn new(taken: &'a Cell<usize>, most: usize) -> Self
+    pub fn new(taken: &'a Cell<usize>, most: usize) -> Self
         requires some { 0 < most }
     {
         CountingSink { taken, most }

@@ -1,5 +1,5 @@
 -- The value of a literal, where its bytes up to the first E are text or aren't.
-use Rattle.std.proofs.Common.{◌≡◌, ◌<◌, ◌≤◌, ℕ, ◌+◌, ◌-◌, List, length, take, drop, if◌then◌else◌, refl, true, false, ◌∙◌, sym, ap, Option, Some, None, arith, nat_lt, Bool, ◌&&◌}
+use Rattle.std.proofs.Common.{◌≡◌, ◌<◌, ℕ, ◌+◌, ◌-◌, List, length, take, drop, if◌then◌else◌, refl, true, false, ◌∙◌, sym, ap, Option, Some, None, arith, nat_lt, Bool, ◌&&◌}
 use Rattle.std.specs.Str.{IsUtf8, is_utf8}
 use Rattle.std.proofs.lemmas.Str.{IsUtf8-from_is_utf8, is_utf8-from_IsUtf8}
 use Rattle.std.proofs.lemmas.List.{length-drop, take_all}

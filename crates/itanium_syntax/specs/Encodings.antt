@@ -1,5 +1,5 @@
 -- The cases of encodings and of local names. Of several cases the first one that fits holds.
-use Rattle.std.specs.Prelude.{ℕ, List, Bool, true, false, not, ◌&&◌, ◌||◌, drop, codes, if◌then◌else◌}
+use Rattle.std.specs.Prelude.{ℕ, List, Bool, true, not, ◌&&◌, ◌||◌, drop, codes, if◌then◌else◌}
 use Rattle.itanium_syntax.specs.Bytes.{begins, begins_digit}
 use Rattle.itanium_syntax.specs.Cases.{NameCase, LocalName, ReturnCase, NoReturnType, SomeReturnType, SignatureCase, NoSignature, SomeSignature, EntityCase, StringLiteralEntity, DefaultArgumentEntity, NameEntity, NoEntity}
 

@@ -1,12 +1,28 @@
 -- Operators (Itanium C++ ABI 5.1.4): what follows `operator` in a name, and how many operands an expression has.
-use Rattle.std.specs.Prelude.{ℕ, List, [], ◌∷◌, Bool, false, ◌&&◌, ◌==◌, codes, if◌then◌else◌, Option, Some, None}
+use Rattle.std.specs.Prelude.{ℕ, List, [], ◌∷◌, Bool, false, ◌&&◌, ◌==◌, codes, if◌then◌else◌, Option, Some, None, is_some}
 
 -- the code is the one that the word spells
 abbrev pub is_code : List ℕ → ℕ → ℕ → Bool
 is_code (a ∷ b ∷ []) first second = first == a && second == b
 is_code word first second = false
 
--- what follows `operator` for a code of <operator-name>
+-- what follows `operator` for a code of <operator-name> that names an assignment
+abbrev pub assignment_text : ℕ → ℕ → Option (List ℕ)
+assignment_text first second =
+    if is_code (codes "aS") first second then Some (codes "=") else
+    if is_code (codes "pL") first second then Some (codes "+=") else
+    if is_code (codes "mI") first second then Some (codes "-=") else
+    if is_code (codes "mL") first second then Some (codes "*=") else
+    if is_code (codes "dV") first second then Some (codes "/=") else
+    if is_code (codes "rM") first second then Some (codes "%=") else
+    if is_code (codes "aN") first second then Some (codes "&=") else
+    if is_code (codes "oR") first second then Some (codes "|=") else
+    if is_code (codes "eO") first second then Some (codes "^=") else
+    if is_code (codes "lS") first second then Some (codes "<<=") else
+    if is_code (codes "rS") first second then Some (codes ">>=") else
+    None
+
+-- the same for every code of <operator-name>
 abbrev pub operator_text : ℕ → ℕ → Option (List ℕ)
 operator_text first second =
     if is_code (codes "nw") first second then Some (codes " new") else
@@ -26,19 +42,8 @@ operator_text first second =
     if is_code (codes "an") first second then Some (codes "&") else
     if is_code (codes "or") first second then Some (codes "|") else
     if is_code (codes "eo") first second then Some (codes "^") else
-    if is_code (codes "aS") first second then Some (codes "=") else
-    if is_code (codes "pL") first second then Some (codes "+=") else
-    if is_code (codes "mI") first second then Some (codes "-=") else
-    if is_code (codes "mL") first second then Some (codes "*=") else
-    if is_code (codes "dV") first second then Some (codes "/=") else
-    if is_code (codes "rM") first second then Some (codes "%=") else
-    if is_code (codes "aN") first second then Some (codes "&=") else
-    if is_code (codes "oR") first second then Some (codes "|=") else
-    if is_code (codes "eO") first second then Some (codes "^=") else
     if is_code (codes "ls") first second then Some (codes "<<") else
     if is_code (codes "rs") first second then Some (codes ">>") else
-    if is_code (codes "lS") first second then Some (codes "<<=") else
-    if is_code (codes "rS") first second then Some (codes ">>=") else
     if is_code (codes "eq") first second then Some (codes "==") else
     if is_code (codes "ne") first second then Some (codes "!=") else
     if is_code (codes "lt") first second then Some (codes "<") else
@@ -57,9 +62,9 @@ operator_text first second =
     if is_code (codes "ix") first second then Some (codes "[]") else
     if is_code (codes "qu") first second then Some (codes "?:") else
     if is_code (codes "ss") first second then Some (codes "<=>") else
-    None
+    assignment_text first second
 
--- how many operands an expression of the code has
+-- how many operands an expression of the code has; an assignment has two
 abbrev pub operator_arity : ℕ → ℕ → Option ℕ
 operator_arity first second =
     if is_code (codes "nw") first second then Some 2 else
@@ -79,19 +84,8 @@ operator_arity first second =
     if is_code (codes "an") first second then Some 2 else
     if is_code (codes "or") first second then Some 2 else
     if is_code (codes "eo") first second then Some 2 else
-    if is_code (codes "aS") first second then Some 2 else
-    if is_code (codes "pL") first second then Some 2 else
-    if is_code (codes "mI") first second then Some 2 else
-    if is_code (codes "mL") first second then Some 2 else
-    if is_code (codes "dV") first second then Some 2 else
-    if is_code (codes "rM") first second then Some 2 else
-    if is_code (codes "aN") first second then Some 2 else
-    if is_code (codes "oR") first second then Some 2 else
-    if is_code (codes "eO") first second then Some 2 else
     if is_code (codes "ls") first second then Some 2 else
     if is_code (codes "rs") first second then Some 2 else
-    if is_code (codes "lS") first second then Some 2 else
-    if is_code (codes "rS") first second then Some 2 else
     if is_code (codes "eq") first second then Some 2 else
     if is_code (codes "ne") first second then Some 2 else
     if is_code (codes "lt") first second then Some 2 else
@@ -110,6 +104,7 @@ operator_arity first second =
     if is_code (codes "ix") first second then Some 2 else
     if is_code (codes "qu") first second then Some 3 else
     if is_code (codes "ss") first second then Some 2 else
+    if is_some (assignment_text first second) then Some 2 else
     None
 
 -- what follows `operator`, where a code of <operator-name> is next

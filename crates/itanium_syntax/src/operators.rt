@@ -3,6 +3,26 @@
 ghost use Rattle.std.specs.Prelude.{◌≡◌, option_map};
 ghost use Rattle.itanium_syntax.specs.Operators as spec;
 
+/// What follows `operator` in the name of a code's assignment, or `None` where the code is none of an assignment.
+fn assignment_text(first: u8, second: u8) -> Option<&'static str>
+    ensures value { option_map (λ text. text.now) result ≡ spec.assignment_text first second }
+{
+    match (first, second) {
+        (b'a', b'S') => Some("="),
+        (b'p', b'L') => Some("+="),
+        (b'm', b'I') => Some("-="),
+        (b'm', b'L') => Some("*="),
+        (b'd', b'V') => Some("/="),
+        (b'r', b'M') => Some("%="),
+        (b'a', b'N') => Some("&="),
+        (b'o', b'R') => Some("|="),
+        (b'e', b'O') => Some("^="),
+        (b'l', b'S') => Some("<<="),
+        (b'r', b'S') => Some(">>="),
+        _ => None,
+    }
+}
+
 /// What follows `operator` in the name of a code's operator, or `None` where the code is none of `<operator-name>`
 /// (Itanium C++ ABI 5.1.4, "Operator Encodings").
 pub fn operator_text(first: u8, second: u8) -> Option<&'static str>
@@ -26,19 +46,8 @@ pub fn operator_text(first: u8, second: u8) -> Option<&'static str>
         (b'a', b'n') => Some("&"),
         (b'o', b'r') => Some("|"),
         (b'e', b'o') => Some("^"),
-        (b'a', b'S') => Some("="),
-        (b'p', b'L') => Some("+="),
-        (b'm', b'I') => Some("-="),
-        (b'm', b'L') => Some("*="),
-        (b'd', b'V') => Some("/="),
-        (b'r', b'M') => Some("%="),
-        (b'a', b'N') => Some("&="),
-        (b'o', b'R') => Some("|="),
-        (b'e', b'O') => Some("^="),
         (b'l', b's') => Some("<<"),
         (b'r', b's') => Some(">>"),
-        (b'l', b'S') => Some("<<="),
-        (b'r', b'S') => Some(">>="),
         (b'e', b'q') => Some("=="),
         (b'n', b'e') => Some("!="),
         (b'l', b't') => Some("<"),
@@ -57,7 +66,7 @@ pub fn operator_text(first: u8, second: u8) -> Option<&'static str>
         (b'i', b'x') => Some("[]"),
         (b'q', b'u') => Some("?:"),
         (b's', b's') => Some("<=>"),
-        _ => None,
+        _ => assignment_text(first, second),
     }
 }
 
@@ -84,19 +93,8 @@ pub fn operator_arity(first: u8, second: u8) -> Option<u8>
         (b'a', b'n') => Some(2),
         (b'o', b'r') => Some(2),
         (b'e', b'o') => Some(2),
-        (b'a', b'S') => Some(2),
-        (b'p', b'L') => Some(2),
-        (b'm', b'I') => Some(2),
-        (b'm', b'L') => Some(2),
-        (b'd', b'V') => Some(2),
-        (b'r', b'M') => Some(2),
-        (b'a', b'N') => Some(2),
-        (b'o', b'R') => Some(2),
-        (b'e', b'O') => Some(2),
         (b'l', b's') => Some(2),
         (b'r', b's') => Some(2),
-        (b'l', b'S') => Some(2),
-        (b'r', b'S') => Some(2),
         (b'e', b'q') => Some(2),
         (b'n', b'e') => Some(2),
         (b'l', b't') => Some(2),
@@ -115,6 +113,7 @@ pub fn operator_arity(first: u8, second: u8) -> Option<u8>
         (b'i', b'x') => Some(2),
         (b'q', b'u') => Some(3),
         (b's', b's') => Some(2),
+        _ if assignment_text(first, second).is_some() => Some(2),
         _ => None,
     }
 }
