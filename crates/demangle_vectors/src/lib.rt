@@ -6,6 +6,8 @@
 #[cfg(test)]
 mod arguments;
 #[cfg(test)]
+mod counts;
+#[cfg(test)]
 mod declarators;
 #[cfg(test)]
 mod expressions;

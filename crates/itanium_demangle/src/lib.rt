@@ -39,5 +39,5 @@ mod reader;
 mod stop;
 mod types;
 
-pub use crate::demangler::{Demangler, MAX_DEPTH};
+pub use crate::demangler::{Demangler, MAX_DEPTH, demangle_owned};
 pub use itanium_syntax::scalar;
