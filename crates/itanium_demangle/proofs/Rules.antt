@@ -1,9 +1,9 @@
 -- What the check may use: for the readers the laws of the buffer and what unfolds each, for an answer the theorems over
 -- the grammar.
 use Rattle.demangle_text.proofs.Laws.{laws, runs}
-use Rattle.itanium_syntax.proofs.Fronts.{cases, names_some, entities_some, expressions_some, arguments_some}
+use Rattle.itanium_syntax.proofs.Fronts.{cases, names_some, entities_some, expressions_some, arguments_some, specials_some}
 use Rattle.itanium_grammar.proofs.Agreement.{one_reading}
-use Rattle.itanium_demangle.proofs.Unfold.{bare_name_opens, no_bare_name, name_opens, encoding_opens, local_opens, expression_opens, no_expression, primary_opens, argument_opens, args_opens, no_args, pack_opens, no_pack, type_opens, no_type, substitution_opens, parameter_opens, unqualified_opens, symbol_opens, nested_opens, kept_scope, some_scope}
+use Rattle.itanium_demangle.proofs.Unfold.{bare_name_opens, no_bare_name, name_opens, encoding_opens, local_opens, expression_opens, no_expression, primary_opens, argument_opens, thunk_opens, no_thunk, special_opens, args_opens, no_args, pack_opens, no_pack, type_opens, no_type, substitution_opens, parameter_opens, unqualified_opens, symbol_opens, nested_opens, kept_scope, some_scope}
 use Rattle.itanium_demangle.proofs.Loops.{loop_start}
 use Rattle.itanium_demangle.proofs.Symbols.{reads_as, stands_at_start, no_prefix, not_read}
 
@@ -33,7 +33,13 @@ pub ruleset entities = (fronts, entities_some)
 
 pub ruleset local_names = (buffers, local_opens)
 
-pub ruleset symbols = (buffers, symbol_opens, reads_as)
+pub ruleset symbols = (buffers, symbol_opens)
+
+pub ruleset thunks = (fronts, thunk_opens, no_thunk)
+
+pub ruleset specials = (fronts, specials_some, special_opens)
+
+pub ruleset readings = (buffers, reads_as)
 
 pub ruleset primaries = (fronts, primary_opens)
 

@@ -12,7 +12,7 @@ use Rattle.itanium_syntax.specs.declared.numerals.Radix.TheVariants.{Decimal}
 use Rattle.itanium_syntax.specs.Scalars.{index_of, source_name}
 use Rattle.itanium_syntax.specs.Context.{opens_scope, inside_type, inside_pack, inside_lambda, inside_local, inside_encoding}
 use Rattle.itanium_syntax.specs.Names.{symbol_case, name_case, component_case, unqualified_case, tag_case, source_text, first_case, substitution_case, past_internal, past_name_quals, name_quals, saves_first}
-use Rattle.itanium_syntax.specs.Expressions.{literal_case, expression_case}
+use Rattle.itanium_syntax.specs.Expressions.{expression_case}
 use Rattle.itanium_syntax.specs.Encodings.{entity_case}
 use Rattle.itanium_syntax.specs.Args.{args_case}
 use Rattle.itanium_syntax.specs.Types.{types_case, type_case}
@@ -22,12 +22,12 @@ use Rattle.itanium_demangle.specs.declared.stop.Stop.TheVariants.{Unread, Memory
 use Rattle.itanium_demangle.specs.Outcome.{Gives, GivesList, SavedBounds}
 use Rattle.itanium_demangle.proofs.Loops.{LoopSoFar, loop_end, loop_more, loop_fail, ListSoFar, list_start, list_end, list_more, list_fail}
 use Rattle.itanium_demangle.specs.Cases.{FreeName, NoTag, NextTag, EndOfComponents, ArgsComponent, NameComponent, EndOfArguments, NextArgument, EndOfTypes, NextType}
-use Rattle.itanium_demangle.specs.Parser.{ParserState, Parses, ParsesName, ParsesBareName, ◌>>=◌, enter, at, save, skip, begin, put, put_nowhere, taken_back, past_initializer, substitution_as, parse_substitution, parameter_as, parse_parameter, tag_turn, unqualified_as, parse_unqualified, parse_free, in_scope, first_as, attached_by, component_turn, parse_components, parse_nested, name_as, qualified_by, parse_bare_name, parse_name, encoding_as, parse_encoding, entity_as, parse_local, literal_as, parse_primary, expression_as, parse_expression, primary_at, parse_argument, argument_by, list_turn, typed_turn, parse_list, parse_packed, parse_args, parse_pack, types_turn, type_as, parse_type, symbol_as, parse_symbol}
+use Rattle.itanium_demangle.specs.Parser.{ParserState, Parses, ParsesName, ParsesBareName, ◌>>=◌, enter, at, save, skip, begin, put, put_nowhere, taken_back, past_initializer, substitution_as, parse_substitution, parameter_as, parse_parameter, tag_turn, unqualified_as, parse_unqualified, parse_free, in_scope, first_as, attached_by, component_turn, parse_components, parse_nested, name_as, qualified_by, parse_bare_name, parse_name, encoding_as, parse_encoding, entity_as, parse_local, primary_by, parse_primary, special_by, parse_special, thunk_by, parse_thunk, expression_as, parse_expression, parse_argument, argument_by, list_turn, typed_turn, parse_list, parse_packed, parse_args, parse_pack, types_turn, type_as, parse_type, symbol_as, parse_symbol}
 
 pub bare_name_opens : (d : ℕ) (x : Context) (s : ParserState) → 0 < d → parse_bare_name d x s
     ≡ name_as (name_case s.rest) (parse_unqualified (parse_type (d - 1) x) (parse_type (d - 1) (inside_lambda x))) (parse_args (d - 1) x true)
-    (parse_local (parse_encoding (parse_bare_name (d - 1) (inside_encoding x)) (parse_type (d - 1) (inside_encoding x))) (parse_bare_name (d - 1) (inside_local x))) x (enter s)
-unfolding parse_bare_name
+    (parse_local (parse_encoding (d - 1) (inside_encoding x)) (parse_bare_name (d - 1) (inside_local x))) x (enter s)
+unfolding parse_bare_name parse_encoding parse_special parse_name
 bare_name_opens zero x s h = absurd (omega arith)
 bare_name_opens (suc d) x s h = let less : suc d - 1 ≡ d = omega arith in rw less refl
 
@@ -40,8 +40,8 @@ unfolding parse_name
 name_opens d x s = refl
 
 pub expression_opens : (d : ℕ) (x : Context) (s : ParserState) → 0 < d → parse_expression d x s
-    ≡ expression_as (expression_case s.rest) (parse_expression (d - 1) x) (primary_at (d - 1) x) x (enter s)
-unfolding parse_expression
+    ≡ expression_as (expression_case s.rest) (parse_expression (d - 1) x) (parse_primary (d - 1) x) x (enter s)
+unfolding parse_expression parse_primary parse_encoding parse_special parse_name
 expression_opens zero x s h = absurd (omega arith)
 expression_opens (suc d) x s h = let less : suc d - 1 ≡ d = omega arith in rw less refl
 
@@ -49,18 +49,32 @@ pub no_expression : (x : Context) (s : ParserState) → parse_expression 0 x s �
 unfolding parse_expression
 no_expression x s = refl
 
-pub primary_opens : (type encoding : Parses Shape) (s : ParserState) → parse_primary type encoding s ≡ literal_as (literal_case s.rest) type encoding s
+pub primary_opens : (d : ℕ) (x : Context) (s : ParserState) → parse_primary d x s ≡ primary_by (parse_type d x) (parse_encoding d (inside_encoding x)) s
 unfolding parse_primary
-primary_opens type encoding s = refl
+primary_opens d x s = refl
+
+pub thunk_opens : (d : ℕ) (x : Context) (s : ParserState) → 0 < d → parse_thunk d x s ≡ thunk_by (parse_symbol (d - 1) x) (enter s)
+unfolding parse_thunk parse_symbol parse_special parse_name
+thunk_opens zero x s h = absurd (omega arith)
+thunk_opens (suc d) x s h = let less : suc d - 1 ≡ d = omega arith in rw less refl
+
+pub no_thunk : (x : Context) (s : ParserState) → parse_thunk 0 x s ≡ None
+unfolding parse_thunk
+no_thunk x s = refl
+
+pub special_opens : (d : ℕ) (x : Context) (s : ParserState) → parse_special d x s ≡ special_by (parse_type d x) (parse_name d x) (parse_thunk d x) s
+unfolding parse_special
+special_opens d x s = refl
 
 pub argument_opens : (d : ℕ) (x : Context) (s : ParserState)
-    → parse_argument d x s ≡ argument_by (parse_pack d x) (parse_type d x) (parse_expression d x) (primary_at d x) s
+    → parse_argument d x s ≡ argument_by (parse_pack d x) (parse_type d x) (parse_expression d x) (parse_primary d x) s
 unfolding parse_argument
 argument_opens d x s = refl
 
-pub encoding_opens : (bare : ParsesBareName) (type : Parses Shape) (s : ParserState) → parse_encoding bare type s ≡ encoding_as (symbol_case s.rest) bare type s
+pub encoding_opens : (d : ℕ) (x : Context) (s : ParserState)
+    → parse_encoding d x s ≡ encoding_as (symbol_case s.rest) (parse_special d x) (parse_bare_name d x) (parse_type d x) s
 unfolding parse_encoding
-encoding_opens bare type s = refl
+encoding_opens d x s = refl
 
 pub local_opens : (encoding : Parses Shape) (bare : ParsesBareName) (s : ParserState)
     → parse_local encoding bare s ≡ (encoding s >>= λ found. entity_as (entity_case found.1.rest) bare found.0 found.1)
@@ -69,7 +83,7 @@ local_opens encoding bare s = refl
 
 pub args_opens : (d : ℕ) (x : Context) (of_name : Bool) (s : ParserState) → 0 < d
     → parse_args d x of_name s ≡ parse_list (parse_argument (d - 1) x) (opens_scope of_name x) (enter s)
-unfolding parse_args parse_argument
+unfolding parse_args parse_argument parse_primary parse_encoding parse_special parse_name
 args_opens zero x of_name s h = absurd (omega arith)
 args_opens (suc d) x of_name s h = let less : suc d - 1 ≡ d = omega arith in rw less refl
 
@@ -79,7 +93,7 @@ no_args x of_name s = refl
 
 pub pack_opens : (d : ℕ) (x : Context) (s : ParserState) → 0 < d
     → parse_pack d x s ≡ parse_packed (parse_argument (d - 1) (inside_pack x)) (enter s)
-unfolding parse_pack parse_argument
+unfolding parse_pack parse_argument parse_primary parse_encoding parse_special parse_name
 pack_opens zero x s h = absurd (omega arith)
 pack_opens (suc d) x s h = let less : suc d - 1 ≡ d = omega arith in rw less refl
 
@@ -117,7 +131,7 @@ pub free_found : (type param : Parses Shape) (scope : Option Shape) (s : ParserS
 unfolding parse_unqualified
 free_found type param scope s case read built same = rw (case, read, built, same) refl
 
-pub symbol_opens : (d : ℕ) (x : Context) (s : ParserState) → parse_symbol d x s ≡ symbol_as (symbol_case s.rest) d x s
+pub symbol_opens : (d : ℕ) (x : Context) (s : ParserState) → parse_symbol d x s ≡ symbol_as (symbol_case s.rest) (parse_special d x) (parse_name d x) s
 unfolding parse_symbol
 symbol_opens d x s = refl
 

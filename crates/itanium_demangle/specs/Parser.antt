@@ -19,11 +19,13 @@ use Rattle.itanium_syntax.specs.Context.{opens_scope, inside_type, inside_pack, 
 use Rattle.itanium_syntax.specs.Names.{symbol_case, name_case, unscoped_case, first_case, component_case, unqualified_case, free_case, tag_case, past_internal, past_initializer_letter, source_text, name_quals, past_name_quals, saves_first, substitution_case}
 use Rattle.itanium_syntax.specs.Bytes.{begins}
 use Rattle.itanium_syntax.specs.Expressions.{is_external, literal_case, literal_value, expression_text, expression_case}
+use Rattle.itanium_syntax.specs.Offsets.{thunk_offsets}
+use Rattle.itanium_syntax.specs.Specials.{special_case, special_text, special_close}
 use Rattle.itanium_syntax.specs.Encodings.{return_case, signature_case, entity_case, shows_words}
 use Rattle.itanium_syntax.specs.Args.{attached_case, args_case, argument_case}
 use Rattle.itanium_syntax.specs.Types.{type_case, builtin_text, past_builtin, cv_quals, past_cv, with_reference, past_reference, cv_case, function_case, params_case, types_case, elaborated_text}
-use Rattle.itanium_grammar.specs.Tree.{pre_shape, post_shape, binary_shape, greater_shape, conditional_shape, abbreviation_shape, conversion_shape, elaborated_shape, unnamed_text, literal_operator_text}
-use Rattle.itanium_demangle.specs.Cases.{SymbolCase, SpecialSymbol, NameSymbol, NameCase, NestedName, LocalName, UnscopedName, ReturnCase, NoReturnType, SomeReturnType, SignatureCase, NoSignature, SomeSignature, EntityCase, StringLiteralEntity, DefaultArgumentEntity, NameEntity, NoEntity, UnscopedCase, StdName, SubstitutionName, PlainName, AttachedCase, NoneAttached, ArgsAttached, FirstCase, ParameterFirst, StdFirst, SubstitutionFirst, NameFirst, ComponentCase, EndOfComponents, ArgsComponent, NameComponent, UnqualifiedCase, ConstructorName, DestructorName, FreeName, FreeCase, SourceName, UnnamedTypeName, LambdaName, ConversionName, LiteralOperatorName, OperatorName, NoName, TagCase, NoTag, NextTag, SubstitutionCase, AbbreviationSubstitution, ComponentSubstitution, ArgsCase, EndOfArguments, NextArgument, LiteralCase, ExternalName, ValueLiteral, NoLiteral, ExpressionCase, PreExpression, AddressExpression, UnaryExpression, PostExpression, BinaryExpression, GreaterExpression, ConditionalExpression, ParameterExpression, LiteralExpression, NoExpression, ArgumentCase, ExpressionArgument, PackArgument, LiteralArgument, ConstraintArgument, TypeArgument, TypeCase, BuiltinType, ExpansionType, VendorType, ArrayType, FunctionType, MemberType, PointerType, CvType, ElaboratedType, ParameterType, SubstitutionType, UnreadType, NameType, CvCase, CvFunction, CvOther, FunctionCase, ExternFunction, PlainFunction, ParamsCase, NoParams, SomeParams, TypesCase, EndOfTypes, NextType}
+use Rattle.itanium_grammar.specs.Tree.{worded_shape, temporary_shape, construction_shape, thunk_shape, pre_shape, post_shape, binary_shape, greater_shape, conditional_shape, abbreviation_shape, conversion_shape, elaborated_shape, unnamed_text, literal_operator_text}
+use Rattle.itanium_demangle.specs.Cases.{SymbolCase, SpecialSymbol, NameSymbol, SpecialCase, TypeSpecial, NameSpecial, TemporarySpecial, ConstructionSpecial, ThunkSpecial, NoSpecial, NameCase, NestedName, LocalName, UnscopedName, ReturnCase, NoReturnType, SomeReturnType, SignatureCase, NoSignature, SomeSignature, EntityCase, StringLiteralEntity, DefaultArgumentEntity, NameEntity, NoEntity, UnscopedCase, StdName, SubstitutionName, PlainName, AttachedCase, NoneAttached, ArgsAttached, FirstCase, ParameterFirst, StdFirst, SubstitutionFirst, NameFirst, ComponentCase, EndOfComponents, ArgsComponent, NameComponent, UnqualifiedCase, ConstructorName, DestructorName, FreeName, FreeCase, SourceName, UnnamedTypeName, LambdaName, ConversionName, LiteralOperatorName, OperatorName, NoName, TagCase, NoTag, NextTag, SubstitutionCase, AbbreviationSubstitution, ComponentSubstitution, ArgsCase, EndOfArguments, NextArgument, LiteralCase, ExternalName, ValueLiteral, NoLiteral, ExpressionCase, PreExpression, AddressExpression, UnaryExpression, PostExpression, BinaryExpression, GreaterExpression, ConditionalExpression, ParameterExpression, LiteralExpression, NoExpression, ArgumentCase, ExpressionArgument, PackArgument, LiteralArgument, ConstraintArgument, TypeArgument, TypeCase, BuiltinType, ExpansionType, VendorType, ArrayType, FunctionType, MemberType, PointerType, CvType, ElaboratedType, ParameterType, SubstitutionType, UnreadType, NameType, CvCase, CvFunction, CvOther, FunctionCase, ExternFunction, PlainFunction, ParamsCase, NoParams, SomeParams, TypesCase, EndOfTypes, NextType}
 
 infixl 10 ◌>>=◌
 abbrev pub ◌>>=◌ : {A B : Type 0} → Option A → (A → Option B) → Option B
@@ -329,14 +331,67 @@ encoding_end type name s =
     return_as (return_case name.0.templ name.0.ctor s.rest) type s >>= λ after.
     signature_as (signature_case after.rest) type name after
 
--- <encoding>, by what it begins with
-abbrev pub encoding_as : SymbolCase → ParsesBareName → Parses Shape → Parses Shape
-encoding_as SpecialSymbol bare type s = None
-encoding_as NameSymbol bare type s = bare s >>= λ name. encoding_end type name.0 name.1
+-- a name with its own qualifiers
+abbrev pub qualified_by : ParsesBareName → Context → Parses Shape
+qualified_by bare x s =
+    bare s >>= λ name.
+    Some (with_name_qualifiers name.0.0 name.0.1 (shows_words (name_case s.rest) x.shown), name.1)
 
--- <encoding>
-unfoldable pub parse_encoding : ParsesBareName → Parses Shape → Parses Shape
-parse_encoding bare type s = encoding_as (symbol_case s.rest) bare type s
+-- words around a type or in front of a name
+abbrev pub parse_worded : Parses Shape → Parses Shape
+parse_worded inner s =
+    inner (skip 2 s) >>= λ t. Some (worded_shape (special_text s.rest) t.0 (special_close s.rest), t.1)
+
+-- what is after the name of a reference temporary
+abbrev pub temporary_end : Shape → Parses Shape
+temporary_end name s = index_of Base36 s.rest >>= λ found. Some (temporary_shape found.0 name, at found.1 s)
+
+-- GR <name> [<seq-id>] _
+abbrev pub parse_temporary : Parses Shape → Parses Shape
+parse_temporary name s = name (skip 2 s) >>= λ t. temporary_end t.0 t.1
+
+-- TC <type> <type>
+abbrev pub parse_construction : Parses Shape → Parses Shape
+parse_construction type s =
+    type (skip 2 s) >>= λ t. type t.1 >>= λ u. Some (construction_shape t.0 u.0, u.1)
+
+-- <special-name>, by what it begins with
+abbrev pub special_as : SpecialCase → Parses Shape → Parses Shape → Parses Shape → Parses Shape
+special_as TypeSpecial type name thunk s = parse_worded type s
+special_as NameSpecial type name thunk s = parse_worded name s
+special_as TemporarySpecial type name thunk s = parse_temporary name s
+special_as ConstructionSpecial type name thunk s = parse_construction type s
+special_as ThunkSpecial type name thunk s = thunk s
+special_as NoSpecial type name thunk s = None
+
+-- <special-name>
+abbrev pub special_by : Parses Shape → Parses Shape → Parses Shape → Parses Shape
+special_by type name thunk s = special_as (special_case s.rest) type name thunk s
+
+-- what follows the prefix of a symbol, by what it begins with
+abbrev pub symbol_as : SymbolCase → Parses Shape → Parses Shape → Parses Shape
+symbol_as SpecialSymbol special name s = special s
+symbol_as NameSymbol special name s = name s
+
+-- what follows the prefix of a symbol, by what it is made of
+abbrev pub symbol_by : Parses Shape → ParsesBareName → Parses Shape → Context → Parses Shape
+symbol_by type bare thunk x s =
+    symbol_as (symbol_case s.rest) (special_by type (qualified_by bare x) thunk) (qualified_by bare x) s
+
+-- the offsets of a thunk, and its encoding without parameters
+abbrev pub thunk_by : Parses Shape → Parses Shape
+thunk_by symbol s =
+    thunk_offsets (drop 1 s.rest) >>= λ found. symbol (at found.1 s) >>= λ t. Some (thunk_shape found.0 t.0, t.1)
+
+-- <encoding>, by what it begins with
+abbrev pub encoding_as : SymbolCase → Parses Shape → ParsesBareName → Parses Shape → Parses Shape
+encoding_as SpecialSymbol special bare type s = special s
+encoding_as NameSymbol special bare type s = bare s >>= λ name. encoding_end type name.0 name.1
+
+-- <encoding>, by what it is made of
+abbrev pub encoding_by : Parses Shape → ParsesBareName → Parses Shape → Context → Parses Shape
+encoding_by type bare thunk x s =
+    encoding_as (symbol_case s.rest) (special_by type (qualified_by bare x) thunk) bare type s
 
 -- what follows the encoding of a <local-name>
 abbrev pub entity_as : EntityCase → ParsesBareName → Shape → ParsesBareName
@@ -360,12 +415,6 @@ name_as LocalName unqualified args local x s = local (skip 1 s)
 name_as UnscopedName unqualified args local x s =
     unscoped_as (unscoped_case s.rest) unqualified args s >>= λ name. Some ((name.0, no_quals), name.1)
 
--- a name with its own qualifiers
-abbrev pub qualified_by : ParsesBareName → Context → Parses Shape
-qualified_by bare x s =
-    bare s >>= λ name.
-    Some (with_name_qualifiers name.0.0 name.0.1 (shows_words (name_case s.rest) x.shown), name.1)
-
 -- past an E, which stands there
 abbrev pub past_end : ParserState → Option ParserState
 past_end s = if begins (codes "E") s.rest then Some (skip 1 s) else None
@@ -385,9 +434,9 @@ literal_as ExternalName type encoding s = ended (encoding (skip 3 s))
 literal_as ValueLiteral type encoding s = type (skip 1 s) >>= λ t. literal_end t.0 t.1
 literal_as NoLiteral type encoding s = None
 
--- <expr-primary>
-unfoldable pub parse_primary : Parses Shape → Parses Shape → Parses Shape
-parse_primary type encoding s = literal_as (literal_case s.rest) type encoding s
+-- <expr-primary>, by what it is made of
+abbrev pub primary_by : Parses Shape → Parses Shape → Parses Shape
+primary_by type encoding s = literal_as (literal_case s.rest) type encoding s
 
 -- an operand of an expression
 abbrev pub operand_by : Parses Shape → Parses Shape
@@ -606,7 +655,8 @@ unfoldable mutual
   parse_bare_name (suc d) x s =
       name_as (name_case s.rest) (parse_unqualified (parse_type d x) (parse_type d (inside_lambda x)))
       (parse_args d x true)
-      (parse_local (parse_encoding (parse_bare_name d (inside_encoding x)) (parse_type d (inside_encoding x)))
+      (parse_local
+      (encoding_by (parse_type d (inside_encoding x)) (parse_bare_name d (inside_encoding x)) (parse_thunk d (inside_encoding x)) (inside_encoding x))
       (parse_bare_name d (inside_local x)))
       x (enter s)
 
@@ -615,53 +665,61 @@ unfoldable mutual
   parse_args zero x of_name s = None
   parse_args (suc d) x of_name s =
       parse_list (argument_by (parse_pack d x) (parse_type d x) (parse_expression d x)
-      (parse_primary (parse_type d x)
-      (parse_encoding (parse_bare_name d (inside_encoding x)) (parse_type d (inside_encoding x)))))
+      (primary_by (parse_type d x)
+      (encoding_by (parse_type d (inside_encoding x)) (parse_bare_name d (inside_encoding x)) (parse_thunk d (inside_encoding x)) (inside_encoding x))))
       (opens_scope of_name x) (enter s)
 
   -- J <template-arg>* E
   pub parse_pack : ℕ → Context → Parses Shape
   parse_pack zero x s = None
   parse_pack (suc d) x s =
-      parse_packed (argument_by (parse_pack d (inside_pack x)) (parse_type d (inside_pack x))
-      (parse_expression d (inside_pack x)) (parse_primary (parse_type d (inside_pack x))
-      (parse_encoding (parse_bare_name d (inside_encoding (inside_pack x)))
-      (parse_type d (inside_encoding (inside_pack x)))))) (enter s)
+      parse_packed (argument_by (parse_pack d (inside_pack x)) (parse_type d (inside_pack x)) (parse_expression d (inside_pack x))
+      (primary_by (parse_type d (inside_pack x))
+      (encoding_by (parse_type d (inside_encoding (inside_pack x))) (parse_bare_name d (inside_encoding (inside_pack x)))
+      (parse_thunk d (inside_encoding (inside_pack x))) (inside_encoding (inside_pack x)))))
+      (enter s)
 
   -- <type>
   pub parse_type : ℕ → Context → Parses Shape
   parse_type zero x s = None
   parse_type (suc d) x s =
-      type_as (type_case s.rest) (parse_type d (inside_type x))
-      (qualified_by (parse_bare_name d (inside_type x)) (inside_type x))
+      type_as (type_case s.rest) (parse_type d (inside_type x)) (qualified_by (parse_bare_name d (inside_type x)) (inside_type x))
       (parse_args d (inside_type x) false) (inside_type x) (enter s)
 
   -- <expression>
   pub parse_expression : ℕ → Context → Parses Shape
   parse_expression zero x s = None
   parse_expression (suc d) x s =
-      expression_as (expression_case s.rest) (parse_expression d x) (parse_primary (parse_type d x)
-      (parse_encoding (parse_bare_name d (inside_encoding x)) (parse_type d (inside_encoding x)))) x (enter s)
+      expression_as (expression_case s.rest) (parse_expression d x) (primary_by (parse_type d x)
+      (encoding_by (parse_type d (inside_encoding x)) (parse_bare_name d (inside_encoding x)) (parse_thunk d (inside_encoding x)) (inside_encoding x)))
+      x (enter s)
 
--- <expr-primary> within a depth
-abbrev pub primary_at : ℕ → Context → Parses Shape
-primary_at d x =
-    parse_primary (parse_type d x)
-    (parse_encoding (parse_bare_name d (inside_encoding x)) (parse_type d (inside_encoding x)))
-
--- <template-arg> within a depth
-unfoldable pub parse_argument : ℕ → Context → Parses Shape
-parse_argument d x = argument_by (parse_pack d x) (parse_type d x) (parse_expression d x) (primary_at d x)
+  -- T <call-offset> <encoding> and T c <call-offset> <call-offset> <encoding>
+  pub parse_thunk : ℕ → Context → Parses Shape
+  parse_thunk zero x s = None
+  parse_thunk (suc d) x s =
+      thunk_by (symbol_by (parse_type d x) (parse_bare_name d x) (parse_thunk d x) x) (enter s)
 
 -- <name>
 unfoldable pub parse_name : ℕ → Context → Parses Shape
 parse_name d x = qualified_by (parse_bare_name d x) x
 
--- what follows the prefix of a symbol, by what it begins with
-abbrev pub symbol_as : SymbolCase → ℕ → Context → Parses Shape
-symbol_as SpecialSymbol d x s = None
-symbol_as NameSymbol d x s = parse_name d x s
+-- <special-name>
+unfoldable pub parse_special : ℕ → Context → Parses Shape
+parse_special d x = special_by (parse_type d x) (parse_name d x) (parse_thunk d x)
+
+-- <encoding>
+unfoldable pub parse_encoding : ℕ → Context → Parses Shape
+parse_encoding d x s = encoding_as (symbol_case s.rest) (parse_special d x) (parse_bare_name d x) (parse_type d x) s
+
+-- <expr-primary>
+unfoldable pub parse_primary : ℕ → Context → Parses Shape
+parse_primary d x = primary_by (parse_type d x) (parse_encoding d (inside_encoding x))
+
+-- <template-arg>
+unfoldable pub parse_argument : ℕ → Context → Parses Shape
+parse_argument d x = argument_by (parse_pack d x) (parse_type d x) (parse_expression d x) (parse_primary d x)
 
 -- what follows the prefix of a symbol
 unfoldable pub parse_symbol : ℕ → Context → Parses Shape
-parse_symbol d x s = symbol_as (symbol_case s.rest) d x s
+parse_symbol d x s = symbol_as (symbol_case s.rest) (parse_special d x) (parse_name d x) s

@@ -115,7 +115,7 @@ impl Demangler {
             None => Buffer::new(alloc),
         };
         let mut reader = Reader::new(alloc, buffer, inside)?;
-        match reader.read_symbol(MAX_DEPTH, OUTSIDE) {
+        match reader.read_mangled_name(MAX_DEPTH, OUTSIDE) {
             Ok(()) => {}
             Err(Stop::Unread) => {
                 self.keep(reader, None);

@@ -122,19 +122,18 @@ impl<'a> Reader<'a> {
         }
     }
 
-    /// `<encoding> ::= <name> [<return type>] [<parameter types>]`
+    /// `<encoding> ::= <special-name> | <name> [<return type>] [<parameter types>]`
     #[tactic(auto, using(crate::proofs::Rules::encodings))]
     #[cycle(reader)]
     pub fn read_encoding(&mut self, depth: usize, context: Context) -> Result<(), Stop>
         requires room { HasRoom 1 (state self.old) }
-        ensures reads { Gives result self.new (spec.parse_encoding (spec.parse_bare_name depth context)
-            (spec.parse_type depth context) (state self.old)) }
+        ensures reads { Gives result self.new (spec.parse_encoding depth context (state self.old)) }
         ensures run { OnOk result (IsRun self.old.buffer self.new.buffer) }
         ensures bounds { Bounds 1 result (state self.old) (state self.new) }
         ensures saved { SavedBounds 1 result (state self.old) (state self.new) }
     {
         match symbol_case(self.rest) {
-            SymbolCase::SpecialSymbol => Err(Stop::Unread),
+            SymbolCase::SpecialSymbol => self.read_special(depth, context),
             SymbolCase::NameSymbol => {
                 let quals = self.read_bare_name(depth, context)?;
                 self.end_encoding(depth, context, self.found, quals)
@@ -193,8 +192,7 @@ impl<'a> Reader<'a> {
     pub fn read_local(&mut self, depth: usize, context: Context) -> Result<Quals, Stop>
         requires room { HasRoom 2 (state self.old) }
         ensures reads { GivesBareName result self.new (spec.parse_local
-            (spec.parse_encoding (spec.parse_bare_name depth (inside_encoding context))
-            (spec.parse_type depth (inside_encoding context)))
+            (spec.parse_encoding depth (inside_encoding context))
             (spec.parse_bare_name depth (inside_local context)) (state self.old)) }
         ensures run { OnOk result (IsRun self.old.buffer self.new.buffer) }
         ensures bounds { Bounds 1 result (state self.old) (state self.new) }

@@ -148,7 +148,7 @@ impl<'a> Reader<'a> {
     pub fn read_primary(&mut self, depth: usize, context: Context) -> Result<(), Stop>
         requires room { HasRoom 0 (state self.old) }
         requires some { 0 < length self.old.rest.now }
-        ensures reads { Gives result self.new (spec.primary_at depth context (state self.old)) }
+        ensures reads { Gives result self.new (spec.parse_primary depth context (state self.old)) }
         ensures run { OnOk result (IsRun self.old.buffer self.new.buffer) }
         ensures bounds { Bounds 2 result (state self.old) (state self.new) }
         ensures saved { SavedBounds 1 result (state self.old) (state self.new) }

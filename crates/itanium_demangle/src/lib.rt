@@ -36,6 +36,7 @@ mod expressions;
 pub mod laws;
 mod names;
 mod reader;
+mod specials;
 mod stop;
 mod types;
 

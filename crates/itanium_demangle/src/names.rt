@@ -6,7 +6,7 @@ ghost use Rattle.itanium_syntax.specs.Context.{inside_lambda};
 ghost use Rattle.itanium_grammar.specs.Tree.{conversion_shape};
 ghost use Rattle.itanium_syntax.specs.Args.{attached_case};
 ghost use Rattle.itanium_demangle.specs.Parser as spec;
-ghost use Rattle.itanium_demangle.specs.Outcome.{state, Gives, GivesBareName, ReadsAs, HasRoom, Bounds, OptionalBounds, SavedBounds};
+ghost use Rattle.itanium_demangle.specs.Outcome.{state, Gives, GivesBareName, HasRoom, Bounds, OptionalBounds, SavedBounds};
 
 use crate::reader::Reader;
 use crate::stop::Stop;
@@ -18,9 +18,9 @@ use itanium_syntax::args::{AttachedCase, attached_case};
 use itanium_syntax::context::Context;
 use itanium_syntax::encodings::shows_words;
 use itanium_syntax::names::{
-    ComponentCase, FirstCase, FreeCase, NameCase, SymbolCase, TagCase, UnqualifiedCase,
-    UnscopedCase, component_case, first_case, free_case, name_case, name_quals, past_internal,
-    saves_first, source_text, symbol_case, tag_case, unqualified_case, unscoped_case,
+    ComponentCase, FirstCase, FreeCase, NameCase, TagCase, UnqualifiedCase, UnscopedCase,
+    component_case, first_case, free_case, name_case, name_quals, past_internal, saves_first,
+    source_text, tag_case, unqualified_case, unscoped_case,
 };
 use itanium_syntax::numerals::{lambda_number, unnamed_type_number};
 use itanium_syntax::operators::operator_here;
@@ -488,21 +488,5 @@ impl<'a> Reader<'a> {
         let quals = self.read_bare_name(depth, context)?;
         self.found = apply_name_qualifiers(&mut self.buffer, self.found, quals, shown)?;
         Ok(())
-    }
-
-    /// What follows the prefix of a symbol, within `depth` open productions: a name, without its parameters.
-    #[tactic(auto, using(crate::proofs::Rules::symbols))]
-    pub fn read_symbol(&mut self, depth: usize, context: Context) -> Result<(), Stop>
-        requires room { HasRoom 1 (state self.old) }
-        ensures reads { Gives result self.new (spec.parse_symbol depth context (state self.old)) }
-        // Of trees: a reading of the bytes, with which every other agrees, or none.
-        ensures reading { ReadsAs result context depth self.old self.new }
-        ensures bounds { Bounds 1 result (state self.old) (state self.new) }
-        ensures saved { SavedBounds 1 result (state self.old) (state self.new) }
-    {
-        match symbol_case(self.rest) {
-            SymbolCase::SpecialSymbol => Err(Stop::Unread),
-            SymbolCase::NameSymbol => self.read_name(depth, context),
-        }
     }
 }

@@ -234,7 +234,7 @@ impl<'a> Reader<'a> {
 
     /// A `<type>` in a frame of its own: what lived keeps its shape.
     #[cycle(reader)]
-    fn framed_type(&mut self, depth: usize, context: Context) -> Result<(), Stop>
+    pub fn framed_type(&mut self, depth: usize, context: Context) -> Result<(), Stop>
         requires room { HasRoom 2 (state self.old) }
         ensures reads { Gives result self.new (spec.parse_type depth context (state self.old)) }
         ensures kept { OnOk result (SameFrame self.old.buffer self.new.buffer) }

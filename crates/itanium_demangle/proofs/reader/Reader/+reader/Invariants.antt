@@ -269,3 +269,24 @@ decreases-read_expression_argument l = 16 * l.depth + 1
 
 abbrev pub decreases-read_alternatives : goal.decreases-read_alternatives
 decreases-read_alternatives l = 16 * l.depth + 3
+
+abbrev pub decreases-read_type_special : goal.decreases-read_type_special
+decreases-read_type_special l = 16 * l.depth + 1
+
+abbrev pub decreases-read_name_special : goal.decreases-read_name_special
+decreases-read_name_special l = 16 * l.depth + 2
+
+abbrev pub decreases-read_temporary : goal.decreases-read_temporary
+decreases-read_temporary l = 16 * l.depth + 2
+
+abbrev pub decreases-read_construction : goal.decreases-read_construction
+decreases-read_construction l = 16 * l.depth + 2
+
+abbrev pub decreases-read_thunk : goal.decreases-read_thunk
+decreases-read_thunk l = 16 * l.depth
+
+abbrev pub decreases-read_special : goal.decreases-read_special
+decreases-read_special l = 16 * l.depth + 3
+
+abbrev pub decreases-read_symbol : goal.decreases-read_symbol
+decreases-read_symbol l = 16 * l.depth + 4

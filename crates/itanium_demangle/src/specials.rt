@@ -1,0 +1,380 @@
+//! Special names, and what follows the prefix of a symbol (Itanium C++ ABI 5.1.4, "Virtual Tables and RTTI").
+ghost use Rattle.std.specs.Prelude.{◌≡◌, ◌<◌, OnOk, IfOk, length, decimal};
+ghost use Rattle.demangle_text.specs.Shape.{text};
+ghost use Rattle.demangle_text.specs.State.{IsLiving, Lives, shape, IsEdit, KeepsAll, IsRun};
+ghost use Rattle.itanium_grammar.specs.Tree.{sign_text, plain_offset_text, virtual_offset_text, offset_text, worded_shape, temporary_shape, construction_shape, single_thunk_shape, covariant_thunk_shape, thunk_shape};
+ghost use Rattle.itanium_demangle.specs.Parser as spec;
+ghost use Rattle.itanium_demangle.specs.Outcome.{state, Gives, ReadsAs, HasRoom, Bounds, SavedBounds};
+
+use crate::reader::Reader;
+use crate::stop::Stop;
+use demangle_edit::{Glue, append_number, glue};
+use demangle_text::{Buffer, Piece};
+use itanium_syntax::context::Context;
+use itanium_syntax::names::{SymbolCase, symbol_case};
+use itanium_syntax::numerals::{Radix, index_of};
+use itanium_syntax::offsets::{CallOffset, Signed, ThunkOffsets, thunk_offsets};
+use itanium_syntax::specials::{SpecialCase, special_case, special_close, special_text};
+use std::alloc::AllocError;
+
+/// The sign of a number, `-` or nothing.
+fn sign_bytes(number: Signed) -> &'static [u8]
+    ensures value { result.now ≡ sign_text number }
+{
+    if number.negative { b"-" } else { b"" }
+}
+
+/// A number as a text, without its sign.
+#[tactic(auto, using(crate::proofs::Rules::buffers))]
+fn push_number(buf: &mut Buffer, number: u64) -> Result<Piece, AllocError>
+    ensures text { IfOk result (λ p. IsLiving buf.new p × (text (shape buf.new p) ≡ decimal number)) }
+    ensures kept { OnOk result (KeepsAll buf.old buf.new) }
+{
+    let mark = buf.open();
+    let empty = buf.push(b"")?;
+    let numbered = append_number(buf, empty, number)?;
+    buf.close(mark, numbered)
+}
+
+/// `h <number> _` as it is printed.
+#[tactic(auto, using(crate::proofs::Rules::buffers))]
+fn push_plain_offset(buf: &mut Buffer, number: Signed) -> Result<Piece, AllocError>
+    ensures text { IfOk result (λ p. IsLiving buf.new p × (text (shape buf.new p) ≡ plain_offset_text number)) }
+    ensures edit { OnOk result (IsEdit buf.old buf.new) }
+{
+    let magnitude = push_number(buf, number.magnitude)?;
+    let parts = [
+        Glue::Text(b"{offset("),
+        Glue::Text(sign_bytes(number)),
+        Glue::Piece(magnitude),
+        Glue::Text(b")}"),
+    ];
+    glue(buf, &parts)
+}
+
+/// `v <number> _ <number> _` as it is printed.
+#[tactic(auto, using(crate::proofs::Rules::buffers))]
+fn push_virtual_offset(buf: &mut Buffer, first: Signed, second: Signed) -> Result<Piece, AllocError>
+    ensures text { IfOk result (λ p. IsLiving buf.new p
+        × (text (shape buf.new p) ≡ virtual_offset_text first second)) }
+    ensures edit { OnOk result (IsEdit buf.old buf.new) }
+{
+    let one = push_number(buf, first.magnitude)?;
+    let other = push_number(buf, second.magnitude)?;
+    let parts = [
+        Glue::Text(b"{virtual offset("),
+        Glue::Text(sign_bytes(first)),
+        Glue::Piece(one),
+        Glue::Text(b", "),
+        Glue::Text(sign_bytes(second)),
+        Glue::Piece(other),
+        Glue::Text(b")}"),
+    ];
+    glue(buf, &parts)
+}
+
+/// `<call-offset>` as it is printed.
+fn push_offset(buf: &mut Buffer, offset: CallOffset) -> Result<Piece, AllocError>
+    ensures text { IfOk result (λ p. IsLiving buf.new p × (text (shape buf.new p) ≡ offset_text offset)) }
+    ensures edit { OnOk result (IsEdit buf.old buf.new) }
+{
+    match offset {
+        CallOffset::Plain(number) => push_plain_offset(buf, number),
+        CallOffset::Virtual(first, second) => push_virtual_offset(buf, first, second),
+    }
+}
+
+/// `<call-offset>` as it is printed, in a frame of its own: what lived keeps its shape.
+#[tactic(auto, using(crate::proofs::Rules::buffers))]
+fn framed_offset(buf: &mut Buffer, offset: CallOffset) -> Result<Piece, AllocError>
+    ensures text { IfOk result (λ p. IsLiving buf.new p × (text (shape buf.new p) ≡ offset_text offset)) }
+    ensures kept { OnOk result (KeepsAll buf.old buf.new) }
+{
+    let mark = buf.open();
+    let printed = push_offset(buf, offset)?;
+    buf.close(mark, printed)
+}
+
+#[tactic(auto, using(crate::proofs::Rules::buffers))]
+impl<'a> Reader<'a> {
+    /// Words around what was found.
+    fn print_worded(&mut self, words: &[u8], close: &[u8]) -> Result<(), AllocError>
+        requires living { IsLiving self.old.buffer self.old.found }
+        ensures shape { OnOk result (Lives self.new.buffer self.new.found
+            (worded_shape words.now (shape self.old.buffer self.old.found) close.now)) }
+        ensures state { OnOk result (state self.new ≡ state self.old) }
+        ensures run { OnOk result (IsRun self.old.buffer self.new.buffer) }
+    {
+        let parts = [
+            Glue::Text(words),
+            Glue::Piece(self.found),
+            Glue::Text(close),
+        ];
+        self.found = glue(&mut self.buffer, &parts)?;
+        Ok(())
+    }
+
+    /// The number of a reference temporary in front of its name, which was found.
+    fn print_temporary(&mut self, number: u64) -> Result<(), AllocError>
+        requires living { IsLiving self.old.buffer self.old.found }
+        ensures shape { OnOk result (Lives self.new.buffer self.new.found
+            (temporary_shape number (shape self.old.buffer self.old.found))) }
+        ensures state { OnOk result (state self.new ≡ state self.old) }
+        ensures run { OnOk result (IsRun self.old.buffer self.new.buffer) }
+    {
+        let digits = push_number(&mut self.buffer, number)?;
+        let parts = [
+            Glue::Text(b"reference temporary #"),
+            Glue::Piece(digits),
+            Glue::Text(b" for "),
+            Glue::Piece(self.found),
+        ];
+        self.found = glue(&mut self.buffer, &parts)?;
+        Ok(())
+    }
+
+    /// The construction vtable of a type in the type that was found.
+    fn print_construction(&mut self, base: Piece) -> Result<(), AllocError>
+        requires base { IsLiving self.old.buffer base }
+        requires living { IsLiving self.old.buffer self.old.found }
+        ensures shape { OnOk result (Lives self.new.buffer self.new.found
+            (construction_shape (shape self.old.buffer base) (shape self.old.buffer self.old.found))) }
+        ensures state { OnOk result (state self.new ≡ state self.old) }
+        ensures run { OnOk result (IsRun self.old.buffer self.new.buffer) }
+    {
+        let parts = [
+            Glue::Text(b"construction vtable for "),
+            Glue::Piece(base),
+            Glue::Text(b"-in-"),
+            Glue::Piece(self.found),
+        ];
+        self.found = glue(&mut self.buffer, &parts)?;
+        Ok(())
+    }
+
+    /// The thunk with this offset of what was found.
+    fn print_single_thunk(&mut self, offset: CallOffset) -> Result<(), AllocError>
+        requires living { IsLiving self.old.buffer self.old.found }
+        ensures shape { OnOk result (Lives self.new.buffer self.new.found
+            (single_thunk_shape offset (shape self.old.buffer self.old.found))) }
+        ensures state { OnOk result (state self.new ≡ state self.old) }
+        ensures run { OnOk result (IsRun self.old.buffer self.new.buffer) }
+    {
+        let printed = framed_offset(&mut self.buffer, offset)?;
+        let parts = [
+            Glue::Text(b"{virtual override thunk("),
+            Glue::Piece(printed),
+            Glue::Text(b", "),
+            Glue::Piece(self.found),
+            Glue::Text(b")}"),
+        ];
+        self.found = glue(&mut self.buffer, &parts)?;
+        Ok(())
+    }
+
+    /// The thunk with these two offsets of what was found.
+    fn print_covariant_thunk(
+        &mut self,
+        first: CallOffset,
+        second: CallOffset,
+    ) -> Result<(), AllocError>
+        requires living { IsLiving self.old.buffer self.old.found }
+        ensures shape { OnOk result (Lives self.new.buffer self.new.found
+            (covariant_thunk_shape first second (shape self.old.buffer self.old.found))) }
+        ensures state { OnOk result (state self.new ≡ state self.old) }
+        ensures run { OnOk result (IsRun self.old.buffer self.new.buffer) }
+    {
+        let one = framed_offset(&mut self.buffer, first)?;
+        let other = framed_offset(&mut self.buffer, second)?;
+        let parts = [
+            Glue::Text(b"{virtual override thunk("),
+            Glue::Piece(one),
+            Glue::Text(b", "),
+            Glue::Piece(other),
+            Glue::Text(b", "),
+            Glue::Piece(self.found),
+            Glue::Text(b")}"),
+        ];
+        self.found = glue(&mut self.buffer, &parts)?;
+        Ok(())
+    }
+
+    /// The thunk with these offsets of what was found.
+    fn print_thunk(&mut self, offsets: ThunkOffsets) -> Result<(), AllocError>
+        requires living { IsLiving self.old.buffer self.old.found }
+        ensures shape { OnOk result (Lives self.new.buffer self.new.found
+            (thunk_shape offsets (shape self.old.buffer self.old.found))) }
+        ensures state { OnOk result (state self.new ≡ state self.old) }
+        ensures run { OnOk result (IsRun self.old.buffer self.new.buffer) }
+    {
+        match offsets {
+            ThunkOffsets::Single(offset) => self.print_single_thunk(offset),
+            ThunkOffsets::Covariant(first, second) => self.print_covariant_thunk(first, second),
+        }
+    }
+
+    /// `[<seq-id>] _` of a reference temporary, after its name, which was found.
+    fn end_temporary(&mut self) -> Result<(), Stop>
+        requires living { IsLiving self.old.buffer self.old.found }
+        ensures reads { Gives result self.new
+            (spec.temporary_end (shape self.old.buffer self.old.found) (state self.old)) }
+        ensures run { OnOk result (IsRun self.old.buffer self.new.buffer) }
+        ensures bounds { Bounds 2 result (state self.old) (state self.new) }
+        ensures saved { SavedBounds 1 result (state self.old) (state self.new) }
+    {
+        let Some((number, rest)) = index_of(Radix::Base36, self.rest) else {
+            return Err(Stop::Unread);
+        };
+        self.rest = rest;
+        self.print_temporary(number as u64)?;
+        Ok(())
+    }
+
+    /// `TV <type>`, `TT <type>`, `TI <type>`, `TS <type>` and `TF <type>`
+    #[cycle(reader)]
+    fn read_type_special(&mut self, depth: usize, context: Context) -> Result<(), Stop>
+        requires room { HasRoom 0 (state self.old) }
+        requires some { 0 < length self.old.rest.now }
+        ensures reads { Gives result self.new
+            (spec.parse_worded (spec.parse_type depth context) (state self.old)) }
+        ensures run { OnOk result (IsRun self.old.buffer self.new.buffer) }
+        ensures bounds { Bounds 2 result (state self.old) (state self.new) }
+        ensures saved { SavedBounds 1 result (state self.old) (state self.new) }
+    {
+        let words = special_text(self.rest);
+        let close = special_close(self.rest);
+        self.skip(2);
+        self.read_type(depth, context)?;
+        self.print_worded(words, close)?;
+        Ok(())
+    }
+
+    /// `TH <name>`, `TW <name>` and `GV <name>`
+    #[cycle(reader)]
+    fn read_name_special(&mut self, depth: usize, context: Context) -> Result<(), Stop>
+        requires room { HasRoom 0 (state self.old) }
+        requires some { 0 < length self.old.rest.now }
+        ensures reads { Gives result self.new
+            (spec.parse_worded (spec.parse_name depth context) (state self.old)) }
+        ensures run { OnOk result (IsRun self.old.buffer self.new.buffer) }
+        ensures bounds { Bounds 2 result (state self.old) (state self.new) }
+        ensures saved { SavedBounds 1 result (state self.old) (state self.new) }
+    {
+        let words = special_text(self.rest);
+        let close = special_close(self.rest);
+        self.skip(2);
+        self.read_name(depth, context)?;
+        self.print_worded(words, close)?;
+        Ok(())
+    }
+
+    /// `GR <name> [<seq-id>] _`
+    #[cycle(reader)]
+    fn read_temporary(&mut self, depth: usize, context: Context) -> Result<(), Stop>
+        requires room { HasRoom 0 (state self.old) }
+        requires some { 0 < length self.old.rest.now }
+        ensures reads { Gives result self.new
+            (spec.parse_temporary (spec.parse_name depth context) (state self.old)) }
+        ensures run { OnOk result (IsRun self.old.buffer self.new.buffer) }
+        ensures bounds { Bounds 2 result (state self.old) (state self.new) }
+        ensures saved { SavedBounds 1 result (state self.old) (state self.new) }
+    {
+        self.skip(2);
+        self.read_name(depth, context)?;
+        self.end_temporary()
+    }
+
+    /// `TC <type> <type>`
+    #[cycle(reader)]
+    fn read_construction(&mut self, depth: usize, context: Context) -> Result<(), Stop>
+        requires room { HasRoom 0 (state self.old) }
+        requires some { 0 < length self.old.rest.now }
+        ensures reads { Gives result self.new
+            (spec.parse_construction (spec.parse_type depth context) (state self.old)) }
+        ensures run { OnOk result (IsRun self.old.buffer self.new.buffer) }
+        ensures bounds { Bounds 2 result (state self.old) (state self.new) }
+        ensures saved { SavedBounds 1 result (state self.old) (state self.new) }
+    {
+        self.skip(2);
+        self.read_type(depth, context)?;
+        let base = self.found;
+        self.framed_type(depth, context)?;
+        self.print_construction(base)?;
+        Ok(())
+    }
+
+    /// `T <call-offset> <encoding>` and `T c <call-offset> <call-offset> <encoding>`, within `depth` open productions.
+    #[tactic(auto, using(crate::proofs::Rules::thunks))]
+    #[cycle(reader)]
+    fn read_thunk(&mut self, depth: usize, context: Context) -> Result<(), Stop>
+        requires room { HasRoom 1 (state self.old) }
+        requires some { 0 < length self.old.rest.now }
+        ensures reads { Gives result self.new (spec.parse_thunk depth context (state self.old)) }
+        ensures run { OnOk result (IsRun self.old.buffer self.new.buffer) }
+        ensures bounds { Bounds 1 result (state self.old) (state self.new) }
+        ensures saved { SavedBounds 1 result (state self.old) (state self.new) }
+    {
+        if depth == 0 {
+            return Err(Stop::Unread);
+        }
+        self.entered += 1;
+        self.skip(1);
+        let Some((offsets, rest)) = thunk_offsets(self.rest) else {
+            return Err(Stop::Unread);
+        };
+        self.rest = rest;
+        self.read_symbol(depth - 1, context)?;
+        self.print_thunk(offsets)?;
+        Ok(())
+    }
+
+    /// `<special-name>`
+    #[tactic(auto, using(crate::proofs::Rules::specials))]
+    #[cycle(reader)]
+    pub fn read_special(&mut self, depth: usize, context: Context) -> Result<(), Stop>
+        requires room { HasRoom 1 (state self.old) }
+        ensures reads { Gives result self.new (spec.parse_special depth context (state self.old)) }
+        ensures run { OnOk result (IsRun self.old.buffer self.new.buffer) }
+        ensures bounds { Bounds 1 result (state self.old) (state self.new) }
+        ensures saved { SavedBounds 1 result (state self.old) (state self.new) }
+    {
+        match special_case(self.rest) {
+            SpecialCase::TypeSpecial => self.read_type_special(depth, context),
+            SpecialCase::NameSpecial => self.read_name_special(depth, context),
+            SpecialCase::TemporarySpecial => self.read_temporary(depth, context),
+            SpecialCase::ConstructionSpecial => self.read_construction(depth, context),
+            SpecialCase::ThunkSpecial => self.read_thunk(depth, context),
+            SpecialCase::NoSpecial => Err(Stop::Unread),
+        }
+    }
+
+    /// What follows the prefix of a symbol, within `depth` open productions: a special name, or a name without its
+    /// parameters.
+    #[tactic(auto, using(crate::proofs::Rules::symbols))]
+    #[cycle(reader)]
+    fn read_symbol(&mut self, depth: usize, context: Context) -> Result<(), Stop>
+        requires room { HasRoom 1 (state self.old) }
+        ensures reads { Gives result self.new (spec.parse_symbol depth context (state self.old)) }
+        ensures run { OnOk result (IsRun self.old.buffer self.new.buffer) }
+        ensures bounds { Bounds 1 result (state self.old) (state self.new) }
+        ensures saved { SavedBounds 1 result (state self.old) (state self.new) }
+    {
+        match symbol_case(self.rest) {
+            SymbolCase::SpecialSymbol => self.read_special(depth, context),
+            SymbolCase::NameSymbol => self.read_name(depth, context),
+        }
+    }
+
+    /// `<mangled-name>` after its prefix, within `depth` open productions.
+    #[tactic(auto, using(crate::proofs::Rules::readings))]
+    pub fn read_mangled_name(&mut self, depth: usize, context: Context) -> Result<(), Stop>
+        requires room { HasRoom 1 (state self.old) }
+        ensures reads { Gives result self.new (spec.parse_symbol depth context (state self.old)) }
+        // Of trees: a reading of the bytes, with which every other agrees, or none.
+        ensures reading { ReadsAs result context depth self.old self.new }
+        ensures bounds { Bounds 1 result (state self.old) (state self.new) }
+        ensures saved { SavedBounds 1 result (state self.old) (state self.new) }
+    {
+        self.read_symbol(depth, context)
+    }
+}
