@@ -98,7 +98,7 @@ fn framed_offset(buf: &mut Buffer, offset: CallOffset) -> Result<Piece, AllocErr
 #[tactic(auto, using(crate::proofs::Rules::buffers))]
 impl<'a> Reader<'a> {
     /// Words around what was found.
-    fn print_worded(&mut self, words: &[u8], close: &[u8]) -> Result<(), AllocError>
+    fn print_worded<'t>(&mut self, words: &'t [u8], close: &'t [u8]) -> Result<(), AllocError>
         requires living { IsLiving self.old.buffer self.old.found }
         ensures shape { OnOk result (Lives self.new.buffer self.new.found
             (worded_shape words.now (shape self.old.buffer self.old.found) close.now)) }
