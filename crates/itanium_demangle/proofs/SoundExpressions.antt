@@ -1,5 +1,5 @@
 -- Of literals, expressions and arguments: what the parser reads, the grammar reads.
-use Rattle.std.proofs.Common.{◌≡◌, ◌≤◌, ℕ, suc, ◌+◌, max, Bool, true, false, List, refl, ◌∙◌, sym, arith, Option, Some, None, codes, if◌then◌else◌}
+use Rattle.std.proofs.Common.{◌≡◌, ℕ, suc, ◌+◌, max, true, List, ◌∙◌, sym, arith, Some, codes}
 use Rattle.std.proofs.lemmas.Option.{same_Some, option_and_then_some, cond_some}
 use Rattle.demangle_text.specs.Shape.{Shape, text}
 use Rattle.demangle_edit.specs.Expressions.{has_literal, literal_step}
@@ -7,14 +7,14 @@ use Rattle.itanium_syntax.specs.declared.context.Context.{Context}
 use Rattle.itanium_syntax.specs.Context.{inside_encoding}
 use Rattle.itanium_syntax.specs.Bytes.{begins}
 use Rattle.itanium_syntax.specs.Args.{argument_case}
-use Rattle.itanium_syntax.specs.Expressions.{is_external, literal_case, literal_value, expression_text, expression_case}
-use Rattle.itanium_grammar.specs.Tree.{Tree, Operand, shape_of, shape_of_operand, printing}
-use Rattle.itanium_grammar.specs.Grammar.{Position, Cost, skip, ArgumentAs, Expression, ExpressionAs, OperandOf, LiteralAs, external_name, value_literal, expression, operand_of, pre_expression, address_expression, unary_expression, post_expression, binary_expression, greater_expression, conditional_expression, parameter_expression, literal_expression, expression_argument, pack_argument, literal_argument, type_argument}
+use Rattle.itanium_syntax.specs.Expressions.{literal_case, literal_value, expression_case}
+use Rattle.itanium_grammar.specs.Tree.{shape_of, shape_of_operand}
+use Rattle.itanium_grammar.specs.Grammar.{Position, skip, ArgumentAs, Expression, ExpressionAs, OperandOf, LiteralAs, external_name, value_literal, expression, operand_of, pre_expression, address_expression, unary_expression, post_expression, binary_expression, greater_expression, conditional_expression, parameter_expression, literal_expression, expression_argument, pack_argument, literal_argument, type_argument}
 use Rattle.itanium_demangle.specs.Cases.{LiteralCase, ExternalName, ValueLiteral, NoLiteral, ExpressionCase, PreExpression, AddressExpression, UnaryExpression, PostExpression, BinaryExpression, GreaterExpression, ConditionalExpression, ParameterExpression, LiteralExpression, NoExpression, ArgumentCase, ExpressionArgument, PackArgument, LiteralArgument, ConstraintArgument, TypeArgument}
-use Rattle.itanium_demangle.specs.Parser.{ParserState, ◌>>=◌, parse_type, parse_name, parse_special, parse_pack, parse_encoding, ended, past_end, literal_end, literal_as, parse_primary, operand_by, expression_as, parse_expression, argument_as, parse_argument}
+use Rattle.itanium_demangle.specs.Parser.{ParserState, parse_type, parse_name, parse_special, parse_pack, parse_encoding, past_end, literal_as, parse_primary, operand_by, expression_as, parse_expression, argument_as, parse_argument}
 use Rattle.itanium_demangle.specs.Outcome.{state_at}
-use Rattle.itanium_demangle.proofs.Readings.{Within, Found, given, TypesComplete, PacksComplete, BareNamesComplete, ThunksComplete, ExpressionsComplete, TypesSound, PacksSound, BareNamesSound, ThunksSound, ExpressionsSound, ArgumentsSound}
-use Rattle.itanium_demangle.proofs.CompleteExpressions.{primary_complete, operand_complete, expressions_complete, each_argument_complete}
+use Rattle.itanium_demangle.proofs.Readings.{Within, Found, TypesComplete, PacksComplete, BareNamesComplete, ThunksComplete, ExpressionsComplete, TypesSound, PacksSound, BareNamesSound, ThunksSound, ExpressionsSound, ArgumentsSound}
+use Rattle.itanium_demangle.proofs.CompleteExpressions.{operand_complete, expressions_complete, each_argument_complete}
 use Rattle.itanium_demangle.proofs.SoundNames.{parameter_sound, encoding_sound}
 
 -- an E stands there

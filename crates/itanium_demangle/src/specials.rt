@@ -105,12 +105,12 @@ impl<'a> Reader<'a> {
         ensures state { OnOk result (state self.new ≡ state self.old) }
         ensures run { OnOk result (IsRun self.old.buffer self.new.buffer) }
     {
-        let parts = [
+        let worded = [
             Glue::Text(words),
             Glue::Piece(self.found),
             Glue::Text(close),
         ];
-        self.found = glue(&mut self.buffer, &parts)?;
+        self.found = glue(&mut self.buffer, &worded)?;
         Ok(())
     }
 
@@ -142,11 +142,12 @@ impl<'a> Reader<'a> {
         ensures state { OnOk result (state self.new ≡ state self.old) }
         ensures run { OnOk result (IsRun self.old.buffer self.new.buffer) }
     {
+        let class = self.found;
         let parts = [
             Glue::Text(b"construction vtable for "),
             Glue::Piece(base),
             Glue::Text(b"-in-"),
-            Glue::Piece(self.found),
+            Glue::Piece(class),
         ];
         self.found = glue(&mut self.buffer, &parts)?;
         Ok(())

@@ -1,5 +1,5 @@
 -- Call offsets of thunks (Itanium C++ ABI 5.1.4).
-use Rattle.std.specs.Prelude.{ℕ, List, Bool, true, false, not, ◌&&◌, ◌==◌, drop, codes, if◌then◌else◌, Option, Some, None, option_and_then, option_map}
+use Rattle.std.specs.Prelude.{ℕ, List, Bool, not, ◌&&◌, ◌==◌, drop, codes, if◌then◌else◌, Option, None, option_and_then, option_map}
 use Rattle.itanium_syntax.specs.declared.numerals.Radix.TheVariants.{Decimal}
 use Rattle.itanium_syntax.specs.declared.offsets.Signed.{Signed}
 use Rattle.itanium_syntax.specs.declared.offsets.CallOffset.{CallOffset}
