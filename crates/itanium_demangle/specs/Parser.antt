@@ -656,7 +656,8 @@ unfoldable mutual
       name_as (name_case s.rest) (parse_unqualified (parse_type d x) (parse_type d (inside_lambda x)))
       (parse_args d x true)
       (parse_local
-      (encoding_by (parse_type d (inside_encoding x)) (parse_bare_name d (inside_encoding x)) (parse_thunk d (inside_encoding x)) (inside_encoding x))
+      (encoding_by (parse_type d (inside_encoding x)) (parse_bare_name d (inside_encoding x))
+      (parse_thunk d (inside_encoding x)) (inside_encoding x))
       (parse_bare_name d (inside_local x)))
       x (enter s)
 
@@ -666,24 +667,27 @@ unfoldable mutual
   parse_args (suc d) x of_name s =
       parse_list (argument_by (parse_pack d x) (parse_type d x) (parse_expression d x)
       (primary_by (parse_type d x)
-      (encoding_by (parse_type d (inside_encoding x)) (parse_bare_name d (inside_encoding x)) (parse_thunk d (inside_encoding x)) (inside_encoding x))))
+      (encoding_by (parse_type d (inside_encoding x)) (parse_bare_name d (inside_encoding x))
+      (parse_thunk d (inside_encoding x)) (inside_encoding x))))
       (opens_scope of_name x) (enter s)
 
   -- J <template-arg>* E
   pub parse_pack : ℕ → Context → Parses Shape
   parse_pack zero x s = None
   parse_pack (suc d) x s =
-      parse_packed (argument_by (parse_pack d (inside_pack x)) (parse_type d (inside_pack x)) (parse_expression d (inside_pack x))
+      parse_packed (argument_by (parse_pack d (inside_pack x)) (parse_type d (inside_pack x))
+      (parse_expression d (inside_pack x))
       (primary_by (parse_type d (inside_pack x))
-      (encoding_by (parse_type d (inside_encoding (inside_pack x))) (parse_bare_name d (inside_encoding (inside_pack x)))
-      (parse_thunk d (inside_encoding (inside_pack x))) (inside_encoding (inside_pack x)))))
+      (encoding_by (parse_type d (inside_encoding (inside_pack x)))
+      (parse_bare_name d (inside_encoding (inside_pack x))) (parse_thunk d (inside_encoding (inside_pack x))) (inside_encoding (inside_pack x)))))
       (enter s)
 
   -- <type>
   pub parse_type : ℕ → Context → Parses Shape
   parse_type zero x s = None
   parse_type (suc d) x s =
-      type_as (type_case s.rest) (parse_type d (inside_type x)) (qualified_by (parse_bare_name d (inside_type x)) (inside_type x))
+      type_as (type_case s.rest) (parse_type d (inside_type x))
+      (qualified_by (parse_bare_name d (inside_type x)) (inside_type x))
       (parse_args d (inside_type x) false) (inside_type x) (enter s)
 
   -- <expression>
@@ -691,7 +695,8 @@ unfoldable mutual
   parse_expression zero x s = None
   parse_expression (suc d) x s =
       expression_as (expression_case s.rest) (parse_expression d x) (primary_by (parse_type d x)
-      (encoding_by (parse_type d (inside_encoding x)) (parse_bare_name d (inside_encoding x)) (parse_thunk d (inside_encoding x)) (inside_encoding x)))
+      (encoding_by (parse_type d (inside_encoding x)) (parse_bare_name d (inside_encoding x))
+      (parse_thunk d (inside_encoding x)) (inside_encoding x)))
       x (enter s)
 
   -- T <call-offset> <encoding> and T c <call-offset> <call-offset> <encoding>

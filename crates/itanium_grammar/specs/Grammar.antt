@@ -261,7 +261,7 @@ mutual
         → Thunk x p t q c
         → SpecialAs ThunkSpecial x p t q c
 
-  -- T <call-offset> <encoding> | T c <call-offset> <call-offset> <encoding>: counted, and its encoding has no parameters
+  -- T <call-offset> <encoding> | T c <call-offset> <call-offset> <encoding>: counted, its encoding without parameters
   pub data Thunk : Context → Position → Tree → Position → Cost → Type 0 where
     thunk :
         {x : Context} {p q : Position} {t : Tree} {c : Cost} {offsets : ThunkOffsets} {rest : List ℕ}

@@ -223,7 +223,6 @@ unfoldable mutual
   shape_as waits (elaborated word name) = elaborated_shape word (shape_as false name)
   shape_as waits (expansion_of t) = expansion_shape (shape_as false t)
   shape_as waits (pack_of list) = pack_shape (shape_each list)
-
   shape_as waits (worded word t close) = worded_shape word (shape_as false t) close
   shape_as waits (temporary_of number t) = temporary_shape number (shape_as false t)
   shape_as waits (construction_of t u) = construction_shape (shape_as false t) (shape_as false u)
