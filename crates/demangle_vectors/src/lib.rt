@@ -24,4 +24,6 @@ mod scalars;
 #[cfg(test)]
 mod serving;
 #[cfg(test)]
+mod specials;
+#[cfg(test)]
 mod tables;
