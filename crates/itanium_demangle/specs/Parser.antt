@@ -679,7 +679,8 @@ unfoldable mutual
       (parse_expression d (inside_pack x))
       (primary_by (parse_type d (inside_pack x))
       (encoding_by (parse_type d (inside_encoding (inside_pack x)))
-      (parse_bare_name d (inside_encoding (inside_pack x))) (parse_thunk d (inside_encoding (inside_pack x))) (inside_encoding (inside_pack x)))))
+      (parse_bare_name d (inside_encoding (inside_pack x))) (parse_thunk d (inside_encoding (inside_pack x)))
+      (inside_encoding (inside_pack x)))))
       (enter s)
 
   -- <type>

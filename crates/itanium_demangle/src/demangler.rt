@@ -89,10 +89,10 @@ impl Demangler {
 
     /// Reads a symbol and keeps its answer for `text`: true where there is one.
     ///
-    /// A symbol is `_Z` or `__Z` and an encoding, of which the name is read (Itanium C++ ABI 5.1.2). The answer is its
-    /// printing, and after it all that follows from a dot. There is none where the grammar doesn't read the symbol
-    /// with at most `MAX_DEPTH` nested productions, or where the printing isn't UTF-8. An error comes only where memory
-    /// is refused; then nothing is kept, and the value serves on.
+    /// A symbol is `_Z` or `__Z` and an encoding, of which the name is read, or the special name (Itanium C++ ABI
+    /// 5.1.2). The answer is its printing, and after it all that follows from a dot. There is none where the grammar
+    /// doesn't read the symbol with at most `MAX_DEPTH` nested productions, or where the printing isn't UTF-8. An error
+    /// comes only where memory is refused; then nothing is kept, and the value serves on.
     #[tactic(auto, using(crate::proofs::Rules::answers))]
     pub fn prepare(&mut self, alloc: Global, symbol: &str) -> Result<bool, AllocError>
         ensures answer { IfOk result (λ _. IsAnswer symbol.now self.new.text) }

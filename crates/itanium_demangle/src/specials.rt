@@ -1,4 +1,5 @@
-//! Special names, and what follows the prefix of a symbol (Itanium C++ ABI 5.1.4, "Virtual Tables and RTTI").
+//! Special names, and what follows the prefix of a symbol (Itanium C++ ABI 5.1.4, "Other Special Functions and
+//! Entities").
 ghost use Rattle.std.specs.Prelude.{◌≡◌, ◌<◌, OnOk, IfOk, length, decimal};
 ghost use Rattle.demangle_text.specs.Shape.{text};
 ghost use Rattle.demangle_text.specs.State.{IsLiving, Lives, shape, IsEdit, KeepsAll, IsRun};

@@ -1,4 +1,4 @@
-//! Call offsets of thunks (Itanium C++ ABI 5.1.4, "Virtual Tables and RTTI").
+//! Call offsets of thunks (Itanium C++ ABI 5.1.4, "Virtual Override Thunks").
 ghost use Rattle.std.specs.Prelude.{◌≡◌, ◌<◌, ◌≤◌, IfSome, option_map, length, drop};
 ghost use Rattle.itanium_syntax.specs.Offsets as spec;
 

@@ -65,7 +65,7 @@ pub fn source_name(input: &[u8], pos: usize) -> Option<(usize, usize)>
 
 /// `<call-offset> ::= h <number> _ | v <number> _ <number> _`, where each number may have `n` in front for a minus: the
 /// offset, and the place after its last `_`, in bytes. Zero is never negative. `None` where none stands at `pos` or a
-/// number is past 2^64 - 1. (Itanium C++ ABI 5.1.4, "Virtual Tables and RTTI")
+/// number is past 2^64 - 1. (Itanium C++ ABI 5.1.4, "Virtual Override Thunks")
 #[tactic(auto, using(crate::proofs::Digits::dropped))]
 pub fn call_offset(input: &[u8], pos: usize) -> Option<(CallOffset, usize)>
     requires place { pos ≤ length input.now }

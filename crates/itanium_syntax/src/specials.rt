@@ -1,4 +1,5 @@
-//! The cases of special names (Itanium C++ ABI 5.1.4, "Virtual Tables and RTTI"): which one the next bytes begin.
+//! The cases of special names (Itanium C++ ABI 5.1.4, "Other Special Functions and Entities"): which one the next bytes
+//! begin, and the words that it prints.
 ghost use Rattle.std.specs.Prelude.{◌≡◌};
 ghost use Rattle.itanium_syntax.specs.Specials as spec;
 
