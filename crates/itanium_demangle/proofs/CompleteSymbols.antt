@@ -3,8 +3,8 @@ use Rattle.std.proofs.Common.{◌≡◌, ◌≤◌, ℕ, zero, suc, arith}
 use Rattle.itanium_syntax.specs.declared.context.Context.{Context}
 use Rattle.itanium_grammar.specs.Tree.{Tree, shape_of}
 use Rattle.itanium_grammar.specs.Grammar.{Position, Cost, Symbol, name, args, pack, type, expression, thunk, symbol}
-use Rattle.itanium_demangle.specs.Parser.{parse_symbol}
-use Rattle.itanium_demangle.specs.Outcome.{state_at}
+use Rattle.itanium_reader.specs.Parser.{parse_symbol}
+use Rattle.itanium_demangle.specs.Meaning.{state_at}
 use Rattle.itanium_demangle.proofs.Readings.{given, BareNamesComplete, ArgsComplete, PacksComplete, TypesComplete, ExpressionsComplete, ThunksComplete}
 use Rattle.itanium_demangle.proofs.CompleteNames.{bare_names_complete, names_complete, thunks_complete, symbol_as_complete}
 use Rattle.itanium_demangle.proofs.CompleteExpressions.{each_argument_complete, expressions_complete}

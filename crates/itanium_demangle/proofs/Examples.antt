@@ -10,7 +10,7 @@ use Rattle.itanium_syntax.specs.Scalars.{front_digits, weighted, number, index_o
 use Rattle.itanium_grammar.specs.Answer.{after_prefix, start, outside, suffix, max_depth, IsAnswer}
 use Rattle.itanium_syntax.specs.Expressions.{literal_value}
 use Rattle.itanium_syntax.specs.Offsets.{thunk_offsets}
-use Rattle.itanium_demangle.specs.Parser.{ParserState, begun, loop, component_turn, tag_turn, list_turn, typed_turn, types_turn, parse_unqualified, parse_substitution, parse_parameter, parse_nested, parse_bare_name, parse_encoding, parse_local, parse_thunk, parse_special, parse_primary, parse_expression, parse_argument, parse_name, parse_symbol}
+use Rattle.itanium_reader.specs.Parser.{ParserState, begun, loop, component_turn, tag_turn, list_turn, typed_turn, types_turn, parse_unqualified, parse_substitution, parse_parameter, parse_nested, parse_bare_name, parse_encoding, parse_local, parse_thunk, parse_special, parse_primary, parse_expression, parse_argument, parse_name, parse_symbol}
 use Rattle.itanium_demangle.specs.Examples.{WorkedSymbols, e_acute}
 use Rattle.itanium_demangle.proofs.Symbols.{found_reading, found_none, no_prefix, not_read, printed}
 

@@ -7,8 +7,8 @@ use Rattle.itanium_syntax.specs.declared.context.Context.{Context}
 use Rattle.itanium_syntax.specs.Args.{argument_case}
 use Rattle.itanium_grammar.specs.Tree.{Tree, shape_of, bare_shape, own_quals}
 use Rattle.itanium_grammar.specs.Grammar.{Position, Cost, Name, Args, Thunk, ArgumentAs, Pack, Expression, TypeOf}
-use Rattle.itanium_demangle.specs.Parser.{ParserState, Parses, parse_bare_name, parse_name, parse_args, parse_pack, parse_type, parse_expression, parse_thunk, parse_argument}
-use Rattle.itanium_demangle.specs.Outcome.{state_at}
+use Rattle.itanium_reader.specs.Parser.{ParserState, Parses, parse_bare_name, parse_name, parse_args, parse_pack, parse_type, parse_expression, parse_thunk, parse_argument}
+use Rattle.itanium_demangle.specs.Meaning.{state_at}
 
 -- what a reading of cost c gives, from so many entered and saved
 abbrev pub given : {T A : Type 0} → (T → A) → T → Position → Cost → ℕ → ℕ → Option (A × ParserState)

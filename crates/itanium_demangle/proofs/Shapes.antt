@@ -15,8 +15,8 @@ use Rattle.itanium_syntax.specs.declared.offsets.ThunkOffsets.{ThunkOffsets}
 use Rattle.itanium_syntax.specs.declared.abbreviations.Abbreviation.{Abbreviation}
 use Rattle.itanium_grammar.specs.Tree.{Tree, worded, temporary_of, construction_of, thunk_of, worded_shape, temporary_shape, construction_shape, thunk_shape, Operand, operand, shape_of_operand, literal_of, address_of, pre_of, unary_of, post_of, binary_of, greater_of, conditional_of, pre_shape, post_shape, binary_shape, greater_shape, conditional_shape, shape_as, bare_shape, own_quals, string_literal_of, encoding_of, function_encoding, plain_text, abbreviation, name_in, ctor_dtor_of, with_args, nested_of, pointer_to, cv_of, array_of, member_of, function_to, elaborated, elaborated_shape, abbreviation_shape, trees, shape_of, shape_each, in_scope, tagged_with, lambda_of, conversion_to, conversion_shape, pack_of, expansion_of, expanded}
 use Rattle.itanium_grammar.specs.Grammar.{last_of, with_last}
-use Rattle.itanium_demangle.specs.Parser as parser
-use Rattle.itanium_demangle.specs.Parser.{ParserState}
+use Rattle.itanium_reader.specs.Parser as parser
+use Rattle.itanium_reader.specs.Parser.{ParserState}
 
 pub shape-plain_text : (bytes : List ℕ) → shape_of (plain_text bytes) ≡ plain_shape bytes
 unfolding shape_as

@@ -6,8 +6,8 @@ use Rattle.itanium_syntax.specs.declared.context.Context.{Context}
 use Rattle.itanium_syntax.specs.Names.{symbol_case}
 use Rattle.itanium_grammar.specs.Tree.{shape_of}
 use Rattle.itanium_grammar.specs.Grammar.{Position, Symbol, symbol}
-use Rattle.itanium_demangle.specs.Parser.{ParserState, parse_bare_name, parse_symbol}
-use Rattle.itanium_demangle.specs.Outcome.{state_at}
+use Rattle.itanium_reader.specs.Parser.{ParserState, parse_bare_name, parse_symbol}
+use Rattle.itanium_demangle.specs.Meaning.{state_at}
 use Rattle.itanium_demangle.proofs.Readings.{Within, Found, BareNamesSound, ArgsSound, PacksSound, TypesSound, ExpressionsSound, ThunksSound}
 use Rattle.itanium_demangle.proofs.CompleteSymbols.{all_complete, symbol_complete}
 use Rattle.itanium_demangle.proofs.CompleteNames.{names_complete}

@@ -16,11 +16,12 @@ use Rattle.itanium_grammar.specs.Grammar.{Position, Cost, Symbol}
 use Rattle.itanium_grammar.specs.Answer.{after_prefix, start, outside, suffix, max_depth, HasAnswer, HasNoAnswer, IsAnswer, HasCounts, HasComponents, HasBounds}
 use Rattle.itanium_grammar.proofs.Unambiguous.{one_symbol}
 use Rattle.itanium_grammar.proofs.Progress.{symbol_takes}
-use Rattle.itanium_demangle.specs.declared.reader.Reader.{Reader}
-use Rattle.itanium_demangle.specs.declared.stop.Stop.{Stop}
-use Rattle.itanium_demangle.specs.declared.stop.Stop.TheVariants.{Unread, Memory}
-use Rattle.itanium_demangle.specs.Parser.{ParserState, begun, parse_symbol}
-use Rattle.itanium_demangle.specs.Outcome.{state, state_at, Gives, StandsFor, HasReading, HasNoReading, ReadsAs, Bounds, SavedBounds, MostSaved}
+use Rattle.itanium_reader.specs.declared.reader.Reader.{Reader}
+use Rattle.itanium_reader.specs.declared.stop.Stop.{Stop}
+use Rattle.itanium_reader.specs.declared.stop.Stop.TheVariants.{Unread, Memory}
+use Rattle.itanium_reader.specs.Parser.{ParserState, begun, parse_symbol}
+use Rattle.itanium_reader.specs.Outcome.{state, Gives, Bounds, SavedBounds, MostSaved}
+use Rattle.itanium_demangle.specs.Meaning.{state_at, StandsFor, HasReading, HasNoReading, ReadsAs}
 use Rattle.itanium_demangle.specs.Demangler.{IsPrinted, component_texts}
 use Rattle.itanium_demangle.proofs.CompleteSymbols.{symbol_complete}
 use Rattle.itanium_demangle.proofs.SoundSymbols.{symbol_sound}

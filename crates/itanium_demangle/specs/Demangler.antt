@@ -5,7 +5,7 @@ use Rattle.std.specs.String.{string_bytes}
 use Rattle.demangle_text.specs.declared.buffer.Buffer.{Buffer}
 use Rattle.demangle_text.specs.Shape.{text}
 use Rattle.demangle_text.specs.State.{saved}
-use Rattle.itanium_grammar.specs.Answer.{HasCounts, HasComponents, HasBounds}
+use Rattle.itanium_grammar.specs.Answer.{after_prefix, HasCounts, HasComponents, HasBounds}
 use Rattle.itanium_demangle.specs.declared.demangler.Demangler.TheInside.{Inside}
 
 -- what is left of the last symbol that was prepared
@@ -42,8 +42,9 @@ abbrev pub IsPrinted : List ℕ → List ℕ → Option (List ℕ) → Type 0
 IsPrinted printing after (Some text) = IsUtf8 printing × (text ≡ printing ++ after)
 IsPrinted printing after None = ¬ (IsUtf8 printing)
 
--- after a symbol the counts and the components are those of its readings
+-- after a symbol the counts and the components are those of its readings, and without a prefix nothing is left
 pub record IsPrepared (symbol : List ℕ) (run : LastRun) : Type 0 where
   pub counts : HasCounts symbol run.entered run.most_saved
   pub components : HasComponents symbol run.text run.components
   pub bounds : HasBounds symbol run.entered run.most_saved
+  pub no_prefix : after_prefix symbol ≡ None → run ≡ no_run

@@ -9,10 +9,10 @@ ghost use Rattle.itanium_grammar.specs.Answer.{IsAnswer, HasOneReading, HasCount
 ghost use Rattle.itanium_grammar.specs.Answer as spec;
 ghost use Rattle.itanium_demangle.specs.Demangler.{IsPrinted, IsPrepared, component_texts, no_run};
 
-use crate::reader::Reader;
-use crate::stop::Stop;
+use crate::symbols::read_mangled_name;
 use demangle_text::Buffer;
 use itanium_grammar::symbol::{after_prefix, suffix};
+use itanium_reader::{Reader, Stop};
 use itanium_syntax::context::OUTSIDE;
 use std::alloc::{AllocError, Global};
 use std::fmt::{self, Debug, Formatter, Write};
@@ -115,7 +115,7 @@ impl Demangler {
             None => Buffer::new(alloc),
         };
         let mut reader = Reader::new(alloc, buffer, inside)?;
-        match reader.read_mangled_name(MAX_DEPTH, OUTSIDE) {
+        match read_mangled_name(&mut reader, MAX_DEPTH, OUTSIDE) {
             Ok(()) => {}
             Err(Stop::Unread) => {
                 self.keep(reader, None);

@@ -28,17 +28,9 @@
 //! is, `itanium_grammar` defines.
 #![tactic(auto)]
 
-mod args;
-mod declarators;
 mod demangler;
-mod encodings;
-mod expressions;
 pub mod laws;
-mod names;
-mod reader;
-mod specials;
-mod stop;
-mod types;
+mod symbols;
 
 pub use crate::demangler::{Demangler, MAX_DEPTH, demangle_owned};
 pub use itanium_syntax::scalar;

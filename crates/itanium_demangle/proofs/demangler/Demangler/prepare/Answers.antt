@@ -1,8 +1,9 @@
 use Rattle.std.proofs.Common.{rules, ◌≡◌, Some}
 use Rattle.std.specs.String.{string_bytes}
 use Rattle.itanium_grammar.specs.Answer.{after_prefix, start}
-use Rattle.itanium_demangle.specs.declared.stop.Stop.TheVariants.{Unread}
-use Rattle.itanium_demangle.specs.Outcome.{state, StandsFor}
+use Rattle.itanium_reader.specs.declared.stop.Stop.TheVariants.{Unread}
+use Rattle.itanium_reader.specs.Outcome.{state}
+use Rattle.itanium_demangle.specs.Meaning.{StandsFor}
 use Rattle.itanium_demangle.proofs.Symbols.{suffix_utf8, printed, counted, kept_components, read_within, unread_within, stands_at_start}
 use Rattle.itanium_demangle.proofs.demangler.Demangler.prepare.Goals as goal
 
