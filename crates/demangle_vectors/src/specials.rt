@@ -282,7 +282,7 @@ fn thunks_nest_to_the_depth(rt: HostRuntime) {
 #[test]
 fn thunks_past_the_depth(rt: HostRuntime) {
     let deeper = nested_thunks(&rt, rt.alloc(), 128);
-    let deep = nested_thunks(&rt, rt.alloc(), 256);
+    let deep = repeated(&rt, rt.alloc(), "_Z", "Th0_", 256, "1fv");
     let mut kept = Demangler::new();
     assert_refused(&rt, rt.alloc(), &mut kept, &[&deeper, &deep]);
     let row = ("_Z1fIJiEEvv", "f<int>");
