@@ -1,6 +1,7 @@
 //! What a symbol's reading costs and leaves: the counted productions, the most components that were saved at one moment,
 //! and the components that are left. The rows are from the grammar's definition.
 
+use crate::tables::repeated;
 use itanium_demangle::{Demangler, demangle_owned};
 use std::alloc::Global;
 use std::process::Abort;
@@ -928,6 +929,185 @@ const THIRD_EXPRESSIONS: [Row; 12] = [
     ),
 ];
 
+const FIRST_SPECIALS: [Row; 12] = [
+    ("_ZTSl", 1, 0, &[]),
+    ("_ZTIu1x", 1, 1, &["x"]),
+    ("_ZTSP1a)", 3, 2, &["a", "a*"]),
+    ("_ZTFDnDv4_f", 1, 0, &[]),
+    ("_ZGRNVK1fEA_", 1, 1, &[]),
+    ("_ZTCcvr1bS0_", 2, 0, &[]),
+    (
+        "_ZTVrKrVKFtE",
+        3,
+        2,
+        &[
+            "unsigned short () const volatile restrict",
+            "unsigned short () const volatile restrict const restrict",
+        ],
+    ),
+    (
+        "_ZTHNUt_1A1bE",
+        1,
+        3,
+        &["{unnamed type#1}", "{unnamed type#1}::A"],
+    ),
+    ("_ZTSrV1B.cold", 3, 2, &["B", "B volatile restrict"]),
+    (
+        "_ZTCSaILa1E1xEy",
+        6,
+        2,
+        &["x", "std::allocator<(signed char)1, x>"],
+    ),
+    (
+        "_ZTIA_A2_KPFavE",
+        6,
+        5,
+        &[
+            "signed char ()",
+            "signed char (*)()",
+            "signed char (* const)()",
+            "signed char (* const [2])()",
+            "signed char (* const [2] [])()",
+        ],
+    ),
+    (
+        "_ZTV2abIrVSbIEE",
+        6,
+        4,
+        &[
+            "ab",
+            "std::basic_string<>",
+            "std::basic_string<> volatile restrict",
+            "ab<std::basic_string<> volatile restrict>",
+        ],
+    ),
+];
+
+const SECOND_SPECIALS: [Row; 12] = [
+    ("_ZTS10GNMNetwork", 2, 1, &["GNMNetwork"]),
+    ("_ZTv0_n1_NO1(1bE", 2, 2, &["("]),
+    (
+        "_ZTHNcv1xB2abM1fE",
+        3,
+        3,
+        &["x[abi:ab]", "operator x[abi:ab]"],
+    ),
+    (
+        "_ZTCrTeNrO1bB1bEDe",
+        4,
+        2,
+        &["enum b[abi:b] &&", "enum b[abi:b] && restrict"],
+    ),
+    ("_ZTV12vtkBMPReader", 2, 1, &["vtkBMPReader"]),
+    ("_ZTVN6icu_725UTS46E", 2, 2, &["icu_72", "icu_72::UTS46"]),
+    ("_ZTSNVO1AIL_Z1B1TEEE", 6, 3, &["A", "T", "A<B(T)> &&"]),
+    (
+        "_ZTCNK6vector1BEN2a)E",
+        4,
+        3,
+        &["vector", "vector::B", "a)"],
+    ),
+    ("_ZZZTIlE6vectorvEd_1b", 5, 0, &[]),
+    ("_ZGVZUlvE_2abeE2a).cold", 6, 1, &["ab"]),
+    ("_ZTHZZ4auto2abS_xE1bE1f", 9, 1, &["ab"]),
+    (
+        "_ZTHNOSt4a(b)1A7struct E",
+        1,
+        3,
+        &["std::a(b)", "std::a(b)::A"],
+    ),
+];
+
+const THIRD_SPECIALS: [Row; 12] = [
+    (
+        "_ZTV21vtkEdgeLayoutStrategy",
+        2,
+        1,
+        &["vtkEdgeLayoutStrategy"],
+    ),
+    (
+        "_ZGVZN3foo2c&1bEEcvM2abRS0_B1T",
+        8,
+        5,
+        &["foo", "foo::c&", "ab", "foo::c&", "foo::c& ab::*"],
+    ),
+    ("_ZZGVdaEZZN1bppEDp1xS1_bEsxE1f", 12, 3, &["b", "x", "x..."]),
+    (
+        "_ZZGVNcvA_MDpM1C1T2a)C11fEEStUt_",
+        13,
+        10,
+        &[
+            "C",
+            "T",
+            "T C::*",
+            "T C::*...",
+            "a)",
+            "a) T C::*...::*",
+            "a) T C::*...::* []",
+            "operator a) T C::*...::* []",
+            "operator a) T C::*...::* []::operator a) T C::*...::* []",
+        ],
+    ),
+    (
+        "_ZGRZNSiINV4a(b)IEELj1EEC1EvEs0_v",
+        7,
+        4,
+        &[
+            "a(b)",
+            "a(b)<> volatile",
+            "std::basic_istream<char, std::char_traits<char> ><a(b)<> volatile, (unsigned int)1>",
+        ],
+    ),
+    (
+        "_ZTTSbIXadL_Z14std::nullptr_t1fEEE",
+        7,
+        2,
+        &["f", "std::basic_string<&std::nullptr_t(f)>"],
+    ),
+    (
+        "_ZGRNK10_GLOBAL__NIXadL_Z1ffEEE1TE0_",
+        6,
+        3,
+        &["(anonymous namespace)", "(anonymous namespace)<&f(float)>"],
+    ),
+    (
+        "_ZZGRNVK1 1BIL4bool1EEEA_ENVRppILe0EXT_EEE",
+        9,
+        5,
+        &[" ", " ::B", "bool", "operator++"],
+    ),
+    (
+        "_ZTSN9vtkObject26vtkClassMemberCallbackBaseE",
+        2,
+        2,
+        &["vtkObject", "vtkObject::vtkClassMemberCallbackBase"],
+    ),
+    (
+        "_ZTv19_9223372036854775807_TWZli1TIXL_Z1TS_EEEvEN1AE",
+        9,
+        2,
+        &["operator\"\" T"],
+    ),
+    (
+        "_ZNrVR1xB1AIXgtadL_ZTv2_n28_N2d_IE1AEEleLi00ELi1EEhS_EE",
+        15,
+        4,
+        &["x[abi:A]", "d_", "d_<>"],
+    ),
+    (
+        "_ZTVN6spdlog7details11v_formatterINS0_13scoped_padderEEE",
+        5,
+        5,
+        &[
+            "spdlog",
+            "spdlog::details",
+            "spdlog::details::v_formatter",
+            "spdlog::details::scoped_padder",
+            "spdlog::details::v_formatter<spdlog::details::scoped_padder>",
+        ],
+    ),
+];
+
 /// The value has these counts.
 fn assert_counts(
     rt: &impl Abort,
@@ -1043,6 +1223,15 @@ fn costs_of_expressions(rt: HostRuntime) {
 }
 
 #[test]
+fn costs_of_specials(rt: HostRuntime) {
+    let mut kept = Demangler::new();
+    assert_costs(&rt, rt.alloc(), &mut kept, &FIRST_SPECIALS);
+    assert_costs(&rt, rt.alloc(), &mut kept, &SECOND_SPECIALS);
+    assert_costs(&rt, rt.alloc(), &mut kept, &THIRD_SPECIALS);
+    drop(kept);
+}
+
+#[test]
 fn counts_of_one_value(rt: HostRuntime) {
     let mut kept = Demangler::new();
     assert_counts(&rt, &kept, 0, 0, "nothing");
@@ -1072,6 +1261,37 @@ fn expressions_are_counted(rt: HostRuntime) {
 }
 
 #[test]
+fn thunks_are_counted(rt: HostRuntime) {
+    let mut kept = Demangler::new();
+    assert_costs(&rt, rt.alloc(), &mut kept, &[("_ZTh0_1fv", 2, 0, &[])]);
+    drop(kept);
+}
+
+/// The counts of a symbol that nests one production too many: 128 are entered, and the one that is refused isn't.
+#[test]
+fn refused_productions_are_not_entered(rt: HostRuntime) {
+    let mut kept = Demangler::new();
+    let pointers = repeated(&rt, rt.alloc(), "_Z1fI", "P", 126, "iEvv");
+    assert_prepared(&rt, rt.alloc(), &mut kept, &pointers, false);
+    assert_counts(&rt, &kept, 128, 1, "pointers");
+    let thunks = repeated(&rt, rt.alloc(), "_Z", "Th0_", 256, "1f");
+    assert_prepared(&rt, rt.alloc(), &mut kept, &thunks, false);
+    assert_counts(&rt, &kept, 128, 0, "thunks");
+    drop(kept);
+}
+
+#[test]
+fn nothing_is_left_of_a_symbol_before_a_text_without_prefix(rt: HostRuntime) {
+    let mut kept = Demangler::new();
+    assert_prepared(&rt, rt.alloc(), &mut kept, "_ZN3Foo3barEv", true);
+    let found = kept.demangle(rt.alloc(), "malloc").expect(&rt, "no memory");
+    assert!(rt; found.is_none());
+    assert_counts(&rt, &kept, 0, 0, "no prefix");
+    assert_components(&rt, &kept, &[], "no prefix");
+    drop(kept);
+}
+
+#[test]
 fn components_are_whole_trees(rt: HostRuntime) {
     let mut kept = Demangler::new();
     assert_prepared(
@@ -1097,8 +1317,8 @@ fn symbol_without_an_answer_leaves_no_component(rt: HostRuntime) {
     assert_components(&rt, &kept, &["Foo"], "a nested name");
     assert_prepared(&rt, rt.alloc(), &mut kept, "_ZN3Foo3bar", false);
     assert_components(&rt, &kept, &[], "no end");
-    assert_prepared(&rt, rt.alloc(), &mut kept, "_ZN3Foo1éE", false);
-    assert_counts(&rt, &kept, 1, 2, "half a letter");
+    assert_prepared(&rt, rt.alloc(), &mut kept, "_ZZ1fN1A1BEE1é", false);
+    assert_counts(&rt, &kept, 5, 2, "half a letter");
     assert_components(&rt, &kept, &[], "half a letter");
     drop(kept);
 }

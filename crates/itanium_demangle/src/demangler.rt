@@ -89,10 +89,12 @@ impl Demangler {
 
     /// Reads a symbol and keeps its answer for `text`: true where there is one.
     ///
-    /// A symbol is `_Z` or `__Z` and an encoding, of which the name is read, or the special name (Itanium C++ ABI
-    /// 5.1.2). The answer is its printing, and after it all that follows from a dot. There is none where the grammar
-    /// doesn't read the symbol with at most `MAX_DEPTH` nested productions, or where the printing isn't UTF-8. An error
-    /// comes only where memory is refused; then nothing is kept, and the value serves on.
+    /// Any text may be asked. After `_Z` or `__Z` a special name is read where `T` or `G` is next, else a name; the
+    /// parameters of a function aren't (Itanium C++ ABI 5.1.2). The answer is the printing, and after it all that
+    /// follows from a dot right after what was read. There is none where the grammar doesn't read the symbol with at
+    /// most `MAX_DEPTH` nested productions, or where the printing isn't UTF-8. Without such a prefix there is none
+    /// either, no memory is taken, and both counts are 0. An error comes only where memory is refused; then nothing is
+    /// kept, and the value serves on.
     #[tactic(auto, using(crate::proofs::Rules::answers))]
     pub fn prepare(&mut self, alloc: Global, symbol: &str) -> Result<bool, AllocError>
         ensures answer { IfOk result (λ _. IsAnswer symbol.now self.new.text) }
@@ -140,8 +142,8 @@ impl Demangler {
     }
 
     /// How many counted productions the last `prepare` entered: names, types, argument lists, packs, thunks and
-    /// expressions, also those of a symbol without an answer; 0 before the first, and after an error. A production
-    /// that is refused because `MAX_DEPTH` are open isn't entered.
+    /// expressions, also those of a symbol without an answer; 0 before the first, after an error, and of a text without
+    /// the prefix of a symbol. A production that is refused because `MAX_DEPTH` are open isn't entered.
     pub fn entered(&self) -> usize
         ensures value { result ≡ self.now.entered }
     {
@@ -149,7 +151,8 @@ impl Demangler {
     }
 
     /// The most components for substitutions that were saved at one moment of the last `prepare` (Itanium C++ ABI
-    /// 5.1.10), also of a symbol without an answer; 0 before the first, and after an error.
+    /// 5.1.10), also of a symbol without an answer; 0 before the first, after an error, and of a text without the
+    /// prefix of a symbol.
     pub fn most_saved(&self) -> usize
         ensures value { result ≡ self.now.most_saved }
     {
@@ -175,7 +178,7 @@ impl Demangler {
     }
 
     /// The answer of a symbol, as `prepare` says, lent until the next call. It is kept for `text`; after an error
-    /// nothing is.
+    /// nothing is. A text without the prefix of a symbol is never an error.
     pub fn demangle<'a>(
         &'a mut self,
         alloc: Global,

@@ -1,5 +1,5 @@
 //! Demangles C++ symbols of the Itanium C++ ABI: a symbol's name, with its template arguments and without the
-//! parameters of a function.
+//! parameters of a function, or the special name, as of a virtual table.
 //!
 //! A crate that uses this one has it in its line of `crates.txt`, as `names: itanium_demangle`. The allocator comes
 //! from the `HostRuntime` that `main` and each test are given.

@@ -209,7 +209,7 @@ mutual
         → Name waits x (skip 1 p) u q c
         → EntityAs NameEntity waits x t p (local_in t u) q c
 
-  -- <encoding> ::= <name> [<return type>] [<parameter types>]
+  -- <encoding> ::= <special-name> | <name> [<return type>] [<parameter types>]
   pub data Encoding : Context → Position → Tree → Position → Cost → Type 0 where
     encoding :
         {x : Context} {p q : Position} {t : Tree} {c : Cost}
@@ -249,7 +249,7 @@ mutual
         → Name false x (skip 2 p) t q c
         → index_of Base36 q.rest ≡ Some (number, rest)
         → SpecialAs TemporarySpecial x p (temporary_of number t) (at rest q) c
-    -- TC <type> <type>
+    -- TC <type> <type>: the ABI's offset number between them isn't read
     construction_special :
         {x : Context} {p q r : Position} {t u : Tree} {c d : Cost}
         → TypeOf x (skip 2 p) t q c

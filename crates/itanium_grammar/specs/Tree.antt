@@ -142,21 +142,21 @@ greater_shape t u = glued (codes "((" ∷ text t ∷ codes ")>(" ∷ text u ∷ 
 abbrev pub conditional_shape : Shape → Shape → Shape → Shape
 conditional_shape t u v = glued (text t ∷ codes "?" ∷ text u ∷ codes " : " ∷ text v ∷ [])
 
--- the sign of a number
-abbrev pub sign_text : Signed → List ℕ
-sign_text n = if n.negative then codes "-" else []
+-- the sign of an offset
+abbrev pub offset_sign : Signed → List ℕ
+offset_sign n = if n.negative then codes "-" else []
 
--- <nv-offset>
+-- the printed text of a plain offset
 abbrev pub plain_offset_text : Signed → List ℕ
-plain_offset_text n = concat (codes "{offset(" ∷ sign_text n ∷ decimal n.magnitude ∷ codes ")}" ∷ [])
+plain_offset_text n = concat (codes "{offset(" ∷ offset_sign n ∷ decimal n.magnitude ∷ codes ")}" ∷ [])
 
--- <v-offset>
+-- the printed text of a virtual offset
 abbrev pub virtual_offset_text : Signed → Signed → List ℕ
 virtual_offset_text n m =
-    concat (codes "{virtual offset(" ∷ sign_text n ∷ decimal n.magnitude ∷ codes ", " ∷ sign_text m
+    concat (codes "{virtual offset(" ∷ offset_sign n ∷ decimal n.magnitude ∷ codes ", " ∷ offset_sign m
     ∷ decimal m.magnitude ∷ codes ")}" ∷ [])
 
--- <call-offset>
+-- the printed text of a call offset
 abbrev pub offset_text : CallOffset → List ℕ
 offset_text (Plain n) = plain_offset_text n
 offset_text (Virtual n m) = virtual_offset_text n m

@@ -1,5 +1,5 @@
 //! Template arguments (Itanium C++ ABI 5.1.5).
-ghost use Rattle.std.specs.Prelude.{◌<◌, OnOk, length};
+ghost use Rattle.std.specs.Prelude.{◌≡◌, ◌<◌, OnOk, length};
 ghost use Rattle.demangle_text.specs.State.{IsLiving, shape, IsRun, SameFrame};
 ghost use Rattle.itanium_reader.specs.Parser as spec;
 ghost use Rattle.itanium_reader.specs.Outcome.{state, Gives, HasRoom, Bounds, SavedBounds};
@@ -25,6 +25,7 @@ pub(crate) fn read_args(
     requires some { 0 < length reader.old.rest.now }
     ensures reads { Gives result reader.new (spec.parse_args depth context of_name (state reader.old)) }
     ensures run { OnOk result (IsRun reader.old.buffer reader.new.buffer) }
+    ensures refused { depth ≡ 0 → reader.new.entered ≡ reader.old.entered }
     ensures bounds { Bounds 1 result (state reader.old) (state reader.new) }
     ensures saved { SavedBounds 2 result (state reader.old) (state reader.new) }
 {
@@ -113,6 +114,7 @@ pub(crate) fn read_pack(reader: &mut Reader, depth: usize, context: Context) -> 
     requires some { 0 < length reader.old.rest.now }
     ensures reads { Gives result reader.new (spec.parse_pack depth context (state reader.old)) }
     ensures run { OnOk result (IsRun reader.old.buffer reader.new.buffer) }
+    ensures refused { depth ≡ 0 → reader.new.entered ≡ reader.old.entered }
     ensures bounds { Bounds 1 result (state reader.old) (state reader.new) }
     ensures saved { SavedBounds 1 result (state reader.old) (state reader.new) }
 {

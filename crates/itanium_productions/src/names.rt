@@ -320,6 +320,7 @@ pub(crate) fn read_bare_name(
     requires room { HasRoom 1 (state reader.old) }
     ensures reads { GivesBareName result reader.new (spec.parse_bare_name depth context (state reader.old)) }
     ensures run { OnOk result (IsRun reader.old.buffer reader.new.buffer) }
+    ensures refused { depth ≡ 0 → reader.new.entered ≡ reader.old.entered }
     ensures bounds { Bounds 1 result (state reader.old) (state reader.new) }
     ensures saved { SavedBounds 1 result (state reader.old) (state reader.new) }
 {

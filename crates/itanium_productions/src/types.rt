@@ -1,5 +1,5 @@
 //! Types (Itanium C++ ABI 5.1.5).
-ghost use Rattle.std.specs.Prelude.{◌<◌, OnOk, length, false};
+ghost use Rattle.std.specs.Prelude.{◌≡◌, ◌<◌, OnOk, length, false};
 ghost use Rattle.demangle_text.specs.State.{IsLiving, shape, IsRun, SameFrame};
 ghost use Rattle.demangle_quals.specs.Quals.{no_quals};
 ghost use Rattle.itanium_syntax.specs.Args.{attached_case};
@@ -57,6 +57,7 @@ pub(crate) fn read_type(reader: &mut Reader, depth: usize, context: Context) -> 
     requires room { HasRoom 2 (state reader.old) }
     ensures reads { Gives result reader.new (spec.parse_type depth context (state reader.old)) }
     ensures run { OnOk result (IsRun reader.old.buffer reader.new.buffer) }
+    ensures refused { depth ≡ 0 → reader.new.entered ≡ reader.old.entered }
     ensures bounds { Bounds 0 result (state reader.old) (state reader.new) }
     ensures saved { SavedBounds 0 result (state reader.old) (state reader.new) }
 {

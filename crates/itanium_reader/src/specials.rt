@@ -3,7 +3,7 @@
 ghost use Rattle.std.specs.Prelude.{◌≡◌, ◌<◌, OnOk, IfOk, decimal};
 ghost use Rattle.demangle_text.specs.Shape.{text};
 ghost use Rattle.demangle_text.specs.State.{IsLiving, Lives, shape, IsEdit, KeepsAll, IsRun};
-ghost use Rattle.itanium_grammar.specs.Tree.{sign_text, plain_offset_text, virtual_offset_text, offset_text, worded_shape, temporary_shape, construction_shape, single_thunk_shape, covariant_thunk_shape, thunk_shape};
+ghost use Rattle.itanium_grammar.specs.Tree.{offset_sign, plain_offset_text, virtual_offset_text, offset_text, worded_shape, temporary_shape, construction_shape, single_thunk_shape, covariant_thunk_shape, thunk_shape};
 ghost use Rattle.itanium_reader.specs.Parser as spec;
 ghost use Rattle.itanium_reader.specs.Outcome.{state, Gives, Bounds, SavedBounds};
 
@@ -17,7 +17,7 @@ use std::alloc::AllocError;
 
 /// The sign of a number, `-` or nothing.
 fn sign_bytes(number: Signed) -> &'static [u8]
-    ensures value { result.now ≡ sign_text number }
+    ensures value { result.now ≡ offset_sign number }
 {
     if number.negative { b"-" } else { b"" }
 }

@@ -23,11 +23,11 @@ signed_number bytes =
 abbrev pub signed_part : List ℕ → Option (Signed × List ℕ)
 signed_part bytes = option_and_then (λ n. option_map (λ rest. (n.0, rest)) (past_underscore n.1)) (signed_number bytes)
 
--- <nv-offset> after its h
+-- <nv-offset> _ after its h
 abbrev pub plain_offset : List ℕ → Option (CallOffset × List ℕ)
 plain_offset bytes = option_map (λ n. (Plain n.0, n.1)) (signed_part bytes)
 
--- <v-offset> after its v
+-- <v-offset> _ after its v
 abbrev pub virtual_offset : List ℕ → Option (CallOffset × List ℕ)
 virtual_offset bytes =
     option_and_then (λ a. option_map (λ b. (Virtual a.0 b.0, b.1)) (signed_part a.1)) (signed_part bytes)
@@ -38,7 +38,7 @@ call_offset bytes =
     if begins (codes "h") bytes then plain_offset (drop 1 bytes) else
     if begins (codes "v") bytes then virtual_offset (drop 1 bytes) else None
 
--- two offsets
+-- the two offsets after `c`
 abbrev pub covariant_offsets : List ℕ → Option (ThunkOffsets × List ℕ)
 covariant_offsets bytes =
     option_and_then (λ a. option_map (λ b. (Covariant a.0 b.0, b.1)) (call_offset a.1)) (call_offset bytes)

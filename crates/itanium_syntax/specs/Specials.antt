@@ -4,19 +4,19 @@ use Rattle.itanium_syntax.specs.Bytes.{begins, begins_one_of}
 use Rattle.itanium_syntax.specs.Cases.{SpecialCase, TypeSpecial, NameSpecial, TemporarySpecial, ConstructionSpecial, ThunkSpecial, NoSpecial}
 
 -- T and one of these letters
-abbrev pub begins_table : List ℕ → List ℕ → Bool
-begins_table letters bytes = begins (codes "T") bytes && begins_one_of letters (drop 1 bytes)
+abbrev pub begins_t_and : List ℕ → List ℕ → Bool
+begins_t_and letters bytes = begins (codes "T") bytes && begins_one_of letters (drop 1 bytes)
 
 -- <special-name>
 abbrev pub special_case : List ℕ → SpecialCase
 special_case bytes =
-    if begins_table (codes "VTISF") bytes then TypeSpecial else
-    if begins_table (codes "HW") bytes || begins (codes "GV") bytes then NameSpecial else
+    if begins_t_and (codes "VTISF") bytes then TypeSpecial else
+    if begins_t_and (codes "HW") bytes || begins (codes "GV") bytes then NameSpecial else
     if begins (codes "GR") bytes then TemporarySpecial else
     if begins (codes "TC") bytes then ConstructionSpecial else
-    if begins_table (codes "hvc") bytes then ThunkSpecial else NoSpecial
+    if begins_t_and (codes "hvc") bytes then ThunkSpecial else NoSpecial
 
--- the words in front of a special name's type or name
+-- the words in front of a special name's type or name, where the case is one of these two
 abbrev pub special_text : List ℕ → List ℕ
 special_text bytes =
     if begins (codes "TV") bytes then codes "{vtable(" else
@@ -29,4 +29,4 @@ special_text bytes =
 
 -- what closes it after its type or name
 abbrev pub special_close : List ℕ → List ℕ
-special_close bytes = if begins_table (codes "VT") bytes then codes ")}" else []
+special_close bytes = if begins_t_and (codes "VT") bytes then codes ")}" else []

@@ -1,4 +1,4 @@
-//! Call offsets of thunks (Itanium C++ ABI 5.1.4, "Virtual Override Thunks").
+//! Call offsets of thunks (Itanium C++ ABI 5.1.4, "Other Special Functions and Entities").
 ghost use Rattle.std.specs.Prelude.{◌≡◌, ◌<◌, ◌≤◌, IfSome, option_map, length, drop};
 ghost use Rattle.itanium_syntax.specs.Offsets as spec;
 
@@ -7,7 +7,7 @@ use crate::numerals::{Radix, numeral};
 /// A number with a sign. Zero is never negative.
 #[derive(Clone, Copy, Debug, PartialEq, Eq)]
 pub struct Signed {
-    /// Whether a minus stands in front of it.
+    /// Whether it is below zero.
     pub negative: bool,
     /// The number without its sign.
     pub magnitude: u64,
@@ -16,9 +16,9 @@ pub struct Signed {
 /// `<call-offset>`
 #[derive(Clone, Copy, Debug, PartialEq, Eq)]
 pub enum CallOffset {
-    /// `h <number> _`: how far `this` is moved.
+    /// `h <number> _`: how far a pointer is moved.
     Plain(Signed),
-    /// `v <number> _ <number> _`: how far `this` is moved, and where in the virtual table a further offset stands.
+    /// `v <number> _ <number> _`: how far a pointer is moved, and where in the virtual table a further offset stands.
     Virtual(Signed, Signed),
 }
 
@@ -122,7 +122,7 @@ pub fn offset_here(bytes: &[u8]) -> Option<(CallOffset, usize)>
     }
 }
 
-/// The offsets of a thunk after its `T`, and how many bytes they take.
+/// The two offsets of a thunk after its `Tc`, and how many bytes they take.
 fn covariant_offsets(bytes: &[u8]) -> Option<(ThunkOffsets, usize)>
     ensures value { option_map (λ found. (found.0, drop found.1 bytes.now)) result ≡ spec.covariant_offsets bytes.now }
     ensures within { IfSome result (λ found. found.1 ≤ length bytes.now) }

@@ -14,7 +14,9 @@ pub enum SpecialCase {
     TemporarySpecial,
     /// A construction vtable of two types.
     ConstructionSpecial,
+    /// A thunk.
     ThunkSpecial,
+    /// None of these.
     NoSpecial,
 }
 
@@ -33,7 +35,7 @@ pub fn special_case(bytes: &[u8]) -> SpecialCase
     }
 }
 
-/// The words in front of a special name's type or name.
+/// The words in front of a special name's type or name, where the case is one of these two.
 pub fn special_text(bytes: &[u8]) -> &'static [u8]
     ensures text { result.now ≡ spec.special_text bytes.now }
 {
@@ -49,7 +51,7 @@ pub fn special_text(bytes: &[u8]) -> &'static [u8]
     }
 }
 
-/// What closes a special name after its type.
+/// What closes a special name after its type or name.
 pub fn special_close(bytes: &[u8]) -> &'static [u8]
     ensures text { result.now ≡ spec.special_close bytes.now }
 {
