@@ -12,7 +12,7 @@ use Rattle.itanium_syntax.proofs.Fronts.{after_drop, after-le}
 use Rattle.itanium_grammar.specs.Tree.{Tree, shape_of}
 use Rattle.itanium_grammar.specs.Grammar.{Position, Cost, begin, Arguments, ArgumentsAs, PackedAs, args, arguments, end_of_arguments, one_more_argument, pack, end_of_pack, one_more_packed}
 use Rattle.itanium_grammar.proofs.Progress.{argument_takes}
-use Rattle.itanium_reader.specs.Cases.{ArgsCase}
+use Rattle.itanium_demangle.specs.Cases.{ArgsCase}
 use Rattle.itanium_reader.specs.Parser.{after_turn, loop, put, put_nowhere, ◌>>=◌, parse_argument, parse_primary, parse_encoding, parse_special, parse_name, list_as, list_turn, parse_args, parse_pack}
 use Rattle.itanium_demangle.specs.Meaning.{state_at}
 use Rattle.itanium_demangle.proofs.Shapes.{same_read, put-scopes, begin-scopes, shape-pack_of}

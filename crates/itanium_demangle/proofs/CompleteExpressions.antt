@@ -5,7 +5,7 @@ use Rattle.itanium_syntax.specs.Context.{inside_encoding}
 use Rattle.itanium_syntax.specs.Expressions.{is_external, literal_case, expression_text}
 use Rattle.itanium_grammar.specs.Tree.{Tree, Operand, shape_of, shape_of_operand}
 use Rattle.itanium_grammar.specs.Grammar.{Position, Cost, ArgumentAs, ExpressionAs, OperandOf, LiteralAs, external_name, value_literal, expression, operand_of, pre_expression, address_expression, unary_expression, post_expression, binary_expression, greater_expression, conditional_expression, parameter_expression, literal_expression, expression_argument, pack_argument, literal_argument, type_argument}
-use Rattle.itanium_reader.specs.Cases.{LiteralCase, ExpressionCase, ArgumentCase}
+use Rattle.itanium_demangle.specs.Cases.{LiteralCase, ExpressionCase, ArgumentCase}
 use Rattle.itanium_reader.specs.Parser.{parse_type, parse_name, parse_special, parse_pack, parse_encoding, literal_as, parse_primary, operand_by, expression_as, parse_expression, argument_as, parse_argument}
 use Rattle.itanium_demangle.specs.Meaning.{state_at}
 use Rattle.itanium_demangle.proofs.Shapes.{same_read, shape-literal_of, shape-address_of, shape-operand, shape-pre_of, shape-unary_of, shape-post_of, shape-binary_of, shape-greater_of, shape-conditional_of}

@@ -10,7 +10,7 @@ use Rattle.itanium_syntax.specs.Args.{argument_case}
 use Rattle.itanium_syntax.specs.Expressions.{literal_case, literal_value, expression_case}
 use Rattle.itanium_grammar.specs.Tree.{shape_of, shape_of_operand}
 use Rattle.itanium_grammar.specs.Grammar.{Position, skip, ArgumentAs, Expression, ExpressionAs, OperandOf, LiteralAs, external_name, value_literal, expression, operand_of, pre_expression, address_expression, unary_expression, post_expression, binary_expression, greater_expression, conditional_expression, parameter_expression, literal_expression, expression_argument, pack_argument, literal_argument, type_argument}
-use Rattle.itanium_reader.specs.Cases.{LiteralCase, ExternalName, ValueLiteral, NoLiteral, ExpressionCase, PreExpression, AddressExpression, UnaryExpression, PostExpression, BinaryExpression, GreaterExpression, ConditionalExpression, ParameterExpression, LiteralExpression, NoExpression, ArgumentCase, ExpressionArgument, PackArgument, LiteralArgument, ConstraintArgument, TypeArgument}
+use Rattle.itanium_demangle.specs.Cases.{LiteralCase, ExternalName, ValueLiteral, NoLiteral, ExpressionCase, PreExpression, AddressExpression, UnaryExpression, PostExpression, BinaryExpression, GreaterExpression, ConditionalExpression, ParameterExpression, LiteralExpression, NoExpression, ArgumentCase, ExpressionArgument, PackArgument, LiteralArgument, ConstraintArgument, TypeArgument}
 use Rattle.itanium_reader.specs.Parser.{ParserState, parse_type, parse_name, parse_special, parse_pack, parse_encoding, past_end, literal_as, parse_primary, operand_by, expression_as, parse_expression, argument_as, parse_argument}
 use Rattle.itanium_demangle.specs.Meaning.{state_at}
 use Rattle.itanium_demangle.proofs.Readings.{Within, Found, TypesComplete, PacksComplete, BareNamesComplete, ThunksComplete, ExpressionsComplete, TypesSound, PacksSound, BareNamesSound, ThunksSound, ExpressionsSound, ArgumentsSound}

@@ -15,7 +15,7 @@ use Rattle.itanium_syntax.proofs.Fronts.{initializer_after, after_drop, source_t
 use Rattle.itanium_grammar.specs.Tree.{Tree, bare_shape, plain_text, abbreviation, ctor_dtor_of, tagged_with, with_args, trees, shape_of}
 use Rattle.itanium_grammar.specs.Grammar.{Position, Cost, at, skip, save, last_of, past_initializer, both, saving, SubstitutionAs, Substitution, ParameterAs, Parameter, TaggedAs, FreeAs, UnqualifiedAs, Unqualified, FirstAs, NameAs, Name, nothing, SpecialAs, SymbolAs, Thunk, special_encoding, type_special, name_special, temporary_special, construction_special, thunk_special, thunk, special_symbol, name_symbol, Local, EntityAs, Encoding, EncodingAs, ReturnAs, SignatureAs, UnscopedAs, AttachedAs, Nested, Components, ComponentsAs, Args, abbreviation_substitution, component_substitution, substitution, auto_parameter, scope_parameter, parameter, no_tag, next_tag, source_free, unnamed_type_free, lambda_free, conversion_free, literal_operator_free, operator_free, constructor_component, destructor_component, free_component, unqualified, parameter_first, std_first, substitution_first, name_first, name, nested_name, local_name, local, string_literal_entity, default_argument_entity, name_entity, encoding, name_encoding, no_return_type, some_return_type, no_signature, some_signature, unscoped_name, std_name, substitution_name, global_name, none_attached, args_attached, nested, components, end_of_components, args_component, name_component}
 use Rattle.itanium_grammar.proofs.Progress.{unqualified_takes, args_takes}
-use Rattle.itanium_reader.specs.Cases.{SymbolCase, SpecialSymbol, NameSymbol, SpecialCase, TypeSpecial, NameSpecial, TemporarySpecial, ConstructionSpecial, ThunkSpecial, NoSpecial, ReturnCase, NoReturnType, SomeReturnType, SignatureCase, NoSignature, SomeSignature, EntityCase, StringLiteralEntity, DefaultArgumentEntity, NameEntity, NoEntity, SubstitutionCase, AbbreviationSubstitution, ComponentSubstitution, TagCase, NoTag, NextTag, UnqualifiedCase, ConstructorName, DestructorName, FreeName, FreeCase, SourceName, UnnamedTypeName, LambdaName, ConversionName, LiteralOperatorName, OperatorName, NoName, FirstCase, ParameterFirst, StdFirst, SubstitutionFirst, NameFirst, NameCase, NestedName, LocalName, UnscopedName, UnscopedCase, StdName, SubstitutionName, PlainName, AttachedCase, NoneAttached, ArgsAttached, ComponentCase, EndOfComponents, ArgsComponent, NameComponent}
+use Rattle.itanium_demangle.specs.Cases.{SymbolCase, SpecialSymbol, NameSymbol, SpecialCase, TypeSpecial, NameSpecial, TemporarySpecial, ConstructionSpecial, ThunkSpecial, NoSpecial, ReturnCase, NoReturnType, SomeReturnType, SignatureCase, NoSignature, SomeSignature, EntityCase, StringLiteralEntity, DefaultArgumentEntity, NameEntity, NoEntity, SubstitutionCase, AbbreviationSubstitution, ComponentSubstitution, TagCase, NoTag, NextTag, UnqualifiedCase, ConstructorName, DestructorName, FreeName, FreeCase, SourceName, UnnamedTypeName, LambdaName, ConversionName, LiteralOperatorName, OperatorName, NoName, FirstCase, ParameterFirst, StdFirst, SubstitutionFirst, NameFirst, NameCase, NestedName, LocalName, UnscopedName, UnscopedCase, StdName, SubstitutionName, PlainName, AttachedCase, NoneAttached, ArgsAttached, ComponentCase, EndOfComponents, ArgsComponent, NameComponent}
 use Rattle.itanium_reader.specs.Parser.{ParserState, after_turn, loop, ◌>>=◌, next_component, substitution_as, parse_substitution, parameter_as, parse_parameter, tag_as, tag_turn, parse_tags, typed_params_as, free_as, parse_free, ctor_dtor_as, unqualified_as, parse_unqualified, first_as, attached_by, attached_as, template_as, unscoped_as, component_as, component_turn, parse_components, parse_nested, dropped, return_as, signature_as, special_as, parse_special, symbol_as, parse_thunk, encoding_as, parse_encoding, entity_as, parse_local, name_as, parse_bare_name, parse_name, parse_args, parse_type}
 use Rattle.itanium_demangle.specs.Meaning.{state_at}
 use Rattle.itanium_demangle.proofs.Shapes.{same_state, one_more, some-map, last-map, shape-plain_text, shape-ctor_dtor_of, shape-tagged_with, shape-with_args}

@@ -11,7 +11,7 @@ use Rattle.itanium_syntax.specs.Names.{name_case}
 use Rattle.itanium_syntax.specs.Encodings.{return_case, shows_words}
 use Rattle.itanium_grammar.specs.Tree.{Tree, shape_as, shape_of, bare_shape, own_quals, local_in, nested_of, string_literal_of, default_argument_of}
 use Rattle.itanium_grammar.specs.Grammar.{Position, Cost, TaggedAs, FreeAs, UnqualifiedAs, Unqualified, UnscopedAs, AttachedAs, Name, NameAs, EntityAs, no_tag, next_tag, source_free, unnamed_type_free, lambda_free, conversion_free, literal_operator_free, operator_free, constructor_component, destructor_component, free_component, unqualified, std_name, substitution_name, global_name, none_attached, args_attached, name, nested_name, local_name, unscoped_name, nested, local, string_literal_entity, default_argument_entity, name_entity}
-use Rattle.itanium_reader.specs.Cases.{NameCase, NestedName, LocalName, UnscopedName, TagCase, FreeCase, UnqualifiedCase, UnscopedCase, AttachedCase, EntityCase}
+use Rattle.itanium_demangle.specs.Cases.{NameCase, NestedName, LocalName, UnscopedName, TagCase, FreeCase, UnqualifiedCase, UnscopedCase, AttachedCase, EntityCase}
 
 -- a name without own qualifiers
 pub record HasNoOwn (t : Tree) : Type 0 where

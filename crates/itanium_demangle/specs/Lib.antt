@@ -1,3 +1,4 @@
+pub mod Cases
 pub mod Meaning
 pub mod Demangler
 pub mod Examples

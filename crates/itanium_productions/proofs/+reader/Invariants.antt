@@ -6,7 +6,7 @@ use Rattle.demangle_text.specs.Shape.{whole_shape}
 use Rattle.demangle_edit.specs.Built.{arguments_closed}
 use Rattle.itanium_syntax.specs.Context.{inside_lambda}
 use Rattle.itanium_reader.proofs.Loops.{LoopSoFar, ListSoFar}
-use Rattle.itanium_demangle.proofs.reader.Reader.+reader.Given as goal
+use Rattle.itanium_productions.proofs.+reader.Given as goal
 
 abbrev pub decreases-read_bare_name : goal.decreases-read_bare_name
 decreases-read_bare_name l = 16 * l.depth
@@ -71,44 +71,44 @@ decreases-read_unscoped l = 16 * l.depth + 8
 abbrev pub decreases-read_nested : goal.decreases-read_nested
 decreases-read_nested l = 16 * l.depth + 9
 
-abbrev pub invariant-read_components-loop-self : goal.invariant-read_components-loop-self
-invariant-read_components-loop-self l = record {
+abbrev pub invariant-read_components-loop-reader : goal.invariant-read_components-loop-reader
+invariant-read_components-loop-reader l = record {
   reads : LoopSoFar (spec.parse_components (spec.parse_unqualified (spec.parse_type l.depth l.context) (spec.parse_type l.depth (inside_lambda l.context)))
-      (spec.parse_args l.depth l.context true) l.fn.takes (shape l.fn.self.buffer l.fn.first) (state l.fn.self))
+      (spec.parse_args l.depth l.context true) l.fn.takes (shape l.fn.reader.buffer l.fn.first) (state l.fn.reader))
       (spec.component_turn (spec.parse_unqualified (spec.parse_type l.depth l.context) (spec.parse_type l.depth (inside_lambda l.context))) (spec.parse_args l.depth l.context true))
-      (l.takes, shape l.self.buffer l.name) (state l.self);
-  living : IsLiving l.self.buffer l.name;
-  run : IsRun l.fn.self.buffer l.self.buffer;
-  some_saved : l.takes ≡ true → 0 < length (saved l.self.buffer);
-  taken : length l.self.rest.now ≤ length l.fn.self.rest.now;
-  counted : l.self.entered + 2 * length l.self.rest.now ≤ l.fn.self.entered + 2 * length l.fn.self.rest.now;
-  scopes_stand : length (scopes l.fn.self.buffer) ≤ length (scopes l.self.buffer);
-  list : length (saved l.self.buffer) + length l.self.rest.now ≤ length (saved l.fn.self.buffer) + length l.fn.self.rest.now;
-  most : l.self.most_saved ≤ max l.fn.self.most_saved (length (saved l.fn.self.buffer) + length l.fn.self.rest.now);
+      (l.takes, shape l.reader.buffer l.name) (state l.reader);
+  living : IsLiving l.reader.buffer l.name;
+  run : IsRun l.fn.reader.buffer l.reader.buffer;
+  some_saved : l.takes ≡ true → 0 < length (saved l.reader.buffer);
+  taken : length l.reader.rest.now ≤ length l.fn.reader.rest.now;
+  counted : l.reader.entered + 2 * length l.reader.rest.now ≤ l.fn.reader.entered + 2 * length l.fn.reader.rest.now;
+  scopes_stand : length (scopes l.fn.reader.buffer) ≤ length (scopes l.reader.buffer);
+  list : length (saved l.reader.buffer) + length l.reader.rest.now ≤ length (saved l.fn.reader.buffer) + length l.fn.reader.rest.now;
+  most : l.reader.most_saved ≤ max l.fn.reader.most_saved (length (saved l.fn.reader.buffer) + length l.fn.reader.rest.now);
 }
 
-abbrev pub decreases-read_components-loop-self : goal.decreases-read_components-loop-self
-decreases-read_components-loop-self l = length l.self.rest.now
+abbrev pub decreases-read_components-loop-reader : goal.decreases-read_components-loop-reader
+decreases-read_components-loop-reader l = length l.reader.rest.now
 
-abbrev pub invariant-read_args-loop-self : goal.invariant-read_args-loop-self
-invariant-read_args-loop-self l = record {
+abbrev pub invariant-read_args-loop-reader : goal.invariant-read_args-loop-reader
+invariant-read_args-loop-reader l = record {
   positive : 0 < l.depth;
-  reads : ListSoFar (spec.parse_args l.depth l.context l.of_name (state l.fn.self))
+  reads : ListSoFar (spec.parse_args l.depth l.context l.of_name (state l.fn.reader))
       (spec.list_turn (spec.put l.opens l.scopes) (spec.parse_argument (l.depth - 1) l.context))
-      (λ list. whole_shape (arguments_closed list)) (l.first, shape l.self.buffer l.list) (state l.self);
-  living : IsLiving l.self.buffer l.list;
-  run : IsRun l.fn.self.buffer l.self.buffer;
-  scopes_stand : length (scopes l.fn.self.buffer) ≤ l.scopes;
-  scopes_kept : l.scopes ≤ length (scopes l.self.buffer);
+      (λ list. whole_shape (arguments_closed list)) (l.first, shape l.reader.buffer l.list) (state l.reader);
+  living : IsLiving l.reader.buffer l.list;
+  run : IsRun l.fn.reader.buffer l.reader.buffer;
+  scopes_stand : length (scopes l.fn.reader.buffer) ≤ l.scopes;
+  scopes_kept : l.scopes ≤ length (scopes l.reader.buffer);
   opened : l.opens ≡ true → 0 < l.scopes;
-  taken : length l.self.rest.now < length l.fn.self.rest.now;
-  counted : l.self.entered + 2 * length l.self.rest.now + 1 ≤ l.fn.self.entered + 2 * length l.fn.self.rest.now;
-  list : length (saved l.self.buffer) + length l.self.rest.now + 1 ≤ length (saved l.fn.self.buffer) + length l.fn.self.rest.now;
-  most : l.self.most_saved + 1 ≤ max (l.fn.self.most_saved + 1) (length (saved l.fn.self.buffer) + length l.fn.self.rest.now);
+  taken : length l.reader.rest.now < length l.fn.reader.rest.now;
+  counted : l.reader.entered + 2 * length l.reader.rest.now + 1 ≤ l.fn.reader.entered + 2 * length l.fn.reader.rest.now;
+  list : length (saved l.reader.buffer) + length l.reader.rest.now + 1 ≤ length (saved l.fn.reader.buffer) + length l.fn.reader.rest.now;
+  most : l.reader.most_saved + 1 ≤ max (l.fn.reader.most_saved + 1) (length (saved l.fn.reader.buffer) + length l.fn.reader.rest.now);
 }
 
-abbrev pub decreases-read_args-loop-self : goal.decreases-read_args-loop-self
-decreases-read_args-loop-self l = length l.self.rest.now
+abbrev pub decreases-read_args-loop-reader : goal.decreases-read_args-loop-reader
+decreases-read_args-loop-reader l = length l.reader.rest.now
 
 abbrev pub decreases-framed_type : goal.decreases-framed_type
 decreases-framed_type l = 16 * l.depth + 1
@@ -127,18 +127,18 @@ decreases-read_cv l = 16 * l.depth + 5
 
 abbrev pub invariant-read_types-loop-list : goal.invariant-read_types-loop-list
 invariant-read_types-loop-list l = record {
-  reads : LoopSoFar (spec.parse_types (spec.parse_type l.depth l.context) (state l.fn.self)) (spec.types_turn (spec.parse_type l.depth l.context)) (map (shape l.self.buffer) l.list.items) (state l.self);
-  living : All (IsLiving l.self.buffer) l.list.items;
-  kept : SameFrame l.fn.self.buffer l.self.buffer;
-  scopes_stand : length (scopes l.fn.self.buffer) ≤ length (scopes l.self.buffer);
-  taken : length l.self.rest.now ≤ length l.fn.self.rest.now;
-  counted : l.self.entered + 2 * length l.self.rest.now ≤ l.fn.self.entered + 2 * length l.fn.self.rest.now;
-  list : length (saved l.self.buffer) + length l.self.rest.now ≤ length (saved l.fn.self.buffer) + length l.fn.self.rest.now;
-  most : l.self.most_saved ≤ max l.fn.self.most_saved (length (saved l.fn.self.buffer) + length l.fn.self.rest.now);
+  reads : LoopSoFar (spec.parse_types (spec.parse_type l.depth l.context) (state l.fn.reader)) (spec.types_turn (spec.parse_type l.depth l.context)) (map (shape l.reader.buffer) l.list.items) (state l.reader);
+  living : All (IsLiving l.reader.buffer) l.list.items;
+  kept : SameFrame l.fn.reader.buffer l.reader.buffer;
+  scopes_stand : length (scopes l.fn.reader.buffer) ≤ length (scopes l.reader.buffer);
+  taken : length l.reader.rest.now ≤ length l.fn.reader.rest.now;
+  counted : l.reader.entered + 2 * length l.reader.rest.now ≤ l.fn.reader.entered + 2 * length l.fn.reader.rest.now;
+  list : length (saved l.reader.buffer) + length l.reader.rest.now ≤ length (saved l.fn.reader.buffer) + length l.fn.reader.rest.now;
+  most : l.reader.most_saved ≤ max l.fn.reader.most_saved (length (saved l.fn.reader.buffer) + length l.fn.reader.rest.now);
 }
 
 abbrev pub decreases-read_types-loop-list : goal.decreases-read_types-loop-list
-decreases-read_types-loop-list l = length l.self.rest.now
+decreases-read_types-loop-list l = length l.reader.rest.now
 
 abbrev pub decreases-read_member : goal.decreases-read_member
 decreases-read_member l = 16 * l.depth + 2
@@ -194,39 +194,39 @@ decreases-read_expansion l = 16 * l.depth + 1
 abbrev pub decreases-read_pack : goal.decreases-read_pack
 decreases-read_pack l = 16 * l.depth
 
-abbrev pub invariant-read_pack-loop-self : goal.invariant-read_pack-loop-self
-invariant-read_pack-loop-self l = record {
+abbrev pub invariant-read_pack-loop-reader : goal.invariant-read_pack-loop-reader
+invariant-read_pack-loop-reader l = record {
   positive : 0 < l.depth;
-  reads : ListSoFar (spec.parse_pack l.depth l.fn.context (state l.fn.self))
+  reads : ListSoFar (spec.parse_pack l.depth l.fn.context (state l.fn.reader))
       (spec.list_turn spec.put_nowhere (spec.parse_argument (l.depth - 1) l.inside))
-      whole_shape (l.first, shape l.self.buffer l.list) (state l.self);
-  living : IsLiving l.self.buffer l.list;
-  run : IsRun l.fn.self.buffer l.self.buffer;
-  scopes_stand : length (scopes l.fn.self.buffer) ≤ length (scopes l.self.buffer);
-  taken : length l.self.rest.now < length l.fn.self.rest.now;
-  counted : l.self.entered + 2 * length l.self.rest.now + 1 ≤ l.fn.self.entered + 2 * length l.fn.self.rest.now;
-  list : length (saved l.self.buffer) + length l.self.rest.now + 1 ≤ length (saved l.fn.self.buffer) + length l.fn.self.rest.now;
-  most : l.self.most_saved ≤ max l.fn.self.most_saved (length (saved l.fn.self.buffer) + length l.fn.self.rest.now);
+      whole_shape (l.first, shape l.reader.buffer l.list) (state l.reader);
+  living : IsLiving l.reader.buffer l.list;
+  run : IsRun l.fn.reader.buffer l.reader.buffer;
+  scopes_stand : length (scopes l.fn.reader.buffer) ≤ length (scopes l.reader.buffer);
+  taken : length l.reader.rest.now < length l.fn.reader.rest.now;
+  counted : l.reader.entered + 2 * length l.reader.rest.now + 1 ≤ l.fn.reader.entered + 2 * length l.fn.reader.rest.now;
+  list : length (saved l.reader.buffer) + length l.reader.rest.now + 1 ≤ length (saved l.fn.reader.buffer) + length l.fn.reader.rest.now;
+  most : l.reader.most_saved ≤ max l.fn.reader.most_saved (length (saved l.fn.reader.buffer) + length l.fn.reader.rest.now);
 }
 
-abbrev pub decreases-read_pack-loop-self : goal.decreases-read_pack-loop-self
-decreases-read_pack-loop-self l = length l.self.rest.now
+abbrev pub decreases-read_pack-loop-reader : goal.decreases-read_pack-loop-reader
+decreases-read_pack-loop-reader l = length l.reader.rest.now
 
 abbrev pub invariant-read_typed-loop-list : goal.invariant-read_typed-loop-list
 invariant-read_typed-loop-list l = record {
-  reads : LoopSoFar (spec.parse_typed (spec.parse_type l.depth l.context) (shape l.fn.self.buffer l.fn.list) (state l.fn.self))
-      (spec.typed_turn (spec.parse_type l.depth l.context)) (l.first, shape l.self.buffer l.list) (state l.self);
-  living : IsLiving l.self.buffer l.list;
-  run : IsRun l.fn.self.buffer l.self.buffer;
-  scopes_stand : length (scopes l.fn.self.buffer) ≤ length (scopes l.self.buffer);
-  taken : length l.self.rest.now ≤ length l.fn.self.rest.now;
-  counted : l.self.entered + 2 * length l.self.rest.now ≤ l.fn.self.entered + 2 * length l.fn.self.rest.now;
-  list : length (saved l.self.buffer) + length l.self.rest.now ≤ length (saved l.fn.self.buffer) + length l.fn.self.rest.now;
-  most : l.self.most_saved ≤ max l.fn.self.most_saved (length (saved l.fn.self.buffer) + length l.fn.self.rest.now);
+  reads : LoopSoFar (spec.parse_typed (spec.parse_type l.depth l.context) (shape l.fn.reader.buffer l.fn.list) (state l.fn.reader))
+      (spec.typed_turn (spec.parse_type l.depth l.context)) (l.first, shape l.reader.buffer l.list) (state l.reader);
+  living : IsLiving l.reader.buffer l.list;
+  run : IsRun l.fn.reader.buffer l.reader.buffer;
+  scopes_stand : length (scopes l.fn.reader.buffer) ≤ length (scopes l.reader.buffer);
+  taken : length l.reader.rest.now ≤ length l.fn.reader.rest.now;
+  counted : l.reader.entered + 2 * length l.reader.rest.now ≤ l.fn.reader.entered + 2 * length l.fn.reader.rest.now;
+  list : length (saved l.reader.buffer) + length l.reader.rest.now ≤ length (saved l.fn.reader.buffer) + length l.fn.reader.rest.now;
+  most : l.reader.most_saved ≤ max l.fn.reader.most_saved (length (saved l.fn.reader.buffer) + length l.fn.reader.rest.now);
 }
 
 abbrev pub decreases-read_typed-loop-list : goal.decreases-read_typed-loop-list
-decreases-read_typed-loop-list l = length l.self.rest.now
+decreases-read_typed-loop-list l = length l.reader.rest.now
 
 abbrev pub decreases-read_expression : goal.decreases-read_expression
 decreases-read_expression l = 16 * l.depth
