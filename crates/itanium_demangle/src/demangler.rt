@@ -213,7 +213,7 @@ impl Default for Demangler {
     ghost is_default = { λ value. value ≡ no_run };
 
     fn default() -> Self {
-        Demangler::new()
+        Self::new()
     }
 }
 

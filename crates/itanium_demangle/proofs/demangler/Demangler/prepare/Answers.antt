@@ -39,7 +39,7 @@ returns-clause-components c =
     let prefix : after_prefix c.args.symbol.now ≡ Some inside = search rules in
     let stands : StandsFor c.in_ok-reader.reader (start inside) = stands_at_start c.in_ok-reader.reader inside (c.in_ok-reader.ensures {u = tt}).state in
     let kept = c.keep-2.ensures in
-    rw (kept.text, kept.components) (kept_components c.args.symbol.now inside _ _ _ c.read_mangled_name.new.self string_bytes c.in_ok-text.text prefix ((c.in-Ok.ensures {u = tt}).reading.1 (start inside) stands))
+    rw (kept.text, kept.components) (kept_components c.args.symbol.now inside _ _ _ c.read_mangled_name.new.reader string_bytes c.in_ok-text.text prefix ((c.in-Ok.ensures {u = tt}).reading.1 (start inside) stands))
 
 pub returns-clause-bounds : goal.returns-clause-bounds
 returns-clause-bounds c =
@@ -48,7 +48,7 @@ returns-clause-bounds c =
     let starts = (c.in_ok-reader.ensures {u = tt}).state in
     let read = c.in-Ok.ensures {u = tt} in
     let kept = c.keep-2.ensures in
-    rw (kept.entered, kept.most_saved) (read_within c.args.symbol.now inside (state c.in_ok-reader.reader) (state c.read_mangled_name.new.self) _ prefix starts read.bounds read.saved)
+    rw (kept.entered, kept.most_saved) (read_within c.args.symbol.now inside (state c.in_ok-reader.reader) (state c.read_mangled_name.new.reader) _ prefix starts read.bounds read.saved)
 
 pub returns-in-Err-Unread-clause-bounds : goal.returns-in-Err-Unread-clause-bounds
 returns-in-Err-Unread-clause-bounds c =
@@ -58,4 +58,4 @@ returns-in-Err-Unread-clause-bounds c =
     let read = c.in-Err-Unread.ensures {u = tt} in
     let kept = c.keep.ensures in
     let is : c.in-Err-Unread.field-0 ≡ Unread = search rules in
-    rw (kept.entered, kept.most_saved) (unread_within c.args.symbol.now inside (state c.in_ok-reader.reader) (state c.read_mangled_name.new.self) _ prefix starts is read.bounds read.saved)
+    rw (kept.entered, kept.most_saved) (unread_within c.args.symbol.now inside (state c.in_ok-reader.reader) (state c.read_mangled_name.new.reader) _ prefix starts is read.bounds read.saved)
