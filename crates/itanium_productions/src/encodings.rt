@@ -171,7 +171,7 @@ pub(crate) fn read_entity(
     match entity_case(reader.rest) {
         EntityCase::StringLiteralEntity => {
             reader.skip(2);
-            reader.found = reader.buffer.append(encoding, b"::string literal")?;
+            reader.print_string_literal(encoding)?;
             Ok(Quals::none())
         }
         EntityCase::DefaultArgumentEntity => {

@@ -11,7 +11,7 @@ use demangle_text::Piece;
 use itanium_reader::{Reader, Stop};
 use itanium_syntax::context::Context;
 use itanium_syntax::expressions::{
-    ExpressionCase, LiteralCase, expression_case, expression_text, is_external, literal_case,
+    ExpressionCase, LiteralCase, expression_case, expression_text, literal_case, takes_parentheses,
 };
 
 /// `<expr-primary> ::= L <type> <value> E | L _Z <encoding> E`
@@ -245,7 +245,7 @@ pub(crate) fn read_operand(reader: &mut Reader, depth: usize, context: Context) 
     ensures bounds { Bounds 1 result (state reader.old) (state reader.new) }
     ensures saved { SavedBounds 1 result (state reader.old) (state reader.new) }
 {
-    let paren = !is_external(reader.rest);
+    let paren = takes_parentheses(reader.rest);
     read_expression(reader, depth, context)?;
     reader.found = subexpr(&mut reader.buffer, reader.found, paren)?;
     Ok(())

@@ -9,7 +9,7 @@ ghost use Rattle.itanium_reader.specs.Outcome.{state, Gives, HasRoom, Bounds, Op
 
 use crate::args::read_attached;
 use crate::names::read_name;
-use demangle_edit::{Pointer, Quals, expand, list_next, separate};
+use demangle_edit::{Pointer, Quals, list_next, separate};
 use demangle_text::Piece;
 use itanium_reader::{Reader, Stop};
 use itanium_syntax::args::{AttachedCase, attached_case};
@@ -104,10 +104,7 @@ pub(crate) fn read_expansion(
 {
     reader.skip(2);
     read_type(reader, depth, context)?;
-    if !context.pack {
-        reader.found = expand(&mut reader.buffer, reader.found)?;
-    }
-    reader.save_found()?;
+    reader.save_expansion(context.pack)?;
     Ok(())
 }
 

@@ -626,10 +626,13 @@ abbrev pub substitution_type : Parses Shape → Parses Shape
 substitution_type args s =
     parse_substitution s >>= λ found. type_attached_as (attached_case found.1.rest) args found.0 found.1
 
+-- the dots of an expansion, which aren't printed in a pack
+abbrev pub expansion_in : Bool → Shape → Shape
+expansion_in in_pack t = if in_pack then t else expansion_shape t
+
 -- Dp <type>
 abbrev pub parse_expansion : Parses Shape → Bool → Parses Shape
-parse_expansion type in_pack s =
-    type (skip 2 s) >>= λ found. saved_as (if in_pack then found.0 else expansion_shape found.0) found.1
+parse_expansion type in_pack s = type (skip 2 s) >>= λ found. saved_as (expansion_in in_pack found.0) found.1
 
 -- <type>, by what it begins with
 abbrev pub type_as : TypeCase → Parses Shape → Parses Shape → Parses Shape → Context → Parses Shape

@@ -10,7 +10,7 @@ ghost use Rattle.itanium_reader.specs.Outcome.{state, Gives, Bounds, OptionalBou
 use crate::reader::Reader;
 use crate::stop::Stop;
 use demangle_edit::{
-    Glue, Pointer, Quals, function_type, glue, wrap_array, wrap_cv, wrap_member_pointer,
+    Glue, Pointer, Quals, expand, function_type, glue, wrap_array, wrap_cv, wrap_member_pointer,
     wrap_pointer,
 };
 use demangle_text::Piece;
@@ -43,6 +43,21 @@ impl<'a> Reader<'a> {
     {
         self.found = wrap_cv(&mut self.buffer, self.found, quals)?;
         Ok(())
+    }
+
+    /// The expansion of what was found, which prints its dots where it isn't in a pack.
+    pub fn save_expansion(&mut self, in_pack: bool) -> Result<(), AllocError>
+        requires living { IsLiving self.old.buffer self.old.found }
+        ensures shape { OnOk result (Lives self.new.buffer self.new.found
+            (spec.expansion_in in_pack (shape self.old.buffer self.old.found))) }
+        ensures state { OnOk result (state self.new ≡ spec.save
+            (spec.expansion_in in_pack (shape self.old.buffer self.old.found)) (state self.old)) }
+        ensures run { OnOk result (IsRun self.old.buffer self.new.buffer) }
+    {
+        if !in_pack {
+            self.found = expand(&mut self.buffer, self.found)?;
+        }
+        self.save_found()
     }
 
     /// The array of what was found, where there is one.

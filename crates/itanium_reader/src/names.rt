@@ -1,5 +1,6 @@
 //! Names (Itanium C++ ABI 5.1.2).
-ghost use Rattle.std.specs.Prelude.{◌≡◌, ◌<◌, option_map, IfSome, OnOk, true};
+ghost use Rattle.std.specs.Prelude.{◌≡◌, ◌<◌, codes, option_map, IfSome, OnOk, true};
+ghost use Rattle.demangle_text.specs.Shape.{appended};
 ghost use Rattle.demangle_text.specs.State.{IsLiving, shape, Lives, IsEdit, IsRun, saved};
 ghost use Rattle.itanium_grammar.specs.Tree.{conversion_shape};
 ghost use Rattle.itanium_reader.specs.Parser as spec;
@@ -17,6 +18,18 @@ use std::alloc::AllocError;
 
 #[tactic(auto, using(crate::proofs::Rules::buffers))]
 impl<'a> Reader<'a> {
+    /// The string literal of an encoding.
+    pub fn print_string_literal(&mut self, encoding: Piece) -> Result<(), AllocError>
+        requires living { IsLiving self.old.buffer encoding }
+        ensures shape { OnOk result (Lives self.new.buffer self.new.found
+            (appended (codes "::string literal") (shape self.old.buffer encoding))) }
+        ensures state { OnOk result (state self.new ≡ state self.old) }
+        ensures edit { OnOk result (IsEdit self.old.buffer self.new.buffer) }
+    {
+        self.found = self.buffer.append(encoding, b"::string literal")?;
+        Ok(())
+    }
+
     /// The name in its scope, where there is one.
     pub fn enclose(&mut self, scope: Option<Piece>, name: Piece) -> Result<(), AllocError>
         requires scope { IfSome scope (IsLiving self.old.buffer) }

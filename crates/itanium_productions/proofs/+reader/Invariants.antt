@@ -8,71 +8,71 @@ use Rattle.itanium_syntax.specs.Context.{inside_lambda}
 use Rattle.itanium_reader.proofs.Loops.{LoopSoFar, ListSoFar}
 use Rattle.itanium_productions.proofs.+reader.Given as goal
 
-abbrev pub decreases-read_bare_name : goal.decreases-read_bare_name
-decreases-read_bare_name l = 16 * l.depth
+abbrev pub decreases-names::read_bare_name : goal.decreases-names::read_bare_name
+decreases-names::read_bare_name l = 16 * l.depth
 
-abbrev pub decreases-read_name : goal.decreases-read_name
-decreases-read_name l = 16 * l.depth + 1
+abbrev pub decreases-names::read_name : goal.decreases-names::read_name
+decreases-names::read_name l = 16 * l.depth + 1
 
-abbrev pub decreases-framed_bare_name : goal.decreases-framed_bare_name
-decreases-framed_bare_name l = 16 * l.depth + 1
+abbrev pub decreases-encodings::framed_bare_name : goal.decreases-encodings::framed_bare_name
+decreases-encodings::framed_bare_name l = 16 * l.depth + 1
 
-abbrev pub decreases-drop_name : goal.decreases-drop_name
-decreases-drop_name l = 16 * l.depth + 1
+abbrev pub decreases-encodings::drop_name : goal.decreases-encodings::drop_name
+decreases-encodings::drop_name l = 16 * l.depth + 1
 
-abbrev pub decreases-drop_type : goal.decreases-drop_type
-decreases-drop_type l = 16 * l.depth + 1
+abbrev pub decreases-encodings::drop_type : goal.decreases-encodings::drop_type
+decreases-encodings::drop_type l = 16 * l.depth + 1
 
-abbrev pub decreases-read_return : goal.decreases-read_return
-decreases-read_return l = 16 * l.depth + 2
+abbrev pub decreases-encodings::read_return : goal.decreases-encodings::read_return
+decreases-encodings::read_return l = 16 * l.depth + 2
 
-abbrev pub decreases-end_encoding : goal.decreases-end_encoding
-decreases-end_encoding l = 16 * l.depth + 4
+abbrev pub decreases-encodings::end_encoding : goal.decreases-encodings::end_encoding
+decreases-encodings::end_encoding l = 16 * l.depth + 4
 
-abbrev pub decreases-read_encoding : goal.decreases-read_encoding
-decreases-read_encoding l = 16 * l.depth + 5
+abbrev pub decreases-encodings::read_encoding : goal.decreases-encodings::read_encoding
+decreases-encodings::read_encoding l = 16 * l.depth + 5
 
-abbrev pub decreases-read_entity : goal.decreases-read_entity
-decreases-read_entity l = 16 * l.depth + 2
+abbrev pub decreases-encodings::read_entity : goal.decreases-encodings::read_entity
+decreases-encodings::read_entity l = 16 * l.depth + 2
 
-abbrev pub decreases-read_local : goal.decreases-read_local
-decreases-read_local l = 16 * l.depth + 6
+abbrev pub decreases-encodings::read_local : goal.decreases-encodings::read_local
+decreases-encodings::read_local l = 16 * l.depth + 6
 
-abbrev pub decreases-read_args : goal.decreases-read_args
-decreases-read_args l = 16 * l.depth
+abbrev pub decreases-args::read_args : goal.decreases-args::read_args
+decreases-args::read_args l = 16 * l.depth
 
-abbrev pub decreases-read_type : goal.decreases-read_type
-decreases-read_type l = 16 * l.depth
+abbrev pub decreases-types::read_type : goal.decreases-types::read_type
+decreases-types::read_type l = 16 * l.depth
 
-abbrev pub decreases-framed_args : goal.decreases-framed_args
-decreases-framed_args l = 16 * l.depth + 1
+abbrev pub decreases-args::framed_args : goal.decreases-args::framed_args
+decreases-args::framed_args l = 16 * l.depth + 1
 
-abbrev pub decreases-read_argument : goal.decreases-read_argument
-decreases-read_argument l = 16 * l.depth + 7
+abbrev pub decreases-args::read_argument : goal.decreases-args::read_argument
+decreases-args::read_argument l = 16 * l.depth + 7
 
-abbrev pub decreases-framed_argument : goal.decreases-framed_argument
-decreases-framed_argument l = 16 * l.depth + 8
+abbrev pub decreases-args::framed_argument : goal.decreases-args::framed_argument
+decreases-args::framed_argument l = 16 * l.depth + 8
 
-abbrev pub decreases-read_attached : goal.decreases-read_attached
-decreases-read_attached l = 16 * l.depth + 2
+abbrev pub decreases-args::read_attached : goal.decreases-args::read_attached
+decreases-args::read_attached l = 16 * l.depth + 2
 
-abbrev pub decreases-read_attached_args : goal.decreases-read_attached_args
-decreases-read_attached_args l = 16 * l.depth + 3
+abbrev pub decreases-names::read_attached_args : goal.decreases-names::read_attached_args
+decreases-names::read_attached_args l = 16 * l.depth + 3
 
-abbrev pub decreases-read_type_attached : goal.decreases-read_type_attached
-decreases-read_type_attached l = 16 * l.depth + 3
+abbrev pub decreases-types::read_type_attached : goal.decreases-types::read_type_attached
+decreases-types::read_type_attached l = 16 * l.depth + 3
 
-abbrev pub decreases-read_components : goal.decreases-read_components
-decreases-read_components l = 16 * l.depth + 8
+abbrev pub decreases-names::read_components : goal.decreases-names::read_components
+decreases-names::read_components l = 16 * l.depth + 8
 
-abbrev pub decreases-read_unscoped : goal.decreases-read_unscoped
-decreases-read_unscoped l = 16 * l.depth + 8
+abbrev pub decreases-names::read_unscoped : goal.decreases-names::read_unscoped
+decreases-names::read_unscoped l = 16 * l.depth + 8
 
-abbrev pub decreases-read_nested : goal.decreases-read_nested
-decreases-read_nested l = 16 * l.depth + 9
+abbrev pub decreases-names::read_nested : goal.decreases-names::read_nested
+decreases-names::read_nested l = 16 * l.depth + 9
 
-abbrev pub invariant-read_components-loop-reader : goal.invariant-read_components-loop-reader
-invariant-read_components-loop-reader l = record {
+abbrev pub invariant-names::read_components-loop-reader : goal.invariant-names::read_components-loop-reader
+invariant-names::read_components-loop-reader l = record {
   reads : LoopSoFar (spec.parse_components (spec.parse_unqualified (spec.parse_type l.depth l.context) (spec.parse_type l.depth (inside_lambda l.context)))
       (spec.parse_args l.depth l.context true) l.fn.takes (shape l.fn.reader.buffer l.fn.first) (state l.fn.reader))
       (spec.component_turn (spec.parse_unqualified (spec.parse_type l.depth l.context) (spec.parse_type l.depth (inside_lambda l.context))) (spec.parse_args l.depth l.context true))
@@ -87,11 +87,11 @@ invariant-read_components-loop-reader l = record {
   most : l.reader.most_saved ≤ max l.fn.reader.most_saved (length (saved l.fn.reader.buffer) + length l.fn.reader.rest.now);
 }
 
-abbrev pub decreases-read_components-loop-reader : goal.decreases-read_components-loop-reader
-decreases-read_components-loop-reader l = length l.reader.rest.now
+abbrev pub decreases-names::read_components-loop-reader : goal.decreases-names::read_components-loop-reader
+decreases-names::read_components-loop-reader l = length l.reader.rest.now
 
-abbrev pub invariant-read_args-loop-reader : goal.invariant-read_args-loop-reader
-invariant-read_args-loop-reader l = record {
+abbrev pub invariant-args::read_args-loop-reader : goal.invariant-args::read_args-loop-reader
+invariant-args::read_args-loop-reader l = record {
   positive : 0 < l.depth;
   reads : ListSoFar (spec.parse_args l.depth l.context l.of_name (state l.fn.reader))
       (spec.list_turn (spec.put l.opens l.scopes) (spec.parse_argument (l.depth - 1) l.context))
@@ -107,26 +107,26 @@ invariant-read_args-loop-reader l = record {
   most : l.reader.most_saved + 1 ≤ max (l.fn.reader.most_saved + 1) (length (saved l.fn.reader.buffer) + length l.fn.reader.rest.now);
 }
 
-abbrev pub decreases-read_args-loop-reader : goal.decreases-read_args-loop-reader
-decreases-read_args-loop-reader l = length l.reader.rest.now
+abbrev pub decreases-args::read_args-loop-reader : goal.decreases-args::read_args-loop-reader
+decreases-args::read_args-loop-reader l = length l.reader.rest.now
 
-abbrev pub decreases-framed_type : goal.decreases-framed_type
-decreases-framed_type l = 16 * l.depth + 1
+abbrev pub decreases-types::framed_type : goal.decreases-types::framed_type
+decreases-types::framed_type l = 16 * l.depth + 1
 
-abbrev pub decreases-read_types : goal.decreases-read_types
-decreases-read_types l = 16 * l.depth + 2
+abbrev pub decreases-types::read_types : goal.decreases-types::read_types
+decreases-types::read_types l = 16 * l.depth + 2
 
-abbrev pub decreases-read_params : goal.decreases-read_params
-decreases-read_params l = 16 * l.depth + 3
+abbrev pub decreases-types::read_params : goal.decreases-types::read_params
+decreases-types::read_params l = 16 * l.depth + 3
 
-abbrev pub decreases-read_function : goal.decreases-read_function
-decreases-read_function l = 16 * l.depth + 4
+abbrev pub decreases-types::read_function : goal.decreases-types::read_function
+decreases-types::read_function l = 16 * l.depth + 4
 
-abbrev pub decreases-read_cv : goal.decreases-read_cv
-decreases-read_cv l = 16 * l.depth + 5
+abbrev pub decreases-types::read_cv : goal.decreases-types::read_cv
+decreases-types::read_cv l = 16 * l.depth + 5
 
-abbrev pub invariant-read_types-loop-list : goal.invariant-read_types-loop-list
-invariant-read_types-loop-list l = record {
+abbrev pub invariant-types::read_types-loop-list : goal.invariant-types::read_types-loop-list
+invariant-types::read_types-loop-list l = record {
   reads : LoopSoFar (spec.parse_types (spec.parse_type l.depth l.context) (state l.fn.reader)) (spec.types_turn (spec.parse_type l.depth l.context)) (map (shape l.reader.buffer) l.list.items) (state l.reader);
   living : All (IsLiving l.reader.buffer) l.list.items;
   kept : SameFrame l.fn.reader.buffer l.reader.buffer;
@@ -137,65 +137,65 @@ invariant-read_types-loop-list l = record {
   most : l.reader.most_saved ≤ max l.fn.reader.most_saved (length (saved l.fn.reader.buffer) + length l.fn.reader.rest.now);
 }
 
-abbrev pub decreases-read_types-loop-list : goal.decreases-read_types-loop-list
-decreases-read_types-loop-list l = length l.reader.rest.now
+abbrev pub decreases-types::read_types-loop-list : goal.decreases-types::read_types-loop-list
+decreases-types::read_types-loop-list l = length l.reader.rest.now
 
-abbrev pub decreases-read_member : goal.decreases-read_member
-decreases-read_member l = 16 * l.depth + 2
+abbrev pub decreases-types::read_member : goal.decreases-types::read_member
+decreases-types::read_member l = 16 * l.depth + 2
 
-abbrev pub decreases-read_array : goal.decreases-read_array
-decreases-read_array l = 16 * l.depth + 1
+abbrev pub decreases-types::read_array : goal.decreases-types::read_array
+decreases-types::read_array l = 16 * l.depth + 1
 
-abbrev pub decreases-read_pointer : goal.decreases-read_pointer
-decreases-read_pointer l = 16 * l.depth + 1
+abbrev pub decreases-types::read_pointer : goal.decreases-types::read_pointer
+decreases-types::read_pointer l = 16 * l.depth + 1
 
-abbrev pub decreases-read_function_type : goal.decreases-read_function_type
-decreases-read_function_type l = 16 * l.depth + 5
+abbrev pub decreases-types::read_function_type : goal.decreases-types::read_function_type
+decreases-types::read_function_type l = 16 * l.depth + 5
 
-abbrev pub decreases-read_cv_type : goal.decreases-read_cv_type
-decreases-read_cv_type l = 16 * l.depth + 6
+abbrev pub decreases-types::read_cv_type : goal.decreases-types::read_cv_type
+decreases-types::read_cv_type l = 16 * l.depth + 6
 
-abbrev pub decreases-read_elaborated : goal.decreases-read_elaborated
-decreases-read_elaborated l = 16 * l.depth + 2
+abbrev pub decreases-types::read_elaborated : goal.decreases-types::read_elaborated
+decreases-types::read_elaborated l = 16 * l.depth + 2
 
-abbrev pub decreases-read_parameter_type : goal.decreases-read_parameter_type
-decreases-read_parameter_type l = 16 * l.depth + 4
+abbrev pub decreases-types::read_parameter_type : goal.decreases-types::read_parameter_type
+decreases-types::read_parameter_type l = 16 * l.depth + 4
 
-abbrev pub decreases-read_substitution_type : goal.decreases-read_substitution_type
-decreases-read_substitution_type l = 16 * l.depth + 4
+abbrev pub decreases-types::read_substitution_type : goal.decreases-types::read_substitution_type
+decreases-types::read_substitution_type l = 16 * l.depth + 4
 
-abbrev pub decreases-read_name_type : goal.decreases-read_name_type
-decreases-read_name_type l = 16 * l.depth + 2
+abbrev pub decreases-types::read_name_type : goal.decreases-types::read_name_type
+decreases-types::read_name_type l = 16 * l.depth + 2
 
-abbrev pub decreases-read_typed : goal.decreases-read_typed
-decreases-read_typed l = 16 * l.depth + 2
+abbrev pub decreases-types::read_typed : goal.decreases-types::read_typed
+decreases-types::read_typed l = 16 * l.depth + 2
 
-abbrev pub decreases-read_typed_params : goal.decreases-read_typed_params
-decreases-read_typed_params l = 16 * l.depth + 3
+abbrev pub decreases-types::read_typed_params : goal.decreases-types::read_typed_params
+decreases-types::read_typed_params l = 16 * l.depth + 3
 
-abbrev pub decreases-read_lambda : goal.decreases-read_lambda
-decreases-read_lambda l = 16 * l.depth + 4
+abbrev pub decreases-names::read_lambda : goal.decreases-names::read_lambda
+decreases-names::read_lambda l = 16 * l.depth + 4
 
-abbrev pub decreases-read_free_name : goal.decreases-read_free_name
-decreases-read_free_name l = 16 * l.depth + 5
+abbrev pub decreases-names::read_free_name : goal.decreases-names::read_free_name
+decreases-names::read_free_name l = 16 * l.depth + 5
 
-abbrev pub decreases-framed_free_name : goal.decreases-framed_free_name
-decreases-framed_free_name l = 16 * l.depth + 6
+abbrev pub decreases-names::framed_free_name : goal.decreases-names::framed_free_name
+decreases-names::framed_free_name l = 16 * l.depth + 6
 
-abbrev pub decreases-read_unqualified : goal.decreases-read_unqualified
-decreases-read_unqualified l = 16 * l.depth + 7
+abbrev pub decreases-names::read_unqualified : goal.decreases-names::read_unqualified
+decreases-names::read_unqualified l = 16 * l.depth + 7
 
-abbrev pub decreases-read_first : goal.decreases-read_first
-decreases-read_first l = 16 * l.depth + 8
+abbrev pub decreases-names::read_first : goal.decreases-names::read_first
+decreases-names::read_first l = 16 * l.depth + 8
 
-abbrev pub decreases-read_expansion : goal.decreases-read_expansion
-decreases-read_expansion l = 16 * l.depth + 1
+abbrev pub decreases-types::read_expansion : goal.decreases-types::read_expansion
+decreases-types::read_expansion l = 16 * l.depth + 1
 
-abbrev pub decreases-read_pack : goal.decreases-read_pack
-decreases-read_pack l = 16 * l.depth
+abbrev pub decreases-args::read_pack : goal.decreases-args::read_pack
+decreases-args::read_pack l = 16 * l.depth
 
-abbrev pub invariant-read_pack-loop-reader : goal.invariant-read_pack-loop-reader
-invariant-read_pack-loop-reader l = record {
+abbrev pub invariant-args::read_pack-loop-reader : goal.invariant-args::read_pack-loop-reader
+invariant-args::read_pack-loop-reader l = record {
   positive : 0 < l.depth;
   reads : ListSoFar (spec.parse_pack l.depth l.fn.context (state l.fn.reader))
       (spec.list_turn spec.put_nowhere (spec.parse_argument (l.depth - 1) l.inside))
@@ -209,11 +209,11 @@ invariant-read_pack-loop-reader l = record {
   most : l.reader.most_saved ≤ max l.fn.reader.most_saved (length (saved l.fn.reader.buffer) + length l.fn.reader.rest.now);
 }
 
-abbrev pub decreases-read_pack-loop-reader : goal.decreases-read_pack-loop-reader
-decreases-read_pack-loop-reader l = length l.reader.rest.now
+abbrev pub decreases-args::read_pack-loop-reader : goal.decreases-args::read_pack-loop-reader
+decreases-args::read_pack-loop-reader l = length l.reader.rest.now
 
-abbrev pub invariant-read_typed-loop-list : goal.invariant-read_typed-loop-list
-invariant-read_typed-loop-list l = record {
+abbrev pub invariant-types::read_typed-loop-list : goal.invariant-types::read_typed-loop-list
+invariant-types::read_typed-loop-list l = record {
   reads : LoopSoFar (spec.parse_typed (spec.parse_type l.depth l.context) (shape l.fn.reader.buffer l.fn.list) (state l.fn.reader))
       (spec.typed_turn (spec.parse_type l.depth l.context)) (l.first, shape l.reader.buffer l.list) (state l.reader);
   living : IsLiving l.reader.buffer l.list;
@@ -225,68 +225,68 @@ invariant-read_typed-loop-list l = record {
   most : l.reader.most_saved ≤ max l.fn.reader.most_saved (length (saved l.fn.reader.buffer) + length l.fn.reader.rest.now);
 }
 
-abbrev pub decreases-read_typed-loop-list : goal.decreases-read_typed-loop-list
-decreases-read_typed-loop-list l = length l.reader.rest.now
+abbrev pub decreases-types::read_typed-loop-list : goal.decreases-types::read_typed-loop-list
+decreases-types::read_typed-loop-list l = length l.reader.rest.now
 
-abbrev pub decreases-read_expression : goal.decreases-read_expression
-decreases-read_expression l = 16 * l.depth
+abbrev pub decreases-expressions::read_expression : goal.decreases-expressions::read_expression
+decreases-expressions::read_expression l = 16 * l.depth
 
-abbrev pub decreases-framed_expression : goal.decreases-framed_expression
-decreases-framed_expression l = 16 * l.depth + 1
+abbrev pub decreases-expressions::framed_expression : goal.decreases-expressions::framed_expression
+decreases-expressions::framed_expression l = 16 * l.depth + 1
 
-abbrev pub decreases-read_operand : goal.decreases-read_operand
-decreases-read_operand l = 16 * l.depth + 1
+abbrev pub decreases-expressions::read_operand : goal.decreases-expressions::read_operand
+decreases-expressions::read_operand l = 16 * l.depth + 1
 
-abbrev pub decreases-framed_operand : goal.decreases-framed_operand
-decreases-framed_operand l = 16 * l.depth + 2
+abbrev pub decreases-expressions::framed_operand : goal.decreases-expressions::framed_operand
+decreases-expressions::framed_operand l = 16 * l.depth + 2
 
-abbrev pub decreases-read_pre : goal.decreases-read_pre
-decreases-read_pre l = 16 * l.depth + 1
+abbrev pub decreases-expressions::read_pre : goal.decreases-expressions::read_pre
+decreases-expressions::read_pre l = 16 * l.depth + 1
 
-abbrev pub decreases-read_address : goal.decreases-read_address
-decreases-read_address l = 16 * l.depth + 1
+abbrev pub decreases-expressions::read_address : goal.decreases-expressions::read_address
+decreases-expressions::read_address l = 16 * l.depth + 1
 
-abbrev pub decreases-read_unary : goal.decreases-read_unary
-decreases-read_unary l = 16 * l.depth + 3
+abbrev pub decreases-expressions::read_unary : goal.decreases-expressions::read_unary
+decreases-expressions::read_unary l = 16 * l.depth + 3
 
-abbrev pub decreases-read_post : goal.decreases-read_post
-decreases-read_post l = 16 * l.depth + 3
+abbrev pub decreases-expressions::read_post : goal.decreases-expressions::read_post
+decreases-expressions::read_post l = 16 * l.depth + 3
 
-abbrev pub decreases-read_binary : goal.decreases-read_binary
-decreases-read_binary l = 16 * l.depth + 3
+abbrev pub decreases-expressions::read_binary : goal.decreases-expressions::read_binary
+decreases-expressions::read_binary l = 16 * l.depth + 3
 
-abbrev pub decreases-read_greater : goal.decreases-read_greater
-decreases-read_greater l = 16 * l.depth + 2
+abbrev pub decreases-expressions::read_greater : goal.decreases-expressions::read_greater
+decreases-expressions::read_greater l = 16 * l.depth + 2
 
-abbrev pub decreases-read_conditional : goal.decreases-read_conditional
-decreases-read_conditional l = 16 * l.depth + 4
+abbrev pub decreases-expressions::read_conditional : goal.decreases-expressions::read_conditional
+decreases-expressions::read_conditional l = 16 * l.depth + 4
 
-abbrev pub decreases-read_primary : goal.decreases-read_primary
-decreases-read_primary l = 16 * l.depth + 6
+abbrev pub decreases-expressions::read_primary : goal.decreases-expressions::read_primary
+decreases-expressions::read_primary l = 16 * l.depth + 6
 
-abbrev pub decreases-read_expression_argument : goal.decreases-read_expression_argument
-decreases-read_expression_argument l = 16 * l.depth + 1
+abbrev pub decreases-args::read_expression_argument : goal.decreases-args::read_expression_argument
+decreases-args::read_expression_argument l = 16 * l.depth + 1
 
-abbrev pub decreases-read_alternatives : goal.decreases-read_alternatives
-decreases-read_alternatives l = 16 * l.depth + 3
+abbrev pub decreases-expressions::read_alternatives : goal.decreases-expressions::read_alternatives
+decreases-expressions::read_alternatives l = 16 * l.depth + 3
 
-abbrev pub decreases-read_type_special : goal.decreases-read_type_special
-decreases-read_type_special l = 16 * l.depth + 1
+abbrev pub decreases-specials::read_type_special : goal.decreases-specials::read_type_special
+decreases-specials::read_type_special l = 16 * l.depth + 1
 
-abbrev pub decreases-read_name_special : goal.decreases-read_name_special
-decreases-read_name_special l = 16 * l.depth + 2
+abbrev pub decreases-specials::read_name_special : goal.decreases-specials::read_name_special
+decreases-specials::read_name_special l = 16 * l.depth + 2
 
-abbrev pub decreases-read_temporary : goal.decreases-read_temporary
-decreases-read_temporary l = 16 * l.depth + 2
+abbrev pub decreases-specials::read_temporary : goal.decreases-specials::read_temporary
+decreases-specials::read_temporary l = 16 * l.depth + 2
 
-abbrev pub decreases-read_construction : goal.decreases-read_construction
-decreases-read_construction l = 16 * l.depth + 2
+abbrev pub decreases-specials::read_construction : goal.decreases-specials::read_construction
+decreases-specials::read_construction l = 16 * l.depth + 2
 
-abbrev pub decreases-read_thunk : goal.decreases-read_thunk
-decreases-read_thunk l = 16 * l.depth
+abbrev pub decreases-specials::read_thunk : goal.decreases-specials::read_thunk
+decreases-specials::read_thunk l = 16 * l.depth
 
-abbrev pub decreases-read_special : goal.decreases-read_special
-decreases-read_special l = 16 * l.depth + 3
+abbrev pub decreases-specials::read_special : goal.decreases-specials::read_special
+decreases-specials::read_special l = 16 * l.depth + 3
 
-abbrev pub decreases-read_symbol : goal.decreases-read_symbol
-decreases-read_symbol l = 16 * l.depth + 4
+abbrev pub decreases-specials::read_symbol : goal.decreases-specials::read_symbol
+decreases-specials::read_symbol l = 16 * l.depth + 4
