@@ -9,7 +9,7 @@ ghost use Rattle.itanium_grammar.specs.Answer.{IsAnswer, HasOneReading, HasCount
 ghost use Rattle.itanium_grammar.specs.Answer as spec;
 ghost use Rattle.itanium_demangle.specs.Demangler.{IsPrinted, IsPrepared, component_texts, no_run};
 
-use crate::symbols::read_mangled_name;
+use crate::mangled_name::read_mangled_name;
 use demangle_text::Buffer;
 use itanium_grammar::symbol::{after_prefix, suffix};
 use itanium_reader::{Reader, Stop};

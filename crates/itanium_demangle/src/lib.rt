@@ -30,7 +30,7 @@
 
 mod demangler;
 pub mod laws;
-mod symbols;
+mod mangled_name;
 
 pub use crate::demangler::{Demangler, MAX_DEPTH, demangle_owned};
 pub use itanium_syntax::scalar;
