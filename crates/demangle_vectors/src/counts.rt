@@ -1,5 +1,5 @@
-//! What a symbol's reading costs and leaves: the counted productions, the most components that were saved at one moment,
-//! and the components that are left. The rows are from the grammar's definition.
+//! What the reading of a symbol costs and leaves: the counted productions, the most components that were saved at one
+//! moment, and the components that are left. The rows are from the definition of the grammar.
 
 use crate::tables::repeated;
 use itanium_demangle::{Demangler, demangle_owned};
