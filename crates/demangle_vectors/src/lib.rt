@@ -6,8 +6,6 @@
 #[cfg(test)]
 mod arguments;
 #[cfg(test)]
-mod counts;
-#[cfg(test)]
 mod declarators;
 #[cfg(test)]
 mod expressions;
@@ -23,7 +21,5 @@ mod sample;
 mod scalars;
 #[cfg(test)]
 mod serving;
-#[cfg(test)]
-mod specials;
 #[cfg(test)]
 mod tables;

@@ -1,3 +1,5 @@
+pub mod Loops
+pub mod Unfold
 pub mod Shapes
 pub mod Waiting
 pub mod Readings

@@ -1,4 +1,5 @@
 pub mod Cases
-pub mod Meaning
+pub mod Parser
+pub mod Outcome
 pub mod Demangler
 pub mod Examples

@@ -1,5 +1,5 @@
 //! Demangles C++ symbols of the Itanium C++ ABI: a symbol's name, with its template arguments and without the
-//! parameters of a function, or the special name, as of a virtual table.
+//! parameters of a function.
 //!
 //! A crate that uses this one has it in its line of `crates.txt`, as `names: itanium_demangle`. The allocator comes
 //! from the `HostRuntime` that `main` and each test are given.
@@ -28,9 +28,16 @@
 //! is, `itanium_grammar` defines.
 #![tactic(auto)]
 
+mod args;
+mod declarators;
 mod demangler;
+mod encodings;
+mod expressions;
 pub mod laws;
-mod mangled_name;
+mod names;
+mod reader;
+mod stop;
+mod types;
 
-pub use crate::demangler::{Demangler, MAX_DEPTH, demangle_owned};
+pub use crate::demangler::{Demangler, MAX_DEPTH};
 pub use itanium_syntax::scalar;
