@@ -6,6 +6,8 @@
 #[cfg(test)]
 mod arguments;
 #[cfg(test)]
+mod counts;
+#[cfg(test)]
 mod declarators;
 #[cfg(test)]
 mod expressions;
@@ -21,5 +23,7 @@ mod sample;
 mod scalars;
 #[cfg(test)]
 mod serving;
+#[cfg(test)]
+mod specials;
 #[cfg(test)]
 mod tables;

@@ -1,6 +1,9 @@
-//! Numbers, sequence ids, source names and operator codes, read by themselves.
+//! Numbers, sequence ids, source names, call offsets and operator codes, read by themselves.
 
-use itanium_demangle::scalar::{number, operator_arity, operator_text, sequence_id, source_name};
+use itanium_demangle::scalar::{
+    CallOffset, Signed, call_offset, number, operator_arity, operator_text, sequence_id,
+    source_name,
+};
 use std::process::Abort;
 
 /// What was read at this place of the text is as expected.
@@ -73,6 +76,55 @@ fn source_names(rt: HostRuntime) {
     ];
     for (text, at, expected) in rows {
         assert_name(&rt, text, source_name(text.as_bytes(), *at), *expected);
+    }
+}
+
+/// As `assert_value`, for a call offset.
+fn assert_offset(
+    rt: &impl Abort,
+    text: &str,
+    found: Option<(CallOffset, usize)>,
+    expected: Option<(CallOffset, usize)>,
+) {
+    assert!(rt; found == expected, "{text}");
+}
+
+/// A number without a minus.
+fn positive(magnitude: u64) -> Signed {
+    Signed {
+        negative: false,
+        magnitude,
+    }
+}
+
+/// A number with a minus.
+fn negative(magnitude: u64) -> Signed {
+    Signed {
+        negative: true,
+        magnitude,
+    }
+}
+
+#[test]
+fn call_offsets(rt: HostRuntime) {
+    let plain = CallOffset::Plain(negative(8));
+    let pair = CallOffset::Virtual(positive(0), negative(16));
+    let zero = CallOffset::Plain(positive(0));
+    let great = CallOffset::Plain(negative(18_446_744_073_709_551_615));
+    let rows: &[(&str, usize, Option<(CallOffset, usize)>)] = &[
+        ("Thn8_N3Foo3barEv", 1, Some((plain, 5))),
+        ("Tcv0_n16_h8_N3Foo3barEv", 2, Some((pair, 9))),
+        ("hn0_1f", 0, Some((zero, 4))),
+        ("hn18446744073709551615_1f", 0, Some((great, 23))),
+        ("h18446744073709551616_1f", 0, None),
+        ("h8", 0, None),
+        ("v0_1f", 0, None),
+        ("h_", 0, None),
+        ("8_", 0, None),
+        ("", 0, None),
+    ];
+    for (text, at, expected) in rows {
+        assert_offset(&rt, text, call_offset(text.as_bytes(), *at), *expected);
     }
 }
 

@@ -5,7 +5,7 @@ use Rattle.std.proofs.lemmas.Str.{IsUtf8-from_is_utf8, is_utf8-from_IsUtf8}
 use Rattle.std.proofs.lemmas.Bool.{false≢true}
 use Rattle.demangle_text.specs.Shape.{Shape, text}
 use Rattle.itanium_grammar.specs.Answer.{after_prefix, start, outside, suffix, max_depth, IsAnswer}
-use Rattle.itanium_demangle.specs.Parser.{ParserState, begun, parse_symbol}
+use Rattle.itanium_reader.specs.Parser.{ParserState, begun, parse_symbol}
 use Rattle.itanium_demangle.proofs.Symbols.{found_reading, found_none, no_prefix, not_read, printed}
 
 -- a reading that was found is printed where it is UTF-8

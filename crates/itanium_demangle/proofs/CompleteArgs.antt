@@ -13,8 +13,8 @@ use Rattle.itanium_grammar.specs.Tree.{Tree, shape_of}
 use Rattle.itanium_grammar.specs.Grammar.{Position, Cost, begin, Arguments, ArgumentsAs, PackedAs, args, arguments, end_of_arguments, one_more_argument, pack, end_of_pack, one_more_packed}
 use Rattle.itanium_grammar.proofs.Progress.{argument_takes}
 use Rattle.itanium_demangle.specs.Cases.{ArgsCase}
-use Rattle.itanium_demangle.specs.Parser.{after_turn, loop, put, put_nowhere, ◌>>=◌, parse_argument, list_as, list_turn, parse_args, parse_pack}
-use Rattle.itanium_demangle.specs.Outcome.{state_at}
+use Rattle.itanium_reader.specs.Parser.{after_turn, loop, put, put_nowhere, ◌>>=◌, parse_argument, parse_primary, parse_encoding, parse_special, parse_name, list_as, list_turn, parse_args, parse_pack}
+use Rattle.itanium_demangle.specs.Meaning.{state_at}
 use Rattle.itanium_demangle.proofs.Shapes.{same_read, put-scopes, begin-scopes, shape-pack_of}
 use Rattle.itanium_demangle.proofs.Readings.{ArgsComplete, PacksComplete, ArgumentsComplete}
 
@@ -64,7 +64,7 @@ module _ (d : ℕ) (each : ArgumentsComplete d) where
   packed_complete (suc n) x p q list c a deep e m first front room = packed_as_complete n (packed_complete n) a deep e m first front room
 
 pub args_complete : (d : ℕ) → ArgumentsComplete d → ArgsComplete (suc d)
-unfolding parse_args parse_argument
+unfolding parse_args parse_argument parse_primary parse_encoding parse_special parse_name
 args_complete d each x of_name p q list c (args a) deep e m =
     let within = after-le (after_drop 1 p.rest) in
     rw (
@@ -75,7 +75,7 @@ args_complete d each x of_name p q list c (args a) deep e m =
     (same_read (arguments_alone (map shape_of list)) refl refl (omega arith) refl)
 
 pub packs_complete : (d : ℕ) → ArgumentsComplete d → PacksComplete (suc d)
-unfolding parse_pack parse_argument
+unfolding parse_pack parse_argument parse_primary parse_encoding parse_special parse_name
 packs_complete d each x p q t c (pack {list = list} a) deep e m =
     rw (packed_complete d each (length (drop 1 p.rest) + 1) _ _ _ _ _ a (omega arith) (e + 1) m true (plain_shape []) (omega arith))
     (same_read (pack_built (map shape_of list) ∙ sym (shape-pack_of list)) refl refl (omega arith) refl)

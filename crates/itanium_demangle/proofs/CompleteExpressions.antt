@@ -1,37 +1,37 @@
 -- Of literals, expressions and arguments: what the grammar reads, the parser reads.
-use Rattle.std.proofs.Common.{◌≡◌, ◌≤◌, ℕ, suc, ◌+◌, max, refl, ◌∙◌, sym, ap, arith, Some}
+use Rattle.std.proofs.Common.{◌≡◌, ◌≤◌, ℕ, suc, ◌+◌, max, refl, ◌∙◌, sym, arith}
 use Rattle.itanium_syntax.specs.declared.context.Context.{Context}
 use Rattle.itanium_syntax.specs.Context.{inside_encoding}
 use Rattle.itanium_syntax.specs.Expressions.{is_external, literal_case, expression_text}
 use Rattle.itanium_grammar.specs.Tree.{Tree, Operand, shape_of, shape_of_operand}
-use Rattle.itanium_grammar.specs.Grammar.{Position, Cost, ArgumentAs, Expression, ExpressionAs, OperandOf, LiteralAs, external_name, value_literal, expression, operand_of, pre_expression, address_expression, unary_expression, post_expression, binary_expression, greater_expression, conditional_expression, parameter_expression, literal_expression, expression_argument, pack_argument, literal_argument, type_argument}
+use Rattle.itanium_grammar.specs.Grammar.{Position, Cost, ArgumentAs, ExpressionAs, OperandOf, LiteralAs, external_name, value_literal, expression, operand_of, pre_expression, address_expression, unary_expression, post_expression, binary_expression, greater_expression, conditional_expression, parameter_expression, literal_expression, expression_argument, pack_argument, literal_argument, type_argument}
 use Rattle.itanium_demangle.specs.Cases.{LiteralCase, ExpressionCase, ArgumentCase}
-use Rattle.itanium_demangle.specs.Parser.{◌>>=◌, parse_type, parse_bare_name, parse_pack, parse_encoding, literal_as, parse_primary, primary_at, operand_by, expression_as, parse_expression, argument_as, parse_argument}
-use Rattle.itanium_demangle.specs.Outcome.{state_at}
+use Rattle.itanium_reader.specs.Parser.{parse_type, parse_name, parse_special, parse_pack, parse_encoding, literal_as, parse_primary, operand_by, expression_as, parse_expression, argument_as, parse_argument}
+use Rattle.itanium_demangle.specs.Meaning.{state_at}
 use Rattle.itanium_demangle.proofs.Shapes.{same_read, shape-literal_of, shape-address_of, shape-operand, shape-pre_of, shape-unary_of, shape-post_of, shape-binary_of, shape-greater_of, shape-conditional_of}
-use Rattle.itanium_demangle.proofs.Readings.{given, TypesComplete, PacksComplete, BareNamesComplete, ExpressionsComplete, ArgumentsComplete}
+use Rattle.itanium_demangle.proofs.Readings.{given, TypesComplete, PacksComplete, BareNamesComplete, ThunksComplete, ExpressionsComplete, ArgumentsComplete}
 use Rattle.itanium_demangle.proofs.CompleteNames.{parameter_complete, encoding_complete}
 
-module _ (d : ℕ) (kinds : TypesComplete d) (bares : BareNamesComplete d) where
+module _ (d : ℕ) (kinds : TypesComplete d) (bares : BareNamesComplete d) (thunks : ThunksComplete d) where
   literal_complete : {case : LiteralCase} {x : Context} {p q : Position} {t : Tree} {c : Cost} → LiteralAs case x p t q c → c.depth ≤ d → (e m : ℕ)
-      → literal_as case (parse_type d x) (parse_encoding (parse_bare_name d (inside_encoding x)) (parse_type d (inside_encoding x))) (state_at p e m) ≡ given shape_of t q c e m
-  literal_complete (external_name a end) deep e m = rw (encoding_complete d kinds bares a deep e m, end) refl
+      → literal_as case (parse_type d x) (parse_encoding d (inside_encoding x)) (state_at p e m) ≡ given shape_of t q c e m
+  literal_complete (external_name a end) deep e m = rw (encoding_complete d kinds bares thunks a deep e m, end) refl
   literal_complete (value_literal {t = t} {value = v} a found has) deep e m =
       rw (kinds _ _ _ _ _ a deep e m, found, has) (same_read (sym (shape-literal_of t v)) refl refl refl refl)
 
   pub primary_complete : {x : Context} {p q : Position} {t : Tree} {c : Cost} → LiteralAs (literal_case p.rest) x p t q c → c.depth ≤ d → (e m : ℕ)
-      → primary_at d x (state_at p e m) ≡ given shape_of t q c e m
+      → parse_primary d x (state_at p e m) ≡ given shape_of t q c e m
   unfolding parse_primary
   primary_complete a deep e m = literal_complete a deep e m
 
-module _ (d : ℕ) (kinds : TypesComplete d) (bares : BareNamesComplete d) (values : ExpressionsComplete d) where
+module _ (d : ℕ) (kinds : TypesComplete d) (bares : BareNamesComplete d) (thunks : ThunksComplete d) (values : ExpressionsComplete d) where
   pub operand_complete : {x : Context} {p q : Position} {o : Operand} {c : Cost} → OperandOf x p o q c → c.depth ≤ d → (e m : ℕ)
       → operand_by (parse_expression d x) (state_at p e m) ≡ given shape_of_operand o q c e m
   operand_complete (operand_of {p = p} {t = t} a) deep e m =
       rw (values _ _ _ _ _ a deep e m) (same_read (sym (shape-operand (is_external p.rest) t)) refl refl refl refl)
 
   expression_as_complete : {case : ExpressionCase} {x : Context} {p q : Position} {t : Tree} {c : Cost} → ExpressionAs case x p t q c → c.depth ≤ d → (e m : ℕ)
-      → expression_as case (parse_expression d x) (primary_at d x) x (state_at p e m) ≡ given shape_of t q c e m
+      → expression_as case (parse_expression d x) (parse_primary d x) x (state_at p e m) ≡ given shape_of t q c e m
   expression_as_complete (pre_expression {p = p} {t = t} a) deep e m =
       rw (values _ _ _ _ _ a deep e m) (same_read (sym (shape-pre_of (expression_text p.rest) t)) refl refl refl refl)
   expression_as_complete (address_expression {t = t} a) deep e m = rw (values _ _ _ _ _ a deep e m) (same_read (sym (shape-address_of t)) refl refl refl refl)
@@ -53,18 +53,18 @@ module _ (d : ℕ) (kinds : TypesComplete d) (bares : BareNamesComplete d) (valu
       )
       (same_read (sym (shape-conditional_of o n k)) refl refl (omega arith) (omega arith))
   expression_as_complete (parameter_expression a) deep e m = parameter_complete a e m ∙ same_read refl refl refl (omega arith) (omega arith)
-  expression_as_complete (literal_expression a) deep e m = primary_complete d kinds bares a deep e m
+  expression_as_complete (literal_expression a) deep e m = primary_complete d kinds bares thunks a deep e m
 
   pub expressions_complete : ExpressionsComplete (suc d)
-  unfolding parse_expression
+  unfolding parse_expression parse_primary parse_encoding parse_special parse_name
   expressions_complete x p q t c (expression a) deep e m = expression_as_complete a (omega arith) (e + 1) m ∙ same_read refl refl refl (omega arith) refl
 
-module _ (d : ℕ) (packs : PacksComplete d) (kinds : TypesComplete d) (bares : BareNamesComplete d) (values : ExpressionsComplete d) where
+module _ (d : ℕ) (packs : PacksComplete d) (kinds : TypesComplete d) (bares : BareNamesComplete d) (thunks : ThunksComplete d) (values : ExpressionsComplete d) where
   argument_as_complete : {case : ArgumentCase} {x : Context} {p q : Position} {t : Tree} {c : Cost} → ArgumentAs case x p t q c → c.depth ≤ d → (e m : ℕ)
-      → argument_as case (parse_pack d x) (parse_type d x) (parse_expression d x) (primary_at d x) (state_at p e m) ≡ given shape_of t q c e m
+      → argument_as case (parse_pack d x) (parse_type d x) (parse_expression d x) (parse_primary d x) (state_at p e m) ≡ given shape_of t q c e m
   argument_as_complete (expression_argument a end) deep e m = rw (values _ _ _ _ _ a deep e m, end) refl
   argument_as_complete (pack_argument a) deep e m = packs _ _ _ _ _ a deep e m
-  argument_as_complete (literal_argument a) deep e m = primary_complete d kinds bares a deep e m
+  argument_as_complete (literal_argument a) deep e m = primary_complete d kinds bares thunks a deep e m
   argument_as_complete (type_argument a) deep e m = kinds _ _ _ _ _ a deep e m
 
   pub each_argument_complete : ArgumentsComplete d

@@ -7,18 +7,19 @@ use Rattle.demangle_text.specs.Shape.{plain_shape}
 use Rattle.demangle_edit.proofs.Built.{lambda_built, params_built}
 use Rattle.demangle_edit.specs.Built.{params_opened}
 use Rattle.itanium_syntax.specs.declared.context.Context.{Context}
+use Rattle.itanium_syntax.specs.Specials.{special_case, special_text, special_close}
 use Rattle.itanium_syntax.specs.Names.{source_text, name_quals, tag_case}
 use Rattle.itanium_syntax.specs.Context.{inside_lambda, inside_local, inside_encoding}
 use Rattle.itanium_syntax.proofs.Fronts.{initializer_after, after_drop, source_takes, after-le}
 use Rattle.itanium_grammar.specs.Tree.{Tree, bare_shape, own_quals, with_args, trees, unnamed_text, literal_operator_text, shape_of}
-use Rattle.itanium_grammar.specs.Grammar.{Position, Cost, past_initializer, last_of, SubstitutionAs, Substitution, ParameterAs, Parameter, TaggedAs, UnqualifiedAs, Unqualified, FirstAs, NameAs, Local, EntityAs, Encoding, EncodingAs, ReturnAs, SignatureAs, UnscopedAs, AttachedAs, Nested, Components, ComponentsAs, abbreviation_substitution, component_substitution, substitution, auto_parameter, scope_parameter, parameter, no_tag, next_tag, FreeAs, source_free, unnamed_type_free, lambda_free, conversion_free, literal_operator_free, operator_free, constructor_component, destructor_component, free_component, unqualified, parameter_first, std_first, substitution_first, name_first, name, nested_name, local_name, local, string_literal_entity, default_argument_entity, name_entity, encoding, name_encoding, no_return_type, some_return_type, no_signature, some_signature, unscoped_name, std_name, substitution_name, global_name, none_attached, args_attached, nested, components, end_of_components, args_component, name_component}
+use Rattle.itanium_grammar.specs.Grammar.{Position, Cost, SpecialAs, SymbolAs, special_encoding, type_special, name_special, temporary_special, construction_special, thunk_special, thunk, special_symbol, name_symbol, past_initializer, last_of, SubstitutionAs, Substitution, ParameterAs, Parameter, TaggedAs, UnqualifiedAs, Unqualified, FirstAs, NameAs, Local, EntityAs, Encoding, EncodingAs, ReturnAs, SignatureAs, UnscopedAs, AttachedAs, Nested, Components, ComponentsAs, abbreviation_substitution, component_substitution, substitution, auto_parameter, scope_parameter, parameter, no_tag, next_tag, FreeAs, source_free, unnamed_type_free, lambda_free, conversion_free, literal_operator_free, operator_free, constructor_component, destructor_component, free_component, unqualified, parameter_first, std_first, substitution_first, name_first, name, nested_name, local_name, local, string_literal_entity, default_argument_entity, name_entity, encoding, name_encoding, no_return_type, some_return_type, no_signature, some_signature, unscoped_name, std_name, substitution_name, global_name, none_attached, args_attached, nested, components, end_of_components, args_component, name_component}
 use Rattle.itanium_grammar.proofs.Progress.{unqualified_takes, args_takes}
-use Rattle.itanium_demangle.specs.Cases.{SymbolCase, ReturnCase, SignatureCase, EntityCase, SubstitutionCase, TagCase, UnqualifiedCase, FreeCase, FirstCase, NameCase, UnscopedCase, AttachedCase, ComponentCase}
-use Rattle.itanium_demangle.specs.Parser.{after_turn, loop, ◌>>=◌, tag_as, tag_turn, parse_tags, free_as, parse_type, substitution_as, parse_substitution, parameter_as, parse_parameter, unqualified_as, parse_unqualified, first_as, attached_as, unscoped_as, component_as, component_turn, parse_nested, return_as, signature_as, encoding_as, parse_encoding, entity_as, parse_local, name_as, parse_bare_name, parse_name, parse_args}
-use Rattle.itanium_demangle.specs.Outcome.{state_at}
-use Rattle.itanium_demangle.proofs.Shapes.{same_read, same_state, one_more, taken-map, some-map, last-map, shape-plain_text, shape-abbreviation, shape-ctor_dtor_of, shape-tagged_with, shape-lambda_of, shape-conversion_to, shape-with_args, shape-in_scope, shape-encoding_of, shape-function_encoding}
+use Rattle.itanium_demangle.specs.Cases.{SymbolCase, SpecialCase, ReturnCase, SignatureCase, EntityCase, SubstitutionCase, TagCase, UnqualifiedCase, FreeCase, FirstCase, NameCase, UnscopedCase, AttachedCase, ComponentCase}
+use Rattle.itanium_reader.specs.Parser.{after_turn, loop, ◌>>=◌, tag_as, tag_turn, parse_tags, free_as, parse_type, substitution_as, parse_substitution, parameter_as, parse_parameter, unqualified_as, parse_unqualified, first_as, attached_as, unscoped_as, component_as, component_turn, parse_nested, return_as, signature_as, special_as, parse_special, symbol_as, parse_thunk, encoding_as, parse_encoding, entity_as, parse_local, name_as, parse_bare_name, parse_name, parse_args}
+use Rattle.itanium_demangle.specs.Meaning.{state_at}
+use Rattle.itanium_demangle.proofs.Shapes.{shape-worded, shape-temporary_of, shape-construction_of, shape-thunk_of, same_read, same_state, one_more, taken-map, some-map, last-map, shape-plain_text, shape-abbreviation, shape-ctor_dtor_of, shape-tagged_with, shape-lambda_of, shape-conversion_to, shape-with_args, shape-in_scope, shape-encoding_of, shape-function_encoding}
 use Rattle.itanium_demangle.proofs.CompleteLists.{typed_params_complete}
-use Rattle.itanium_demangle.proofs.Readings.{given, bare_of, ArgsComplete, TypesComplete, BareNamesComplete, NamesComplete}
+use Rattle.itanium_demangle.proofs.Readings.{given, bare_of, ArgsComplete, TypesComplete, BareNamesComplete, NamesComplete, ThunksComplete}
 use Rattle.itanium_demangle.proofs.Waiting.{unscoped_none, bare-nested_of, bare-string_literal_of, bare-default_argument_of, bare-local_in, same_return, whole_name}
 
 -- without a counted production the depth is no matter
@@ -167,9 +168,44 @@ signature_complete d kinds (some_signature {t = t} {ts = ts} params) deep e m =
     rw (typed_params_complete d kinds params deep e m (params_opened (bare_shape t)))
     (same_read (params_built (bare_shape t) (map shape_of ts) (own_quals t) ∙ sym (shape-function_encoding t ts)) refl refl refl refl)
 
-module _ (d : ℕ) (kinds : TypesComplete d) (bares : BareNamesComplete d) where
+-- a name with its own qualifiers
+pub names_complete : (d : ℕ) → BareNamesComplete d → NamesComplete d
+unfolding parse_name
+names_complete d bares x p q t c a deep e m =
+    rw (bares false x p q t c a deep e m) (same_read (whole_name a) refl refl refl refl)
+
+module _ (d : ℕ) (kinds : TypesComplete d) (bares : BareNamesComplete d) (thunks : ThunksComplete d) where
+  special_as_complete : {case : SpecialCase} {x : Context} {p q : Position} {t : Tree} {c : Cost} → SpecialAs case x p t q c → c.depth ≤ d → (e m : ℕ)
+      → special_as case (parse_type d x) (parse_name d x) (parse_thunk d x) (state_at p e m) ≡ given shape_of t q c e m
+  special_as_complete (type_special {p = p} {t = t} a) deep e m =
+      rw (kinds _ _ _ _ _ a deep e m) (same_read (sym (shape-worded (special_text p.rest) t (special_close p.rest))) refl refl refl refl)
+  special_as_complete (name_special {p = p} {t = t} a) deep e m =
+      rw (names_complete d bares _ _ _ _ _ a deep e m) (same_read (sym (shape-worded (special_text p.rest) t (special_close p.rest))) refl refl refl refl)
+  special_as_complete (temporary_special {t = t} {number = k} a found) deep e m =
+      rw (names_complete d bares _ _ _ _ _ a deep e m, found) (same_read (sym (shape-temporary_of k t)) refl refl refl refl)
+  special_as_complete (construction_special {t = t} {u = u} {c = c} a b) deep e m =
+      rw (kinds _ _ _ _ _ a (omega arith) e m, kinds _ _ _ _ _ b (omega arith) (e + c.count) (max m c.peak))
+      (same_read (sym (shape-construction_of t u)) refl refl (omega arith) (omega arith))
+  special_as_complete (thunk_special a) deep e m = thunks _ _ _ _ _ a deep e m
+
+  pub special_complete : {x : Context} {p q : Position} {t : Tree} {c : Cost} → SpecialAs (special_case p.rest) x p t q c → c.depth ≤ d → (e m : ℕ)
+      → parse_special d x (state_at p e m) ≡ given shape_of t q c e m
+  unfolding parse_special
+  special_complete a deep e m = special_as_complete a deep e m
+
+  pub symbol_as_complete : {case : SymbolCase} {x : Context} {p q : Position} {t : Tree} {c : Cost} → SymbolAs case x p t q c → c.depth ≤ d → (e m : ℕ)
+      → symbol_as case (parse_special d x) (parse_name d x) (state_at p e m) ≡ given shape_of t q c e m
+  symbol_as_complete (special_symbol a) deep e m = special_complete a deep e m
+  symbol_as_complete (name_symbol a) deep e m = names_complete d bares _ _ _ _ _ a deep e m
+
+  pub thunks_complete : ThunksComplete (suc d)
+  unfolding parse_thunk parse_special parse_name
+  thunks_complete x p q t c (thunk {t = u} {offsets = o} found a) deep e m =
+      rw (found, symbol_as_complete a (omega arith) (e + 1) m) (same_read (sym (shape-thunk_of o u)) refl refl (omega arith) refl)
+
   encoding_as_complete : {case : SymbolCase} {x : Context} {p q : Position} {t : Tree} {c : Cost} → EncodingAs case x p t q c → c.depth ≤ d → (e m : ℕ)
-      → encoding_as case (parse_bare_name d x) (parse_type d x) (state_at p e m) ≡ given shape_of t q c e m
+      → encoding_as case (parse_special d x) (parse_bare_name d x) (parse_type d x) (state_at p e m) ≡ given shape_of t q c e m
+  encoding_as_complete (special_encoding a) deep e m = special_complete a deep e m
   encoding_as_complete (name_encoding {q = q} {r = r} {c = c} {d = f} a b g) deep e m =
       rw (
         bares true _ _ _ _ _ a (omega arith) e m,
@@ -180,7 +216,7 @@ module _ (d : ℕ) (kinds : TypesComplete d) (bares : BareNamesComplete d) where
       (same_read refl refl refl (omega arith) (omega arith))
 
   pub encoding_complete : {x : Context} {p q : Position} {t : Tree} {c : Cost} → Encoding x p t q c → c.depth ≤ d → (e m : ℕ)
-      → parse_encoding (parse_bare_name d x) (parse_type d x) (state_at p e m) ≡ given shape_of t q c e m
+      → parse_encoding d x (state_at p e m) ≡ given shape_of t q c e m
   unfolding parse_encoding
   encoding_complete (encoding a) deep e m = encoding_as_complete a deep e m
 
@@ -193,29 +229,23 @@ module _ (d : ℕ) (kinds : TypesComplete d) (bares : BareNamesComplete d) where
       rw (bares waits _ _ _ _ _ a deep e m) (same_read (ap (λ s. (s, own_quals u)) (sym (bare-local_in t u))) refl refl refl refl)
 
   pub local_complete : {waits : Bool} {x : Context} {p q : Position} {t : Tree} {c : Cost} → Local waits x p t q c → c.depth ≤ d → (e m : ℕ)
-      → parse_local (parse_encoding (parse_bare_name d (inside_encoding x)) (parse_type d (inside_encoding x))) (parse_bare_name d (inside_local x)) (state_at p e m) ≡ given bare_of t q c e m
+      → parse_local (parse_encoding d (inside_encoding x)) (parse_bare_name d (inside_local x)) (state_at p e m) ≡ given bare_of t q c e m
   unfolding parse_local
   local_complete (local {c = c} a b) deep e m =
       rw (encoding_complete a (omega arith) e m, entity_complete b (omega arith) (e + c.count) (max m c.peak)) (same_read refl refl refl (omega arith) (omega arith))
 
-module _ (d : ℕ) (lists : ArgsComplete d) (kinds : TypesComplete d) (bares : BareNamesComplete d) where
+module _ (d : ℕ) (lists : ArgsComplete d) (kinds : TypesComplete d) (bares : BareNamesComplete d) (thunks : ThunksComplete d) where
   pub name_as_complete : {case : NameCase} {waits : Bool} {x : Context} {p q : Position} {t : Tree} {c : Cost} → NameAs case waits x p t q c → c.depth ≤ d → (e m : ℕ)
       → name_as case (parse_unqualified (parse_type d x) (parse_type d (inside_lambda x))) (parse_args d x true)
-      (parse_local (parse_encoding (parse_bare_name d (inside_encoding x)) (parse_type d (inside_encoding x))) (parse_bare_name d (inside_local x))) x (state_at p e m)
+      (parse_local (parse_encoding d (inside_encoding x)) (parse_bare_name d (inside_local x))) x (state_at p e m)
       ≡ given bare_of t q c e m
   name_as_complete (nested_name a) deep e m = nested_complete d lists kinds a deep e m
-  name_as_complete (local_name a) deep e m = local_complete d kinds bares a deep e m
+  name_as_complete (local_name a) deep e m = local_complete d kinds bares thunks a deep e m
   name_as_complete (unscoped_name a) deep e m =
       let none = unscoped_none a in
       rw (unscoped_complete d lists kinds a deep e m) (same_read (ap₂ (λ s q. (s, q)) (sym none.bare) (sym none.quals)) refl refl refl refl)
 
-pub bare_names_complete : (d : ℕ) → ArgsComplete d → TypesComplete d → BareNamesComplete d → BareNamesComplete (suc d)
-unfolding parse_bare_name
-bare_names_complete d lists kinds bares waits x p q t c (name a) deep e m =
-    name_as_complete d lists kinds bares a (omega arith) (e + 1) m ∙ same_read refl refl refl (omega arith) refl
-
--- a name with its own qualifiers
-pub names_complete : (d : ℕ) → BareNamesComplete d → NamesComplete d
-unfolding parse_name
-names_complete d bares x p q t c a deep e m =
-    rw (bares false x p q t c a deep e m) (same_read (whole_name a) refl refl refl refl)
+pub bare_names_complete : (d : ℕ) → ArgsComplete d → TypesComplete d → BareNamesComplete d → ThunksComplete d → BareNamesComplete (suc d)
+unfolding parse_bare_name parse_encoding parse_special parse_name
+bare_names_complete d lists kinds bares thunks waits x p q t c (name a) deep e m =
+    name_as_complete d lists kinds bares thunks a (omega arith) (e + 1) m ∙ same_read refl refl refl (omega arith) refl

@@ -2,12 +2,11 @@
 use Rattle.std.proofs.Common.{◌≡◌, ◌≤◌, ℕ, zero, suc, arith}
 use Rattle.itanium_syntax.specs.declared.context.Context.{Context}
 use Rattle.itanium_grammar.specs.Tree.{Tree, shape_of}
-use Rattle.itanium_grammar.specs.Grammar.{Position, Cost, SymbolAs, Symbol, name, args, pack, type, expression, name_symbol, symbol}
-use Rattle.itanium_demangle.specs.Cases.{SymbolCase}
-use Rattle.itanium_demangle.specs.Parser.{symbol_as, parse_symbol}
-use Rattle.itanium_demangle.specs.Outcome.{state_at}
-use Rattle.itanium_demangle.proofs.Readings.{given, BareNamesComplete, ArgsComplete, PacksComplete, TypesComplete, ExpressionsComplete}
-use Rattle.itanium_demangle.proofs.CompleteNames.{bare_names_complete, names_complete}
+use Rattle.itanium_grammar.specs.Grammar.{Position, Cost, Symbol, name, args, pack, type, expression, thunk, symbol}
+use Rattle.itanium_reader.specs.Parser.{parse_symbol}
+use Rattle.itanium_demangle.specs.Meaning.{state_at}
+use Rattle.itanium_demangle.proofs.Readings.{given, BareNamesComplete, ArgsComplete, PacksComplete, TypesComplete, ExpressionsComplete, ThunksComplete}
+use Rattle.itanium_demangle.proofs.CompleteNames.{bare_names_complete, names_complete, thunks_complete, symbol_as_complete}
 use Rattle.itanium_demangle.proofs.CompleteExpressions.{each_argument_complete, expressions_complete}
 use Rattle.itanium_demangle.proofs.CompleteArgs.{args_complete, packs_complete}
 use Rattle.itanium_demangle.proofs.CompleteTypes.{types_complete_at}
@@ -22,29 +21,30 @@ no_lists x of_name p q t c (args a) deep e m = absurd (omega arith)
 no_packs : PacksComplete 0
 no_packs x p q t c (pack a) deep e m = absurd (omega arith)
 
+no_thunks : ThunksComplete 0
+no_thunks x p q t c (thunk found a) deep e m = absurd (omega arith)
+
 no_values : ExpressionsComplete 0
 no_values x p q t c (expression a) deep e m = absurd (omega arith)
 
 no_kinds : TypesComplete 0
 no_kinds x p q t c (type a) deep e m = absurd (omega arith)
 
-pub all_complete : (d : ℕ) → BareNamesComplete d × ArgsComplete d × PacksComplete d × TypesComplete d × ExpressionsComplete d
-all_complete zero = (no_names, no_lists, no_packs, no_kinds, no_values)
+pub all_complete : (d : ℕ) → BareNamesComplete d × ArgsComplete d × PacksComplete d × TypesComplete d × ExpressionsComplete d × ThunksComplete d
+all_complete zero = (no_names, no_lists, no_packs, no_kinds, no_values, no_thunks)
 all_complete (suc d) =
-    let (bares, lists, packs, kinds, values) = all_complete d in
-    let each = each_argument_complete d packs kinds bares values in (
-      bare_names_complete d lists kinds bares,
+    let (bares, lists, packs, kinds, values, thunks) = all_complete d in
+    let each = each_argument_complete d packs kinds bares thunks values in (
+      bare_names_complete d lists kinds bares thunks,
       args_complete d each,
       packs_complete d each,
       types_complete_at d kinds (names_complete d bares) lists,
-      expressions_complete d kinds bares values,
+      expressions_complete d kinds bares thunks values,
+      thunks_complete d kinds bares thunks,
     )
-
-symbol_as_complete : {case : SymbolCase} {x : Context} {p q : Position} {t : Tree} {c : Cost} → SymbolAs case x p t q c → (d : ℕ) → c.depth ≤ d → (e m : ℕ)
-    → symbol_as case d x (state_at p e m) ≡ given shape_of t q c e m
-symbol_as_complete (name_symbol a) d deep e m = names_complete d (all_complete d).0 _ _ _ _ _ a deep e m
 
 pub symbol_complete : {x : Context} {p q : Position} {t : Tree} {c : Cost} → Symbol x p t q c → (d : ℕ) → c.depth ≤ d → (e m : ℕ)
     → parse_symbol d x (state_at p e m) ≡ given shape_of t q c e m
 unfolding parse_symbol
-symbol_complete (symbol a) d deep e m = symbol_as_complete a d deep e m
+symbol_complete (symbol a) d deep e m =
+    let (bares, lists, packs, kinds, values, thunks) = all_complete d in symbol_as_complete d kinds bares thunks a deep e m

@@ -10,8 +10,8 @@ use Rattle.itanium_grammar.specs.Tree.{Tree, plain_text, with_args, pointer_to, 
 use Rattle.itanium_grammar.specs.Grammar.{Position, Cost, TypeAs, CvAs, Function, ParamsAs, TypesAs, TypeAttachedAs, type, builtin_type, expansion_type, vendor_type, array_type, function_type, member_type, pointer_type, cv_type, elaborated_type, parameter_type, substitution_type, name_type, cv_function, cv_other, function, no_params, some_params, end_of_types, one_more_type, none_attached_to_type, args_attached_to_type}
 use Rattle.itanium_grammar.proofs.Progress.{type_takes}
 use Rattle.itanium_demangle.specs.Cases.{TypeCase, CvCase, ParamsCase, TypesCase, AttachedCase}
-use Rattle.itanium_demangle.specs.Parser.{after_turn, loop, ◌>>=◌, types_as, types_turn, params_as, parse_function, cv_as, type_attached_as, type_as, parse_name, parse_args, parse_type}
-use Rattle.itanium_demangle.specs.Outcome.{state_at}
+use Rattle.itanium_reader.specs.Parser.{after_turn, loop, ◌>>=◌, types_as, types_turn, params_as, parse_function, cv_as, type_attached_as, type_as, parse_name, parse_args, parse_type}
+use Rattle.itanium_demangle.specs.Meaning.{state_at}
 use Rattle.itanium_demangle.proofs.Shapes.{same_read, one_more, shape-plain_text, shape-with_args, shape-pointer_to, shape-cv_of, shape-array_of, shape-member_of, shape-function_to, shape-elaborated, shape-expanded}
 use Rattle.itanium_demangle.proofs.CompleteNames.{substitution_complete, parameter_complete}
 use Rattle.itanium_demangle.proofs.Readings.{given, NamesComplete, ArgsComplete, TypesComplete}

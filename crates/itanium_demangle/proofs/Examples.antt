@@ -9,7 +9,8 @@ use Rattle.demangle_text.specs.Shape.{Shape, text}
 use Rattle.itanium_syntax.specs.Scalars.{front_digits, weighted, number, index_of, unnamed_type_number, lambda_number, optional_number, source_name}
 use Rattle.itanium_grammar.specs.Answer.{after_prefix, start, outside, suffix, max_depth, IsAnswer}
 use Rattle.itanium_syntax.specs.Expressions.{literal_value}
-use Rattle.itanium_demangle.specs.Parser.{ParserState, begun, loop, component_turn, tag_turn, list_turn, typed_turn, types_turn, parse_unqualified, parse_substitution, parse_parameter, parse_nested, parse_bare_name, parse_encoding, parse_local, parse_primary, parse_expression, parse_argument, parse_name, parse_symbol}
+use Rattle.itanium_syntax.specs.Offsets.{thunk_offsets}
+use Rattle.itanium_reader.specs.Parser.{ParserState, begun, loop, component_turn, tag_turn, list_turn, typed_turn, types_turn, parse_unqualified, parse_substitution, parse_parameter, parse_nested, parse_bare_name, parse_encoding, parse_local, parse_thunk, parse_special, parse_primary, parse_expression, parse_argument, parse_name, parse_symbol}
 use Rattle.itanium_demangle.specs.Examples.{WorkedSymbols, e_acute}
 use Rattle.itanium_demangle.proofs.Symbols.{found_reading, found_none, no_prefix, not_read, printed}
 
@@ -43,7 +44,7 @@ not_text symbol inside answer prefix is = go (parse_symbol max_depth outside (be
         printed symbol inside 0 0 s after None prefix (found_reading max_depth outside (start inside) 0 0 s after e) (λ u. let yes = is_utf8-from_IsUtf8 (text s) u in cc)
 
 pub worked_symbols : WorkedSymbols
-unfolding parse_symbol parse_name parse_bare_name parse_encoding parse_local parse_primary parse_expression parse_argument literal_value parse_nested loop component_turn tag_turn list_turn typed_turn types_turn parse_unqualified parse_substitution parse_parameter source_name number index_of unnamed_type_number lambda_number optional_number front_digits weighted digits is_utf8 chars lib.Utf8.encode
+unfolding parse_symbol parse_name parse_bare_name parse_encoding parse_local parse_thunk parse_special parse_primary parse_expression parse_argument literal_value thunk_offsets parse_nested loop component_turn tag_turn list_turn typed_turn types_turn parse_unqualified parse_substitution parse_parameter source_name number index_of unnamed_type_number lambda_number optional_number front_digits weighted digits is_utf8 chars lib.Utf8.encode
 worked_symbols = record {
   nested = some_answer (codes "_ZN3Foo3barEv") (codes "N3Foo3barEv") (codes "Foo::bar") refl refl;
   reference_qualified = some_answer (codes "_ZNO3Foo3barEv") (codes "NO3Foo3barEv") (codes "Foo::bar &&") refl refl;
@@ -103,4 +104,10 @@ worked_symbols = record {
   address_of_a_function = some_answer (codes "_Z1fIXadL_ZN3Foo3barEiEEEv") (codes "1fIXadL_ZN3Foo3barEiEEEv") (codes "f<&Foo::bar(int)>") refl refl;
   nested_operators = some_answer (codes "_Z1fIXmlplLi1ELi2ELi3EEEvv") (codes "1fIXmlplLi1ELi2ELi3EEEvv") (codes "f<((1)+(2))*(3)>") refl refl;
   cast_literal = some_answer (codes "_ZN3FooIiLm4EE3barEv") (codes "N3FooIiLm4EE3barEv") (codes "Foo<int, (unsigned long)4>::bar") refl refl;
+  vtable_and_suffix = some_answer (codes "_ZTV3Foo.llvm.1") (codes "TV3Foo.llvm.1") (codes "{vtable(Foo)}.llvm.1") refl refl;
+  guard_variable = some_answer (codes "_ZGVZ1fvE1x") (codes "GVZ1fvE1x") (codes "guard variable for f()::x") refl refl;
+  thunk = some_answer (codes "_ZTh0_1fv") (codes "Th0_1fv") (codes "{virtual override thunk({offset(0)}, f)}") refl refl;
+  covariant_thunk = some_answer (codes "_ZTcv0_n16_h8_N3Foo3barEv") (codes "Tcv0_n16_h8_N3Foo3barEv") (codes "{virtual override thunk({virtual offset(0, -16)}, {offset(8)}, Foo::bar)}") refl refl;
+  negative_offset = some_answer (codes "_ZThn8_N3Foo3barEv") (codes "Thn8_N3Foo3barEv") (codes "{virtual override thunk({offset(-8)}, Foo::bar)}") refl refl;
+  typeinfo = some_answer (codes "_ZTIMN4llvm4json6ObjectEKFSt8optionalINS_9StringRefEES3_E") (codes "TIMN4llvm4json6ObjectEKFSt8optionalINS_9StringRefEES3_E") (codes "typeinfo for std::optional<llvm::StringRef> (llvm::json::Object::*)(llvm::StringRef) const") refl refl;
 }

@@ -1,5 +1,3 @@
-pub mod Loops
-pub mod Unfold
 pub mod Shapes
 pub mod Waiting
 pub mod Readings

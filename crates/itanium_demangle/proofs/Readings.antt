@@ -6,9 +6,9 @@ use Rattle.demangle_quals.specs.declared.quals.Quals.{Quals}
 use Rattle.itanium_syntax.specs.declared.context.Context.{Context}
 use Rattle.itanium_syntax.specs.Args.{argument_case}
 use Rattle.itanium_grammar.specs.Tree.{Tree, shape_of, bare_shape, own_quals}
-use Rattle.itanium_grammar.specs.Grammar.{Position, Cost, Name, Args, ArgumentAs, Pack, Expression, TypeOf}
-use Rattle.itanium_demangle.specs.Parser.{ParserState, Parses, parse_bare_name, parse_name, parse_args, parse_pack, parse_type, parse_expression, parse_argument}
-use Rattle.itanium_demangle.specs.Outcome.{state_at}
+use Rattle.itanium_grammar.specs.Grammar.{Position, Cost, Name, Args, Thunk, ArgumentAs, Pack, Expression, TypeOf}
+use Rattle.itanium_reader.specs.Parser.{ParserState, Parses, parse_bare_name, parse_name, parse_args, parse_pack, parse_type, parse_expression, parse_thunk, parse_argument}
+use Rattle.itanium_demangle.specs.Meaning.{state_at}
 
 -- what a reading of cost c gives, from so many entered and saved
 abbrev pub given : {T A : Type 0} → (T → A) → T → Position → Cost → ℕ → ℕ → Option (A × ParserState)
@@ -55,6 +55,9 @@ ArgsComplete d = (x : Context) (of_name : Bool) → IsComplete (Args x of_name) 
 abbrev pub PacksComplete : ℕ → Type 0
 PacksComplete d = (x : Context) → IsComplete (Pack x) shape_of d (parse_pack d x)
 
+abbrev pub ThunksComplete : ℕ → Type 0
+ThunksComplete d = (x : Context) → IsComplete (Thunk x) shape_of d (parse_thunk d x)
+
 abbrev pub ExpressionsComplete : ℕ → Type 0
 ExpressionsComplete d = (x : Context) → IsComplete (Expression x) shape_of d (parse_expression d x)
 
@@ -79,6 +82,9 @@ ArgsSound d = (x : Context) (of_name : Bool) → IsSound (Args x of_name) shape_
 
 abbrev pub PacksSound : ℕ → Type 0
 PacksSound d = (x : Context) → IsSound (Pack x) shape_of d (parse_pack d x)
+
+abbrev pub ThunksSound : ℕ → Type 0
+ThunksSound d = (x : Context) → IsSound (Thunk x) shape_of d (parse_thunk d x)
 
 abbrev pub ExpressionsSound : ℕ → Type 0
 ExpressionsSound d = (x : Context) → IsSound (Expression x) shape_of d (parse_expression d x)

@@ -11,11 +11,12 @@ use Rattle.demangle_edit.specs.Types.{pointer_shape, cv_shape, array_shape, memb
 use Rattle.demangle_edit.specs.Expressions.{literal_shape, address_shape, operand_shape}
 use Rattle.demangle_edit.specs.Built.{arguments_shape, pack_shape, lambda_shape}
 use Rattle.demangle_edit.specs.Names.{qualified, qualified_ctor, attached, tagged, with_name_qualifiers, encoding_shape}
+use Rattle.itanium_syntax.specs.declared.offsets.ThunkOffsets.{ThunkOffsets}
 use Rattle.itanium_syntax.specs.declared.abbreviations.Abbreviation.{Abbreviation}
-use Rattle.itanium_grammar.specs.Tree.{Tree, Operand, operand, shape_of_operand, literal_of, address_of, pre_of, unary_of, post_of, binary_of, greater_of, conditional_of, pre_shape, post_shape, binary_shape, greater_shape, conditional_shape, shape_as, bare_shape, own_quals, string_literal_of, encoding_of, function_encoding, plain_text, abbreviation, name_in, ctor_dtor_of, with_args, nested_of, pointer_to, cv_of, array_of, member_of, function_to, elaborated, elaborated_shape, abbreviation_shape, trees, shape_of, shape_each, in_scope, tagged_with, lambda_of, conversion_to, conversion_shape, pack_of, expansion_of, expanded}
+use Rattle.itanium_grammar.specs.Tree.{Tree, worded, temporary_of, construction_of, thunk_of, worded_shape, temporary_shape, construction_shape, thunk_shape, Operand, operand, shape_of_operand, literal_of, address_of, pre_of, unary_of, post_of, binary_of, greater_of, conditional_of, pre_shape, post_shape, binary_shape, greater_shape, conditional_shape, shape_as, bare_shape, own_quals, string_literal_of, encoding_of, function_encoding, plain_text, abbreviation, name_in, ctor_dtor_of, with_args, nested_of, pointer_to, cv_of, array_of, member_of, function_to, elaborated, elaborated_shape, abbreviation_shape, trees, shape_of, shape_each, in_scope, tagged_with, lambda_of, conversion_to, conversion_shape, pack_of, expansion_of, expanded}
 use Rattle.itanium_grammar.specs.Grammar.{last_of, with_last}
-use Rattle.itanium_demangle.specs.Parser as parser
-use Rattle.itanium_demangle.specs.Parser.{ParserState}
+use Rattle.itanium_reader.specs.Parser as parser
+use Rattle.itanium_reader.specs.Parser.{ParserState}
 
 pub shape-plain_text : (bytes : List ℕ) → shape_of (plain_text bytes) ≡ plain_shape bytes
 unfolding shape_as
@@ -101,6 +102,22 @@ shape-encoding_of name = refl
 pub shape-function_encoding : (name : Tree) (params : List Tree) → shape_of (function_encoding name (trees params)) ≡ encoding_shape (bare_shape name) (map shape_of params) (own_quals name)
 unfolding shape_as
 shape-function_encoding name params = ap (λ us. encoding_shape (bare_shape name) us (own_quals name)) (shape_each-trees params)
+
+pub shape-worded : (word : List ℕ) (t : Tree) (close : List ℕ) → shape_of (worded word t close) ≡ worded_shape word (shape_of t) close
+unfolding shape_as
+shape-worded word t close = refl
+
+pub shape-temporary_of : (number : ℕ) (t : Tree) → shape_of (temporary_of number t) ≡ temporary_shape number (shape_of t)
+unfolding shape_as
+shape-temporary_of number t = refl
+
+pub shape-construction_of : (t u : Tree) → shape_of (construction_of t u) ≡ construction_shape (shape_of t) (shape_of u)
+unfolding shape_as
+shape-construction_of t u = refl
+
+pub shape-thunk_of : (offsets : ThunkOffsets) (t : Tree) → shape_of (thunk_of offsets t) ≡ thunk_shape offsets (shape_of t)
+unfolding shape_as
+shape-thunk_of offsets t = refl
 
 pub shape-literal_of : (t : Tree) (value : List ℕ) → shape_of (literal_of t value) ≡ literal_shape (shape_of t) value
 unfolding shape_as

@@ -5,15 +5,15 @@ use Rattle.std.proofs.lemmas.List.{length-map}
 use Rattle.demangle_text.specs.Shape.{Shape, plain_shape}
 use Rattle.itanium_syntax.specs.declared.context.Context.{Context}
 use Rattle.itanium_syntax.specs.Context.{opens_scope, inside_pack}
-use Rattle.itanium_syntax.specs.Args.{args_case, argument_case}
+use Rattle.itanium_syntax.specs.Args.{args_case}
 use Rattle.itanium_syntax.proofs.Fronts.{after_drop, after-le}
 use Rattle.itanium_grammar.specs.Tree.{shape_of}
-use Rattle.itanium_grammar.specs.Grammar.{Position, put, begin, skip, both, Args, Arguments, ArgumentsAs, ArgumentAs, Pack, PackedAs, args, arguments, end_of_arguments, one_more_argument, pack_argument, type_argument, pack, end_of_pack, one_more_packed}
+use Rattle.itanium_grammar.specs.Grammar.{Position, put, begin, skip, both, Args, Arguments, ArgumentsAs, Pack, PackedAs, args, arguments, end_of_arguments, one_more_argument, pack, end_of_pack, one_more_packed}
 use Rattle.itanium_grammar.proofs.Progress.{argument_takes}
-use Rattle.itanium_demangle.specs.Cases.{ArgsCase, EndOfArguments, NextArgument, ArgumentCase, ExpressionArgument, PackArgument, LiteralArgument, ConstraintArgument, TypeArgument}
-use Rattle.itanium_demangle.specs.Parser as parser
-use Rattle.itanium_demangle.specs.Parser.{ParserState, Turn, after_turn, loop, parse_loop, put_nowhere, ◌>>=◌, parse_argument, list_as, list_turn, parse_args, parse_pack}
-use Rattle.itanium_demangle.specs.Outcome.{state_at}
+use Rattle.itanium_demangle.specs.Cases.{ArgsCase, EndOfArguments, NextArgument}
+use Rattle.itanium_reader.specs.Parser as parser
+use Rattle.itanium_reader.specs.Parser.{ParserState, Turn, after_turn, loop, parse_loop, put_nowhere, ◌>>=◌, parse_argument, parse_primary, parse_encoding, parse_special, parse_name, list_as, list_turn, parse_args, parse_pack}
+use Rattle.itanium_demangle.specs.Meaning.{state_at}
 use Rattle.itanium_demangle.proofs.Shapes.{put-scopes, begin-scopes}
 use Rattle.itanium_demangle.proofs.Readings.{Within, PacksSound, ArgsSound, ArgumentsComplete, ArgumentsSound}
 use Rattle.itanium_demangle.proofs.CompleteArgs.{args_complete, packs_complete}
@@ -87,7 +87,7 @@ module _ (d : ℕ) (each : ArgumentsSound d) where
   packed_sound (suc n) x first front p e m y room is = packed_as_sound n (packed_sound n) (args_case p.rest) x first front p e m y room is
 
 pub args_sound : (d : ℕ) → ArgumentsComplete d → ArgumentsSound d → ArgsSound (suc d)
-unfolding parse_args parse_argument
+unfolding parse_args parse_argument parse_primary parse_encoding parse_special parse_name
 args_sound d each_is each x of_name p e m y is =
     let opens = opens_scope of_name x in
     let begun = begin opens (skip 1 p) in
@@ -100,7 +100,7 @@ args_sound d each_is each x of_name p e m y is =
     record { within = w; is = same_Some _ _ (sym is ∙ args_complete d each_is x of_name _ _ _ _ w.reading w.deep e m) })
 
 pub packs_sound : (d : ℕ) → ArgumentsComplete d → ArgumentsSound d → PacksSound (suc d)
-unfolding parse_pack parse_argument
+unfolding parse_pack parse_argument parse_primary parse_encoding parse_special parse_name
 packs_sound d each_is each x p e m y is =
     let inside = inside_pack x in
     option_and_then_some _ (parse_loop (list_turn put_nowhere (parse_argument d inside)) (true, plain_shape []) (state_at (skip 1 p) (e + 1) m)) y is

@@ -1,5 +1,5 @@
 -- Of literals, expressions and arguments: what the parser reads, the grammar reads.
-use Rattle.std.proofs.Common.{◌≡◌, ◌≤◌, ℕ, suc, ◌+◌, max, Bool, true, false, List, refl, ◌∙◌, sym, arith, Option, Some, None, codes, if◌then◌else◌}
+use Rattle.std.proofs.Common.{◌≡◌, ℕ, suc, ◌+◌, max, true, List, ◌∙◌, sym, arith, Some, codes}
 use Rattle.std.proofs.lemmas.Option.{same_Some, option_and_then_some, cond_some}
 use Rattle.demangle_text.specs.Shape.{Shape, text}
 use Rattle.demangle_edit.specs.Expressions.{has_literal, literal_step}
@@ -7,14 +7,14 @@ use Rattle.itanium_syntax.specs.declared.context.Context.{Context}
 use Rattle.itanium_syntax.specs.Context.{inside_encoding}
 use Rattle.itanium_syntax.specs.Bytes.{begins}
 use Rattle.itanium_syntax.specs.Args.{argument_case}
-use Rattle.itanium_syntax.specs.Expressions.{is_external, literal_case, literal_value, expression_text, expression_case}
-use Rattle.itanium_grammar.specs.Tree.{Tree, Operand, shape_of, shape_of_operand, printing}
-use Rattle.itanium_grammar.specs.Grammar.{Position, Cost, skip, ArgumentAs, Expression, ExpressionAs, OperandOf, LiteralAs, external_name, value_literal, expression, operand_of, pre_expression, address_expression, unary_expression, post_expression, binary_expression, greater_expression, conditional_expression, parameter_expression, literal_expression, expression_argument, pack_argument, literal_argument, type_argument}
+use Rattle.itanium_syntax.specs.Expressions.{literal_case, literal_value, expression_case}
+use Rattle.itanium_grammar.specs.Tree.{shape_of, shape_of_operand}
+use Rattle.itanium_grammar.specs.Grammar.{Position, skip, ArgumentAs, Expression, ExpressionAs, OperandOf, LiteralAs, external_name, value_literal, expression, operand_of, pre_expression, address_expression, unary_expression, post_expression, binary_expression, greater_expression, conditional_expression, parameter_expression, literal_expression, expression_argument, pack_argument, literal_argument, type_argument}
 use Rattle.itanium_demangle.specs.Cases.{LiteralCase, ExternalName, ValueLiteral, NoLiteral, ExpressionCase, PreExpression, AddressExpression, UnaryExpression, PostExpression, BinaryExpression, GreaterExpression, ConditionalExpression, ParameterExpression, LiteralExpression, NoExpression, ArgumentCase, ExpressionArgument, PackArgument, LiteralArgument, ConstraintArgument, TypeArgument}
-use Rattle.itanium_demangle.specs.Parser.{ParserState, ◌>>=◌, parse_type, parse_bare_name, parse_pack, parse_encoding, ended, past_end, literal_end, literal_as, parse_primary, primary_at, operand_by, expression_as, parse_expression, argument_as, parse_argument}
-use Rattle.itanium_demangle.specs.Outcome.{state_at}
-use Rattle.itanium_demangle.proofs.Readings.{Within, Found, given, TypesComplete, PacksComplete, BareNamesComplete, ExpressionsComplete, TypesSound, PacksSound, BareNamesSound, ExpressionsSound, ArgumentsSound}
-use Rattle.itanium_demangle.proofs.CompleteExpressions.{primary_complete, operand_complete, expressions_complete, each_argument_complete}
+use Rattle.itanium_reader.specs.Parser.{ParserState, parse_type, parse_name, parse_special, parse_pack, parse_encoding, past_end, literal_as, parse_primary, operand_by, expression_as, parse_expression, argument_as, parse_argument}
+use Rattle.itanium_demangle.specs.Meaning.{state_at}
+use Rattle.itanium_demangle.proofs.Readings.{Within, Found, TypesComplete, PacksComplete, BareNamesComplete, ThunksComplete, ExpressionsComplete, TypesSound, PacksSound, BareNamesSound, ThunksSound, ExpressionsSound, ArgumentsSound}
+use Rattle.itanium_demangle.proofs.CompleteExpressions.{operand_complete, expressions_complete, each_argument_complete}
 use Rattle.itanium_demangle.proofs.SoundNames.{parameter_sound, encoding_sound}
 
 -- an E stands there
@@ -25,12 +25,12 @@ end_sound p e m after is = (cond_some (begins (codes "E") p.rest) _ after is).0
 value_sound : (kind : Shape) (value : List ℕ) (v : Shape) → literal_step kind value ≡ Some v → has_literal (text kind) value ≡ true
 value_sound kind value v is = (cond_some (has_literal (text kind) value) _ v is).0
 
-module _ (d : ℕ) (complete : TypesComplete d) (bares_are : BareNamesComplete d) (kinds : TypesSound d) (bares : BareNamesSound d) where
+module _ (d : ℕ) (complete : TypesComplete d) (bares_are : BareNamesComplete d) (thunks_are : ThunksComplete d) (kinds : TypesSound d) (bares : BareNamesSound d) (thunks : ThunksSound d) where
   literal_sound : (case : LiteralCase) (x : Context) (p : Position) (e m : ℕ) (y : Shape × ParserState)
-      → literal_as case (parse_type d x) (parse_encoding (parse_bare_name d (inside_encoding x)) (parse_type d (inside_encoding x))) (state_at p e m) ≡ Some y → Within (LiteralAs case x p) d
+      → literal_as case (parse_type d x) (parse_encoding d (inside_encoding x)) (state_at p e m) ≡ Some y → Within (LiteralAs case x p) d
   literal_sound ExternalName x p e m y is =
-      option_and_then_some _ (parse_encoding (parse_bare_name d (inside_encoding x)) (parse_type d (inside_encoding x)) (state_at (skip 3 p) e m)) y is (λ z read more.
-      let found = encoding_sound d complete bares_are kinds bares (inside_encoding x) (skip 3 p) e m z read in
+      option_and_then_some _ (parse_encoding d (inside_encoding x) (state_at (skip 3 p) e m)) y is (λ z read more.
+      let found = encoding_sound d complete bares_are thunks_are kinds bares thunks (inside_encoding x) (skip 3 p) e m z read in
       let i = found.within in
       let there = rw found.is at more in
       option_and_then_some _ (past_end (state_at i.next (e + i.cost.count) (max m i.cost.peak))) y there (λ after end _.
@@ -45,20 +45,20 @@ module _ (d : ℕ) (complete : TypesComplete d) (bares_are : BareNamesComplete d
       record { tree = _; next = _; cost = _; reading = value_literal i.reading value (value_sound (shape_of i.tree) v.0 w literal); deep = i.deep })))
   literal_sound NoLiteral x p e m y is = cc
 
-  pub primary_sound : (x : Context) (p : Position) (e m : ℕ) (y : Shape × ParserState) → primary_at d x (state_at p e m) ≡ Some y → Within (LiteralAs (literal_case p.rest) x p) d
+  pub primary_sound : (x : Context) (p : Position) (e m : ℕ) (y : Shape × ParserState) → parse_primary d x (state_at p e m) ≡ Some y → Within (LiteralAs (literal_case p.rest) x p) d
   unfolding parse_primary
   primary_sound x p e m y is = literal_sound (literal_case p.rest) x p e m y is
 
-module _ (d : ℕ) (complete : TypesComplete d) (bares_are : BareNamesComplete d) (values_are : ExpressionsComplete d) (kinds : TypesSound d) (bares : BareNamesSound d) (values : ExpressionsSound d) where
+module _ (d : ℕ) (complete : TypesComplete d) (bares_are : BareNamesComplete d) (thunks_are : ThunksComplete d) (values_are : ExpressionsComplete d) (kinds : TypesSound d) (bares : BareNamesSound d) (thunks : ThunksSound d) (values : ExpressionsSound d) where
   operand_sound : (x : Context) (p : Position) (e m : ℕ) (y : Shape × ParserState) → operand_by (parse_expression d x) (state_at p e m) ≡ Some y → Found (OperandOf x p) shape_of_operand d e m y
   operand_sound x p e m y is =
       option_and_then_some _ (parse_expression d x (state_at p e m)) y is (λ z read _.
       let i = (values x p e m z read).within in
       let w : Within (OperandOf x p) d = record { tree = _; next = _; cost = _; reading = operand_of i.reading; deep = i.deep } in
-      record { within = w; is = same_Some _ _ (sym is ∙ operand_complete d complete bares_are values_are w.reading w.deep e m) })
+      record { within = w; is = same_Some _ _ (sym is ∙ operand_complete d complete bares_are thunks_are values_are w.reading w.deep e m) })
 
   expression_as_sound : (case : ExpressionCase) (x : Context) (p : Position) (e m : ℕ) (y : Shape × ParserState)
-      → expression_as case (parse_expression d x) (primary_at d x) x (state_at p e m) ≡ Some y → Within (ExpressionAs case x p) d
+      → expression_as case (parse_expression d x) (parse_primary d x) x (state_at p e m) ≡ Some y → Within (ExpressionAs case x p) d
   expression_as_sound PreExpression x p e m y is =
       option_and_then_some _ (parse_expression d x (state_at (skip 3 p) e m)) y is (λ z read _.
       let i = (values x (skip 3 p) e m z read).within in
@@ -106,20 +106,20 @@ module _ (d : ℕ) (complete : TypesComplete d) (bares_are : BareNamesComplete d
   expression_as_sound ParameterExpression x p e m y is =
       let i = parameter_sound x p e m y is in record { tree = _; next = _; cost = _; reading = parameter_expression i.reading; deep = omega arith }
   expression_as_sound LiteralExpression x p e m y is =
-      let i = primary_sound d complete bares_are kinds bares x p e m y is in record { tree = _; next = _; cost = _; reading = literal_expression i.reading; deep = i.deep }
+      let i = primary_sound d complete bares_are thunks_are kinds bares thunks x p e m y is in record { tree = _; next = _; cost = _; reading = literal_expression i.reading; deep = i.deep }
   expression_as_sound NoExpression x p e m y is = cc
 
   pub expressions_sound : ExpressionsSound (suc d)
-  unfolding parse_expression
+  unfolding parse_expression parse_primary parse_encoding parse_special parse_name
   expressions_sound x p e m y is =
       let r = expression_as_sound (expression_case p.rest) x p (e + 1) m y is in
       let w : Within (Expression x p) (suc d) = record { tree = _; next = _; cost = _; reading = expression r.reading; deep = omega (arith, r.deep) } in
-      record { within = w; is = same_Some _ _ (sym is ∙ expressions_complete d complete bares_are values_are x _ _ _ _ w.reading w.deep e m) }
+      record { within = w; is = same_Some _ _ (sym is ∙ expressions_complete d complete bares_are thunks_are values_are x _ _ _ _ w.reading w.deep e m) }
 
-module _ (d : ℕ) (packs_are : PacksComplete d) (complete : TypesComplete d) (bares_are : BareNamesComplete d) (values_are : ExpressionsComplete d)
-    (packs : PacksSound d) (kinds : TypesSound d) (bares : BareNamesSound d) (values : ExpressionsSound d) where
+module _ (d : ℕ) (packs_are : PacksComplete d) (complete : TypesComplete d) (bares_are : BareNamesComplete d) (thunks_are : ThunksComplete d) (values_are : ExpressionsComplete d)
+    (packs : PacksSound d) (kinds : TypesSound d) (bares : BareNamesSound d) (thunks : ThunksSound d) (values : ExpressionsSound d) where
   argument_as_sound : (case : ArgumentCase) (x : Context) (p : Position) (e m : ℕ) (y : Shape × ParserState)
-      → argument_as case (parse_pack d x) (parse_type d x) (parse_expression d x) (primary_at d x) (state_at p e m) ≡ Some y → Within (ArgumentAs case x p) d
+      → argument_as case (parse_pack d x) (parse_type d x) (parse_expression d x) (parse_primary d x) (state_at p e m) ≡ Some y → Within (ArgumentAs case x p) d
   argument_as_sound ExpressionArgument x p e m y is =
       option_and_then_some _ (parse_expression d x (state_at (skip 1 p) e m)) y is (λ z read more.
       let found = values x (skip 1 p) e m z read in
@@ -130,7 +130,7 @@ module _ (d : ℕ) (packs_are : PacksComplete d) (complete : TypesComplete d) (b
   argument_as_sound PackArgument x p e m y is =
       let i = (packs x p e m y is).within in record { tree = _; next = _; cost = _; reading = pack_argument i.reading; deep = i.deep }
   argument_as_sound LiteralArgument x p e m y is =
-      let i = primary_sound d complete bares_are kinds bares x p e m y is in record { tree = _; next = _; cost = _; reading = literal_argument i.reading; deep = i.deep }
+      let i = primary_sound d complete bares_are thunks_are kinds bares thunks x p e m y is in record { tree = _; next = _; cost = _; reading = literal_argument i.reading; deep = i.deep }
   argument_as_sound ConstraintArgument x p e m y is = cc
   argument_as_sound TypeArgument x p e m y is =
       let i = (kinds x p e m y is).within in record { tree = _; next = _; cost = _; reading = type_argument i.reading; deep = i.deep }
@@ -139,4 +139,4 @@ module _ (d : ℕ) (packs_are : PacksComplete d) (complete : TypesComplete d) (b
   unfolding parse_argument
   each_argument_sound x p e m y is =
       let w = argument_as_sound (argument_case p.rest) x p e m y is in
-      record { within = w; is = same_Some _ _ (sym is ∙ each_argument_complete d packs_are complete bares_are values_are x _ _ _ _ w.reading w.deep e m) }
+      record { within = w; is = same_Some _ _ (sym is ∙ each_argument_complete d packs_are complete bares_are thunks_are values_are x _ _ _ _ w.reading w.deep e m) }

@@ -7,19 +7,21 @@ use Rattle.itanium_syntax.specs.declared.context.Context.{Context}
 use Rattle.itanium_syntax.specs.declared.numerals.Radix.TheVariants.{Decimal, Base36}
 use Rattle.itanium_syntax.specs.Scalars.{optional_number, source_name, index_of, unnamed_type_number, lambda_number}
 use Rattle.itanium_syntax.specs.Abbreviations.{abbreviation_of}
+use Rattle.itanium_syntax.specs.Offsets.{thunk_offsets}
+use Rattle.itanium_syntax.specs.Specials.{special_case}
 use Rattle.itanium_syntax.specs.Names.{source_text, symbol_case, name_case, unscoped_case, first_case, component_case, unqualified_case, free_case, tag_case, substitution_case, past_internal, past_name_quals, saves_first}
 use Rattle.itanium_syntax.specs.Args.{attached_case}
 use Rattle.itanium_syntax.proofs.Fronts.{initializer_after, after_drop, source_takes, after-le}
 use Rattle.itanium_grammar.specs.Tree.{Tree, bare_shape, plain_text, abbreviation, ctor_dtor_of, tagged_with, with_args, trees, shape_of}
-use Rattle.itanium_grammar.specs.Grammar.{Position, Cost, at, skip, save, last_of, past_initializer, both, saving, SubstitutionAs, Substitution, ParameterAs, Parameter, TaggedAs, FreeAs, UnqualifiedAs, Unqualified, FirstAs, NameAs, Name, nothing, Local, EntityAs, Encoding, EncodingAs, ReturnAs, SignatureAs, UnscopedAs, AttachedAs, Nested, Components, ComponentsAs, Args, abbreviation_substitution, component_substitution, substitution, auto_parameter, scope_parameter, parameter, no_tag, next_tag, source_free, unnamed_type_free, lambda_free, conversion_free, literal_operator_free, operator_free, constructor_component, destructor_component, free_component, unqualified, parameter_first, std_first, substitution_first, name_first, name, nested_name, local_name, local, string_literal_entity, default_argument_entity, name_entity, encoding, name_encoding, no_return_type, some_return_type, no_signature, some_signature, unscoped_name, std_name, substitution_name, global_name, none_attached, args_attached, nested, components, end_of_components, args_component, name_component}
+use Rattle.itanium_grammar.specs.Grammar.{Position, Cost, at, skip, save, last_of, past_initializer, both, saving, SubstitutionAs, Substitution, ParameterAs, Parameter, TaggedAs, FreeAs, UnqualifiedAs, Unqualified, FirstAs, NameAs, Name, nothing, SpecialAs, SymbolAs, Thunk, special_encoding, type_special, name_special, temporary_special, construction_special, thunk_special, thunk, special_symbol, name_symbol, Local, EntityAs, Encoding, EncodingAs, ReturnAs, SignatureAs, UnscopedAs, AttachedAs, Nested, Components, ComponentsAs, Args, abbreviation_substitution, component_substitution, substitution, auto_parameter, scope_parameter, parameter, no_tag, next_tag, source_free, unnamed_type_free, lambda_free, conversion_free, literal_operator_free, operator_free, constructor_component, destructor_component, free_component, unqualified, parameter_first, std_first, substitution_first, name_first, name, nested_name, local_name, local, string_literal_entity, default_argument_entity, name_entity, encoding, name_encoding, no_return_type, some_return_type, no_signature, some_signature, unscoped_name, std_name, substitution_name, global_name, none_attached, args_attached, nested, components, end_of_components, args_component, name_component}
 use Rattle.itanium_grammar.proofs.Progress.{unqualified_takes, args_takes}
-use Rattle.itanium_demangle.specs.Cases.{SymbolCase, SpecialSymbol, NameSymbol, ReturnCase, NoReturnType, SomeReturnType, SignatureCase, NoSignature, SomeSignature, EntityCase, StringLiteralEntity, DefaultArgumentEntity, NameEntity, NoEntity, SubstitutionCase, AbbreviationSubstitution, ComponentSubstitution, TagCase, NoTag, NextTag, UnqualifiedCase, ConstructorName, DestructorName, FreeName, FreeCase, SourceName, UnnamedTypeName, LambdaName, ConversionName, LiteralOperatorName, OperatorName, NoName, FirstCase, ParameterFirst, StdFirst, SubstitutionFirst, NameFirst, NameCase, NestedName, LocalName, UnscopedName, UnscopedCase, StdName, SubstitutionName, PlainName, AttachedCase, NoneAttached, ArgsAttached, ComponentCase, EndOfComponents, ArgsComponent, NameComponent}
-use Rattle.itanium_demangle.specs.Parser.{ParserState, after_turn, loop, ◌>>=◌, next_component, substitution_as, parse_substitution, parameter_as, parse_parameter, tag_as, tag_turn, parse_tags, typed_params_as, free_as, parse_free, ctor_dtor_as, unqualified_as, parse_unqualified, first_as, attached_by, attached_as, template_as, unscoped_as, component_as, component_turn, parse_components, parse_nested, dropped, return_as, signature_as, encoding_as, parse_encoding, entity_as, parse_local, name_as, parse_bare_name, parse_name, parse_args, parse_type}
-use Rattle.itanium_demangle.specs.Outcome.{state_at}
+use Rattle.itanium_demangle.specs.Cases.{SymbolCase, SpecialSymbol, NameSymbol, SpecialCase, TypeSpecial, NameSpecial, TemporarySpecial, ConstructionSpecial, ThunkSpecial, NoSpecial, ReturnCase, NoReturnType, SomeReturnType, SignatureCase, NoSignature, SomeSignature, EntityCase, StringLiteralEntity, DefaultArgumentEntity, NameEntity, NoEntity, SubstitutionCase, AbbreviationSubstitution, ComponentSubstitution, TagCase, NoTag, NextTag, UnqualifiedCase, ConstructorName, DestructorName, FreeName, FreeCase, SourceName, UnnamedTypeName, LambdaName, ConversionName, LiteralOperatorName, OperatorName, NoName, FirstCase, ParameterFirst, StdFirst, SubstitutionFirst, NameFirst, NameCase, NestedName, LocalName, UnscopedName, UnscopedCase, StdName, SubstitutionName, PlainName, AttachedCase, NoneAttached, ArgsAttached, ComponentCase, EndOfComponents, ArgsComponent, NameComponent}
+use Rattle.itanium_reader.specs.Parser.{ParserState, after_turn, loop, ◌>>=◌, next_component, substitution_as, parse_substitution, parameter_as, parse_parameter, tag_as, tag_turn, parse_tags, typed_params_as, free_as, parse_free, ctor_dtor_as, unqualified_as, parse_unqualified, first_as, attached_by, attached_as, template_as, unscoped_as, component_as, component_turn, parse_components, parse_nested, dropped, return_as, signature_as, special_as, parse_special, symbol_as, parse_thunk, encoding_as, parse_encoding, entity_as, parse_local, name_as, parse_bare_name, parse_name, parse_args, parse_type}
+use Rattle.itanium_demangle.specs.Meaning.{state_at}
 use Rattle.itanium_demangle.proofs.Shapes.{same_state, one_more, some-map, last-map, shape-plain_text, shape-ctor_dtor_of, shape-tagged_with, shape-with_args}
-use Rattle.itanium_demangle.proofs.Readings.{Within, Found, given, bare_of, ArgsSound, ArgsComplete, TypesSound, TypesComplete, BareNamesComplete, BareNamesSound, NamesSound}
+use Rattle.itanium_demangle.proofs.Readings.{Within, Found, given, bare_of, ArgsSound, ArgsComplete, TypesSound, TypesComplete, BareNamesComplete, BareNamesSound, NamesSound, ThunksComplete, ThunksSound}
 use Rattle.itanium_demangle.proofs.Waiting.{same_return}
-use Rattle.itanium_demangle.proofs.CompleteNames.{substitution_complete, parameter_complete, free_complete, unqualified_complete, first_complete, components_complete, encoding_complete, bare_names_complete, names_complete}
+use Rattle.itanium_demangle.proofs.CompleteNames.{substitution_complete, parameter_complete, free_complete, unqualified_complete, first_complete, components_complete, encoding_complete, bare_names_complete, names_complete, thunks_complete}
 use Rattle.itanium_syntax.specs.Types.{params_case}
 use Rattle.itanium_syntax.specs.Operators.{operator_here}
 use Rattle.itanium_syntax.specs.Context.{inside_lambda, inside_local, inside_encoding}
@@ -330,10 +332,69 @@ signature_sound d complete kinds SomeSignature x t p e m y is =
     let i = (typed_params_sound d complete kinds (params_case p.rest) x (params_opened (bare_shape t)) p e m z params).within in
     record { tree = _; next = _; cost = _; reading = some_signature i.reading; deep = i.deep })
 
-module _ (d : ℕ) (complete : TypesComplete d) (bares_are : BareNamesComplete d) (kinds : TypesSound d) (bares : BareNamesSound d) where
+-- a name with its own qualifiers
+pub names_sound : (d : ℕ) → BareNamesComplete d → BareNamesSound d → NamesSound d
+unfolding parse_name
+names_sound d bares_are bares x p e m y is =
+    option_and_then_some _ (parse_bare_name d x (state_at p e m)) y is (λ z read _.
+    let w = (bares false x p e m z read).within in
+    record { within = w; is = same_Some _ _ (sym is ∙ whole w.reading w.deep) })
+  where
+    whole : {t : Tree} {q : Position} {c : Cost} → Name false x p t q c → c.depth ≤ d → parse_name d x (state_at p e m) ≡ given shape_of t q c e m
+    whole a deep = names_complete d bares_are x _ _ _ _ a deep e m
+
+module _ (d : ℕ) (complete : TypesComplete d) (bares_are : BareNamesComplete d) (thunks_are : ThunksComplete d) (kinds : TypesSound d) (bares : BareNamesSound d) (thunks : ThunksSound d) where
+  special_as_sound : (case : SpecialCase) (x : Context) (p : Position) (e m : ℕ) (y : Shape × ParserState)
+      → special_as case (parse_type d x) (parse_name d x) (parse_thunk d x) (state_at p e m) ≡ Some y → Within (SpecialAs case x p) d
+  special_as_sound TypeSpecial x p e m y is =
+      option_and_then_some _ (parse_type d x (state_at (skip 2 p) e m)) y is (λ z read _.
+      let i = (kinds x (skip 2 p) e m z read).within in record { tree = _; next = _; cost = _; reading = type_special i.reading; deep = i.deep })
+  special_as_sound NameSpecial x p e m y is =
+      option_and_then_some _ (parse_name d x (state_at (skip 2 p) e m)) y is (λ z read _.
+      let i = (names_sound d bares_are bares x (skip 2 p) e m z read).within in record { tree = _; next = _; cost = _; reading = name_special i.reading; deep = i.deep })
+  special_as_sound TemporarySpecial x p e m y is =
+      option_and_then_some _ (parse_name d x (state_at (skip 2 p) e m)) y is (λ z read more.
+      let found = names_sound d bares_are bares x (skip 2 p) e m z read in
+      let i = found.within in
+      let there = rw found.is at more in
+      option_and_then_some _ (index_of Base36 i.next.rest) y there (λ k number _.
+      record { tree = _; next = _; cost = _; reading = temporary_special i.reading number; deep = i.deep }))
+  special_as_sound ConstructionSpecial x p e m y is =
+      option_and_then_some _ (parse_type d x (state_at (skip 2 p) e m)) y is (λ z read more.
+      let found = kinds x (skip 2 p) e m z read in
+      let i = found.within in
+      let there = rw found.is at more in
+      option_and_then_some _ (parse_type d x (state_at i.next (e + i.cost.count) (max m i.cost.peak))) y there (λ w other _.
+      let o = (kinds x i.next (e + i.cost.count) (max m i.cost.peak) w other).within in
+      record { tree = _; next = _; cost = _; reading = construction_special i.reading o.reading; deep = omega (arith, i.deep, o.deep) }))
+  special_as_sound ThunkSpecial x p e m y is =
+      let i = (thunks x p e m y is).within in record { tree = _; next = _; cost = _; reading = thunk_special i.reading; deep = i.deep }
+  special_as_sound NoSpecial x p e m y is = cc
+
+  pub special_sound : (x : Context) (p : Position) (e m : ℕ) (y : Shape × ParserState) → parse_special d x (state_at p e m) ≡ Some y → Within (SpecialAs (special_case p.rest) x p) d
+  unfolding parse_special
+  special_sound x p e m y is = special_as_sound (special_case p.rest) x p e m y is
+
+  pub symbol_as_sound : (case : SymbolCase) (x : Context) (p : Position) (e m : ℕ) (y : Shape × ParserState)
+      → symbol_as case (parse_special d x) (parse_name d x) (state_at p e m) ≡ Some y → Within (SymbolAs case x p) d
+  symbol_as_sound SpecialSymbol x p e m y is =
+      let i = special_sound x p e m y is in record { tree = _; next = _; cost = _; reading = special_symbol i.reading; deep = i.deep }
+  symbol_as_sound NameSymbol x p e m y is =
+      let i = (names_sound d bares_are bares x p e m y is).within in record { tree = _; next = _; cost = _; reading = name_symbol i.reading; deep = i.deep }
+
+  pub thunks_sound : ThunksSound (suc d)
+  unfolding parse_thunk parse_special parse_name
+  thunks_sound x p e m y is =
+      option_and_then_some _ (thunk_offsets (drop 1 p.rest)) y is (λ o offsets more.
+      option_and_then_some _ (symbol_as (symbol_case o.1) (parse_special d x) (parse_name d x) (state_at (at o.1 p) (e + 1) m)) y more (λ z read _.
+      let i = symbol_as_sound (symbol_case o.1) x (at o.1 p) (e + 1) m z read in
+      let w : Within (Thunk x p) (suc d) = record { tree = _; next = _; cost = _; reading = thunk offsets i.reading; deep = omega (arith, i.deep) } in
+      record { within = w; is = same_Some _ _ (sym is ∙ thunks_complete d complete bares_are thunks_are x _ _ _ _ w.reading w.deep e m) }))
+
   encoding_as_sound : (case : SymbolCase) (x : Context) (p : Position) (e m : ℕ) (y : Shape × ParserState)
-      → encoding_as case (parse_bare_name d x) (parse_type d x) (state_at p e m) ≡ Some y → Within (EncodingAs case x p) d
-  encoding_as_sound SpecialSymbol x p e m y is = cc
+      → encoding_as case (parse_special d x) (parse_bare_name d x) (parse_type d x) (state_at p e m) ≡ Some y → Within (EncodingAs case x p) d
+  encoding_as_sound SpecialSymbol x p e m y is =
+      let i = special_sound x p e m y is in record { tree = _; next = _; cost = _; reading = special_encoding i.reading; deep = i.deep }
   encoding_as_sound NameSymbol x p e m y is =
       option_and_then_some _ (parse_bare_name d x (state_at p e m)) y is (λ z named ends.
       let found = bares true x p e m z named in
@@ -345,12 +406,12 @@ module _ (d : ℕ) (complete : TypesComplete d) (bares_are : BareNamesComplete d
       let s = signature_sound d complete kinds (signature_case r.next.rest) x i.tree r.next (e + i.cost.count + r.cost.count) (max (max m i.cost.peak) r.cost.peak) y (rw r.is at signed) in
       record { tree = _; next = _; cost = _; reading = name_encoding i.reading r.reading s.reading; deep = omega (arith, i.deep, r.deep, s.deep) }))
 
-  pub encoding_sound : (x : Context) (p : Position) (e m : ℕ) (y : Shape × ParserState) → parse_encoding (parse_bare_name d x) (parse_type d x) (state_at p e m) ≡ Some y → Found (Encoding x p) shape_of d e m y
+  pub encoding_sound : (x : Context) (p : Position) (e m : ℕ) (y : Shape × ParserState) → parse_encoding d x (state_at p e m) ≡ Some y → Found (Encoding x p) shape_of d e m y
   unfolding parse_encoding
   encoding_sound x p e m y is =
       let r = encoding_as_sound (symbol_case p.rest) x p e m y is in
       let w : Within (Encoding x p) d = record { tree = _; next = _; cost = _; reading = encoding r.reading; deep = r.deep } in
-      record { within = w; is = same_Some _ _ (sym is ∙ encoding_complete d complete bares_are w.reading w.deep e m) }
+      record { within = w; is = same_Some _ _ (sym is ∙ encoding_complete d complete bares_are thunks_are w.reading w.deep e m) }
 
   entity_sound : (case : EntityCase) (waits : Bool) (x : Context) (t : Tree) (p : Position) (e m : ℕ) (y : (Shape × Quals) × ParserState)
       → entity_as case (parse_bare_name d x) (shape_of t) (state_at p e m) ≡ Some y → Within (EntityAs case waits x t p) d
@@ -368,43 +429,32 @@ module _ (d : ℕ) (complete : TypesComplete d) (bares_are : BareNamesComplete d
   entity_sound NoEntity waits x t p e m y is = cc
 
   local_sound : (waits : Bool) (x : Context) (p : Position) (e m : ℕ) (y : (Shape × Quals) × ParserState)
-      → parse_local (parse_encoding (parse_bare_name d (inside_encoding x)) (parse_type d (inside_encoding x))) (parse_bare_name d (inside_local x)) (state_at p e m) ≡ Some y
+      → parse_local (parse_encoding d (inside_encoding x)) (parse_bare_name d (inside_local x)) (state_at p e m) ≡ Some y
       → Within (Local waits x p) d
   unfolding parse_local
   local_sound waits x p e m y is =
-      option_and_then_some _ (parse_encoding (parse_bare_name d (inside_encoding x)) (parse_type d (inside_encoding x)) (state_at p e m)) y is (λ z read more.
+      option_and_then_some _ (parse_encoding d (inside_encoding x) (state_at p e m)) y is (λ z read more.
       let found = encoding_sound (inside_encoding x) p e m z read in
       let i = found.within in
       let o = entity_sound (entity_case i.next.rest) waits (inside_local x) i.tree i.next (e + i.cost.count) (max m i.cost.peak) y (rw found.is at more) in
       record { tree = _; next = _; cost = _; reading = local i.reading o.reading; deep = omega (arith, i.deep, o.deep) })
 
-module _ (d : ℕ) (complete : TypesComplete d) (lists_are : ArgsComplete d) (bares_are : BareNamesComplete d) (kinds : TypesSound d) (lists : ArgsSound d) (bares : BareNamesSound d) where
+module _ (d : ℕ) (complete : TypesComplete d) (lists_are : ArgsComplete d) (bares_are : BareNamesComplete d) (thunks_are : ThunksComplete d) (kinds : TypesSound d) (lists : ArgsSound d) (bares : BareNamesSound d) (thunks : ThunksSound d) where
   name_as_sound : (case : NameCase) (waits : Bool) (x : Context) (p : Position) (e m : ℕ) (y : (Shape × Quals) × ParserState)
       → name_as case (parse_unqualified (parse_type d x) (parse_type d (inside_lambda x))) (parse_args d x true)
-      (parse_local (parse_encoding (parse_bare_name d (inside_encoding x)) (parse_type d (inside_encoding x))) (parse_bare_name d (inside_local x))) x (state_at p e m) ≡ Some y
+      (parse_local (parse_encoding d (inside_encoding x)) (parse_bare_name d (inside_local x))) x (state_at p e m) ≡ Some y
       → Within (NameAs case waits x p) d
   name_as_sound NestedName waits x p e m y is =
       let i = nested_sound d complete lists_are kinds lists x (skip 1 p) e m y is in record { tree = _; next = _; cost = _; reading = nested_name i.reading; deep = i.deep }
   name_as_sound LocalName waits x p e m y is =
-      let i = local_sound d complete bares_are kinds bares waits x (skip 1 p) e m y is in record { tree = _; next = _; cost = _; reading = local_name i.reading; deep = i.deep }
+      let i = local_sound d complete bares_are thunks_are kinds bares thunks waits x (skip 1 p) e m y is in record { tree = _; next = _; cost = _; reading = local_name i.reading; deep = i.deep }
   name_as_sound UnscopedName waits x p e m y is =
       option_and_then_some _ (unscoped_as (unscoped_case p.rest) (parse_unqualified (parse_type d x) (parse_type d (inside_lambda x))) (parse_args d x true) (state_at p e m)) y is (λ z read _.
       let i = unscoped_sound d complete lists_are kinds lists (unscoped_case p.rest) x p e m z read in record { tree = _; next = _; cost = _; reading = unscoped_name i.reading; deep = i.deep })
 
-pub bare_names_sound : (d : ℕ) → ArgsComplete d → TypesComplete d → BareNamesComplete d → ArgsSound d → TypesSound d → BareNamesSound d → BareNamesSound (suc d)
-unfolding parse_bare_name
-bare_names_sound d lists_are complete bares_are lists kinds bares waits x p e m y is =
-    let r = name_as_sound d complete lists_are bares_are kinds lists bares (name_case p.rest) waits x p (e + 1) m y is in
+pub bare_names_sound : (d : ℕ) → ArgsComplete d → TypesComplete d → BareNamesComplete d → ThunksComplete d → ArgsSound d → TypesSound d → BareNamesSound d → ThunksSound d → BareNamesSound (suc d)
+unfolding parse_bare_name parse_encoding parse_special parse_name
+bare_names_sound d lists_are complete bares_are thunks_are lists kinds bares thunks waits x p e m y is =
+    let r = name_as_sound d complete lists_are bares_are thunks_are kinds lists bares thunks (name_case p.rest) waits x p (e + 1) m y is in
     let w : Within (Name waits x p) (suc d) = record { tree = _; next = _; cost = _; reading = name r.reading; deep = omega (arith, r.deep) } in
-    record { within = w; is = same_Some _ _ (sym is ∙ bare_names_complete d lists_are complete bares_are waits x _ _ _ _ w.reading w.deep e m) }
-
--- a name with its own qualifiers
-pub names_sound : (d : ℕ) → BareNamesComplete d → BareNamesSound d → NamesSound d
-unfolding parse_name
-names_sound d bares_are bares x p e m y is =
-    option_and_then_some _ (parse_bare_name d x (state_at p e m)) y is (λ z read _.
-    let w = (bares false x p e m z read).within in
-    record { within = w; is = same_Some _ _ (sym is ∙ whole w.reading w.deep) })
-  where
-    whole : {t : Tree} {q : Position} {c : Cost} → Name false x p t q c → c.depth ≤ d → parse_name d x (state_at p e m) ≡ given shape_of t q c e m
-    whole a deep = names_complete d bares_are x _ _ _ _ a deep e m
+    record { within = w; is = same_Some _ _ (sym is ∙ bare_names_complete d lists_are complete bares_are thunks_are waits x _ _ _ _ w.reading w.deep e m) }

@@ -5,42 +5,39 @@ use Rattle.demangle_text.specs.Shape.{Shape}
 use Rattle.itanium_syntax.specs.declared.context.Context.{Context}
 use Rattle.itanium_syntax.specs.Names.{symbol_case}
 use Rattle.itanium_grammar.specs.Tree.{shape_of}
-use Rattle.itanium_grammar.specs.Grammar.{Position, SymbolAs, Symbol, name_symbol, symbol}
-use Rattle.itanium_demangle.specs.Cases.{SymbolCase, SpecialSymbol, NameSymbol}
-use Rattle.itanium_demangle.specs.Parser.{ParserState, parse_bare_name, symbol_as, parse_symbol}
-use Rattle.itanium_demangle.specs.Outcome.{state_at}
-use Rattle.itanium_demangle.proofs.Readings.{Within, Found, BareNamesSound, ArgsSound, PacksSound, TypesSound, ExpressionsSound}
+use Rattle.itanium_grammar.specs.Grammar.{Position, Symbol, symbol}
+use Rattle.itanium_reader.specs.Parser.{ParserState, parse_bare_name, parse_symbol}
+use Rattle.itanium_demangle.specs.Meaning.{state_at}
+use Rattle.itanium_demangle.proofs.Readings.{Within, Found, BareNamesSound, ArgsSound, PacksSound, TypesSound, ExpressionsSound, ThunksSound}
 use Rattle.itanium_demangle.proofs.CompleteSymbols.{all_complete, symbol_complete}
 use Rattle.itanium_demangle.proofs.CompleteNames.{names_complete}
-use Rattle.itanium_demangle.proofs.SoundNames.{bare_names_sound, names_sound}
+use Rattle.itanium_demangle.proofs.SoundNames.{bare_names_sound, names_sound, thunks_sound, symbol_as_sound}
 use Rattle.itanium_demangle.proofs.CompleteExpressions.{each_argument_complete}
 use Rattle.itanium_demangle.proofs.SoundExpressions.{each_argument_sound, expressions_sound}
 use Rattle.itanium_demangle.proofs.SoundArgs.{args_sound, packs_sound}
 use Rattle.itanium_demangle.proofs.SoundTypes.{types_sound_at}
 
-all_sound : (d : ℕ) → BareNamesSound d × ArgsSound d × PacksSound d × TypesSound d × ExpressionsSound d
+all_sound : (d : ℕ) → BareNamesSound d × ArgsSound d × PacksSound d × TypesSound d × ExpressionsSound d × ThunksSound d
 unfolding parse_bare_name
-all_sound zero = (λ waits x p e m y is. cc, λ x of_name p e m y is. cc, λ x p e m y is. cc, λ x p e m y is. cc, λ x p e m y is. cc)
+all_sound zero = (λ waits x p e m y is. cc, λ x of_name p e m y is. cc, λ x p e m y is. cc, λ x p e m y is. cc, λ x p e m y is. cc, λ x p e m y is. cc)
 all_sound (suc d) =
-    let (bares_are, lists_are, packs_are, kinds_are, values_are) = all_complete d in
-    let (bares, lists, packs, kinds, values) = all_sound d in
-    let each_is = each_argument_complete d packs_are kinds_are bares_are values_are in
-    let each = each_argument_sound d packs_are kinds_are bares_are values_are packs kinds bares values in (
-      bare_names_sound d lists_are kinds_are bares_are lists kinds bares,
+    let (bares_are, lists_are, packs_are, kinds_are, values_are, thunks_are) = all_complete d in
+    let (bares, lists, packs, kinds, values, thunks) = all_sound d in
+    let each_is = each_argument_complete d packs_are kinds_are bares_are thunks_are values_are in
+    let each = each_argument_sound d packs_are kinds_are bares_are thunks_are values_are packs kinds bares thunks values in (
+      bare_names_sound d lists_are kinds_are bares_are thunks_are lists kinds bares thunks,
       args_sound d each_is each,
       packs_sound d each_is each,
       types_sound_at d kinds_are (names_complete d bares_are) lists_are kinds (names_sound d bares_are bares) lists,
-      expressions_sound d kinds_are bares_are values_are kinds bares values,
+      expressions_sound d kinds_are bares_are thunks_are values_are kinds bares thunks values,
+      thunks_sound d kinds_are bares_are thunks_are kinds bares thunks,
     )
-
-symbol_as_sound : (d : ℕ) (case : SymbolCase) (x : Context) (p : Position) (e m : ℕ) (y : Shape × ParserState) → symbol_as case d x (state_at p e m) ≡ Some y → Within (SymbolAs case x p) d
-symbol_as_sound d SpecialSymbol x p e m y is = cc
-symbol_as_sound d NameSymbol x p e m y is =
-    let i = (names_sound d (all_complete d).0 (all_sound d).0 x p e m y is).within in record { tree = _; next = _; cost = _; reading = name_symbol i.reading; deep = i.deep }
 
 pub symbol_sound : (d : ℕ) (x : Context) (p : Position) (e m : ℕ) (y : Shape × ParserState) → parse_symbol d x (state_at p e m) ≡ Some y → Found (Symbol x p) shape_of d e m y
 unfolding parse_symbol
 symbol_sound d x p e m y is =
-    let r = symbol_as_sound d (symbol_case p.rest) x p e m y is in
+    let (bares_are, lists_are, packs_are, kinds_are, values_are, thunks_are) = all_complete d in
+    let (bares, lists, packs, kinds, values, thunks) = all_sound d in
+    let r = symbol_as_sound d kinds_are bares_are thunks_are kinds bares thunks (symbol_case p.rest) x p e m y is in
     let w : Within (Symbol x p) d = record { tree = _; next = _; cost = _; reading = symbol r.reading; deep = r.deep } in
     record { within = w; is = same_Some _ _ (sym is ∙ symbol_complete w.reading d w.deep e m) }

@@ -15,8 +15,8 @@ use Rattle.itanium_grammar.specs.Tree.{Tree, plain_text, shape_of}
 use Rattle.itanium_grammar.specs.Grammar.{Position, at, skip, save, TypeOf, TypeAs, CvAs, Function, ParamsAs, TypesAs, TypeAttachedAs, type, builtin_type, expansion_type, vendor_type, array_type, function_type, member_type, pointer_type, cv_type, elaborated_type, parameter_type, substitution_type, name_type, cv_function, cv_other, function, no_params, some_params, end_of_types, one_more_type, none_attached_to_type, args_attached_to_type}
 use Rattle.itanium_grammar.proofs.Progress.{type_takes}
 use Rattle.itanium_demangle.specs.Cases.{TypeCase, BuiltinType, ExpansionType, VendorType, ArrayType, FunctionType, MemberType, PointerType, CvType, ElaboratedType, ParameterType, SubstitutionType, UnreadType, NameType, CvCase, CvFunction, CvOther, FunctionCase, ExternFunction, PlainFunction, ParamsCase, NoParams, SomeParams, TypesCase, EndOfTypes, NextType, AttachedCase, NoneAttached, ArgsAttached}
-use Rattle.itanium_demangle.specs.Parser.{ParserState, after_turn, loop, ◌>>=◌, parse_source, parse_parameter, saved_parameter, parse_substitution, attached_by, type_attached_as, types_as, types_turn, params_as, function_as, parse_function, cv_as, vendor_as, type_as, parse_name, parse_args, parse_type}
-use Rattle.itanium_demangle.specs.Outcome.{state_at}
+use Rattle.itanium_reader.specs.Parser.{ParserState, after_turn, loop, ◌>>=◌, parse_source, parse_parameter, saved_parameter, parse_substitution, attached_by, type_attached_as, types_as, types_turn, params_as, function_as, parse_function, cv_as, vendor_as, type_as, parse_name, parse_args, parse_type}
+use Rattle.itanium_demangle.specs.Meaning.{state_at}
 use Rattle.itanium_demangle.proofs.Shapes.{one_more}
 use Rattle.itanium_demangle.proofs.Readings.{Within, Found, NamesComplete, NamesSound, ArgsComplete, ArgsSound, TypesComplete, TypesSound}
 use Rattle.itanium_demangle.proofs.CompleteTypes.{params_complete, types_complete_at}

@@ -1,5 +1,7 @@
 -- What a reader of symbols says, in the grammar's words, and what follows for the answer.
-use Rattle.std.proofs.Common.{◌≡◌, ◌<◌, ℕ, ◌++◌, List, [], ◌∷◌, Bool, true, false, Option, Some, None, Result, Ok, Err, ap, if◌then◌else◌, ◌∙◌, sym, refl, subst, arith, length, drop, get_or}
+use Rattle.std.proofs.Common.{◌≡◌, ◌<◌, ℕ, ◌++◌, List, [], ◌∷◌, Bool, true, false, ◌&&◌, ◌==◌, ◌≤◌, ◌*◌, Option, Some, None, Result, Ok, Err, ap, if◌then◌else◌, map, ◌∙◌, sym, refl, subst, arith, length, drop, get_or, ◌+◌, max}
+use Rattle.std.specs.Prelude.{option_map}
+use Rattle.std.proofs.lemmas.Simd.{map-map}
 use Rattle.std.proofs.lemmas.Grind.{common_steps}
 use Rattle.std.proofs.lemmas.List.{length-drop, get_or-drop}
 use Rattle.std.proofs.lemmas.Str.{IsUtf8-nil, IsUtf8-drop, IsCharBoundary-before_ascii}
@@ -10,16 +12,17 @@ use Rattle.itanium_syntax.specs.declared.context.Context.{Context}
 use Rattle.itanium_syntax.specs.Bytes.{begins}
 use Rattle.itanium_syntax.proofs.Fronts.{IsAfter, after_then}
 use Rattle.itanium_grammar.specs.Tree.{shape_of, printing}
-use Rattle.itanium_grammar.specs.Grammar.{Position, Symbol}
-use Rattle.itanium_grammar.specs.Answer.{after_prefix, start, outside, suffix, max_depth, HasAnswer, HasNoAnswer, IsAnswer}
+use Rattle.itanium_grammar.specs.Grammar.{Position, Cost, Symbol}
+use Rattle.itanium_grammar.specs.Answer.{after_prefix, start, outside, suffix, max_depth, HasAnswer, HasNoAnswer, IsAnswer, HasCounts, HasComponents, HasBounds}
 use Rattle.itanium_grammar.proofs.Unambiguous.{one_symbol}
 use Rattle.itanium_grammar.proofs.Progress.{symbol_takes}
-use Rattle.itanium_demangle.specs.declared.reader.Reader.{Reader}
-use Rattle.itanium_demangle.specs.declared.stop.Stop.{Stop}
-use Rattle.itanium_demangle.specs.declared.stop.Stop.TheVariants.{Unread, Memory}
-use Rattle.itanium_demangle.specs.Parser.{ParserState, begun, parse_symbol}
-use Rattle.itanium_demangle.specs.Outcome.{state, state_at, Gives, StandsFor, HasReading, HasNoReading, ReadsAs}
-use Rattle.itanium_demangle.specs.Demangler.{IsPrinted}
+use Rattle.itanium_reader.specs.declared.reader.Reader.{Reader}
+use Rattle.itanium_reader.specs.declared.stop.Stop.{Stop}
+use Rattle.itanium_reader.specs.declared.stop.Stop.TheVariants.{Unread, Memory}
+use Rattle.itanium_reader.specs.Parser.{ParserState, begun, parse_symbol}
+use Rattle.itanium_reader.specs.Outcome.{state, Gives, Bounds, SavedBounds, MostSaved}
+use Rattle.itanium_demangle.specs.Meaning.{state_at, StandsFor, HasReading, HasNoReading, ReadsAs}
+use Rattle.itanium_demangle.specs.Demangler.{IsPrinted, component_texts}
 use Rattle.itanium_demangle.proofs.CompleteSymbols.{symbol_complete}
 use Rattle.itanium_demangle.proofs.SoundSymbols.{symbol_sound}
 
@@ -87,6 +90,15 @@ suffix_from symbol rest utf8 after = go (begins (46 ∷ []) rest) refl
     go true e = rw after.is (cut_at_dot symbol after.count utf8 (ap (begins (46 ∷ [])) (sym after.is) ∙ e))
     go false e = IsUtf8-nil
 
+more_of_both : (t : Bool) (word bytes : List ℕ) → (t && begins word bytes) ≡ true → begins word bytes ≡ true
+more_of_both true word bytes e = e
+more_of_both false word bytes e = cc
+
+begins_takes : (word bytes : List ℕ) → begins word bytes ≡ true → length word ≤ length bytes
+begins_takes [] bytes e = omega arith
+begins_takes (a ∷ word) [] e = cc
+begins_takes (a ∷ word) (b ∷ bytes) e = let more = begins_takes word bytes (more_of_both (b == a) word bytes e) in omega (arith, more)
+
 prefix_after : (symbol inside : List ℕ) → after_prefix symbol ≡ Some inside → IsAfter inside symbol
 prefix_after symbol inside e = go (begins (95 ∷ 90 ∷ []) symbol) (begins (95 ∷ 95 ∷ 90 ∷ []) symbol) e
   where
@@ -94,6 +106,20 @@ prefix_after symbol inside e = go (begins (95 ∷ 90 ∷ []) symbol) (begins (95
     go true t e = record { count = 2; is = cc }
     go false true e = record { count = 3; is = cc }
     go false false e = cc
+
+prefix_takes : (symbol inside : List ℕ) → after_prefix symbol ≡ Some inside → length inside + 2 ≤ length symbol
+prefix_takes symbol inside e = go (begins (95 ∷ 90 ∷ []) symbol) (begins (95 ∷ 95 ∷ 90 ∷ []) symbol) refl refl e
+  where
+    two : begins (95 ∷ 90 ∷ []) symbol ≡ true → 2 ≤ length symbol
+    two b = begins_takes (95 ∷ 90 ∷ []) symbol b
+
+    three : begins (95 ∷ 95 ∷ 90 ∷ []) symbol ≡ true → 3 ≤ length symbol
+    three b = begins_takes (95 ∷ 95 ∷ 90 ∷ []) symbol b
+
+    go : (s t : Bool) → begins (95 ∷ 90 ∷ []) symbol ≡ s → begins (95 ∷ 95 ∷ 90 ∷ []) symbol ≡ t → (if s then Some (drop 2 symbol) else (if t then Some (drop 3 symbol) else None)) ≡ Some inside → length inside + 2 ≤ length symbol
+    go true t b c e = let is : drop 2 symbol ≡ inside = cc in rw (sym is) (omega (arith, length-drop 2 symbol, two b))
+    go false true b c e = let is : drop 3 symbol ≡ inside = cc in rw (sym is) (omega (arith, length-drop 3 symbol, three c))
+    go false false b c e = cc
 
 pub not_read : (symbol inside : List ℕ) → after_prefix symbol ≡ Some inside → HasNoReading outside (start inside) max_depth → HasNoAnswer symbol
 not_read symbol inside prefix none tree next cost reading deep utf8 =
@@ -132,3 +158,66 @@ pub suffix_utf8 : (symbol inside : List ℕ) (e m : ℕ) (found : Shape) (after 
 suffix_utf8 symbol inside e m found after utf8 prefix has =
     let same_rest : after.rest ≡ has.next.rest = ap (λ (s : ParserState). s.rest) has.state_is in
     rw same_rest (suffix_from symbol has.next.rest utf8 (after_then (prefix_after symbol inside prefix) (symbol_takes has.reading).after))
+
+-- the counts of a reading that was found are those of every reading
+pub counted : (symbol inside : List ℕ) (before : ParserState) (found : Shape) (after : ParserState) → after_prefix symbol ≡ Some inside → before ≡ begun inside
+    → HasReading outside (start inside) max_depth before.entered before.most_saved found after → HasCounts symbol after.entered after.most_saved
+counted symbol inside before found after prefix starts has tree next cost reading deep =
+    let here : reading.inside ≡ inside = cc in
+    let same = has.one tree next cost (subst (λ v. Symbol outside (start v) tree next cost) here reading.reading) deep in
+    let entered : after.entered ≡ before.entered + has.cost.count = ap (λ (s : ParserState). s.entered) has.state_is in
+    let most : after.most_saved ≡ max before.most_saved has.cost.peak = ap (λ (s : ParserState). s.most_saved) has.state_is in
+    let none : before.entered ≡ 0 = ap (λ (s : ParserState). s.entered) starts in
+    let nothing : before.most_saved ≡ 0 = ap (λ (s : ParserState). s.most_saved) starts in
+    let count : cost.count ≡ has.cost.count = ap (λ (c : Cost). c.count) same.2 in
+    let peak : cost.peak ≡ has.cost.peak = ap (λ (c : Cost). c.peak) same.2 in
+    (omega (arith, entered, none, count), omega (arith, most, nothing, peak))
+
+-- where there is no reading within the depth, nothing is asked of the counts
+pub uncounted : (symbol inside : List ℕ) (entered most_saved : ℕ) → after_prefix symbol ≡ Some inside → HasNoReading outside (start inside) max_depth → HasCounts symbol entered most_saved
+uncounted symbol inside entered most_saved prefix none tree next cost reading deep =
+    let here : reading.inside ≡ inside = cc in
+    absurd (none tree next cost (subst (λ v. Symbol outside (start v) tree next cost) here reading.reading) deep)
+
+-- without a prefix neither
+pub uncounted_prefix : (symbol : List ℕ) (entered most_saved : ℕ) → after_prefix symbol ≡ None → HasCounts symbol entered most_saved
+uncounted_prefix symbol entered most_saved none tree next cost reading deep = let p = reading.prefix in cc
+
+-- the components that a reading which was found leaves saved are those of every reading
+left_saved : (symbol inside : List ℕ) (e m : ℕ) (found : Shape) (after : ParserState) (components : List (List ℕ)) (answer : List ℕ) → after_prefix symbol ≡ Some inside
+    → HasReading outside (start inside) max_depth e m found after → components ≡ map text after.saved → HasComponents symbol (Some answer) components
+left_saved symbol inside e m found after components answer prefix has is tree next cost reading deep =
+    let here : reading.inside ≡ inside = cc in
+    let same = has.one tree next cost (subst (λ v. Symbol outside (start v) tree next cost) here reading.reading) deep in
+    is
+    ∙ ap (map text) (ap (λ (s : ParserState). s.saved) has.state_is)
+    ∙ map-map text shape_of has.next.saved
+    ∙ sym (ap (λ (q : Position). map printing q.saved) same.1)
+
+-- what is kept as components after a reading that was found
+pub kept_components : {A : Type 0} (symbol inside : List ℕ) (e m : ℕ) (found : Shape) (after : Reader) (has_text : A → List ℕ) (kept : Option A) → after_prefix symbol ≡ Some inside
+    → HasReading outside (start inside) max_depth e m found (state after) → HasComponents symbol (option_map has_text kept) (component_texts kept (Some after.buffer))
+kept_components symbol inside e m found after has_text None prefix has = refl
+kept_components symbol inside e m found after has_text (Some t) prefix has = left_saved symbol inside e m found (state after) _ (has_text t) prefix has refl
+
+-- what is entered and saved over what follows the prefix is within the bounds of the symbol
+pub within_bounds : (symbol inside : List ℕ) (before after : ParserState) → after_prefix symbol ≡ Some inside → before ≡ begun inside
+    → after.entered + 1 ≤ before.entered + 2 * length before.rest + 2 → MostSaved 0 before after → HasBounds symbol after.entered after.most_saved
+within_bounds symbol inside before after prefix starts entered saved =
+    let shorter : length inside + 2 ≤ length symbol = prefix_takes symbol inside prefix in
+    let none : before.entered ≡ 0 = ap (λ (s : ParserState). s.entered) starts in
+    let left : length before.rest ≡ length inside = ap (λ (s : ParserState). length s.rest) starts in
+    let most : before.most_saved ≡ 0 = ap (λ (s : ParserState). s.most_saved) starts in
+    let empty : length before.saved ≡ 0 = ap (λ (s : ParserState). length s.saved) starts in
+    (omega (arith, shorter, none, left, entered), omega (arith, shorter, left, most, empty, saved))
+
+-- the same of a reading that was found
+pub read_within : (symbol inside : List ℕ) (before after : ParserState) (u : Unit {0}) → after_prefix symbol ≡ Some inside → before ≡ begun inside
+    → Bounds {A = Unit {0}} 1 (Ok u) before after → SavedBounds {A = Unit {0}} 1 (Ok u) before after → HasBounds symbol after.entered after.most_saved
+read_within symbol inside before after u prefix starts bounds saved = within_bounds symbol inside before after prefix starts (omega (arith, bounds.1)) saved.1
+
+-- and of a run that failed
+pub unread_within : (symbol inside : List ℕ) (before after : ParserState) (stop : Stop) → after_prefix symbol ≡ Some inside → before ≡ begun inside → stop ≡ Unread
+    → Bounds {A = Unit {0}} 1 (Err stop) before after → SavedBounds {A = Unit {0}} 1 (Err stop) before after → HasBounds symbol after.entered after.most_saved
+unread_within symbol inside before after Unread prefix starts is bounds saved = within_bounds symbol inside before after prefix starts bounds saved
+unread_within symbol inside before after Memory prefix starts is bounds saved = cc

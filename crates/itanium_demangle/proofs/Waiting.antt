@@ -1,9 +1,8 @@
 -- The own qualifiers of a name, which wait: what is left where they do, and that the whole is the same afterwards.
-use Rattle.std.proofs.Common.{◌≡◌, ℕ, ◌+◌, Bool, true, false, List, [], ◌++◌, length, drop, refl, ap, ap₂, ◌∙◌, sym, codes, if◌then◌else◌, arith, nat_le, Option, Some, None}
+use Rattle.std.proofs.Common.{◌≡◌, ℕ, ◌+◌, Bool, true, false, List, [], ◌++◌, length, drop, refl, ap, ap₂, ◌∙◌, sym, codes, if◌then◌else◌, arith, Option, Some, None}
 use Rattle.std.proofs.lemmas.List.{append_assoc, length-append}
 use Rattle.std.proofs.lemmas.Bool.Decides.{nat_tests}
-use Rattle.demangle_text.specs.Shape.{Shape, Form, Plain, text, flattened, appended, inserted, moved}
-use Rattle.demangle_text.specs.declared.shape.Place.TheVariants.{Start, End}
+use Rattle.demangle_text.specs.Shape.{Shape, Plain, text, flattened, appended, moved}
 use Rattle.demangle_quals.specs.declared.quals.Quals.{Quals}
 use Rattle.demangle_quals.specs.Quals.{no_quals, has_quals, words_text, reference_text}
 use Rattle.demangle_edit.specs.Names.{qualified, with_name_qualifiers}
@@ -11,7 +10,7 @@ use Rattle.itanium_syntax.specs.declared.context.Context.{Context}
 use Rattle.itanium_syntax.specs.Names.{name_case}
 use Rattle.itanium_syntax.specs.Encodings.{return_case, shows_words}
 use Rattle.itanium_grammar.specs.Tree.{Tree, shape_as, shape_of, bare_shape, own_quals, local_in, nested_of, string_literal_of, default_argument_of}
-use Rattle.itanium_grammar.specs.Grammar.{Position, Cost, TaggedAs, FreeAs, UnqualifiedAs, Unqualified, UnscopedAs, AttachedAs, Name, NameAs, Local, EntityAs, Nested, no_tag, next_tag, source_free, unnamed_type_free, lambda_free, conversion_free, literal_operator_free, operator_free, constructor_component, destructor_component, free_component, unqualified, std_name, substitution_name, global_name, none_attached, args_attached, name, nested_name, local_name, unscoped_name, nested, local, string_literal_entity, default_argument_entity, name_entity}
+use Rattle.itanium_grammar.specs.Grammar.{Position, Cost, TaggedAs, FreeAs, UnqualifiedAs, Unqualified, UnscopedAs, AttachedAs, Name, NameAs, EntityAs, no_tag, next_tag, source_free, unnamed_type_free, lambda_free, conversion_free, literal_operator_free, operator_free, constructor_component, destructor_component, free_component, unqualified, std_name, substitution_name, global_name, none_attached, args_attached, name, nested_name, local_name, unscoped_name, nested, local, string_literal_entity, default_argument_entity, name_entity}
 use Rattle.itanium_demangle.specs.Cases.{NameCase, NestedName, LocalName, UnscopedName, TagCase, FreeCase, UnqualifiedCase, UnscopedCase, AttachedCase, EntityCase}
 
 -- a name without own qualifiers

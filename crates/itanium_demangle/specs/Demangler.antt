@@ -1,18 +1,50 @@
 -- What a demangler keeps between calls.
-use Rattle.std.specs.Prelude.{◌≡◌, ℕ, ◌++◌, List, Option, Some, None, option_map}
+use Rattle.std.specs.Prelude.{◌≡◌, ℕ, ◌++◌, List, [], map, Option, Some, None, option_map}
 use Rattle.std.specs.Str.{IsUtf8}
 use Rattle.std.specs.String.{string_bytes}
+use Rattle.demangle_text.specs.declared.buffer.Buffer.{Buffer}
+use Rattle.demangle_text.specs.Shape.{text}
+use Rattle.demangle_text.specs.State.{saved}
+use Rattle.itanium_grammar.specs.Answer.{after_prefix, HasCounts, HasComponents, HasBounds}
 use Rattle.itanium_demangle.specs.declared.demangler.Demangler.TheInside.{Inside}
 
--- what is left of the last symbol that was prepared: its answer
+-- what is left of the last symbol that was prepared
 pub record LastRun : Type 0 where
+  -- its answer
   pub text : Option (List ℕ)
+  -- the counted productions that were entered
+  pub entered : ℕ
+  -- the most components that were saved at one moment
+  pub most_saved : ℕ
+  -- where it has an answer, the texts of the components that are left saved
+  pub components : List (List ℕ)
+
+-- nothing is left, as on a new value
+abbrev pub no_run : LastRun
+no_run = record { text = None; entered = 0; most_saved = 0; components = [] }
+
+-- the texts of a buffer's components, where there is an answer
+abbrev pub component_texts : {A : Type 0} → Option A → Option Buffer → List (List ℕ)
+component_texts (Some found) (Some buffer) = map text (saved buffer)
+component_texts found buffer = []
 
 -- what the fields mean
 abbrev pub last_run : Inside → LastRun
-last_run d = record { text = option_map string_bytes d.text }
+last_run d = record {
+  text = option_map string_bytes d.text;
+  entered = d.entered;
+  most_saved = d.most_saved;
+  components = component_texts d.text d.buffer;
+}
 
 -- a printing in UTF-8 with what is after it, and no text where it isn't UTF-8
 abbrev pub IsPrinted : List ℕ → List ℕ → Option (List ℕ) → Type 0
 IsPrinted printing after (Some text) = IsUtf8 printing × (text ≡ printing ++ after)
 IsPrinted printing after None = ¬ (IsUtf8 printing)
+
+-- after a symbol the counts and the components are those of its readings, and without a prefix nothing is left
+pub record IsPrepared (symbol : List ℕ) (run : LastRun) : Type 0 where
+  pub counts : HasCounts symbol run.entered run.most_saved
+  pub components : HasComponents symbol run.text run.components
+  pub bounds : HasBounds symbol run.entered run.most_saved
+  pub no_prefix : after_prefix symbol ≡ None → run ≡ no_run

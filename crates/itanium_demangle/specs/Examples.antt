@@ -72,3 +72,15 @@ pub record WorkedSymbols : Type 0 where
   pub address_of_a_function : IsAnswer (codes "_Z1fIXadL_ZN3Foo3barEiEEEv") (Some (codes "f<&Foo::bar(int)>"))
   pub nested_operators : IsAnswer (codes "_Z1fIXmlplLi1ELi2ELi3EEEvv") (Some (codes "f<((1)+(2))*(3)>"))
   pub cast_literal : IsAnswer (codes "_ZN3FooIiLm4EE3barEv") (Some (codes "Foo<int, (unsigned long)4>::bar"))
+  pub vtable_and_suffix : IsAnswer (codes "_ZTV3Foo.llvm.1") (Some (codes "{vtable(Foo)}.llvm.1"))
+  pub guard_variable : IsAnswer (codes "_ZGVZ1fvE1x") (Some (codes "guard variable for f()::x"))
+  pub thunk : IsAnswer (codes "_ZTh0_1fv") (Some (codes "{virtual override thunk({offset(0)}, f)}"))
+  pub covariant_thunk :
+      IsAnswer (codes "_ZTcv0_n16_h8_N3Foo3barEv")
+      (Some (codes "{virtual override thunk({virtual offset(0, -16)}, {offset(8)}, Foo::bar)}"))
+  pub negative_offset :
+      IsAnswer (codes "_ZThn8_N3Foo3barEv")
+      (Some (codes "{virtual override thunk({offset(-8)}, Foo::bar)}"))
+  pub typeinfo :
+      IsAnswer (codes "_ZTIMN4llvm4json6ObjectEKFSt8optionalINS_9StringRefEES3_E")
+      (Some (codes "typeinfo for std::optional<llvm::StringRef> (llvm::json::Object::*)(llvm::StringRef) const"))

@@ -1,5 +1,4 @@
 pub mod Cases
-pub mod Parser
-pub mod Outcome
+pub mod Meaning
 pub mod Demangler
 pub mod Examples

@@ -1,18 +1,18 @@
 //! One value that answers symbol after symbol.
-ghost use Rattle.std.specs.Prelude.{◌≡◌, IfOk, OnErr, MatchResult, ⊤, option_map, is_some, false, None};
+ghost use Rattle.std.specs.Prelude.{◌≡◌, ◌≤◌, ◌*◌, IfOk, OnErr, MatchResult, ⊤, option_map, is_some, slice_get, length, false, None};
 ghost use Rattle.std.specs.Borrow.{sem};
 ghost use Rattle.std.specs.String.{string_bytes};
 ghost use Rattle.std.specs.Str.{IsUtf8};
 ghost use Rattle.demangle_text.specs.State.{IsLiving, shape};
 ghost use Rattle.demangle_text.specs.Shape.{text};
-ghost use Rattle.itanium_grammar.specs.Answer.{IsAnswer, HasOneReading};
+ghost use Rattle.itanium_grammar.specs.Answer.{IsAnswer, HasOneReading, HasCounts, HasComponents, HasBounds};
 ghost use Rattle.itanium_grammar.specs.Answer as spec;
-ghost use Rattle.itanium_demangle.specs.Demangler.{IsPrinted};
+ghost use Rattle.itanium_demangle.specs.Demangler.{IsPrinted, IsPrepared, component_texts, no_run};
 
-use crate::reader::Reader;
-use crate::stop::Stop;
+use crate::mangled_name::read_mangled_name;
 use demangle_text::Buffer;
 use itanium_grammar::symbol::{after_prefix, suffix};
+use itanium_reader::{Reader, Stop};
 use itanium_syntax::context::OUTSIDE;
 use std::alloc::{AllocError, Global};
 use std::fmt::{self, Debug, Formatter, Write};
@@ -26,6 +26,8 @@ pub const MAX_DEPTH: usize = 128;
 #[derive(Drop)]
 pub struct Demangler {
     text: Option<String>,
+    entered: usize,
+    most_saved: usize,
     buffer: Option<Buffer>,
 }
 
@@ -62,29 +64,51 @@ impl Demangler {
 
     /// An empty value. It takes no memory.
     pub fn new() -> Self
-        ensures text { result.text ≡ None }
+        ensures empty { result ≡ no_run }
     {
         Demangler {
             text: None,
+            entered: 0,
+            most_saved: 0,
             buffer: None,
         }
     }
 
+    /// Keeps the counts of a reader that has ended, its buffer, and the answer.
+    fn keep(&mut self, reader: Reader, text: Option<String>)
+        ensures text { self.new.text ≡ option_map string_bytes text }
+        ensures entered { self.new.entered ≡ reader.entry.entered }
+        ensures most_saved { self.new.most_saved ≡ reader.entry.most_saved }
+        ensures components { self.new.components ≡ component_texts text (Some reader.entry.buffer) }
+    {
+        self.text = text;
+        self.entered = reader.entered;
+        self.most_saved = reader.most_saved;
+        self.buffer = Some(reader.buffer);
+    }
+
     /// Reads a symbol and keeps its answer for `text`: true where there is one.
     ///
-    /// A symbol is `_Z` or `__Z` and an encoding, of which the name is read (Itanium C++ ABI 5.1.2). The answer is its
-    /// printing, and after it all that follows from a dot. There is none where the grammar doesn't read the symbol
-    /// with at most `MAX_DEPTH` nested productions, or where the printing isn't UTF-8. An error comes only where memory
-    /// is refused; then nothing is kept, and the value serves on.
+    /// Any text may be asked. After `_Z` or `__Z` a special name is read where `T` or `G` is next, else a name; the
+    /// parameters of a function aren't (Itanium C++ ABI 5.1.2). The answer is the printing, and after it all that
+    /// follows from a dot right after what was read. There is none where the grammar doesn't read the symbol with at
+    /// most `MAX_DEPTH` nested productions, or where the printing isn't UTF-8. Without such a prefix there is none
+    /// either, no memory is taken, and both counts are 0. An error comes only where memory is refused; then nothing is
+    /// kept, and the value serves on.
     #[tactic(auto, using(crate::proofs::Rules::answers))]
     pub fn prepare(&mut self, alloc: Global, symbol: &str) -> Result<bool, AllocError>
         ensures answer { IfOk result (λ _. IsAnswer symbol.now self.new.text) }
         ensures found { IfOk result (λ found. found ≡ is_some self.new.text) }
+        ensures counts { IfOk result (λ _. HasCounts symbol.now self.new.entered self.new.most_saved) }
+        ensures components { IfOk result (λ _. HasComponents symbol.now self.new.text self.new.components) }
+        ensures bounds { IfOk result (λ _. HasBounds symbol.now self.new.entered self.new.most_saved) }
         ensures one { HasOneReading symbol.now }
-        ensures no_prefix { spec.after_prefix symbol.now ≡ None → result ≡ Ok false }
-        ensures err { OnErr result (self.new.text ≡ None) }
+        ensures no_prefix { spec.after_prefix symbol.now ≡ None → (result ≡ Ok false) × (self.new ≡ no_run) }
+        ensures err { OnErr result (self.new ≡ no_run) }
     {
         self.text = None;
+        self.entered = 0;
+        self.most_saved = 0;
         let Some(inside) = after_prefix(symbol.as_bytes()) else {
             return Ok(false);
         };
@@ -93,24 +117,23 @@ impl Demangler {
             None => Buffer::new(alloc),
         };
         let mut reader = Reader::new(alloc, buffer, inside)?;
-        match reader.read_symbol(MAX_DEPTH, OUTSIDE) {
+        match read_mangled_name(&mut reader, MAX_DEPTH, OUTSIDE) {
             Ok(()) => {}
             Err(Stop::Unread) => {
-                self.buffer = Some(reader.buffer);
+                self.keep(reader, None);
                 return Ok(false);
             }
             Err(Stop::Memory) => return Err(AllocError),
         }
         let text = answer(alloc, &reader)?;
         let found = text.is_some();
-        self.text = text;
-        self.buffer = Some(reader.buffer);
+        self.keep(reader, text);
         Ok(found)
     }
 
     /// The answer of the last `prepare`, where it had one.
     pub fn text(&self) -> Option<&str>
-        ensures text { option_map (λ text. text.now) result ≡ self.now.text }
+        ensures value { option_map (λ text. text.now) result ≡ self.now.text }
     {
         match &self.text {
             Some(text) => Some(text.as_str()),
@@ -118,8 +141,44 @@ impl Demangler {
         }
     }
 
+    /// How many counted productions the last `prepare` entered: names, types, argument lists, packs, thunks and
+    /// expressions, also those of a symbol without an answer; 0 before the first, after an error, and of a text without
+    /// the prefix of a symbol. A production that is refused because `MAX_DEPTH` are open isn't entered.
+    pub fn entered(&self) -> usize
+        ensures value { result ≡ self.now.entered }
+    {
+        self.entered
+    }
+
+    /// The most components for substitutions that were saved at one moment of the last `prepare` (Itanium C++ ABI
+    /// 5.1.10), also of a symbol without an answer; 0 before the first, after an error, and of a text without the
+    /// prefix of a symbol.
+    pub fn most_saved(&self) -> usize
+        ensures value { result ≡ self.now.most_saved }
+    {
+        self.most_saved
+    }
+
+    /// Where the last `prepare` had an answer, the text of the component with this index, from 0 on, of those that the
+    /// symbol leaves saved (Itanium C++ ABI 5.1.10): bytes, since a component needn't be UTF-8. Past the last one, and
+    /// where there is no answer, `None`.
+    pub fn component(&self, i: usize) -> Option<&[u8]>
+        ensures value { option_map (λ text. text.now) result ≡ slice_get self.now.components i }
+    {
+        if self.text.is_none() {
+            return None;
+        }
+        let Some(buffer) = &self.buffer else {
+            return None;
+        };
+        match buffer.saved(i) {
+            Some(component) => Some(buffer.bytes(component)),
+            None => None,
+        }
+    }
+
     /// The answer of a symbol, as `prepare` says, lent until the next call. It is kept for `text`; after an error
-    /// nothing is.
+    /// nothing is. A text without the prefix of a symbol is never an error.
     pub fn demangle<'a>(
         &'a mut self,
         alloc: Global,
@@ -127,22 +186,34 @@ impl Demangler {
     ) -> Result<Option<&'a str>, AllocError>
         ensures answer { IfOk result (λ found. IsAnswer symbol.now (option_map (λ text. text.now) found)) }
         ensures no_prefix { spec.after_prefix symbol.now ≡ None → result ≡ Ok None }
-        // `last` is the value once the answer is no longer lent: it keeps the text that was answered, and after an
-        // error none.
+        // `last` is the value once the answer is no longer lent: it keeps the text that was answered, with the counts
+        // and components of `prepare`, and after an error nothing.
         ensures* kept { sem 𝓛 (follows_so the_row the_row self.entry.ghost_name none (λ _ _. ⊤)
-            (λ last. MatchResult result (λ found. last.text ≡ option_map (λ text. text.now) found)
-            (λ _. last.text ≡ None))) }
+            (λ last. MatchResult result
+            (λ found. (last.text ≡ option_map (λ text. text.now) found) × IsPrepared symbol.now last)
+            (λ _. last ≡ no_run))) }
     {
         self.prepare(alloc, symbol)?;
         Ok(self.text())
     }
 }
 
+/// The answer of a symbol as a text of its own: what `Demangler::demangle` answers on any value. An error comes only
+/// where memory is refused.
+pub fn demangle_owned(alloc: Global, symbol: &str) -> Result<Option<String>, AllocError>
+    ensures answer { IfOk result (λ found. IsAnswer symbol.now (option_map string_bytes found)) }
+    ensures no_prefix { spec.after_prefix symbol.now ≡ None → result ≡ Ok None }
+{
+    let mut demangler = Demangler::new();
+    demangler.prepare(alloc, symbol)?;
+    Ok(demangler.text.take())
+}
+
 impl Default for Demangler {
-    ghost is_default = { λ value. value.text ≡ None };
+    ghost is_default = { λ value. value ≡ no_run };
 
     fn default() -> Self {
-        Demangler::new()
+        Self::new()
     }
 }
 

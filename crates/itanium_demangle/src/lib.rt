@@ -1,5 +1,5 @@
 //! Demangles C++ symbols of the Itanium C++ ABI: a symbol's name, with its template arguments and without the
-//! parameters of a function.
+//! parameters of a function, or the special name, as of a virtual table.
 //!
 //! A crate that uses this one has it in its line of `crates.txt`, as `names: itanium_demangle`. The allocator comes
 //! from the `HostRuntime` that `main` and each test are given.
@@ -28,16 +28,9 @@
 //! is, `itanium_grammar` defines.
 #![tactic(auto)]
 
-mod args;
-mod declarators;
 mod demangler;
-mod encodings;
-mod expressions;
 pub mod laws;
-mod names;
-mod reader;
-mod stop;
-mod types;
+mod mangled_name;
 
-pub use crate::demangler::{Demangler, MAX_DEPTH};
+pub use crate::demangler::{Demangler, MAX_DEPTH, demangle_owned};
 pub use itanium_syntax::scalar;

@@ -3,13 +3,13 @@ use Rattle.std.proofs.Common.{◌≡◌, ℕ, Bool, List, Option, drop, refl, ar
 use Rattle.demangle_quals.specs.declared.quals.Quals.{Quals}
 use Rattle.itanium_syntax.specs.declared.context.Context.{Context}
 use Rattle.itanium_syntax.specs.declared.numerals.Radix.TheVariants.{Decimal, Base36}
-use Rattle.itanium_grammar.specs.Cases.{SymbolCase, LiteralCase, ExpressionCase, NameCase, ReturnCase, SignatureCase, EntityCase, UnscopedCase, AttachedCase, FirstCase, ComponentCase, UnqualifiedCase, FreeCase, TagCase, SubstitutionCase, ArgsCase, ArgumentCase, TypeCase, CvCase, ParamsCase, TypesCase}
+use Rattle.itanium_grammar.specs.Cases.{SymbolCase, SpecialCase, LiteralCase, ExpressionCase, NameCase, ReturnCase, SignatureCase, EntityCase, UnscopedCase, AttachedCase, FirstCase, ComponentCase, UnqualifiedCase, FreeCase, TagCase, SubstitutionCase, ArgsCase, ArgumentCase, TypeCase, CvCase, ParamsCase, TypesCase}
 use Rattle.itanium_syntax.specs.Names.{first_case, component_case, unqualified_case}
 use Rattle.itanium_syntax.specs.Args.{args_case}
 use Rattle.itanium_syntax.specs.Types.{type_case, past_reference}
-use Rattle.itanium_syntax.proofs.Fronts.{IsAfter, Takes, after_none, after_drop, after_then, takes_then, after_takes, takes_takes, takes_drop, internal_after, initializer_after, cv_after, quals_after, reference_after, builtin_after, builtin_shorter, abbreviation_takes, index_takes, source_takes, optional_number_takes, constructor_some, destructor_some, std_shorter, components_end_shorter, arguments_end_shorter, unnamed_type_takes, lambda_takes, operator_takes, literal_value_takes}
+use Rattle.itanium_syntax.proofs.Fronts.{IsAfter, Takes, after_none, after_drop, after_then, takes_then, after_takes, takes_takes, takes_drop, internal_after, initializer_after, cv_after, quals_after, reference_after, builtin_after, builtin_shorter, abbreviation_takes, index_takes, source_takes, optional_number_takes, constructor_some, destructor_some, std_shorter, components_end_shorter, arguments_end_shorter, unnamed_type_takes, lambda_takes, operator_takes, literal_value_takes, thunk_offsets_after}
 use Rattle.itanium_grammar.specs.Tree.{Tree, Operand}
-use Rattle.itanium_grammar.specs.Grammar.{Position, Cost, Expression, ExpressionAs, OperandOf, LiteralAs, expression_argument, literal_argument, external_name, value_literal, expression, operand_of, pre_expression, address_expression, unary_expression, post_expression, binary_expression, greater_expression, conditional_expression, parameter_expression, literal_expression, SubstitutionAs, Substitution, Parameter, TaggedAs, UnqualifiedAs, Unqualified, FirstAs, Name, NameAs, Local, EntityAs, Encoding, EncodingAs, ReturnAs, SignatureAs, UnscopedAs, AttachedAs, Nested, Components, ComponentsAs, Args, Arguments, ArgumentsAs, ArgumentAs, TypeOf, TypeAs, CvAs, Function, ParamsAs, TypesAs, TypeAttachedAs, SymbolAs, Symbol, abbreviation_substitution, component_substitution, substitution, parameter, no_tag, next_tag, source_free, unnamed_type_free, lambda_free, conversion_free, literal_operator_free, operator_free, FreeAs, free_component, constructor_component, destructor_component, unqualified, parameter_first, std_first, substitution_first, name_first, name, nested_name, local_name, local, string_literal_entity, default_argument_entity, name_entity, encoding, name_encoding, no_return_type, some_return_type, no_signature, some_signature, unscoped_name, std_name, substitution_name, global_name, none_attached, args_attached, nested, components, end_of_components, args_component, name_component, args, arguments, end_of_arguments, one_more_argument, pack_argument, type_argument, Pack, PackedAs, pack, end_of_pack, one_more_packed, expansion_type, type, builtin_type, vendor_type, array_type, function_type, member_type, pointer_type, cv_type, elaborated_type, parameter_type, substitution_type, name_type, cv_function, cv_other, function, no_params, some_params, end_of_types, one_more_type, none_attached_to_type, args_attached_to_type, name_symbol, symbol}
+use Rattle.itanium_grammar.specs.Grammar.{Position, Cost, SpecialAs, Thunk, special_encoding, type_special, name_special, temporary_special, construction_special, thunk_special, thunk, special_symbol, Expression, ExpressionAs, OperandOf, LiteralAs, expression_argument, literal_argument, external_name, value_literal, expression, operand_of, pre_expression, address_expression, unary_expression, post_expression, binary_expression, greater_expression, conditional_expression, parameter_expression, literal_expression, SubstitutionAs, Substitution, Parameter, TaggedAs, UnqualifiedAs, Unqualified, FirstAs, Name, NameAs, Local, EntityAs, Encoding, EncodingAs, ReturnAs, SignatureAs, UnscopedAs, AttachedAs, Nested, Components, ComponentsAs, Args, Arguments, ArgumentsAs, ArgumentAs, TypeOf, TypeAs, CvAs, Function, ParamsAs, TypesAs, TypeAttachedAs, SymbolAs, Symbol, abbreviation_substitution, component_substitution, substitution, parameter, no_tag, next_tag, source_free, unnamed_type_free, lambda_free, conversion_free, literal_operator_free, operator_free, FreeAs, free_component, constructor_component, destructor_component, unqualified, parameter_first, std_first, substitution_first, name_first, name, nested_name, local_name, local, string_literal_entity, default_argument_entity, name_entity, encoding, name_encoding, no_return_type, some_return_type, no_signature, some_signature, unscoped_name, std_name, substitution_name, global_name, none_attached, args_attached, nested, components, end_of_components, args_component, name_component, args, arguments, end_of_arguments, one_more_argument, pack_argument, type_argument, Pack, PackedAs, pack, end_of_pack, one_more_packed, expansion_type, type, builtin_type, vendor_type, array_type, function_type, member_type, pointer_type, cv_type, elaborated_type, parameter_type, substitution_type, name_type, cv_function, cv_other, function, no_params, some_params, end_of_types, one_more_type, none_attached_to_type, args_attached_to_type, name_symbol, symbol}
 
 substitution_as_takes : {case : SubstitutionCase} {p q : Position} {t : Tree} → SubstitutionAs case p t q → Takes q.rest p.rest
 substitution_as_takes (abbreviation_substitution {p = p} known) = abbreviation_takes p.rest _ known
@@ -48,7 +48,24 @@ mutual
   encoding_takes (encoding a) = encoding_as_takes a
 
   encoding_as_takes : {case : SymbolCase} {x : Context} {p q : Position} {t : Tree} {c : Cost} → EncodingAs case x p t q c → Takes q.rest p.rest
+  encoding_as_takes (special_encoding a) = special_takes a
   encoding_as_takes (name_encoding a b d) = takes_then (name_takes a) (after_then (return_after b) (signature_after d))
+
+  special_takes : {case : SpecialCase} {x : Context} {p q : Position} {t : Tree} {c : Cost} → SpecialAs case x p t q c → Takes q.rest p.rest
+  special_takes (type_special {p = p} a) = after_takes (after_drop 2 p.rest) (type_takes a)
+  special_takes (name_special {p = p} a) = after_takes (after_drop 2 p.rest) (name_takes a)
+  special_takes (temporary_special {p = p} {q = q} {number = k} {rest = r} a found) =
+      takes_takes (after_takes (after_drop 2 p.rest) (name_takes a)) (index_takes Base36 q.rest (k, r) found)
+  special_takes (construction_special {p = p} a b) = after_takes (after_drop 2 p.rest) (takes_takes (type_takes a) (type_takes b))
+  special_takes (thunk_special a) = thunk_takes a
+
+  pub thunk_takes : {x : Context} {p q : Position} {t : Tree} {c : Cost} → Thunk x p t q c → Takes q.rest p.rest
+  thunk_takes (thunk {p = p} {offsets = o} {rest = r} found a) =
+      after_takes (after_then (after_drop 1 p.rest) (thunk_offsets_after (drop 1 p.rest) (o, r) found)) (symbol_as_takes a)
+
+  symbol_as_takes : {case : SymbolCase} {x : Context} {p q : Position} {t : Tree} {c : Cost} → SymbolAs case x p t q c → Takes q.rest p.rest
+  symbol_as_takes (special_symbol a) = special_takes a
+  symbol_as_takes (name_symbol a) = name_takes a
 
   return_after : {case : ReturnCase} {x : Context} {p q : Position} {c : Cost} → ReturnAs case x p q c → IsAfter q.rest p.rest
   return_after (no_return_type {p = p}) = after_none p.rest
@@ -190,9 +207,6 @@ mutual
   type_attached_after : {case : AttachedCase} {x : Context} {t u : Tree} {p q : Position} {c : Cost} → TypeAttachedAs case x t p u q c → IsAfter q.rest p.rest
   type_attached_after (none_attached_to_type {p = p}) = after_none p.rest
   type_attached_after (args_attached_to_type a) = args_after a
-
-symbol_as_takes : {case : SymbolCase} {x : Context} {p q : Position} {t : Tree} {c : Cost} → SymbolAs case x p t q c → Takes q.rest p.rest
-symbol_as_takes (name_symbol a) = name_takes a
 
 pub symbol_takes : {x : Context} {p q : Position} {t : Tree} {c : Cost} → Symbol x p t q c → Takes q.rest p.rest
 symbol_takes (symbol a) = symbol_as_takes a

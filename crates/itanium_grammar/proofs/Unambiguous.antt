@@ -3,16 +3,18 @@ use Rattle.std.proofs.Common.{◌≡◌, ℕ, Bool, true, false, ◌∷◌, List
 use Rattle.std.proofs.lemmas.Option.{some_pair_parts, same_Some}
 use Rattle.demangle_quals.specs.declared.quals.Quals.{Quals}
 use Rattle.itanium_syntax.specs.declared.context.Context.{Context}
-use Rattle.itanium_grammar.specs.Cases.{SymbolCase, LiteralCase, ExpressionCase, NameCase, ReturnCase, SignatureCase, EntityCase, UnscopedCase, AttachedCase, FirstCase, ComponentCase, UnqualifiedCase, FreeCase, TagCase, SubstitutionCase, ArgsCase, ArgumentCase, TypeCase, CvCase, ParamsCase, TypesCase}
-use Rattle.itanium_syntax.specs.Names.{source_text, tag_case, past_name_quals, name_quals, saves_first, first_case}
-use Rattle.itanium_syntax.specs.Scalars.{lambda_number}
+use Rattle.itanium_grammar.specs.Cases.{SymbolCase, SpecialCase, LiteralCase, ExpressionCase, NameCase, ReturnCase, SignatureCase, EntityCase, UnscopedCase, AttachedCase, FirstCase, ComponentCase, UnqualifiedCase, FreeCase, TagCase, SubstitutionCase, ArgsCase, ArgumentCase, TypeCase, CvCase, ParamsCase, TypesCase}
+use Rattle.itanium_syntax.specs.Names.{symbol_case, source_text, tag_case, past_name_quals, name_quals, saves_first, first_case}
+use Rattle.itanium_syntax.specs.Scalars.{lambda_number, index_of}
+use Rattle.itanium_syntax.specs.declared.numerals.Radix.TheVariants.{Base36}
 use Rattle.itanium_syntax.specs.Context.{inside_local}
 use Rattle.itanium_syntax.specs.Expressions.{is_external, literal_value, expression_text}
+use Rattle.itanium_syntax.specs.Specials.{special_text, special_close}
 use Rattle.itanium_syntax.specs.Encodings.{return_case, signature_case, entity_case}
 use Rattle.itanium_syntax.specs.Args.{attached_case, args_case}
 use Rattle.itanium_syntax.specs.Types.{params_case, types_case, elaborated_text, with_reference, past_reference}
-use Rattle.itanium_grammar.specs.Tree.{Tree, Operand, operand, literal_of, address_of, pre_of, unary_of, post_of, binary_of, greater_of, conditional_of, local_in, function_encoding, name_printing, shape_of, tagged_with, lambda_of, conversion_to, pack_of, unnamed_text, literal_operator_text, expanded, plain_text, abbreviation, with_args, nested_of, pointer_to, cv_of, array_of, member_of, function_to, elaborated, trees, in_scope, printing, list_printing}
-use Rattle.itanium_grammar.specs.Grammar.{Position, Cost, Expression, ExpressionAs, OperandOf, LiteralAs, expression_argument, literal_argument, external_name, value_literal, expression, operand_of, pre_expression, address_expression, unary_expression, post_expression, binary_expression, greater_expression, conditional_expression, parameter_expression, literal_expression, at, skip, counted, saving, save, put, past_initializer, both, SubstitutionAs, Substitution, ParameterAs, Parameter, TaggedAs, UnqualifiedAs, Unqualified, FirstAs, Name, NameAs, Local, EntityAs, Encoding, EncodingAs, ReturnAs, SignatureAs, UnscopedAs, AttachedAs, Nested, Components, ComponentsAs, Args, Arguments, ArgumentsAs, ArgumentAs, TypeOf, TypeAs, CvAs, Function, ParamsAs, TypesAs, TypeAttachedAs, SymbolAs, Symbol, abbreviation_substitution, component_substitution, substitution, auto_parameter, scope_parameter, parameter, no_tag, next_tag, source_free, unnamed_type_free, lambda_free, conversion_free, literal_operator_free, operator_free, FreeAs, free_component, nothing, constructor_component, destructor_component, unqualified, parameter_first, std_first, substitution_first, name_first, name, nested_name, local_name, local, string_literal_entity, default_argument_entity, name_entity, encoding, name_encoding, no_return_type, some_return_type, no_signature, some_signature, unscoped_name, std_name, substitution_name, global_name, none_attached, args_attached, nested, components, end_of_components, args_component, name_component, args, arguments, end_of_arguments, one_more_argument, pack_argument, type_argument, Pack, PackedAs, pack, end_of_pack, one_more_packed, expansion_type, type, builtin_type, vendor_type, array_type, function_type, member_type, pointer_type, cv_type, elaborated_type, parameter_type, substitution_type, name_type, cv_function, cv_other, function, no_params, some_params, end_of_types, one_more_type, none_attached_to_type, args_attached_to_type, name_symbol, symbol}
+use Rattle.itanium_grammar.specs.Tree.{Tree, worded, temporary_of, construction_of, thunk_of, Operand, operand, literal_of, address_of, pre_of, unary_of, post_of, binary_of, greater_of, conditional_of, local_in, function_encoding, name_printing, shape_of, tagged_with, lambda_of, conversion_to, pack_of, unnamed_text, literal_operator_text, expanded, plain_text, abbreviation, with_args, nested_of, pointer_to, cv_of, array_of, member_of, function_to, elaborated, trees, in_scope, printing, list_printing}
+use Rattle.itanium_grammar.specs.Grammar.{Position, Cost, SpecialAs, Thunk, special_encoding, type_special, name_special, temporary_special, construction_special, thunk_special, thunk, special_symbol, Expression, ExpressionAs, OperandOf, LiteralAs, expression_argument, literal_argument, external_name, value_literal, expression, operand_of, pre_expression, address_expression, unary_expression, post_expression, binary_expression, greater_expression, conditional_expression, parameter_expression, literal_expression, at, skip, counted, saving, save, put, past_initializer, both, SubstitutionAs, Substitution, ParameterAs, Parameter, TaggedAs, UnqualifiedAs, Unqualified, FirstAs, Name, NameAs, Local, EntityAs, Encoding, EncodingAs, ReturnAs, SignatureAs, UnscopedAs, AttachedAs, Nested, Components, ComponentsAs, Args, Arguments, ArgumentsAs, ArgumentAs, TypeOf, TypeAs, CvAs, Function, ParamsAs, TypesAs, TypeAttachedAs, SymbolAs, Symbol, abbreviation_substitution, component_substitution, substitution, auto_parameter, scope_parameter, parameter, no_tag, next_tag, source_free, unnamed_type_free, lambda_free, conversion_free, literal_operator_free, operator_free, FreeAs, free_component, nothing, constructor_component, destructor_component, unqualified, parameter_first, std_first, substitution_first, name_first, name, nested_name, local_name, local, string_literal_entity, default_argument_entity, name_entity, encoding, name_encoding, no_return_type, some_return_type, no_signature, some_signature, unscoped_name, std_name, substitution_name, global_name, none_attached, args_attached, nested, components, end_of_components, args_component, name_component, args, arguments, end_of_arguments, one_more_argument, pack_argument, type_argument, Pack, PackedAs, pack, end_of_pack, one_more_packed, expansion_type, type, builtin_type, vendor_type, array_type, function_type, member_type, pointer_type, cv_type, elaborated_type, parameter_type, substitution_type, name_type, cv_function, cv_other, function, no_params, some_params, end_of_types, one_more_type, none_attached_to_type, args_attached_to_type, name_symbol, symbol}
 
 -- two readings have the same tree, the same position after them and the same cost
 pub record Same {T : Type 0} (t u : T) (q r : Position) (c d : Cost) : Type 0 where
@@ -109,11 +111,37 @@ mutual
 
   one_encoding_as : {case : SymbolCase} {x : Context} {p q r : Position} {t u : Tree} {c d : Cost} → EncodingAs case x p t q c → EncodingAs case x p u r d
       → Same t u q r c d
+  one_encoding_as (special_encoding a) (special_encoding b) = one_special a b
   one_encoding_as (name_encoding {x = x} a b g) (name_encoding {r = r} {s = s} {u = u} {d = d} {e = e} f h k) =
       let first = one_name a f in
       let mid = one_return b (along (λ t o. ReturnAs (return_case (shape_of t).templ (shape_of t).ctor o.rest) x o r d) (sym first.tree) (sym first.next) h) in
       let same = one_signature g (along (λ t o. SignatureAs (signature_case o.rest) x t o u s e) (sym first.tree) (sym mid.0) k) in
       record { tree = same.tree; next = same.next; cost = ap₂ both first.cost (ap₂ both mid.1 same.cost) }
+
+  one_special : {case : SpecialCase} {x : Context} {p q r : Position} {t u : Tree} {c d : Cost}
+      → SpecialAs case x p t q c → SpecialAs case x p u r d → Same t u q r c d
+  one_special (type_special {p = p} a) (type_special b) = same_made (λ t. worded (special_text p.rest) t (special_close p.rest)) (one_type a b)
+  one_special (name_special {p = p} a) (name_special b) = same_made (λ t. worded (special_text p.rest) t (special_close p.rest)) (one_name a b)
+  one_special (temporary_special a e) (temporary_special b g) =
+      let same = one_name a b in
+      let found = some_pair_parts _ _ _ _ (sym e ∙ ap (λ o. index_of Base36 o.rest) same.next ∙ g) in
+      record { tree = ap₂ temporary_of found.0 same.tree; next = ap₂ at found.1 same.next; cost = same.cost }
+  one_special (construction_special {x = x} a b) (construction_special {r = r} {u = v} {d = d} f h) =
+      let first = one_type a f in
+      let same = one_type b (subst (λ o. TypeOf x o v r d) (sym first.next) h) in
+      record { tree = ap₂ construction_of first.tree same.tree; next = same.next; cost = ap₂ both first.cost same.cost }
+  one_special (thunk_special a) (thunk_special b) = one_thunk a b
+
+  one_thunk : {x : Context} {p q r : Position} {t u : Tree} {c d : Cost} → Thunk x p t q c → Thunk x p u r d → Same t u q r c d
+  one_thunk (thunk {x = x} {p = p} e a) (thunk {q = r} {t = u} {c = d} g b) =
+      let found = some_pair_parts _ _ _ _ (sym g ∙ e) in
+      let same = one_symbol_as a (subst (λ v. SymbolAs (symbol_case v) x (at v p) u r d) found.1 b) in
+      same_counted printing (record { tree = ap₂ thunk_of (sym found.0) same.tree; next = same.next; cost = same.cost })
+
+  one_symbol_as : {case : SymbolCase} {x : Context} {p q r : Position} {t u : Tree} {c d : Cost}
+      → SymbolAs case x p t q c → SymbolAs case x p u r d → Same t u q r c d
+  one_symbol_as (special_symbol a) (special_symbol b) = one_special a b
+  one_symbol_as (name_symbol a) (name_symbol b) = one_name a b
 
   one_return : {case : ReturnCase} {x : Context} {p q r : Position} {c d : Cost} → ReturnAs case x p q c → ReturnAs case x p r d → (q ≡ r) × (c ≡ d)
   one_return no_return_type no_return_type = (refl, refl)
@@ -363,10 +391,6 @@ mutual
   one_type_attached (args_attached_to_type {t = t} a) (args_attached_to_type b) =
       let same = one_args a b in
       same_saved (record { tree = ap (λ ts. with_args t (trees ts)) same.tree; next = same.next; cost = same.cost })
-
-one_symbol_as : {case : SymbolCase} {x : Context} {p q r : Position} {t u : Tree} {c d : Cost}
-    → SymbolAs case x p t q c → SymbolAs case x p u r d → Same t u q r c d
-one_symbol_as (name_symbol a) (name_symbol b) = one_name a b
 
 pub one_symbol : {x : Context} {p q r : Position} {t u : Tree} {c d : Cost} → Symbol x p t q c → Symbol x p u r d → Same t u q r c d
 one_symbol (symbol a) (symbol b) = one_symbol_as a b

@@ -1,5 +1,5 @@
 -- What a symbol's answer is.
-use Rattle.std.specs.Prelude.{◌≡◌, ◌≤◌, ℕ, ◌++◌, List, [], Option, Some, None, drop, codes, false, if◌then◌else◌}
+use Rattle.std.specs.Prelude.{◌≡◌, ◌≤◌, ℕ, ◌*◌, ◌++◌, List, [], map, length, Option, Some, None, drop, codes, false, if◌then◌else◌}
 use Rattle.std.specs.Str.{IsUtf8}
 use Rattle.itanium_syntax.specs.declared.context.Context.{Context}
 use Rattle.itanium_grammar.specs.Tree.{Tree, printing}
@@ -69,3 +69,25 @@ pub record HasOneReading (symbol : List ℕ) : Type 0 where
       → c.depth ≤ max_depth
       → d.depth ≤ max_depth
       → (t ≡ u) × (q ≡ r) × (c ≡ d)
+
+-- the counts are those of every reading of the symbol within the depth
+abbrev pub HasCounts : List ℕ → ℕ → ℕ → Type 0
+HasCounts symbol entered most_saved =
+    (tree : Tree) (next : Position) (cost : Cost)
+    → IsReading symbol tree next cost
+    → cost.depth ≤ max_depth
+    → (entered ≡ cost.count) × (most_saved ≡ cost.peak)
+
+-- where there is an answer, these are the printings of the trees that every reading within the depth leaves saved;
+-- elsewhere there are none
+abbrev pub HasComponents : List ℕ → Option (List ℕ) → List (List ℕ) → Type 0
+HasComponents symbol (Some answer) components =
+    (tree : Tree) (next : Position) (cost : Cost)
+    → IsReading symbol tree next cost
+    → cost.depth ≤ max_depth
+    → components ≡ map printing next.saved
+HasComponents symbol None components = components ≡ []
+
+-- at most two productions are entered for each byte of the symbol, and at most one component is saved for each
+abbrev pub HasBounds : List ℕ → ℕ → ℕ → Type 0
+HasBounds symbol entered most_saved = (entered ≤ 2 * length symbol) × (most_saved ≤ length symbol)

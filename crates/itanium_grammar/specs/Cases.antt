@@ -33,6 +33,8 @@ pub use Rattle.itanium_syntax.specs.declared.expressions.LiteralCase.{LiteralCas
 pub use Rattle.itanium_syntax.specs.declared.expressions.LiteralCase.TheVariants.{ExternalName, ValueLiteral, NoLiteral}
 pub use Rattle.itanium_syntax.specs.declared.expressions.ExpressionCase.{ExpressionCase}
 pub use Rattle.itanium_syntax.specs.declared.expressions.ExpressionCase.TheVariants.{PreExpression, AddressExpression, UnaryExpression, PostExpression, BinaryExpression, GreaterExpression, ConditionalExpression, ParameterExpression, LiteralExpression, NoExpression}
+pub use Rattle.itanium_syntax.specs.declared.specials.SpecialCase.{SpecialCase}
+pub use Rattle.itanium_syntax.specs.declared.specials.SpecialCase.TheVariants.{TypeSpecial, NameSpecial, TemporarySpecial, ConstructionSpecial, ThunkSpecial, NoSpecial}
 pub use Rattle.itanium_syntax.specs.declared.types.TypeCase.{TypeCase}
 pub use Rattle.itanium_syntax.specs.declared.types.TypeCase.TheVariants.{BuiltinType, ExpansionType, VendorType, ArrayType, FunctionType, MemberType, PointerType, CvType, ElaboratedType, ParameterType, SubstitutionType, UnreadType, NameType}
 pub use Rattle.itanium_syntax.specs.declared.types.CvCase.{CvCase}

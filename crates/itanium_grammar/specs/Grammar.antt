@@ -10,7 +10,7 @@ use Rattle.demangle_edit.specs.Expressions.{has_literal}
 use Rattle.itanium_syntax.specs.declared.abbreviations.Abbreviation.{Abbreviation}
 use Rattle.itanium_syntax.specs.declared.context.Context.{Context}
 use Rattle.itanium_syntax.specs.declared.numerals.Radix.TheVariants.{Decimal, Base36}
-use Rattle.itanium_grammar.specs.Cases.{SymbolCase, NameSymbol, NameCase, NestedName, LocalName, UnscopedName, ReturnCase, NoReturnType, SomeReturnType, SignatureCase, NoSignature, SomeSignature, EntityCase, StringLiteralEntity, DefaultArgumentEntity, NameEntity, UnscopedCase, StdName, SubstitutionName, PlainName, AttachedCase, NoneAttached, ArgsAttached, FirstCase, ParameterFirst, StdFirst, SubstitutionFirst, NameFirst, ComponentCase, EndOfComponents, ArgsComponent, NameComponent, UnqualifiedCase, ConstructorName, DestructorName, FreeName, FreeCase, SourceName, UnnamedTypeName, LambdaName, ConversionName, LiteralOperatorName, OperatorName, TagCase, NoTag, NextTag, SubstitutionCase, AbbreviationSubstitution, ComponentSubstitution, ArgsCase, EndOfArguments, NextArgument, ArgumentCase, ExpressionArgument, PackArgument, LiteralArgument, TypeArgument, LiteralCase, ExternalName, ValueLiteral, ExpressionCase, PreExpression, AddressExpression, UnaryExpression, PostExpression, BinaryExpression, GreaterExpression, ConditionalExpression, ParameterExpression, LiteralExpression, TypeCase, BuiltinType, ExpansionType, VendorType, ArrayType, FunctionType, MemberType, PointerType, CvType, ElaboratedType, ParameterType, SubstitutionType, NameType, CvCase, CvFunction, CvOther, PlainFunction, ParamsCase, NoParams, SomeParams, TypesCase, EndOfTypes, NextType}
+use Rattle.itanium_grammar.specs.Cases.{SymbolCase, SpecialSymbol, NameSymbol, SpecialCase, TypeSpecial, NameSpecial, TemporarySpecial, ConstructionSpecial, ThunkSpecial, NameCase, NestedName, LocalName, UnscopedName, ReturnCase, NoReturnType, SomeReturnType, SignatureCase, NoSignature, SomeSignature, EntityCase, StringLiteralEntity, DefaultArgumentEntity, NameEntity, UnscopedCase, StdName, SubstitutionName, PlainName, AttachedCase, NoneAttached, ArgsAttached, FirstCase, ParameterFirst, StdFirst, SubstitutionFirst, NameFirst, ComponentCase, EndOfComponents, ArgsComponent, NameComponent, UnqualifiedCase, ConstructorName, DestructorName, FreeName, FreeCase, SourceName, UnnamedTypeName, LambdaName, ConversionName, LiteralOperatorName, OperatorName, TagCase, NoTag, NextTag, SubstitutionCase, AbbreviationSubstitution, ComponentSubstitution, ArgsCase, EndOfArguments, NextArgument, ArgumentCase, ExpressionArgument, PackArgument, LiteralArgument, TypeArgument, LiteralCase, ExternalName, ValueLiteral, ExpressionCase, PreExpression, AddressExpression, UnaryExpression, PostExpression, BinaryExpression, GreaterExpression, ConditionalExpression, ParameterExpression, LiteralExpression, TypeCase, BuiltinType, ExpansionType, VendorType, ArrayType, FunctionType, MemberType, PointerType, CvType, ElaboratedType, ParameterType, SubstitutionType, NameType, CvCase, CvFunction, CvOther, PlainFunction, ParamsCase, NoParams, SomeParams, TypesCase, EndOfTypes, NextType}
 use Rattle.itanium_syntax.specs.Scalars.{source_name, index_of, unnamed_type_number, lambda_number, optional_number}
 use Rattle.itanium_syntax.specs.Operators.{operator_here}
 use Rattle.itanium_syntax.specs.Abbreviations.{abbreviation_of}
@@ -18,10 +18,13 @@ use Rattle.itanium_syntax.specs.Context.{opens_scope, inside_type, inside_pack, 
 use Rattle.itanium_syntax.specs.Names.{symbol_case, name_case, unscoped_case, first_case, component_case, unqualified_case, free_case, tag_case, past_internal, past_initializer_letter, source_text, name_quals, past_name_quals, saves_first, substitution_case}
 use Rattle.itanium_syntax.specs.Bytes.{begins}
 use Rattle.itanium_syntax.specs.Expressions.{is_external, literal_case, literal_value, expression_text, expression_case}
+use Rattle.itanium_syntax.specs.declared.offsets.ThunkOffsets.{ThunkOffsets}
+use Rattle.itanium_syntax.specs.Offsets.{thunk_offsets}
+use Rattle.itanium_syntax.specs.Specials.{special_case, special_text, special_close}
 use Rattle.itanium_syntax.specs.Encodings.{return_case, signature_case, entity_case}
 use Rattle.itanium_syntax.specs.Args.{attached_case, args_case, argument_case}
 use Rattle.itanium_syntax.specs.Types.{type_case, builtin_text, past_builtin, cv_quals, past_cv, with_reference, past_reference, cv_case, function_case, params_case, types_case, elaborated_text}
-use Rattle.itanium_grammar.specs.Tree.{Tree, Operand, operand, literal_of, address_of, pre_of, unary_of, post_of, binary_of, greater_of, conditional_of, local_in, string_literal_of, default_argument_of, encoding_of, function_encoding, name_printing, plain_text, abbreviation, ctor_dtor_of, tagged_with, with_args, lambda_of, conversion_to, nested_of, pointer_to, cv_of, array_of, member_of, function_to, elaborated, pack_of, trees, in_scope, unnamed_text, literal_operator_text, expanded, shape_of, printing, list_printing}
+use Rattle.itanium_grammar.specs.Tree.{Tree, worded, temporary_of, construction_of, thunk_of, Operand, operand, literal_of, address_of, pre_of, unary_of, post_of, binary_of, greater_of, conditional_of, local_in, string_literal_of, default_argument_of, encoding_of, function_encoding, name_printing, plain_text, abbreviation, ctor_dtor_of, tagged_with, with_args, lambda_of, conversion_to, nested_of, pointer_to, cv_of, array_of, member_of, function_to, elaborated, pack_of, trees, in_scope, unnamed_text, literal_operator_text, expanded, shape_of, printing, list_printing}
 
 -- where a reading stands: the bytes that are left, the trees saved so far, and the scopes with their arguments
 pub record Position : Type 0 where
@@ -206,7 +209,7 @@ mutual
         → Name waits x (skip 1 p) u q c
         → EntityAs NameEntity waits x t p (local_in t u) q c
 
-  -- <encoding> ::= <name> [<return type>] [<parameter types>]
+  -- <encoding> ::= <special-name> | <name> [<return type>] [<parameter types>]
   pub data Encoding : Context → Position → Tree → Position → Cost → Type 0 where
     encoding :
         {x : Context} {p q : Position} {t : Tree} {c : Cost}
@@ -215,6 +218,11 @@ mutual
 
   -- <encoding>, by what it begins with
   pub data EncodingAs : SymbolCase → Context → Position → Tree → Position → Cost → Type 0 where
+    -- <special-name>
+    special_encoding :
+        {x : Context} {p q : Position} {t : Tree} {c : Cost}
+        → SpecialAs (special_case p.rest) x p t q c
+        → EncodingAs SpecialSymbol x p t q c
     -- a <name>, whose own qualifiers wait, then its return type and its parameters
     name_encoding :
         {x : Context} {p q r s : Position} {t u : Tree} {c d e : Cost}
@@ -222,6 +230,57 @@ mutual
         → ReturnAs (return_case (shape_of t).templ (shape_of t).ctor q.rest) x q r d
         → SignatureAs (signature_case r.rest) x t r u s e
         → EncodingAs NameSymbol x p u s (both c (both d e))
+
+  -- <special-name>, by what it begins with
+  pub data SpecialAs : SpecialCase → Context → Position → Tree → Position → Cost → Type 0 where
+    -- TV <type> | TT <type> | TI <type> | TS <type> | TF <type>
+    type_special :
+        {x : Context} {p q : Position} {t : Tree} {c : Cost}
+        → TypeOf x (skip 2 p) t q c
+        → SpecialAs TypeSpecial x p (worded (special_text p.rest) t (special_close p.rest)) q c
+    -- TH <name> | TW <name> | GV <name>
+    name_special :
+        {x : Context} {p q : Position} {t : Tree} {c : Cost}
+        → Name false x (skip 2 p) t q c
+        → SpecialAs NameSpecial x p (worded (special_text p.rest) t (special_close p.rest)) q c
+    -- GR <name> [<seq-id>] _
+    temporary_special :
+        {x : Context} {p q : Position} {t : Tree} {c : Cost} {number : ℕ} {rest : List ℕ}
+        → Name false x (skip 2 p) t q c
+        → index_of Base36 q.rest ≡ Some (number, rest)
+        → SpecialAs TemporarySpecial x p (temporary_of number t) (at rest q) c
+    -- TC <type> <type>: the ABI's offset number between them isn't read
+    construction_special :
+        {x : Context} {p q r : Position} {t u : Tree} {c d : Cost}
+        → TypeOf x (skip 2 p) t q c
+        → TypeOf x q u r d
+        → SpecialAs ConstructionSpecial x p (construction_of t u) r (both c d)
+    -- a thunk
+    thunk_special :
+        {x : Context} {p q : Position} {t : Tree} {c : Cost}
+        → Thunk x p t q c
+        → SpecialAs ThunkSpecial x p t q c
+
+  -- T <call-offset> <encoding> | T c <call-offset> <call-offset> <encoding>: counted, its encoding without parameters
+  pub data Thunk : Context → Position → Tree → Position → Cost → Type 0 where
+    thunk :
+        {x : Context} {p q : Position} {t : Tree} {c : Cost} {offsets : ThunkOffsets} {rest : List ℕ}
+        → thunk_offsets (drop 1 p.rest) ≡ Some (offsets, rest)
+        → SymbolAs (symbol_case rest) x (at rest p) t q c
+        → Thunk x p (thunk_of offsets t) q (counted (length (printing (thunk_of offsets t))) c)
+
+  -- what follows the prefix of a symbol, by what it begins with: a special name, or a name without its parameters
+  pub data SymbolAs : SymbolCase → Context → Position → Tree → Position → Cost → Type 0 where
+    -- <special-name>
+    special_symbol :
+        {x : Context} {p q : Position} {t : Tree} {c : Cost}
+        → SpecialAs (special_case p.rest) x p t q c
+        → SymbolAs SpecialSymbol x p t q c
+    -- <name>
+    name_symbol :
+        {x : Context} {p q : Position} {t : Tree} {c : Cost}
+        → Name false x p t q c
+        → SymbolAs NameSymbol x p t q c
 
   -- the return type of an encoding, or none: it isn't printed, and what it saved and the scopes that it left stay
   pub data ReturnAs : ReturnCase → Context → Position → Position → Cost → Type 0 where
@@ -692,14 +751,6 @@ mutual
         → Args x false p list q c
         → TypeAttachedAs ArgsAttached x t p (with_args t (trees list))
         (save (with_args t (trees list)) q) (both c (saving q))
-
--- what follows the prefix of a symbol: a special name, or a name without its parameters
-pub data SymbolAs : SymbolCase → Context → Position → Tree → Position → Cost → Type 0 where
-  -- <name>
-  name_symbol :
-      {x : Context} {p q : Position} {t : Tree} {c : Cost}
-      → Name false x p t q c
-      → SymbolAs NameSymbol x p t q c
 
 -- what follows the prefix of a symbol
 pub data Symbol : Context → Position → Tree → Position → Cost → Type 0 where

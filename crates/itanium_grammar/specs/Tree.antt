@@ -6,10 +6,16 @@ use Rattle.demangle_quals.specs.declared.quals.Quals.{Quals}
 use Rattle.demangle_quals.specs.declared.quals.Pointer.{Pointer}
 use Rattle.demangle_quals.specs.Quals.{no_quals}
 use Rattle.demangle_edit.specs.Types.{pointer_shape, cv_shape, array_shape, member_pointer_shape, function_shape, expansion_shape}
+use Rattle.std.specs.List.{concat}
 use Rattle.demangle_edit.specs.Lists.{glued}
 use Rattle.demangle_edit.specs.Expressions.{literal_shape, operand_shape, address_shape}
 use Rattle.demangle_edit.specs.Built.{arguments_shape, pack_shape, lambda_shape}
 use Rattle.demangle_edit.specs.Names.{qualified, qualified_ctor, attached, tagged, with_name_qualifiers, encoding_shape}
+use Rattle.itanium_syntax.specs.declared.offsets.Signed.{Signed}
+use Rattle.itanium_syntax.specs.declared.offsets.CallOffset.{CallOffset}
+use Rattle.itanium_syntax.specs.declared.offsets.CallOffset.TheVariants.{Plain, Virtual}
+use Rattle.itanium_syntax.specs.declared.offsets.ThunkOffsets.{ThunkOffsets}
+use Rattle.itanium_syntax.specs.declared.offsets.ThunkOffsets.TheVariants.{Single, Covariant}
 use Rattle.itanium_syntax.specs.declared.abbreviations.Abbreviation.{Abbreviation}
 use Rattle.itanium_syntax.specs.Names.{source_text}
 use Rattle.itanium_syntax.specs.Abbreviations.{abbreviation_text, abbreviation_own}
@@ -61,6 +67,14 @@ mutual
     expansion_of : Tree → Tree
     -- a pack of arguments
     pack_of : Trees → Tree
+    -- words around a type or in front of a name
+    worded : List ℕ → Tree → List ℕ → Tree
+    -- a reference temporary of a name, with its number
+    temporary_of : ℕ → Tree → Tree
+    -- the construction vtable of a type in another
+    construction_of : Tree → Tree → Tree
+    -- a thunk: its offsets, and what it stands for
+    thunk_of : ThunkOffsets → Tree → Tree
     -- a literal: its type, and its value as it stands in the bytes
     literal_of : Tree → List ℕ → Tree
     -- the address of an external name
@@ -128,6 +142,53 @@ greater_shape t u = glued (codes "((" ∷ text t ∷ codes ")>(" ∷ text u ∷ 
 abbrev pub conditional_shape : Shape → Shape → Shape → Shape
 conditional_shape t u v = glued (text t ∷ codes "?" ∷ text u ∷ codes " : " ∷ text v ∷ [])
 
+-- the sign of an offset
+abbrev pub offset_sign : Signed → List ℕ
+offset_sign n = if n.negative then codes "-" else []
+
+-- the printed text of a plain offset
+abbrev pub plain_offset_text : Signed → List ℕ
+plain_offset_text n = concat (codes "{offset(" ∷ offset_sign n ∷ decimal n.magnitude ∷ codes ")}" ∷ [])
+
+-- the printed text of a virtual offset
+abbrev pub virtual_offset_text : Signed → Signed → List ℕ
+virtual_offset_text n m =
+    concat (codes "{virtual offset(" ∷ offset_sign n ∷ decimal n.magnitude ∷ codes ", " ∷ offset_sign m
+    ∷ decimal m.magnitude ∷ codes ")}" ∷ [])
+
+-- the printed text of a call offset
+abbrev pub offset_text : CallOffset → List ℕ
+offset_text (Plain n) = plain_offset_text n
+offset_text (Virtual n m) = virtual_offset_text n m
+
+-- words around a text
+abbrev pub worded_shape : List ℕ → Shape → List ℕ → Shape
+worded_shape word t close = glued (word ∷ text t ∷ close ∷ [])
+
+-- a reference temporary
+abbrev pub temporary_shape : ℕ → Shape → Shape
+temporary_shape number t = glued (codes "reference temporary #" ∷ decimal number ∷ codes " for " ∷ text t ∷ [])
+
+-- a construction vtable
+abbrev pub construction_shape : Shape → Shape → Shape
+construction_shape t u = glued (codes "construction vtable for " ∷ text t ∷ codes "-in-" ∷ text u ∷ [])
+
+-- a thunk with one offset
+abbrev pub single_thunk_shape : CallOffset → Shape → Shape
+single_thunk_shape o t =
+    glued (codes "{virtual override thunk(" ∷ offset_text o ∷ codes ", " ∷ text t ∷ codes ")}" ∷ [])
+
+-- a thunk with two offsets
+abbrev pub covariant_thunk_shape : CallOffset → CallOffset → Shape → Shape
+covariant_thunk_shape o p t =
+    glued (codes "{virtual override thunk(" ∷ offset_text o ∷ codes ", " ∷ offset_text p ∷ codes ", " ∷ text t
+    ∷ codes ")}" ∷ [])
+
+-- a thunk
+abbrev pub thunk_shape : ThunkOffsets → Shape → Shape
+thunk_shape (Single o) t = single_thunk_shape o t
+thunk_shape (Covariant o p) t = covariant_thunk_shape o p t
+
 -- the qualifiers of a name that follow its parameters where it has some: those of a nested name, and those of the
 -- entity of a local name
 abbrev pub own_quals : Tree → Quals
@@ -162,6 +223,10 @@ unfoldable mutual
   shape_as waits (elaborated word name) = elaborated_shape word (shape_as false name)
   shape_as waits (expansion_of t) = expansion_shape (shape_as false t)
   shape_as waits (pack_of list) = pack_shape (shape_each list)
+  shape_as waits (worded word t close) = worded_shape word (shape_as false t) close
+  shape_as waits (temporary_of number t) = temporary_shape number (shape_as false t)
+  shape_as waits (construction_of t u) = construction_shape (shape_as false t) (shape_as false u)
+  shape_as waits (thunk_of offsets t) = thunk_shape offsets (shape_as false t)
   shape_as waits (literal_of t value) = literal_shape (shape_as false t) value
   shape_as waits (address_of name) = address_shape (shape_as false name)
   shape_as waits (pre_of op t) = pre_shape op (shape_as false t)

@@ -10,11 +10,18 @@ use Rattle.itanium_syntax.specs.declared.numerals.Radix.{Radix}
 use Rattle.itanium_syntax.specs.declared.numerals.Radix.TheVariants.{Decimal}
 use Rattle.itanium_syntax.specs.Abbreviations.{abbreviation_of}
 use Rattle.itanium_syntax.specs.Bytes.{begins, begins_one_of, past_letter}
-use Rattle.itanium_syntax.specs.Cases.{PreExpression, AddressExpression, UnaryExpression, PostExpression, BinaryExpression, GreaterExpression, ConditionalExpression, LiteralExpression, ExpressionArgument, LiteralArgument, StringLiteralEntity, DefaultArgumentEntity, NameEntity, ExpansionType, LambdaName, ConversionName, UnnamedTypeName, LiteralOperatorName, OperatorName, PackArgument, StdFirst, EndOfComponents, ArgsComponent, ConstructorName, DestructorName, ArgsAttached, EndOfArguments, BuiltinType, ArrayType, FunctionType, MemberType, PointerType, CvFunction, NoParams, EndOfTypes}
+use Rattle.itanium_syntax.specs.Cases.{TypeSpecial, NameSpecial, TemporarySpecial, ConstructionSpecial, ThunkSpecial, PreExpression, AddressExpression, UnaryExpression, PostExpression, BinaryExpression, GreaterExpression, ConditionalExpression, LiteralExpression, ExpressionArgument, LiteralArgument, StringLiteralEntity, DefaultArgumentEntity, NameEntity, ExpansionType, LambdaName, ConversionName, UnnamedTypeName, LiteralOperatorName, OperatorName, PackArgument, StdFirst, EndOfComponents, ArgsComponent, ConstructorName, DestructorName, ArgsAttached, EndOfArguments, BuiltinType, ArrayType, FunctionType, MemberType, PointerType, CvFunction, NoParams, EndOfTypes}
 use Rattle.itanium_syntax.specs.Names.{first_case, component_case, unqualified_case, free_case, past_internal, past_initializer_letter, past_name_quals}
 use Rattle.std.specs.Str.{is_utf8}
 use Rattle.std.specs.Prelude.{take}
 use Rattle.itanium_syntax.specs.Expressions.{value_len, literal_value, expression_case}
+use Rattle.itanium_syntax.specs.declared.offsets.Signed.{Signed}
+use Rattle.itanium_syntax.specs.declared.offsets.CallOffset.{CallOffset}
+use Rattle.itanium_syntax.specs.declared.offsets.CallOffset.TheVariants.{Plain, Virtual}
+use Rattle.itanium_syntax.specs.declared.offsets.ThunkOffsets.{ThunkOffsets}
+use Rattle.itanium_syntax.specs.declared.offsets.ThunkOffsets.TheVariants.{Single, Covariant}
+use Rattle.itanium_syntax.specs.Offsets.{with_sign, signed_number, signed_part, plain_offset, virtual_offset, call_offset, covariant_offsets, thunk_offsets}
+use Rattle.itanium_syntax.specs.Specials.{special_case}
 use Rattle.itanium_syntax.specs.Encodings.{entity_case}
 use Rattle.itanium_syntax.specs.Args.{attached_case, args_case, argument_case}
 use Rattle.itanium_syntax.specs.Types.{type_case, types_case, cv_case, params_case, past_builtin, past_cv, past_reference}
@@ -297,6 +304,29 @@ literal_argument_some (b ∷ bytes) e = omega arith
 
 pub ruleset arguments_some = (expression_argument_some, literal_argument_some)
 
+-- these special names have a byte
+pub type_special_some : (bytes : List ℕ) → special_case bytes ≡ TypeSpecial → 0 < length bytes
+type_special_some [] e = cc
+type_special_some (b ∷ bytes) e = omega arith
+
+pub name_special_some : (bytes : List ℕ) → special_case bytes ≡ NameSpecial → 0 < length bytes
+name_special_some [] e = cc
+name_special_some (b ∷ bytes) e = omega arith
+
+pub temporary_some : (bytes : List ℕ) → special_case bytes ≡ TemporarySpecial → 0 < length bytes
+temporary_some [] e = cc
+temporary_some (b ∷ bytes) e = omega arith
+
+pub construction_some : (bytes : List ℕ) → special_case bytes ≡ ConstructionSpecial → 0 < length bytes
+construction_some [] e = cc
+construction_some (b ∷ bytes) e = omega arith
+
+pub thunk_some : (bytes : List ℕ) → special_case bytes ≡ ThunkSpecial → 0 < length bytes
+thunk_some [] e = cc
+thunk_some (b ∷ bytes) e = omega arith
+
+pub ruleset specials_some = (type_special_some, name_special_some, temporary_some, construction_some, thunk_some)
+
 pub ruleset names_some = (lambda_some, conversion_some, unnamed_type_some, literal_operator_some, operator_some)
 
 pub ruleset cases = (types_end_some, pack_some, expansion_some, array_some, member_some, function_some, pointer_some, cv_function_some, no_params_some, std_shorter, components_end_shorter, arguments_end_shorter, attached_some, component_args_some, builtin_shorter)
@@ -373,3 +403,64 @@ literal_value_takes bytes found e =
       after = record { count = value_len bytes + 1; is = sym is };
       shorter = omega (arith, ap length is, length-drop (value_len bytes + 1) bytes);
     }
+
+signed_number_takes : (bytes : List ℕ) (found : Signed × List ℕ) → signed_number bytes ≡ Some found → Takes found.1 bytes
+signed_number_takes bytes found e = go (begins (codes "n") bytes) e
+  where
+    numbered : (minus : Bool) (front : List ℕ) (o : Option (ℕ × List ℕ)) → numeral Decimal front ≡ o → option_map (λ n. (with_sign minus n.0, n.1)) o ≡ Some found → Takes found.1 front
+    numbered minus front None read g = cc
+    numbered minus front (Some n) read g =
+        let is : n.1 ≡ found.1 = (some_pair_parts (with_sign minus n.0) found.0 n.1 found.1 g).1 in
+        rw (← is) (numeral_takes Decimal front n read)
+
+    go : (b : Bool) → option_map (λ n. (with_sign b n.0, n.1)) (numeral Decimal (if b then drop 1 bytes else bytes)) ≡ Some found → Takes found.1 bytes
+    go true f = after_takes (after_drop 1 bytes) (numbered true (drop 1 bytes) (numeral Decimal (drop 1 bytes)) refl f)
+    go false f = numbered false bytes (numeral Decimal bytes) refl f
+
+signed_part_takes : (bytes : List ℕ) (found : Signed × List ℕ) → signed_part bytes ≡ Some found → Takes found.1 bytes
+signed_part_takes bytes found e = option_and_then_some _ (signed_number bytes) found e (λ n read more. takes_takes (signed_number_takes bytes n read) (go n (past_underscore n.1) refl more))
+  where
+    go : (n : Signed × List ℕ) (o : Option (List ℕ)) → past_underscore n.1 ≡ o → option_map (λ rest. (n.0, rest)) o ≡ Some found → Takes found.1 n.1
+    go n None f g = cc
+    go n (Some rest) f g = let is : rest ≡ found.1 = (some_pair_parts n.0 found.0 rest found.1 g).1 in rw (← is) (underscore_takes n.1 rest f)
+
+plain_offset_takes : (bytes : List ℕ) (found : CallOffset × List ℕ) → plain_offset bytes ≡ Some found → Takes found.1 bytes
+plain_offset_takes bytes found e = go (signed_part bytes) refl e
+  where
+    go : (o : Option (Signed × List ℕ)) → signed_part bytes ≡ o → option_map (λ n. (Plain n.0, n.1)) o ≡ Some found → Takes found.1 bytes
+    go None f g = cc
+    go (Some n) f g = let is : n.1 ≡ found.1 = (some_pair_parts (Plain n.0) found.0 n.1 found.1 g).1 in rw (← is) (signed_part_takes bytes n f)
+
+virtual_offset_takes : (bytes : List ℕ) (found : CallOffset × List ℕ) → virtual_offset bytes ≡ Some found → Takes found.1 bytes
+virtual_offset_takes bytes found e = option_and_then_some _ (signed_part bytes) found e (λ a read more. takes_takes (signed_part_takes bytes a read) (go a (signed_part a.1) refl more))
+  where
+    go : (a : Signed × List ℕ) (o : Option (Signed × List ℕ)) → signed_part a.1 ≡ o → option_map (λ b. (Virtual a.0 b.0, b.1)) o ≡ Some found → Takes found.1 a.1
+    go a None f g = cc
+    go a (Some b) f g = let is : b.1 ≡ found.1 = (some_pair_parts (Virtual a.0 b.0) found.0 b.1 found.1 g).1 in rw (← is) (signed_part_takes a.1 b f)
+
+call_offset_takes : (bytes : List ℕ) (found : CallOffset × List ℕ) → call_offset bytes ≡ Some found → Takes found.1 bytes
+call_offset_takes bytes found e = go (begins (codes "h") bytes) (begins (codes "v") bytes) e
+  where
+    go : (h v : Bool) → (if h then plain_offset (drop 1 bytes) else if v then virtual_offset (drop 1 bytes) else None) ≡ Some found → Takes found.1 bytes
+    go true v f = after_takes (after_drop 1 bytes) (plain_offset_takes (drop 1 bytes) found f)
+    go false true f = after_takes (after_drop 1 bytes) (virtual_offset_takes (drop 1 bytes) found f)
+    go false false f = cc
+
+covariant_offsets_takes : (bytes : List ℕ) (found : ThunkOffsets × List ℕ) → covariant_offsets bytes ≡ Some found → Takes found.1 bytes
+covariant_offsets_takes bytes found e = option_and_then_some _ (call_offset bytes) found e (λ a read more. takes_takes (call_offset_takes bytes a read) (go a (call_offset a.1) refl more))
+  where
+    go : (a : CallOffset × List ℕ) (o : Option (CallOffset × List ℕ)) → call_offset a.1 ≡ o → option_map (λ b. (Covariant a.0 b.0, b.1)) o ≡ Some found → Takes found.1 a.1
+    go a None f g = cc
+    go a (Some b) f g = let is : b.1 ≡ found.1 = (some_pair_parts (Covariant a.0 b.0) found.0 b.1 found.1 g).1 in rw (← is) (call_offset_takes a.1 b f)
+
+pub thunk_offsets_after : (bytes : List ℕ) (found : ThunkOffsets × List ℕ) → thunk_offsets bytes ≡ Some found → IsAfter found.1 bytes
+unfolding thunk_offsets
+thunk_offsets_after bytes found e = go (begins (codes "c") bytes) e
+  where
+    single : (o : Option (CallOffset × List ℕ)) → call_offset bytes ≡ o → option_map (λ a. (Single a.0, a.1)) o ≡ Some found → Takes found.1 bytes
+    single None f g = cc
+    single (Some a) f g = let is : a.1 ≡ found.1 = (some_pair_parts (Single a.0) found.0 a.1 found.1 g).1 in rw (← is) (call_offset_takes bytes a f)
+
+    go : (c : Bool) → (if c then covariant_offsets (drop 1 bytes) else option_map (λ a. (Single a.0, a.1)) (call_offset bytes)) ≡ Some found → IsAfter found.1 bytes
+    go true f = (after_takes (after_drop 1 bytes) (covariant_offsets_takes (drop 1 bytes) found f)).after
+    go false f = (single (call_offset bytes) refl f).after

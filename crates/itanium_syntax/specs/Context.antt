@@ -22,6 +22,6 @@ inside_lambda x = record x { lambda = true }
 abbrev pub inside_local : Context → Context
 inside_local x = record x { shown = true }
 
--- the same, inside the encoding of a local name: no type is around it
+-- the same, inside the encoding of a local or an external name: no type is around it
 abbrev pub inside_encoding : Context → Context
 inside_encoding x = record x { shown = true; in_type = false }

@@ -7,5 +7,7 @@ pub mod Args
 pub mod Operators
 pub mod Expressions
 pub mod Scalars
+pub mod Offsets
+pub mod Specials
 pub mod Abbreviations
 pub mod Context

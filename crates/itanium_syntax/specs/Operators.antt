@@ -1,4 +1,4 @@
--- Operators (Itanium C++ ABI 5.1.4): what follows `operator` in a name, and how many operands an expression has.
+-- Operators (Itanium C++ ABI 5.1.3): what follows `operator` in a name, and how many operands an expression has.
 use Rattle.std.specs.Prelude.{ℕ, List, [], ◌∷◌, Bool, false, ◌&&◌, ◌==◌, codes, if◌then◌else◌, Option, Some, None, is_some}
 
 -- the code is the one that the word spells

@@ -61,7 +61,7 @@ impl Context {
         }
     }
 
-    /// The context inside the encoding of a local name.
+    /// The context inside the encoding of a local or an external name.
     pub fn inside_encoding(self) -> Context
         ensures context { result ≡ spec.inside_encoding self }
     {

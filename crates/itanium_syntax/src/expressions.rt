@@ -1,6 +1,6 @@
 //! The cases of literals and of expressions (Itanium C++ ABI 5.1, "Expressions"): which one the next bytes begin. Of
 //! several cases the first one that fits holds.
-ghost use Rattle.std.specs.Prelude.{◌≡◌, ◌<◌, ◌≤◌, IfSome, option_map, length};
+ghost use Rattle.std.specs.Prelude.{◌≡◌, ◌<◌, ◌≤◌, IfSome, option_map, length, not};
 ghost use Rattle.itanium_syntax.specs.Expressions as spec;
 
 use crate::operators::{operator_arity, operator_here};
@@ -41,6 +41,13 @@ pub fn is_external(bytes: &[u8]) -> bool
     ensures value { result ≡ spec.is_external bytes.now }
 {
     matches!(bytes, [b'L', b'_', b'Z', ..])
+}
+
+/// Whether an operand that begins there is printed in parentheses: each is, but for an external name.
+pub fn takes_parentheses(bytes: &[u8]) -> bool
+    ensures value { result ≡ not (spec.is_external bytes.now) }
+{
+    !is_external(bytes)
 }
 
 /// Which literal stands there, from its `L` on.

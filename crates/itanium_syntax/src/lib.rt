@@ -10,6 +10,8 @@ pub mod encodings;
 pub mod expressions;
 pub mod names;
 pub mod numerals;
+pub mod offsets;
 pub mod operators;
 pub mod scalar;
+pub mod specials;
 pub mod types;

@@ -80,7 +80,7 @@ pub enum SubstitutionCase {
     ComponentSubstitution,
 }
 
-/// Which `<encoding>` stands there: a special name, or a name.
+/// What an `<encoding>` begins with: a special name, or a name.
 pub fn symbol_case(bytes: &[u8]) -> SymbolCase
     ensures case { result ≡ spec.symbol_case bytes.now }
 {

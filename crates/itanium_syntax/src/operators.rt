@@ -1,4 +1,4 @@
-//! Operators (Itanium C++ ABI 5.1.4, "Operator Encodings"): what follows `operator` in a name, and how many operands an
+//! Operators (Itanium C++ ABI 5.1.3, "Operator Encodings"): what follows `operator` in a name, and how many operands an
 //! expression of the code has.
 ghost use Rattle.std.specs.Prelude.{◌≡◌, option_map};
 ghost use Rattle.itanium_syntax.specs.Operators as spec;
@@ -24,7 +24,7 @@ fn assignment_text(first: u8, second: u8) -> Option<&'static str>
 }
 
 /// What follows `operator` in the name of a code's operator, or `None` where the code is none of `<operator-name>`
-/// (Itanium C++ ABI 5.1.4, "Operator Encodings").
+/// (Itanium C++ ABI 5.1.3, "Operator Encodings").
 pub fn operator_text(first: u8, second: u8) -> Option<&'static str>
     ensures value { option_map (λ text. text.now) result ≡ spec.operator_text first second }
 {
@@ -71,7 +71,7 @@ pub fn operator_text(first: u8, second: u8) -> Option<&'static str>
 }
 
 /// How many operands an expression of an operator's code has, or `None` where the code is none of `<operator-name>`
-/// (Itanium C++ ABI 5.1.4, "Operator Encodings").
+/// (Itanium C++ ABI 5.1.3, "Operator Encodings").
 pub fn operator_arity(first: u8, second: u8) -> Option<u8>
     ensures value { result ≡ spec.operator_arity first second }
 {

@@ -1,14 +1,18 @@
 //! What stands in the bytes by itself: numbers and source names (Itanium C++ ABI 5.1.2), and the codes of operators
-//! (5.1.4).
+//! (5.1.3), and call offsets (5.1.4).
 ghost use Rattle.std.specs.Prelude.{◌≡◌, ◌<◌, ◌≤◌, IfSome, option_map, length, drop, slice_range};
 ghost use Rattle.itanium_syntax.specs.Scalars as spec;
+ghost use Rattle.itanium_syntax.specs.Offsets as offset_spec;
 
 pub use crate::expressions::expression_refused;
 use crate::numerals::{Radix, numeral};
+use crate::offsets::offset_here;
+pub use crate::offsets::{CallOffset, Signed};
 pub use crate::operators::{operator_arity, operator_text};
 
 /// `<number>` without a sign: as many decimal digits as stand at `pos`, at least one. The value, and the place after
-/// the digits, in bytes; `None` where no digit stands there or the value is past 2^64 - 1.
+/// the digits, in bytes; `None` where no digit stands there or the value is past 2^64 - 1. (Itanium C++ ABI 5.1.2,
+/// "General Structure")
 #[tactic(auto, using(crate::proofs::Digits::dropped), unfolding(crate::specs::Scalars::number))]
 pub fn number(input: &[u8], pos: usize) -> Option<(u64, usize)>
     requires place { pos ≤ length input.now }
@@ -41,7 +45,8 @@ pub fn sequence_id(input: &[u8], pos: usize) -> Option<(u64, usize)>
 }
 
 /// `<source-name> ::= <positive length number> <identifier>`: the place of the identifier's first byte, and the place
-/// after it. `None` where no number stands at `pos`, it is 0 or past 2^64 - 1, or fewer bytes follow it.
+/// after its last, in bytes. `None` where no number stands at `pos`, it is 0 or past 2^64 - 1, or fewer bytes follow
+/// it. (Itanium C++ ABI 5.1.2, "General Structure")
 #[tactic(auto, using(crate::proofs::Digits::dropped), unfolding(crate::specs::Scalars::source_name))]
 pub fn source_name(input: &[u8], pos: usize) -> Option<(usize, usize)>
     requires place { pos ≤ length input.now }
@@ -58,4 +63,22 @@ pub fn source_name(input: &[u8], pos: usize) -> Option<(usize, usize)>
         return None;
     }
     Some((first, first + len as usize))
+}
+
+/// `<call-offset> ::= h <number> _ | v <number> _ <number> _`, where each number may have `n` in front for a minus: the
+/// offset, and the place after its last `_`, in bytes. Zero is never negative. `None` where none stands at `pos` or a
+/// number is past 2^64 - 1. (Itanium C++ ABI 5.1.4, "Other Special
+/// Functions and Entities")
+#[tactic(auto, using(crate::proofs::Digits::dropped))]
+pub fn call_offset(input: &[u8], pos: usize) -> Option<(CallOffset, usize)>
+    requires place { pos ≤ length input.now }
+    ensures value { option_map (λ found. (found.0, drop found.1 input.now)) result
+        ≡ offset_spec.call_offset (drop pos input.now) }
+    ensures after { IfSome result (λ found. pos < found.1) }
+    ensures within { IfSome result (λ found. found.1 ≤ length input.now) }
+{
+    match offset_here(&input[pos..]) {
+        Some((offset, count)) => Some((offset, pos + count)),
+        None => None,
+    }
 }

@@ -1,0 +1,60 @@
+-- What a reader of symbols says of trees.
+use Rattle.std.specs.Prelude.{◌≡◌, ◌≤◌, ℕ, ◌+◌, max, map, Result, Ok, Err}
+use Rattle.demangle_text.specs.Shape.{Shape}
+use Rattle.demangle_text.specs.State.{IsLiving, shape}
+use Rattle.itanium_syntax.specs.declared.context.Context.{Context}
+use Rattle.itanium_grammar.specs.Tree.{Tree, shape_of}
+use Rattle.itanium_grammar.specs.Grammar.{Position, Cost, Symbol}
+use Rattle.itanium_reader.specs.Parser.{ParserState}
+use Rattle.itanium_reader.specs.Outcome.{state}
+use Rattle.itanium_reader.specs.declared.reader.Reader.{Reader}
+use Rattle.itanium_reader.specs.declared.stop.Stop.{Stop}
+use Rattle.itanium_reader.specs.declared.stop.Stop.TheVariants.{Unread, Memory}
+
+-- the state at a position of trees, after so many productions entered, and so many trees saved at most
+abbrev pub state_at : Position → ℕ → ℕ → ParserState
+state_at p entered most_saved = record {
+  rest = p.rest;
+  saved = map shape_of p.saved;
+  scopes = map (map shape_of) p.scopes;
+  entered = entered;
+  most_saved = most_saved;
+}
+
+-- the grammar reads these bytes within the depth: there is a tree whose shape this is, what its reading leaves is this
+-- state, with its count and its peak added, and every reading within the depth agrees with it
+pub record HasReading (x : Context) (p : Position) (depth entered most_saved : ℕ) (found : Shape)
+    (after : ParserState) : Type 0 where
+  pub tree : Tree
+  pub next : Position
+  pub cost : Cost
+  pub reading : Symbol x p tree next cost
+  pub deep : cost.depth ≤ depth
+  pub shape_is : found ≡ shape_of tree
+  pub state_is : after ≡ state_at next (entered + cost.count) (max most_saved cost.peak)
+  pub one :
+      (t : Tree) (q : Position) (c : Cost)
+      → Symbol x p t q c
+      → c.depth ≤ depth
+      → (t ≡ tree) × (q ≡ next) × (c ≡ cost)
+
+-- the grammar doesn't read these bytes within the depth
+abbrev pub HasNoReading : Context → Position → ℕ → Type 0
+HasNoReading x p depth =
+    (tree : Tree) (next : Position) (cost : Cost)
+    → Symbol x p tree next cost
+    → cost.depth ≤ depth
+    → ⊥
+
+-- the position of trees that the reader stands for
+abbrev pub StandsFor : Reader → Position → Type 0
+StandsFor r p = state r ≡ state_at p r.entered r.most_saved
+
+-- what a reader of symbols says of trees
+abbrev pub ReadsAs : Result (Unit {0}) Stop → Context → ℕ → Reader → Reader → Type 0
+ReadsAs (Ok u) x depth before after =
+    IsLiving after.buffer after.found
+    × ((p : Position) → StandsFor before p
+    → HasReading x p depth before.entered before.most_saved (shape after.buffer after.found) (state after))
+ReadsAs (Err Unread) x depth before after = (p : Position) → StandsFor before p → HasNoReading x p depth
+ReadsAs (Err Memory) x depth before after = Unit {0}

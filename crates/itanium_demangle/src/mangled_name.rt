@@ -1,0 +1,25 @@
+//! What follows the prefix of a symbol (Itanium C++ ABI 5.1.2).
+ghost use Rattle.itanium_reader.specs.Parser as spec;
+ghost use Rattle.itanium_reader.specs.Outcome.{state, Gives, HasRoom, Bounds, SavedBounds};
+ghost use Rattle.itanium_demangle.specs.Meaning.{ReadsAs};
+
+use itanium_productions::read_symbol;
+use itanium_reader::{Reader, Stop};
+use itanium_syntax::context::Context;
+
+/// `<mangled-name>` after its prefix, within `depth` open productions.
+#[tactic(auto, using(crate::proofs::Rules::readings))]
+pub(crate) fn read_mangled_name(
+    reader: &mut Reader,
+    depth: usize,
+    context: Context,
+) -> Result<(), Stop>
+    requires room { HasRoom 1 (state reader.old) }
+    ensures reads { Gives result reader.new (spec.parse_symbol depth context (state reader.old)) }
+    // Of trees: a reading of the bytes, with which every other agrees, or none.
+    ensures reading { ReadsAs result context depth reader.old reader.new }
+    ensures bounds { Bounds 1 result (state reader.old) (state reader.new) }
+    ensures saved { SavedBounds 1 result (state reader.old) (state reader.new) }
+{
+    read_symbol(reader, depth, context)
+}

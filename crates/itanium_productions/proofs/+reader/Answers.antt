@@ -1,0 +1,196 @@
+use Rattle.std.proofs.Common.{rules, sym}
+use Rattle.std.proofs.lemmas.List.{map-append}
+use Rattle.std.proofs.lemmas.Result.{err_from_is_err_and}
+use Rattle.itanium_syntax.proofs.Fronts.{attached_some}
+use Rattle.demangle_text.specs.State.{shape, SameFrame}
+use Rattle.itanium_reader.specs.Outcome.{state}
+use Rattle.itanium_reader.proofs.Unfold.{saved_first, free_found, kept_scope, some_scope, stops, list_stops, args_start, pack_start, components_end, components_args, components_no_args, components_name, components_no_name, items_end, items_more, items_fail, typed_end, typed_more, typed_fail, types_end, types_more, types_fail, kept_shapes, one_more_lives}
+use Rattle.itanium_productions.proofs.+reader.Goals as goal
+
+pub args::read_args-loop-reader-init : goal.args::read_args-loop-reader-init
+args::read_args-loop-reader-init t c = record {
+  positive = search rules;
+  reads = args_start _ _ _ _ (search rules) (search rules) (search rules) (search rules) (search rules);
+  living = search rules;
+  run = search rules;
+  scopes_stand = search rules;
+  scopes_kept = search rules;
+  opened = search rules;
+  taken = search rules;
+  counted = search rules;
+  list = search rules;
+  most = search rules;
+}
+
+pub args::read_args-returns-in-EndOfArguments-clause-reads : goal.args::read_args-returns-in-EndOfArguments-clause-reads
+args::read_args-returns-in-EndOfArguments-clause-reads t c =
+    (search rules, items_end _ _ _ c.loop-reader.invariant.reads (sym c.in-EndOfArguments.ensures.case) (search rules) (search rules))
+
+pub args::read_args-returns-in_err-framed_argument-in-NextArgument-clause-reads : goal.args::read_args-returns-in_err-framed_argument-in-NextArgument-clause-reads
+args::read_args-returns-in_err-framed_argument-in-NextArgument-clause-reads t c =
+    let r = c.from_residual-in_err-framed_argument-in-NextArgument in
+    let e = err_from_is_err_and r.result r.ensures.1 in
+    rw (e.1, e.2) (stops _ _ (c.in_err-framed_argument-in-NextArgument.ensures {u = tt}).reads
+    (λ none. items_fail _ _ _ c.loop-reader.invariant.reads (sym c.in-NextArgument.ensures.case) (search rules)))
+
+pub args::read_args-loop-reader-preserved : goal.args::read_args-loop-reader-preserved
+args::read_args-loop-reader-preserved t c = record {
+  positive = search rules;
+  reads = items_more _ _ _ c.loop-reader.invariant.reads {next = shape c.framed_argument.new.reader.buffer c.framed_argument.new.reader.found} {mid = state c.framed_argument.new.reader}
+      (sym c.in-NextArgument.ensures.case) (search rules) (search rules) (search rules) (search rules) (search rules);
+  living = search rules;
+  run = search rules;
+  scopes_stand = search rules;
+  scopes_kept = search rules;
+  opened = search rules;
+  taken = search rules;
+  counted = search rules;
+  list = search rules;
+  most = search rules;
+}
+
+pub names::read_components-returns-in-EndOfComponents-clause-reads : goal.names::read_components-returns-in-EndOfComponents-clause-reads
+names::read_components-returns-in-EndOfComponents-clause-reads t c =
+    (search rules, components_end _ _ c.loop-reader.invariant.reads (sym c.in-EndOfComponents.ensures.case) (search rules) (search rules))
+
+pub names::read_components-returns-in_err-read_attached-in-ArgsComponent-clause-reads : goal.names::read_components-returns-in_err-read_attached-in-ArgsComponent-clause-reads
+names::read_components-returns-in_err-read_attached-in-ArgsComponent-clause-reads t c =
+    let e = err_from_is_err_and c.from_residual.result c.from_residual.ensures.1 in
+    rw (e.1, e.2) (stops _ _ (c.in_err-read_attached-in-ArgsComponent.ensures {u = tt}).reads
+    (components_no_args _ _ c.loop-reader.invariant.reads (sym c.in-ArgsComponent.ensures.case)))
+
+pub names::read_components-returns-in_err-read_unqualified-in-NameComponent-clause-reads : goal.names::read_components-returns-in_err-read_unqualified-in-NameComponent-clause-reads
+names::read_components-returns-in_err-read_unqualified-in-NameComponent-clause-reads t c =
+    let r = c.from_residual-in_err-read_unqualified-in-NameComponent in
+    let e = err_from_is_err_and r.result r.ensures.1 in
+    rw (e.1, e.2) (stops _ _ (c.in_err-read_unqualified-in-NameComponent.ensures {u = tt}).reads
+    (components_no_name _ _ c.loop-reader.invariant.reads (sym c.in-NameComponent.ensures.case)))
+
+pub names::read_components-loop-reader-preserved : goal.names::read_components-loop-reader-preserved
+names::read_components-loop-reader-preserved t c = record {
+  reads = components_name _ _ c.loop-reader.invariant.reads {mid = state c.read_unqualified.new.reader} (sym c.in-NameComponent.ensures.case) (search rules) (search rules) (search rules) (search rules);
+  living = search rules;
+  run = search rules;
+  some_saved = search rules;
+  taken = search rules;
+  counted = search rules;
+  list = search rules;
+  most = search rules;
+  scopes_stand = search rules;
+}
+
+pub names::read_components-loop-reader-preserved-in-ArgsComponent : goal.names::read_components-loop-reader-preserved-in-ArgsComponent
+names::read_components-loop-reader-preserved-in-ArgsComponent t c = record {
+  reads = components_args _ _ c.loop-reader.invariant.reads {mid = state c.read_attached.new.reader} (sym c.in-ArgsComponent.ensures.case) (search rules) (search rules) (search rules) (search rules);
+  living = search rules;
+  run = search rules;
+  some_saved = search rules;
+  taken = search rules;
+  counted = search rules;
+  list = search rules;
+  most = search rules;
+  scopes_stand = search rules;
+}
+
+pub types::read_types-returns-in-EndOfTypes-clause-reads : goal.types::read_types-returns-in-EndOfTypes-clause-reads
+types::read_types-returns-in-EndOfTypes-clause-reads t c =
+    let l = c.loop-list in (l.invariant.living, types_end _ l.invariant.reads (sym c.in-EndOfTypes.ensures.case))
+
+pub types::read_types-returns-in_err-framed_type-in-NextType-clause-reads : goal.types::read_types-returns-in_err-framed_type-in-NextType-clause-reads
+types::read_types-returns-in_err-framed_type-in-NextType-clause-reads t c =
+    let e = err_from_is_err_and c.from_residual.result c.from_residual.ensures.1 in
+    rw (e.1, e.2) (list_stops _ _ (c.in_err-framed_type-in-NextType.ensures {u = tt}).reads
+    (types_fail _ c.loop-list.invariant.reads (sym c.in-NextType.ensures.case)))
+
+pub types::read_types-loop-list-preserved : goal.types::read_types-loop-list-preserved
+types::read_types-loop-list-preserved t c =
+    let l = c.loop-list in
+    let items = (c.in_ok-push-in-NextType.ensures {u = tt}).items in
+    let kept : SameFrame l.reader.buffer c.framed_type.new.reader.buffer = search rules in
+    let shapes = kept_shapes l.reader.buffer c.framed_type.new.reader.buffer l.list.items kept l.invariant.living in
+    record {
+      reads = rw (items, map-append, shapes) (types_more _ l.invariant.reads (sym c.in-NextType.ensures.case) (search rules) (search rules));
+      living = rw items (one_more_lives _ _ _ _ kept l.invariant.living (search rules));
+      kept = search rules;
+      scopes_stand = search rules;
+      taken = search rules;
+      counted = search rules;
+      list = search rules;
+      most = search rules;
+    }
+
+pub names::read_attached_args-returns-in_ok-save-in-ArgsAttached-clause-saved : goal.names::read_attached_args-returns-in_ok-save-in-ArgsAttached-clause-saved
+names::read_attached_args-returns-in_ok-save-in-ArgsAttached-clause-saved t c =
+    let save = c.in_ok-save-in-ArgsAttached.ensures {u = tt} in
+    saved_first c.read_attached.result (state c.args.reader.now) (state c.save.new.self) (state c.read_attached.new.reader) c.read_attached.ensures.saved
+    save.longer (search rules) (search (rules, attached_some)) save.most
+
+pub args::read_pack-loop-reader-init : goal.args::read_pack-loop-reader-init
+args::read_pack-loop-reader-init t c = record {
+  positive = search rules;
+  reads = pack_start _ _ _ (search rules) (search rules) (search rules) (search rules);
+  living = search rules;
+  run = search rules;
+  scopes_stand = search rules;
+  taken = search rules;
+  counted = search rules;
+  list = search rules;
+  most = search rules;
+}
+
+pub args::read_pack-returns-in-EndOfArguments-clause-reads : goal.args::read_pack-returns-in-EndOfArguments-clause-reads
+args::read_pack-returns-in-EndOfArguments-clause-reads t c =
+    (search rules, items_end _ _ _ c.loop-reader.invariant.reads (sym c.in-EndOfArguments.ensures.case) (search rules) (search rules))
+
+pub args::read_pack-returns-in_err-framed_argument-in-NextArgument-clause-reads : goal.args::read_pack-returns-in_err-framed_argument-in-NextArgument-clause-reads
+args::read_pack-returns-in_err-framed_argument-in-NextArgument-clause-reads t c =
+    let r = c.from_residual-in_err-framed_argument-in-NextArgument in
+    let e = err_from_is_err_and r.result r.ensures.1 in
+    rw (e.1, e.2) (stops _ _ (c.in_err-framed_argument-in-NextArgument.ensures {u = tt}).reads
+    (λ none. items_fail _ _ _ c.loop-reader.invariant.reads (sym c.in-NextArgument.ensures.case) (search rules)))
+
+pub args::read_pack-loop-reader-preserved : goal.args::read_pack-loop-reader-preserved
+args::read_pack-loop-reader-preserved t c = record {
+  positive = search rules;
+  reads = items_more _ _ _ c.loop-reader.invariant.reads {next = shape c.framed_argument.new.reader.buffer c.framed_argument.new.reader.found} {mid = state c.framed_argument.new.reader}
+      (sym c.in-NextArgument.ensures.case) (search rules) (search rules) (search rules) (search rules) (search rules);
+  living = search rules;
+  run = search rules;
+  scopes_stand = search rules;
+  taken = search rules;
+  counted = search rules;
+  list = search rules;
+  most = search rules;
+}
+
+pub types::read_typed-returns-in-EndOfTypes-clause-reads : goal.types::read_typed-returns-in-EndOfTypes-clause-reads
+types::read_typed-returns-in-EndOfTypes-clause-reads t c =
+    (c.loop-list.invariant.living, typed_end _ c.loop-list.invariant.reads (sym c.in-EndOfTypes.ensures.case))
+
+pub types::read_typed-returns-in_err-framed_type-in-NextType-clause-reads : goal.types::read_typed-returns-in_err-framed_type-in-NextType-clause-reads
+types::read_typed-returns-in_err-framed_type-in-NextType-clause-reads t c =
+    let r = c.from_residual-in_err-framed_type-in-NextType in
+    let e = err_from_is_err_and r.result r.ensures.1 in
+    rw (e.1, e.2) (stops _ _ (c.in_err-framed_type-in-NextType.ensures {u = tt}).reads
+    (λ none. typed_fail _ c.loop-list.invariant.reads (sym c.in-NextType.ensures.case) (search rules)))
+
+pub types::read_typed-loop-list-preserved : goal.types::read_typed-loop-list-preserved
+types::read_typed-loop-list-preserved t c = record {
+  reads = typed_more _ c.loop-list.invariant.reads {next = shape c.framed_type.new.reader.buffer c.framed_type.new.reader.found} (sym c.in-NextType.ensures.case) (search rules) (search rules) (search rules);
+  living = search rules;
+  run = search rules;
+  scopes_stand = search rules;
+  taken = search rules;
+  counted = search rules;
+  list = search rules;
+  most = search rules;
+}
+
+pub names::read_unqualified-returns-in_ok-enclose-in-FreeName-clause-reads : goal.names::read_unqualified-returns-in_ok-enclose-in-FreeName-clause-reads
+names::read_unqualified-returns-in_ok-enclose-in-FreeName-clause-reads t c =
+    let free = c.framed_free_name.new.reader in
+    let kept = kept_scope c.args.reader.now.buffer free.buffer c.args.scope (search rules) c.requires.scope in (
+      search rules,
+      free_found _ _ _ _ {name = shape free.buffer free.found} {mid = state free}
+          (rw (some_scope c.args.reader.now.buffer c.args.scope) (search rules)) (search rules) (search rules) (search rules),
+    )

@@ -1,0 +1,206 @@
+//! Template arguments (Itanium C++ ABI 5.1.5).
+ghost use Rattle.std.specs.Prelude.{◌≡◌, ◌<◌, OnOk, length};
+ghost use Rattle.demangle_text.specs.State.{IsLiving, shape, IsRun, SameFrame};
+ghost use Rattle.itanium_reader.specs.Parser as spec;
+ghost use Rattle.itanium_reader.specs.Outcome.{state, Gives, HasRoom, Bounds, SavedBounds};
+
+use crate::expressions::{read_expression, read_primary};
+use crate::types::read_type;
+use demangle_edit::{attach_template_args, close_arguments, list_next, separate};
+use demangle_text::Piece;
+use itanium_reader::{Reader, Stop};
+use itanium_syntax::args::{ArgsCase, ArgumentCase, args_case, argument_case};
+use itanium_syntax::context::Context;
+
+/// `<template-args> ::= I <template-arg>* E`, of a name or of a type, within `depth` open productions.
+#[tactic(auto, using(itanium_reader::proofs::Rules::argument_lists))]
+#[cycle(reader)]
+pub(crate) fn read_args(
+    reader: &mut Reader,
+    depth: usize,
+    context: Context,
+    of_name: bool,
+) -> Result<(), Stop>
+    requires room { HasRoom 1 (state reader.old) }
+    requires some { 0 < length reader.old.rest.now }
+    ensures reads { Gives result reader.new (spec.parse_args depth context of_name (state reader.old)) }
+    ensures run { OnOk result (IsRun reader.old.buffer reader.new.buffer) }
+    ensures refused { depth ≡ 0 → reader.new.entered ≡ reader.old.entered }
+    ensures bounds { Bounds 1 result (state reader.old) (state reader.new) }
+    ensures saved { SavedBounds 2 result (state reader.old) (state reader.new) }
+{
+    if depth == 0 {
+        return Err(Stop::Unread);
+    }
+    reader.entered += 1;
+    reader.skip(1);
+    let opens = context.opens_scope(of_name);
+    reader.begin(opens)?;
+    let scopes = reader.buffer.scopes();
+    let mut list = reader.buffer.push(b"<")?;
+    let mut first = true;
+    loop {
+        match args_case(reader.rest) {
+            ArgsCase::EndOfArguments => {
+                reader.skip(1);
+                let closed = close_arguments(&mut reader.buffer, list)?;
+                reader.found = reader.buffer.whole(closed);
+                return Ok(());
+            }
+            ArgsCase::NextArgument => {
+                list = separate(&mut reader.buffer, list, first)?;
+                framed_argument(reader, depth - 1, context)?;
+                let argument = reader.found;
+                reader.put(opens, scopes, argument)?;
+                list = list_next(&mut reader.buffer, list, argument)?;
+                first = false;
+            }
+        }
+    }
+}
+
+/// `<template-args>` in a frame of their own: what lived keeps its shape.
+#[tactic(auto, using(itanium_reader::proofs::Rules::buffers))]
+#[cycle(reader)]
+pub(crate) fn framed_args(
+    reader: &mut Reader,
+    depth: usize,
+    context: Context,
+    of_name: bool,
+) -> Result<(), Stop>
+    requires room { HasRoom 1 (state reader.old) }
+    requires some { 0 < length reader.old.rest.now }
+    ensures reads { Gives result reader.new (spec.parse_args depth context of_name (state reader.old)) }
+    ensures kept { OnOk result (SameFrame reader.old.buffer reader.new.buffer) }
+    ensures bounds { Bounds 1 result (state reader.old) (state reader.new) }
+    ensures saved { SavedBounds 2 result (state reader.old) (state reader.new) }
+{
+    let mark = reader.buffer.open();
+    read_args(reader, depth, context, of_name)?;
+    reader.found = reader.buffer.close(mark, reader.found)?;
+    Ok(())
+}
+
+/// `<template-args>` after what stands.
+#[tactic(auto, using(itanium_reader::proofs::Rules::buffers))]
+#[cycle(reader)]
+pub(crate) fn read_attached(
+    reader: &mut Reader,
+    depth: usize,
+    context: Context,
+    of_name: bool,
+    name: Piece,
+) -> Result<(), Stop>
+    requires room { HasRoom 1 (state reader.old) }
+    requires some { 0 < length reader.old.rest.now }
+    requires living { IsLiving reader.old.buffer name }
+    ensures reads { Gives result reader.new
+        (spec.attached_by (spec.parse_args depth context of_name) (shape reader.old.buffer name) (state reader.old)) }
+    ensures run { OnOk result (IsRun reader.old.buffer reader.new.buffer) }
+    ensures bounds { Bounds 1 result (state reader.old) (state reader.new) }
+    ensures saved { SavedBounds 2 result (state reader.old) (state reader.new) }
+{
+    framed_args(reader, depth, context, of_name)?;
+    reader.found = attach_template_args(&mut reader.buffer, name, reader.found)?;
+    Ok(())
+}
+
+/// `<template-arg> ::= J <template-arg>* E`, within `depth` open productions: no scope is dropped between its
+/// arguments.
+#[tactic(auto, using(itanium_reader::proofs::Rules::packs))]
+#[cycle(reader)]
+pub(crate) fn read_pack(reader: &mut Reader, depth: usize, context: Context) -> Result<(), Stop>
+    requires room { HasRoom 1 (state reader.old) }
+    requires some { 0 < length reader.old.rest.now }
+    ensures reads { Gives result reader.new (spec.parse_pack depth context (state reader.old)) }
+    ensures run { OnOk result (IsRun reader.old.buffer reader.new.buffer) }
+    ensures refused { depth ≡ 0 → reader.new.entered ≡ reader.old.entered }
+    ensures bounds { Bounds 1 result (state reader.old) (state reader.new) }
+    ensures saved { SavedBounds 1 result (state reader.old) (state reader.new) }
+{
+    if depth == 0 {
+        return Err(Stop::Unread);
+    }
+    reader.entered += 1;
+    reader.skip(1);
+    let inside = context.inside_pack();
+    let mut list = reader.buffer.push(b"")?;
+    let mut first = true;
+    loop {
+        match args_case(reader.rest) {
+            ArgsCase::EndOfArguments => {
+                reader.skip(1);
+                reader.found = reader.buffer.whole(list);
+                return Ok(());
+            }
+            ArgsCase::NextArgument => {
+                list = separate(&mut reader.buffer, list, first)?;
+                framed_argument(reader, depth - 1, inside)?;
+                list = list_next(&mut reader.buffer, list, reader.found)?;
+                first = false;
+            }
+        }
+    }
+}
+
+/// `X <expression> E`
+#[tactic(auto, using(itanium_reader::proofs::Rules::buffers))]
+#[cycle(reader)]
+pub(crate) fn read_expression_argument(
+    reader: &mut Reader,
+    depth: usize,
+    context: Context,
+) -> Result<(), Stop>
+    requires room { HasRoom 2 (state reader.old) }
+    requires some { 0 < length reader.old.rest.now }
+    ensures reads { Gives result reader.new
+        (spec.ended (spec.parse_expression depth context (spec.skip 1 (state reader.old)))) }
+    ensures run { OnOk result (IsRun reader.old.buffer reader.new.buffer) }
+    ensures bounds { Bounds 0 result (state reader.old) (state reader.new) }
+    ensures saved { SavedBounds 0 result (state reader.old) (state reader.new) }
+{
+    reader.skip(1);
+    read_expression(reader, depth, context)?;
+    reader.read_end()
+}
+
+/// `<template-arg> ::= <type> | X <expression> E | <expr-primary> | J <template-arg>* E`
+#[tactic(auto, using(itanium_reader::proofs::Rules::arguments))]
+#[cycle(reader)]
+pub(crate) fn read_argument(reader: &mut Reader, depth: usize, context: Context) -> Result<(), Stop>
+    requires room { HasRoom 2 (state reader.old) }
+    ensures reads { Gives result reader.new
+        (spec.parse_argument depth context (state reader.old)) }
+    ensures run { OnOk result (IsRun reader.old.buffer reader.new.buffer) }
+    ensures bounds { Bounds 0 result (state reader.old) (state reader.new) }
+    ensures saved { SavedBounds 0 result (state reader.old) (state reader.new) }
+{
+    match argument_case(reader.rest) {
+        ArgumentCase::PackArgument => read_pack(reader, depth, context),
+        ArgumentCase::ExpressionArgument => read_expression_argument(reader, depth, context),
+        ArgumentCase::LiteralArgument => read_primary(reader, depth, context),
+        ArgumentCase::ConstraintArgument => Err(Stop::Unread),
+        ArgumentCase::TypeArgument => read_type(reader, depth, context),
+    }
+}
+
+/// A `<template-arg>` in a frame of its own: what lived keeps its shape.
+#[tactic(auto, using(itanium_reader::proofs::Rules::buffers))]
+#[cycle(reader)]
+pub(crate) fn framed_argument(
+    reader: &mut Reader,
+    depth: usize,
+    context: Context,
+) -> Result<(), Stop>
+    requires room { HasRoom 2 (state reader.old) }
+    ensures reads { Gives result reader.new
+        (spec.parse_argument depth context (state reader.old)) }
+    ensures kept { OnOk result (SameFrame reader.old.buffer reader.new.buffer) }
+    ensures bounds { Bounds 0 result (state reader.old) (state reader.new) }
+    ensures saved { SavedBounds 0 result (state reader.old) (state reader.new) }
+{
+    let mark = reader.buffer.open();
+    read_argument(reader, depth, context)?;
+    reader.found = reader.buffer.close(mark, reader.found)?;
+    Ok(())
+}

@@ -1,0 +1,212 @@
+//! Encodings and local names (Itanium C++ ABI 5.1, "General Structure" and "Scope Encoding").
+ghost use Rattle.std.specs.Prelude.{OnOk};
+ghost use Rattle.demangle_text.specs.State.{IsLiving, shape, IsRun, SameFrame};
+ghost use Rattle.itanium_syntax.specs.Context.{inside_encoding, inside_local};
+ghost use Rattle.itanium_syntax.specs.Encodings.{return_case, entity_case};
+ghost use Rattle.itanium_reader.specs.Parser as spec;
+ghost use Rattle.itanium_reader.specs.Outcome.{state, Gives, GivesBareName, Leaves, HasRoom, Bounds, ListBounds, SavedBounds};
+
+use crate::names::read_bare_name;
+use crate::specials::read_special;
+use crate::types::{read_type, read_typed_params};
+use demangle_edit::{Quals, apply_name_qualifiers, close_params, open_params, qualify};
+use demangle_text::Piece;
+use itanium_reader::{Reader, Stop};
+use itanium_syntax::context::Context;
+use itanium_syntax::encodings::{
+    EntityCase, ReturnCase, SignatureCase, entity_case, return_case, signature_case,
+};
+use itanium_syntax::names::{SymbolCase, symbol_case};
+use itanium_syntax::numerals::optional_number;
+
+/// A `<name>` without its own qualifiers, which are answered, in a frame of its own: what lived keeps its shape.
+#[tactic(auto, using(itanium_reader::proofs::Rules::buffers))]
+#[cycle(reader)]
+pub(crate) fn framed_bare_name(
+    reader: &mut Reader,
+    depth: usize,
+    context: Context,
+) -> Result<Quals, Stop>
+    requires room { HasRoom 1 (state reader.old) }
+    ensures reads { GivesBareName result reader.new (spec.parse_bare_name depth context (state reader.old)) }
+    ensures kept { OnOk result (SameFrame reader.old.buffer reader.new.buffer) }
+    ensures bounds { Bounds 1 result (state reader.old) (state reader.new) }
+    ensures saved { SavedBounds 1 result (state reader.old) (state reader.new) }
+{
+    let mark = reader.buffer.open();
+    let quals = read_bare_name(reader, depth, context)?;
+    reader.found = reader.buffer.close(mark, reader.found)?;
+    Ok(quals)
+}
+
+/// A `<name>` that isn't printed: what it saved and the scopes that it left stay, and it leaves no text.
+#[tactic(auto, using(itanium_reader::proofs::Rules::buffers))]
+#[cycle(reader)]
+pub(crate) fn drop_name(reader: &mut Reader, depth: usize, context: Context) -> Result<(), Stop>
+    requires room { HasRoom 1 (state reader.old) }
+    ensures reads { Leaves result reader.new (spec.dropped (spec.parse_bare_name depth context (state reader.old))) }
+    ensures kept { OnOk result (SameFrame reader.old.buffer reader.new.buffer) }
+    ensures bounds { Bounds 1 result (state reader.old) (state reader.new) }
+    ensures saved { SavedBounds 1 result (state reader.old) (state reader.new) }
+{
+    let mark = reader.buffer.open();
+    read_bare_name(reader, depth, context)?;
+    let empty = reader.buffer.push(b"")?;
+    reader.buffer.close(mark, empty)?;
+    Ok(())
+}
+
+/// A `<type>` that isn't printed: what it saved and the scopes that it left stay, and it leaves no text.
+#[tactic(auto, using(itanium_reader::proofs::Rules::buffers))]
+#[cycle(reader)]
+pub(crate) fn drop_type(reader: &mut Reader, depth: usize, context: Context) -> Result<(), Stop>
+    requires room { HasRoom 2 (state reader.old) }
+    ensures reads { Leaves result reader.new (spec.dropped (spec.parse_type depth context (state reader.old))) }
+    ensures kept { OnOk result (SameFrame reader.old.buffer reader.new.buffer) }
+    ensures bounds { Bounds 0 result (state reader.old) (state reader.new) }
+    ensures saved { SavedBounds 0 result (state reader.old) (state reader.new) }
+{
+    let mark = reader.buffer.open();
+    read_type(reader, depth, context)?;
+    let empty = reader.buffer.push(b"")?;
+    reader.buffer.close(mark, empty)?;
+    Ok(())
+}
+
+/// The return type of an `<encoding>`, after a name with these flags: it isn't printed.
+#[tactic(auto, using(itanium_reader::proofs::Rules::buffers))]
+#[cycle(reader)]
+pub(crate) fn read_return(
+    reader: &mut Reader,
+    depth: usize,
+    context: Context,
+    templ: bool,
+    ctor: bool,
+) -> Result<(), Stop>
+    requires room { HasRoom 2 (state reader.old) }
+    ensures reads { Leaves result reader.new (spec.return_as (return_case templ ctor reader.old.rest.now)
+        (spec.parse_type depth context) (state reader.old)) }
+    ensures kept { OnOk result (SameFrame reader.old.buffer reader.new.buffer) }
+    ensures bounds { ListBounds result (state reader.old) (state reader.new) }
+    ensures saved { SavedBounds 0 result (state reader.old) (state reader.new) }
+{
+    match return_case(templ, ctor, reader.rest) {
+        ReturnCase::NoReturnType => Ok(()),
+        ReturnCase::SomeReturnType => drop_type(reader, depth, context),
+    }
+}
+
+/// What is after the name of an `<encoding>`: its return type, its parameters, and then the name's own qualifiers.
+#[tactic(auto, using(itanium_reader::proofs::Rules::buffers))]
+#[cycle(reader)]
+pub(crate) fn end_encoding(
+    reader: &mut Reader,
+    depth: usize,
+    context: Context,
+    name: Piece,
+    quals: Quals,
+) -> Result<(), Stop>
+    requires room { HasRoom 2 (state reader.old) }
+    requires living { IsLiving reader.old.buffer name }
+    ensures reads { Gives result reader.new (spec.encoding_end (spec.parse_type depth context)
+        (shape reader.old.buffer name, quals) (state reader.old)) }
+    ensures run { OnOk result (IsRun reader.old.buffer reader.new.buffer) }
+    ensures bounds { ListBounds result (state reader.old) (state reader.new) }
+    ensures saved { SavedBounds 0 result (state reader.old) (state reader.new) }
+{
+    let templ = reader.buffer.templ(name);
+    let ctor = reader.buffer.ctor(name);
+    read_return(reader, depth, context, templ, ctor)?;
+    match signature_case(reader.rest) {
+        SignatureCase::NoSignature => {
+            reader.found = apply_name_qualifiers(&mut reader.buffer, name, quals, true)?;
+            Ok(())
+        }
+        SignatureCase::SomeSignature => {
+            let list = open_params(&mut reader.buffer, name)?;
+            read_typed_params(reader, depth, context, list)?;
+            reader.found = close_params(&mut reader.buffer, reader.found, quals)?;
+            Ok(())
+        }
+    }
+}
+
+/// `<encoding> ::= <special-name> | <name> [<return type>] [<parameter types>]`
+#[tactic(auto, using(itanium_reader::proofs::Rules::encodings))]
+#[cycle(reader)]
+pub(crate) fn read_encoding(reader: &mut Reader, depth: usize, context: Context) -> Result<(), Stop>
+    requires room { HasRoom 1 (state reader.old) }
+    ensures reads { Gives result reader.new (spec.parse_encoding depth context (state reader.old)) }
+    ensures run { OnOk result (IsRun reader.old.buffer reader.new.buffer) }
+    ensures bounds { Bounds 1 result (state reader.old) (state reader.new) }
+    ensures saved { SavedBounds 1 result (state reader.old) (state reader.new) }
+{
+    match symbol_case(reader.rest) {
+        SymbolCase::SpecialSymbol => read_special(reader, depth, context),
+        SymbolCase::NameSymbol => {
+            let quals = read_bare_name(reader, depth, context)?;
+            end_encoding(reader, depth, context, reader.found, quals)
+        }
+    }
+}
+
+/// What follows the `<encoding>` of a `<local-name>`: `E s`, `E d [<number>] _ <name>` or `E <name>`. A name's own
+/// qualifiers are answered.
+#[tactic(auto, using(itanium_reader::proofs::Rules::entities))]
+#[cycle(reader)]
+pub(crate) fn read_entity(
+    reader: &mut Reader,
+    depth: usize,
+    context: Context,
+    encoding: Piece,
+) -> Result<Quals, Stop>
+    requires room { HasRoom 0 (state reader.old) }
+    requires living { IsLiving reader.old.buffer encoding }
+    ensures reads { GivesBareName result reader.new (spec.entity_as (entity_case reader.old.rest.now)
+        (spec.parse_bare_name depth context) (shape reader.old.buffer encoding) (state reader.old)) }
+    ensures run { OnOk result (IsRun reader.old.buffer reader.new.buffer) }
+    ensures bounds { Bounds 2 result (state reader.old) (state reader.new) }
+    ensures saved { SavedBounds 1 result (state reader.old) (state reader.new) }
+{
+    match entity_case(reader.rest) {
+        EntityCase::StringLiteralEntity => {
+            reader.skip(2);
+            reader.print_string_literal(encoding)?;
+            Ok(Quals::none())
+        }
+        EntityCase::DefaultArgumentEntity => {
+            reader.skip(2);
+            let Some((_, rest)) = optional_number(reader.rest) else {
+                return Err(Stop::Unread);
+            };
+            reader.rest = rest;
+            drop_name(reader, depth, context)?;
+            reader.found = encoding;
+            Ok(Quals::none())
+        }
+        EntityCase::NameEntity => {
+            reader.skip(1);
+            let quals = framed_bare_name(reader, depth, context)?;
+            reader.found = qualify(&mut reader.buffer, encoding, reader.found)?;
+            Ok(quals)
+        }
+        EntityCase::NoEntity => Err(Stop::Unread),
+    }
+}
+
+/// `<local-name> ::= Z <encoding> E <name> | Z <encoding> E s | Z <encoding> E d [<number>] _ <name>`, after its
+/// `Z`: the own qualifiers of its entity are answered.
+#[tactic(auto, using(itanium_reader::proofs::Rules::local_names))]
+#[cycle(reader)]
+pub(crate) fn read_local(reader: &mut Reader, depth: usize, context: Context) -> Result<Quals, Stop>
+    requires room { HasRoom 2 (state reader.old) }
+    ensures reads { GivesBareName result reader.new (spec.parse_local
+        (spec.parse_encoding depth (inside_encoding context))
+        (spec.parse_bare_name depth (inside_local context)) (state reader.old)) }
+    ensures run { OnOk result (IsRun reader.old.buffer reader.new.buffer) }
+    ensures bounds { Bounds 1 result (state reader.old) (state reader.new) }
+    ensures saved { SavedBounds 1 result (state reader.old) (state reader.new) }
+{
+    read_encoding(reader, depth, context.inside_encoding())?;
+    read_entity(reader, depth, context.inside_local(), reader.found)
+}

@@ -1,0 +1,293 @@
+//! Literals, external names and expressions (Itanium C++ ABI 5.1, "Expressions").
+ghost use Rattle.std.specs.Prelude.{◌≡◌, ◌<◌, OnOk, length};
+ghost use Rattle.demangle_text.specs.State.{IsLiving, shape, IsRun, SameFrame};
+ghost use Rattle.itanium_reader.specs.Parser as spec;
+ghost use Rattle.itanium_reader.specs.Outcome.{state, Gives, HasRoom, Bounds, SavedBounds};
+
+use crate::encodings::read_encoding;
+use crate::types::read_type;
+use demangle_edit::{address, subexpr};
+use demangle_text::Piece;
+use itanium_reader::{Reader, Stop};
+use itanium_syntax::context::Context;
+use itanium_syntax::expressions::{
+    ExpressionCase, LiteralCase, expression_case, expression_text, literal_case, takes_parentheses,
+};
+
+/// `<expr-primary> ::= L <type> <value> E | L _Z <encoding> E`
+#[tactic(auto, using(itanium_reader::proofs::Rules::primaries))]
+#[cycle(reader)]
+pub(crate) fn read_primary(reader: &mut Reader, depth: usize, context: Context) -> Result<(), Stop>
+    requires room { HasRoom 0 (state reader.old) }
+    requires some { 0 < length reader.old.rest.now }
+    ensures reads { Gives result reader.new (spec.parse_primary depth context (state reader.old)) }
+    ensures run { OnOk result (IsRun reader.old.buffer reader.new.buffer) }
+    ensures bounds { Bounds 2 result (state reader.old) (state reader.new) }
+    ensures saved { SavedBounds 1 result (state reader.old) (state reader.new) }
+{
+    match literal_case(reader.rest) {
+        LiteralCase::ExternalName => {
+            reader.skip(3);
+            read_encoding(reader, depth, context.inside_encoding())?;
+            reader.read_end()
+        }
+        LiteralCase::ValueLiteral => {
+            reader.skip(1);
+            read_type(reader, depth, context)?;
+            reader.end_literal()
+        }
+        LiteralCase::NoLiteral => Err(Stop::Unread),
+    }
+}
+
+/// `pp_ <expression>` and `mm_ <expression>`
+#[tactic(auto, using(itanium_reader::proofs::Rules::buffers))]
+#[cycle(reader)]
+pub(crate) fn read_pre(reader: &mut Reader, depth: usize, context: Context) -> Result<(), Stop>
+    requires room { HasRoom 0 (state reader.old) }
+    requires some { 0 < length reader.old.rest.now }
+    ensures reads { Gives result reader.new
+        (spec.parse_pre (spec.parse_expression depth context) (state reader.old)) }
+    ensures run { OnOk result (IsRun reader.old.buffer reader.new.buffer) }
+    ensures bounds { Bounds 2 result (state reader.old) (state reader.new) }
+    ensures saved { SavedBounds 1 result (state reader.old) (state reader.new) }
+{
+    let text = expression_text(reader.rest);
+    reader.skip(3);
+    read_expression(reader, depth, context)?;
+    reader.print_pre(text)?;
+    Ok(())
+}
+
+/// `ad` and an external name.
+#[tactic(auto, using(itanium_reader::proofs::Rules::buffers))]
+#[cycle(reader)]
+pub(crate) fn read_address(reader: &mut Reader, depth: usize, context: Context) -> Result<(), Stop>
+    requires room { HasRoom 0 (state reader.old) }
+    requires some { 0 < length reader.old.rest.now }
+    ensures reads { Gives result reader.new
+        (spec.parse_address (spec.parse_expression depth context) (state reader.old)) }
+    ensures run { OnOk result (IsRun reader.old.buffer reader.new.buffer) }
+    ensures bounds { Bounds 2 result (state reader.old) (state reader.new) }
+    ensures saved { SavedBounds 1 result (state reader.old) (state reader.new) }
+{
+    reader.skip(2);
+    read_expression(reader, depth, context)?;
+    reader.found = address(&mut reader.buffer, reader.found)?;
+    Ok(())
+}
+
+/// An operator in front of its operand.
+#[tactic(auto, using(itanium_reader::proofs::Rules::buffers))]
+#[cycle(reader)]
+pub(crate) fn read_unary(reader: &mut Reader, depth: usize, context: Context) -> Result<(), Stop>
+    requires room { HasRoom 0 (state reader.old) }
+    requires some { 0 < length reader.old.rest.now }
+    ensures reads { Gives result reader.new
+        (spec.parse_unary (spec.parse_expression depth context) (state reader.old)) }
+    ensures run { OnOk result (IsRun reader.old.buffer reader.new.buffer) }
+    ensures bounds { Bounds 2 result (state reader.old) (state reader.new) }
+    ensures saved { SavedBounds 1 result (state reader.old) (state reader.new) }
+{
+    let text = expression_text(reader.rest);
+    reader.skip(2);
+    read_operand(reader, depth, context)?;
+    reader.print_pre(text)?;
+    Ok(())
+}
+
+/// `pp <expression>` and `mm <expression>`
+#[tactic(auto, using(itanium_reader::proofs::Rules::buffers))]
+#[cycle(reader)]
+pub(crate) fn read_post(reader: &mut Reader, depth: usize, context: Context) -> Result<(), Stop>
+    requires room { HasRoom 0 (state reader.old) }
+    requires some { 0 < length reader.old.rest.now }
+    ensures reads { Gives result reader.new
+        (spec.parse_post (spec.parse_expression depth context) (state reader.old)) }
+    ensures run { OnOk result (IsRun reader.old.buffer reader.new.buffer) }
+    ensures bounds { Bounds 2 result (state reader.old) (state reader.new) }
+    ensures saved { SavedBounds 1 result (state reader.old) (state reader.new) }
+{
+    let text = expression_text(reader.rest);
+    reader.skip(2);
+    read_operand(reader, depth, context)?;
+    reader.print_post(text)?;
+    Ok(())
+}
+
+/// An operator between its operands.
+#[tactic(auto, using(itanium_reader::proofs::Rules::buffers))]
+#[cycle(reader)]
+pub(crate) fn read_binary(reader: &mut Reader, depth: usize, context: Context) -> Result<(), Stop>
+    requires room { HasRoom 0 (state reader.old) }
+    requires some { 0 < length reader.old.rest.now }
+    ensures reads { Gives result reader.new
+        (spec.parse_binary (spec.parse_expression depth context) (state reader.old)) }
+    ensures run { OnOk result (IsRun reader.old.buffer reader.new.buffer) }
+    ensures bounds { Bounds 2 result (state reader.old) (state reader.new) }
+    ensures saved { SavedBounds 1 result (state reader.old) (state reader.new) }
+{
+    let text = expression_text(reader.rest);
+    reader.skip(2);
+    read_operand(reader, depth, context)?;
+    let left = reader.found;
+    framed_operand(reader, depth, context)?;
+    reader.print_binary(left, text)?;
+    Ok(())
+}
+
+/// `gt <expression> <expression>`
+#[tactic(auto, using(itanium_reader::proofs::Rules::buffers))]
+#[cycle(reader)]
+pub(crate) fn read_greater(reader: &mut Reader, depth: usize, context: Context) -> Result<(), Stop>
+    requires room { HasRoom 0 (state reader.old) }
+    requires some { 0 < length reader.old.rest.now }
+    ensures reads { Gives result reader.new
+        (spec.parse_greater (spec.parse_expression depth context) (state reader.old)) }
+    ensures run { OnOk result (IsRun reader.old.buffer reader.new.buffer) }
+    ensures bounds { Bounds 2 result (state reader.old) (state reader.new) }
+    ensures saved { SavedBounds 1 result (state reader.old) (state reader.new) }
+{
+    reader.skip(2);
+    read_expression(reader, depth, context)?;
+    let left = reader.found;
+    framed_expression(reader, depth, context)?;
+    reader.print_greater(left)?;
+    Ok(())
+}
+
+/// The two operands between which a condition chooses.
+#[tactic(auto, using(itanium_reader::proofs::Rules::buffers))]
+#[cycle(reader)]
+pub(crate) fn read_alternatives(
+    reader: &mut Reader,
+    depth: usize,
+    context: Context,
+    condition: Piece,
+) -> Result<(), Stop>
+    requires room { HasRoom 1 (state reader.old) }
+    requires condition { IsLiving reader.old.buffer condition }
+    ensures reads { Gives result reader.new (spec.parse_alternatives (spec.parse_expression depth context)
+        (shape reader.old.buffer condition) (state reader.old)) }
+    ensures run { OnOk result (IsRun reader.old.buffer reader.new.buffer) }
+    ensures bounds { Bounds 1 result (state reader.old) (state reader.new) }
+    ensures saved { SavedBounds 1 result (state reader.old) (state reader.new) }
+{
+    framed_operand(reader, depth, context)?;
+    let then = reader.found;
+    framed_operand(reader, depth, context)?;
+    reader.print_conditional(condition, then)?;
+    Ok(())
+}
+
+/// `qu <expression> <expression> <expression>`
+#[tactic(auto, using(itanium_reader::proofs::Rules::buffers))]
+#[cycle(reader)]
+pub(crate) fn read_conditional(
+    reader: &mut Reader,
+    depth: usize,
+    context: Context,
+) -> Result<(), Stop>
+    requires room { HasRoom 0 (state reader.old) }
+    requires some { 0 < length reader.old.rest.now }
+    ensures reads { Gives result reader.new
+        (spec.parse_conditional (spec.parse_expression depth context) (state reader.old)) }
+    ensures run { OnOk result (IsRun reader.old.buffer reader.new.buffer) }
+    ensures bounds { Bounds 2 result (state reader.old) (state reader.new) }
+    ensures saved { SavedBounds 1 result (state reader.old) (state reader.new) }
+{
+    reader.skip(2);
+    read_operand(reader, depth, context)?;
+    read_alternatives(reader, depth, context, reader.found)
+}
+
+/// `<expression>`, within `depth` open productions.
+#[tactic(auto, using(itanium_reader::proofs::Rules::expressions))]
+#[cycle(reader)]
+pub(crate) fn read_expression(
+    reader: &mut Reader,
+    depth: usize,
+    context: Context,
+) -> Result<(), Stop>
+    requires room { HasRoom 1 (state reader.old) }
+    ensures reads { Gives result reader.new (spec.parse_expression depth context (state reader.old)) }
+    ensures run { OnOk result (IsRun reader.old.buffer reader.new.buffer) }
+    ensures refused { depth ≡ 0 → reader.new.entered ≡ reader.old.entered }
+    ensures bounds { Bounds 1 result (state reader.old) (state reader.new) }
+    ensures saved { SavedBounds 1 result (state reader.old) (state reader.new) }
+{
+    if depth == 0 {
+        return Err(Stop::Unread);
+    }
+    reader.entered += 1;
+    match expression_case(reader.rest) {
+        ExpressionCase::PreExpression => read_pre(reader, depth - 1, context),
+        ExpressionCase::AddressExpression => read_address(reader, depth - 1, context),
+        ExpressionCase::UnaryExpression => read_unary(reader, depth - 1, context),
+        ExpressionCase::PostExpression => read_post(reader, depth - 1, context),
+        ExpressionCase::BinaryExpression => read_binary(reader, depth - 1, context),
+        ExpressionCase::GreaterExpression => read_greater(reader, depth - 1, context),
+        ExpressionCase::ConditionalExpression => read_conditional(reader, depth - 1, context),
+        ExpressionCase::ParameterExpression => reader.read_parameter(context),
+        ExpressionCase::LiteralExpression => read_primary(reader, depth - 1, context),
+        ExpressionCase::NoExpression => Err(Stop::Unread),
+    }
+}
+
+/// An operand: an `<expression>`, in parentheses but for an external name.
+#[tactic(auto, using(itanium_reader::proofs::Rules::buffers))]
+#[cycle(reader)]
+pub(crate) fn read_operand(reader: &mut Reader, depth: usize, context: Context) -> Result<(), Stop>
+    requires room { HasRoom 1 (state reader.old) }
+    ensures reads { Gives result reader.new
+        (spec.operand_by (spec.parse_expression depth context) (state reader.old)) }
+    ensures run { OnOk result (IsRun reader.old.buffer reader.new.buffer) }
+    ensures bounds { Bounds 1 result (state reader.old) (state reader.new) }
+    ensures saved { SavedBounds 1 result (state reader.old) (state reader.new) }
+{
+    let paren = takes_parentheses(reader.rest);
+    read_expression(reader, depth, context)?;
+    reader.found = subexpr(&mut reader.buffer, reader.found, paren)?;
+    Ok(())
+}
+
+/// An operand in a frame of its own: what lived keeps its shape.
+#[tactic(auto, using(itanium_reader::proofs::Rules::buffers))]
+#[cycle(reader)]
+pub(crate) fn framed_operand(
+    reader: &mut Reader,
+    depth: usize,
+    context: Context,
+) -> Result<(), Stop>
+    requires room { HasRoom 1 (state reader.old) }
+    ensures reads { Gives result reader.new
+        (spec.operand_by (spec.parse_expression depth context) (state reader.old)) }
+    ensures kept { OnOk result (SameFrame reader.old.buffer reader.new.buffer) }
+    ensures bounds { Bounds 1 result (state reader.old) (state reader.new) }
+    ensures saved { SavedBounds 1 result (state reader.old) (state reader.new) }
+{
+    let mark = reader.buffer.open();
+    read_operand(reader, depth, context)?;
+    reader.found = reader.buffer.close(mark, reader.found)?;
+    Ok(())
+}
+
+/// `<expression>` in a frame of its own: what lived keeps its shape.
+#[tactic(auto, using(itanium_reader::proofs::Rules::buffers))]
+#[cycle(reader)]
+pub(crate) fn framed_expression(
+    reader: &mut Reader,
+    depth: usize,
+    context: Context,
+) -> Result<(), Stop>
+    requires room { HasRoom 1 (state reader.old) }
+    ensures reads { Gives result reader.new (spec.parse_expression depth context (state reader.old)) }
+    ensures kept { OnOk result (SameFrame reader.old.buffer reader.new.buffer) }
+    ensures bounds { Bounds 1 result (state reader.old) (state reader.new) }
+    ensures saved { SavedBounds 1 result (state reader.old) (state reader.new) }
+{
+    let mark = reader.buffer.open();
+    read_expression(reader, depth, context)?;
+    reader.found = reader.buffer.close(mark, reader.found)?;
+    Ok(())
+}

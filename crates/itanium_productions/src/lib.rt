@@ -1,0 +1,12 @@
+//! A reader for each production of the grammar. They call one another, and are proved as one. It is a part of
+//! `itanium_demangle`, and for no other use.
+#![tactic(auto)]
+
+mod args;
+mod encodings;
+mod expressions;
+mod names;
+mod specials;
+mod types;
+
+pub use crate::specials::read_symbol;

@@ -1,0 +1,361 @@
+//! Names (Itanium C++ ABI 5.1.2).
+ghost use Rattle.std.specs.Prelude.{◌≡◌, ◌<◌, length, option_map, IfSome, OnOk, true};
+ghost use Rattle.demangle_text.specs.State.{IsLiving, shape, IsRun, SameFrame, saved};
+ghost use Rattle.itanium_syntax.specs.Names.{free_case, first_case, unscoped_case, saves_first};
+ghost use Rattle.itanium_syntax.specs.Context.{inside_lambda};
+ghost use Rattle.itanium_syntax.specs.Args.{attached_case};
+ghost use Rattle.itanium_reader.specs.Parser as spec;
+ghost use Rattle.itanium_reader.specs.Outcome.{state, Gives, GivesBareName, HasRoom, Bounds, OptionalBounds, SavedBounds};
+
+use crate::args::read_attached;
+use crate::encodings::read_local;
+use crate::types::{read_type, read_typed_params};
+use demangle_edit::{Quals, apply_name_qualifiers};
+use demangle_text::Piece;
+use itanium_reader::{Reader, Stop};
+use itanium_syntax::args::{AttachedCase, attached_case};
+use itanium_syntax::context::Context;
+use itanium_syntax::encodings::shows_words;
+use itanium_syntax::names::{
+    ComponentCase, FirstCase, FreeCase, NameCase, UnqualifiedCase, UnscopedCase, component_case,
+    first_case, free_case, name_case, name_quals, past_internal, saves_first, unqualified_case,
+    unscoped_case,
+};
+
+/// `<closure-type-name> ::= Ul <lambda-sig> E [<nonnegative number>] _`, after its `Ul`.
+#[tactic(auto, using(itanium_reader::proofs::Rules::buffers))]
+#[cycle(reader)]
+pub(crate) fn read_lambda(reader: &mut Reader, depth: usize, context: Context) -> Result<(), Stop>
+    requires room { HasRoom 2 (state reader.old) }
+    ensures reads { Gives result reader.new (spec.parse_lambda (spec.parse_type depth context) (state reader.old)) }
+    ensures run { OnOk result (IsRun reader.old.buffer reader.new.buffer) }
+    ensures bounds { Bounds 0 result (state reader.old) (state reader.new) }
+    ensures saved { SavedBounds 1 result (state reader.old) (state reader.new) }
+{
+    let list = reader.buffer.push(b"{lambda(")?;
+    read_typed_params(reader, depth, context, list)?;
+    reader.end_lambda(reader.found)
+}
+
+/// `<unqualified-name>` that asks for no scope, without its tags.
+#[tactic(auto, using(itanium_reader::proofs::Rules::free_names))]
+#[cycle(reader)]
+pub(crate) fn read_free_name(
+    reader: &mut Reader,
+    depth: usize,
+    context: Context,
+) -> Result<(), Stop>
+    requires room { HasRoom 0 (state reader.old) }
+    ensures reads { Gives result reader.new (spec.free_as (free_case reader.old.rest.now)
+        (spec.parse_type depth context) (spec.parse_type depth (inside_lambda context)) (state reader.old)) }
+    ensures run { OnOk result (IsRun reader.old.buffer reader.new.buffer) }
+    ensures bounds { Bounds 2 result (state reader.old) (state reader.new) }
+    ensures saved { SavedBounds 1 result (state reader.old) (state reader.new) }
+{
+    match free_case(reader.rest) {
+        FreeCase::SourceName => reader.read_source(),
+        FreeCase::UnnamedTypeName => {
+            reader.skip(2);
+            reader.read_unnamed_type()
+        }
+        FreeCase::LambdaName => {
+            reader.skip(2);
+            read_lambda(reader, depth, context.inside_lambda())
+        }
+        FreeCase::ConversionName => {
+            reader.skip(2);
+            read_type(reader, depth, context)?;
+            reader.convert_found()?;
+            Ok(())
+        }
+        FreeCase::LiteralOperatorName => {
+            reader.skip(2);
+            reader.read_literal_operator()
+        }
+        FreeCase::OperatorName => reader.read_operator(),
+        FreeCase::NoName => Err(Stop::Unread),
+    }
+}
+
+/// `<unqualified-name>` that asks for no scope, and its tags, in a frame of their own: what lived keeps its shape.
+#[tactic(auto, using(itanium_reader::proofs::Rules::buffers))]
+#[cycle(reader)]
+pub(crate) fn framed_free_name(
+    reader: &mut Reader,
+    depth: usize,
+    context: Context,
+) -> Result<(), Stop>
+    requires room { HasRoom 0 (state reader.old) }
+    ensures reads { Gives result reader.new (spec.parse_free (spec.parse_type depth context)
+        (spec.parse_type depth (inside_lambda context)) (state reader.old)) }
+    ensures kept { OnOk result (SameFrame reader.old.buffer reader.new.buffer) }
+    ensures bounds { Bounds 2 result (state reader.old) (state reader.new) }
+    ensures saved { SavedBounds 1 result (state reader.old) (state reader.new) }
+{
+    let mark = reader.buffer.open();
+    read_free_name(reader, depth, context)?;
+    reader.read_tags(reader.found)?;
+    reader.found = reader.buffer.close(mark, reader.found)?;
+    Ok(())
+}
+
+/// `<unqualified-name>`, in the scope that stands in front of it, if one does.
+#[tactic(auto, using(itanium_reader::proofs::Rules::unqualified_names))]
+#[cycle(reader)]
+pub(crate) fn read_unqualified(
+    reader: &mut Reader,
+    depth: usize,
+    context: Context,
+    scope: Option<Piece>,
+) -> Result<(), Stop>
+    requires room { HasRoom 0 (state reader.old) }
+    requires scope { IfSome scope (IsLiving reader.old.buffer) }
+    ensures reads { Gives result reader.new
+        (spec.parse_unqualified (spec.parse_type depth context) (spec.parse_type depth (inside_lambda context))
+        (option_map (shape reader.old.buffer) scope) (state reader.old)) }
+    ensures run { OnOk result (IsRun reader.old.buffer reader.new.buffer) }
+    ensures bounds { Bounds 2 result (state reader.old) (state reader.new) }
+    ensures saved { SavedBounds 1 result (state reader.old) (state reader.new) }
+{
+    reader.rest = past_internal(reader.rest);
+    match unqualified_case(scope.is_some(), reader.rest) {
+        UnqualifiedCase::ConstructorName => reader.read_ctor_dtor(false, scope),
+        UnqualifiedCase::DestructorName => reader.read_ctor_dtor(true, scope),
+        UnqualifiedCase::FreeName => {
+            framed_free_name(reader, depth, context)?;
+            reader.enclose(scope, reader.found)?;
+            Ok(())
+        }
+    }
+}
+
+/// The first component of a `<nested-name>`.
+#[tactic(auto, using(itanium_reader::proofs::Rules::fronts))]
+#[cycle(reader)]
+pub(crate) fn read_first(reader: &mut Reader, depth: usize, context: Context) -> Result<(), Stop>
+    requires room { HasRoom 2 (state reader.old) }
+    ensures reads { Gives result reader.new (spec.first_as (first_case reader.old.rest.now)
+        (spec.parse_unqualified (spec.parse_type depth context)
+        (spec.parse_type depth (inside_lambda context))) context (state reader.old)) }
+    ensures run { OnOk result (IsRun reader.old.buffer reader.new.buffer) }
+    ensures first_saved { OnOk result (saves_first (first_case reader.old.rest.now) ≡ true
+        → 0 < length (saved reader.new.buffer)) }
+    ensures bounds { Bounds 2 result (state reader.old) (state reader.new) }
+    ensures saved { SavedBounds 0 result (state reader.old) (state reader.new) }
+{
+    match first_case(reader.rest) {
+        FirstCase::ParameterFirst => reader.read_saved_parameter(context),
+        FirstCase::StdFirst => {
+            reader.skip(2);
+            reader.found = reader.buffer.push(b"std")?;
+            Ok(())
+        }
+        FirstCase::SubstitutionFirst => reader.read_substitution(),
+        FirstCase::NameFirst => {
+            read_unqualified(reader, depth, context, None)?;
+            reader.save_found()?;
+            Ok(())
+        }
+    }
+}
+
+/// `<nested-name> ::= N [<CV-qualifiers>] [<ref-qualifier>] <prefix> <unqualified-name> E`, after its `N`: its own
+/// qualifiers are answered.
+#[tactic(auto, using(itanium_reader::proofs::Rules::nested_names))]
+#[cycle(reader)]
+pub(crate) fn read_nested(
+    reader: &mut Reader,
+    depth: usize,
+    context: Context,
+) -> Result<Quals, Stop>
+    requires room { HasRoom 2 (state reader.old) }
+    ensures reads { GivesBareName result reader.new (spec.parse_nested
+        (spec.parse_unqualified (spec.parse_type depth context)
+        (spec.parse_type depth (inside_lambda context)))
+        (spec.parse_args depth context true) context (state reader.old)) }
+    ensures run { OnOk result (IsRun reader.old.buffer reader.new.buffer) }
+    ensures bounds { Bounds 1 result (state reader.old) (state reader.new) }
+    ensures saved { SavedBounds 1 result (state reader.old) (state reader.new) }
+{
+    let (quals, rest) = name_quals(reader.rest);
+    reader.rest = rest;
+    let takes = saves_first(first_case(reader.rest));
+    read_first(reader, depth, context)?;
+    let first = reader.found;
+    reader.skip_initializer();
+    read_components(reader, depth, context, takes, first)?;
+    Ok(quals)
+}
+
+/// The later components of a `<nested-name>` after what stands, up to its `E`.
+#[tactic(auto, using(itanium_reader::proofs::Rules::buffers))]
+#[cycle(reader)]
+pub(crate) fn read_components(
+    reader: &mut Reader,
+    depth: usize,
+    context: Context,
+    takes: bool,
+    first: Piece,
+) -> Result<(), Stop>
+    requires room { HasRoom 1 (state reader.old) }
+    requires living { IsLiving reader.old.buffer first }
+    requires saved { takes ≡ true → 0 < length (saved reader.old.buffer) }
+    ensures reads { Gives result reader.new
+        (spec.parse_components (spec.parse_unqualified (spec.parse_type depth context)
+        (spec.parse_type depth (inside_lambda context)))
+        (spec.parse_args depth context true) takes (shape reader.old.buffer first) (state reader.old)) }
+    ensures run { OnOk result (IsRun reader.old.buffer reader.new.buffer) }
+    ensures bounds { Bounds 1 result (state reader.old) (state reader.new) }
+    ensures saved { SavedBounds 1 result (state reader.old) (state reader.new) }
+{
+    let mut takes = takes;
+    let mut name = first;
+    loop {
+        match component_case(reader.rest) {
+            ComponentCase::EndOfComponents => {
+                reader.skip(1);
+                reader.take_back(takes);
+                reader.found = name;
+                return Ok(());
+            }
+            ComponentCase::ArgsComponent => {
+                read_attached(reader, depth, context, true, name)?;
+                name = reader.found;
+                reader.save(name)?;
+                reader.skip_initializer();
+                takes = true;
+            }
+            ComponentCase::NameComponent => {
+                read_unqualified(reader, depth, context, Some(name))?;
+                name = reader.found;
+                reader.save(name)?;
+                reader.skip_initializer();
+                takes = true;
+            }
+        }
+    }
+}
+
+/// `<template-args>` after a name, which is saved in front of them, or none.
+#[tactic(auto, using(itanium_reader::proofs::Rules::fronts))]
+#[cycle(reader)]
+pub(crate) fn read_attached_args(
+    reader: &mut Reader,
+    depth: usize,
+    context: Context,
+    name: Piece,
+) -> Result<(), Stop>
+    requires room { HasRoom 1 (state reader.old) }
+    requires living { IsLiving reader.old.buffer name }
+    ensures reads { Gives result reader.new (spec.attached_as (attached_case reader.old.rest.now)
+        (spec.parse_args depth context true)
+        (shape reader.old.buffer name) (state reader.old)) }
+    ensures run { OnOk result (IsRun reader.old.buffer reader.new.buffer) }
+    ensures bounds { OptionalBounds result (state reader.old) (state reader.new) }
+    ensures saved { SavedBounds 0 result (state reader.old) (state reader.new) }
+{
+    match attached_case(reader.rest) {
+        AttachedCase::NoneAttached => {
+            reader.found = name;
+            Ok(())
+        }
+        AttachedCase::ArgsAttached => {
+            reader.save(name)?;
+            read_attached(reader, depth, context, true, name)
+        }
+    }
+}
+
+/// `<unscoped-name> ::= [St] <unqualified-name>` and `<template-args>` after it or none, or a `<substitution>` and
+/// `<template-args>`.
+#[tactic(auto, using(itanium_reader::proofs::Rules::fronts))]
+#[cycle(reader)]
+pub(crate) fn read_unscoped(reader: &mut Reader, depth: usize, context: Context) -> Result<(), Stop>
+    requires room { HasRoom 0 (state reader.old) }
+    ensures reads { Gives result reader.new
+        (spec.unscoped_as (unscoped_case reader.old.rest.now)
+        (spec.parse_unqualified (spec.parse_type depth context)
+        (spec.parse_type depth (inside_lambda context)))
+        (spec.parse_args depth context true) (state reader.old)) }
+    ensures run { OnOk result (IsRun reader.old.buffer reader.new.buffer) }
+    ensures bounds { Bounds 2 result (state reader.old) (state reader.new) }
+    ensures saved { SavedBounds 1 result (state reader.old) (state reader.new) }
+{
+    match unscoped_case(reader.rest) {
+        UnscopedCase::StdName => {
+            reader.skip(2);
+            let scope = reader.buffer.push(b"std")?;
+            read_unqualified(reader, depth, context, Some(scope))?;
+            read_attached_args(reader, depth, context, reader.found)
+        }
+        UnscopedCase::SubstitutionName => {
+            reader.read_substitution()?;
+            match attached_case(reader.rest) {
+                AttachedCase::NoneAttached => Err(Stop::Unread),
+                AttachedCase::ArgsAttached => read_attached(
+                    reader,
+                    depth,
+                    context,
+                    true,
+                    reader.found,
+                ),
+            }
+        }
+        UnscopedCase::PlainName => {
+            read_unqualified(reader, depth, context, None)?;
+            read_attached_args(reader, depth, context, reader.found)
+        }
+    }
+}
+
+/// `<name> ::= <nested-name> | <local-name> | <unscoped-name> | <unscoped-template-name> <template-args>`, within
+/// `depth` open productions, without its own qualifiers: they are answered.
+#[tactic(auto, using(itanium_reader::proofs::Rules::bare_names))]
+#[cycle(reader)]
+pub(crate) fn read_bare_name(
+    reader: &mut Reader,
+    depth: usize,
+    context: Context,
+) -> Result<Quals, Stop>
+    requires room { HasRoom 1 (state reader.old) }
+    ensures reads { GivesBareName result reader.new (spec.parse_bare_name depth context (state reader.old)) }
+    ensures run { OnOk result (IsRun reader.old.buffer reader.new.buffer) }
+    ensures refused { depth ≡ 0 → reader.new.entered ≡ reader.old.entered }
+    ensures bounds { Bounds 1 result (state reader.old) (state reader.new) }
+    ensures saved { SavedBounds 1 result (state reader.old) (state reader.new) }
+{
+    if depth == 0 {
+        return Err(Stop::Unread);
+    }
+    reader.entered += 1;
+    match name_case(reader.rest) {
+        NameCase::NestedName => {
+            reader.skip(1);
+            read_nested(reader, depth - 1, context)
+        }
+        NameCase::LocalName => {
+            reader.skip(1);
+            read_local(reader, depth - 1, context)
+        }
+        NameCase::UnscopedName => {
+            read_unscoped(reader, depth - 1, context)?;
+            Ok(Quals::none())
+        }
+    }
+}
+
+/// `<name>` with its own qualifiers, within `depth` open productions.
+#[tactic(auto, using(itanium_reader::proofs::Rules::names))]
+#[cycle(reader)]
+pub(crate) fn read_name(reader: &mut Reader, depth: usize, context: Context) -> Result<(), Stop>
+    requires room { HasRoom 1 (state reader.old) }
+    ensures reads { Gives result reader.new (spec.parse_name depth context (state reader.old)) }
+    ensures run { OnOk result (IsRun reader.old.buffer reader.new.buffer) }
+    ensures bounds { Bounds 1 result (state reader.old) (state reader.new) }
+    ensures saved { SavedBounds 1 result (state reader.old) (state reader.new) }
+{
+    let shown = shows_words(name_case(reader.rest), context.shown);
+    let quals = read_bare_name(reader, depth, context)?;
+    reader.found = apply_name_qualifiers(&mut reader.buffer, reader.found, quals, shown)?;
+    Ok(())
+}

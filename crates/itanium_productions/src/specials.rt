@@ -1,0 +1,170 @@
+//! Special names, and what follows the prefix of a symbol (Itanium C++ ABI 5.1.4, "Other Special Functions and
+//! Entities").
+ghost use Rattle.std.specs.Prelude.{◌≡◌, ◌<◌, OnOk, length};
+ghost use Rattle.demangle_text.specs.State.{IsRun};
+ghost use Rattle.itanium_reader.specs.Parser as spec;
+ghost use Rattle.itanium_reader.specs.Outcome.{state, Gives, HasRoom, Bounds, SavedBounds};
+
+use crate::names::read_name;
+use crate::types::{framed_type, read_type};
+use itanium_reader::{Reader, Stop};
+use itanium_syntax::context::Context;
+use itanium_syntax::names::{SymbolCase, symbol_case};
+use itanium_syntax::offsets::thunk_offsets;
+use itanium_syntax::specials::{SpecialCase, special_case, special_close, special_text};
+
+/// `TV <type>`, `TT <type>`, `TI <type>`, `TS <type>` and `TF <type>`
+#[tactic(auto, using(itanium_reader::proofs::Rules::buffers))]
+#[cycle(reader)]
+pub(crate) fn read_type_special(
+    reader: &mut Reader,
+    depth: usize,
+    context: Context,
+) -> Result<(), Stop>
+    requires room { HasRoom 0 (state reader.old) }
+    requires some { 0 < length reader.old.rest.now }
+    ensures reads { Gives result reader.new
+        (spec.parse_worded (spec.parse_type depth context) (state reader.old)) }
+    ensures run { OnOk result (IsRun reader.old.buffer reader.new.buffer) }
+    ensures bounds { Bounds 2 result (state reader.old) (state reader.new) }
+    ensures saved { SavedBounds 1 result (state reader.old) (state reader.new) }
+{
+    let words = special_text(reader.rest);
+    let close = special_close(reader.rest);
+    reader.skip(2);
+    read_type(reader, depth, context)?;
+    reader.print_worded(words, close)?;
+    Ok(())
+}
+
+/// `TH <name>`, `TW <name>` and `GV <name>`
+#[tactic(auto, using(itanium_reader::proofs::Rules::buffers))]
+#[cycle(reader)]
+pub(crate) fn read_name_special(
+    reader: &mut Reader,
+    depth: usize,
+    context: Context,
+) -> Result<(), Stop>
+    requires room { HasRoom 0 (state reader.old) }
+    requires some { 0 < length reader.old.rest.now }
+    ensures reads { Gives result reader.new
+        (spec.parse_worded (spec.parse_name depth context) (state reader.old)) }
+    ensures run { OnOk result (IsRun reader.old.buffer reader.new.buffer) }
+    ensures bounds { Bounds 2 result (state reader.old) (state reader.new) }
+    ensures saved { SavedBounds 1 result (state reader.old) (state reader.new) }
+{
+    let words = special_text(reader.rest);
+    let close = special_close(reader.rest);
+    reader.skip(2);
+    read_name(reader, depth, context)?;
+    reader.print_worded(words, close)?;
+    Ok(())
+}
+
+/// `GR <name> [<seq-id>] _`
+#[tactic(auto, using(itanium_reader::proofs::Rules::buffers))]
+#[cycle(reader)]
+pub(crate) fn read_temporary(
+    reader: &mut Reader,
+    depth: usize,
+    context: Context,
+) -> Result<(), Stop>
+    requires room { HasRoom 0 (state reader.old) }
+    requires some { 0 < length reader.old.rest.now }
+    ensures reads { Gives result reader.new
+        (spec.parse_temporary (spec.parse_name depth context) (state reader.old)) }
+    ensures run { OnOk result (IsRun reader.old.buffer reader.new.buffer) }
+    ensures bounds { Bounds 2 result (state reader.old) (state reader.new) }
+    ensures saved { SavedBounds 1 result (state reader.old) (state reader.new) }
+{
+    reader.skip(2);
+    read_name(reader, depth, context)?;
+    reader.end_temporary()
+}
+
+/// `TC <type> <type>`
+#[tactic(auto, using(itanium_reader::proofs::Rules::buffers))]
+#[cycle(reader)]
+pub(crate) fn read_construction(
+    reader: &mut Reader,
+    depth: usize,
+    context: Context,
+) -> Result<(), Stop>
+    requires room { HasRoom 0 (state reader.old) }
+    requires some { 0 < length reader.old.rest.now }
+    ensures reads { Gives result reader.new
+        (spec.parse_construction (spec.parse_type depth context) (state reader.old)) }
+    ensures run { OnOk result (IsRun reader.old.buffer reader.new.buffer) }
+    ensures bounds { Bounds 2 result (state reader.old) (state reader.new) }
+    ensures saved { SavedBounds 1 result (state reader.old) (state reader.new) }
+{
+    reader.skip(2);
+    read_type(reader, depth, context)?;
+    let base = reader.found;
+    framed_type(reader, depth, context)?;
+    reader.print_construction(base)?;
+    Ok(())
+}
+
+/// `T <call-offset> <encoding>` and `T c <call-offset> <call-offset> <encoding>`, within `depth` open productions.
+#[tactic(auto, using(itanium_reader::proofs::Rules::thunks))]
+#[cycle(reader)]
+pub(crate) fn read_thunk(reader: &mut Reader, depth: usize, context: Context) -> Result<(), Stop>
+    requires room { HasRoom 1 (state reader.old) }
+    requires some { 0 < length reader.old.rest.now }
+    ensures reads { Gives result reader.new (spec.parse_thunk depth context (state reader.old)) }
+    ensures run { OnOk result (IsRun reader.old.buffer reader.new.buffer) }
+    ensures refused { depth ≡ 0 → reader.new.entered ≡ reader.old.entered }
+    ensures bounds { Bounds 1 result (state reader.old) (state reader.new) }
+    ensures saved { SavedBounds 1 result (state reader.old) (state reader.new) }
+{
+    if depth == 0 {
+        return Err(Stop::Unread);
+    }
+    reader.entered += 1;
+    reader.skip(1);
+    let Some((offsets, rest)) = thunk_offsets(reader.rest) else {
+        return Err(Stop::Unread);
+    };
+    reader.rest = rest;
+    read_symbol(reader, depth - 1, context)?;
+    reader.print_thunk(offsets)?;
+    Ok(())
+}
+
+/// `<special-name>`
+#[tactic(auto, using(itanium_reader::proofs::Rules::specials))]
+#[cycle(reader)]
+pub(crate) fn read_special(reader: &mut Reader, depth: usize, context: Context) -> Result<(), Stop>
+    requires room { HasRoom 1 (state reader.old) }
+    ensures reads { Gives result reader.new (spec.parse_special depth context (state reader.old)) }
+    ensures run { OnOk result (IsRun reader.old.buffer reader.new.buffer) }
+    ensures bounds { Bounds 1 result (state reader.old) (state reader.new) }
+    ensures saved { SavedBounds 1 result (state reader.old) (state reader.new) }
+{
+    match special_case(reader.rest) {
+        SpecialCase::TypeSpecial => read_type_special(reader, depth, context),
+        SpecialCase::NameSpecial => read_name_special(reader, depth, context),
+        SpecialCase::TemporarySpecial => read_temporary(reader, depth, context),
+        SpecialCase::ConstructionSpecial => read_construction(reader, depth, context),
+        SpecialCase::ThunkSpecial => read_thunk(reader, depth, context),
+        SpecialCase::NoSpecial => Err(Stop::Unread),
+    }
+}
+
+/// What follows the prefix of a symbol, within `depth` open productions: a special name, or a name without its
+/// parameters.
+#[tactic(auto, using(itanium_reader::proofs::Rules::symbols))]
+#[cycle(reader)]
+pub fn read_symbol(reader: &mut Reader, depth: usize, context: Context) -> Result<(), Stop>
+    requires room { HasRoom 1 (state reader.old) }
+    ensures reads { Gives result reader.new (spec.parse_symbol depth context (state reader.old)) }
+    ensures run { OnOk result (IsRun reader.old.buffer reader.new.buffer) }
+    ensures bounds { Bounds 1 result (state reader.old) (state reader.new) }
+    ensures saved { SavedBounds 1 result (state reader.old) (state reader.new) }
+{
+    match symbol_case(reader.rest) {
+        SymbolCase::SpecialSymbol => read_special(reader, depth, context),
+        SymbolCase::NameSymbol => read_name(reader, depth, context),
+    }
+}

@@ -1,0 +1,467 @@
+//! Types (Itanium C++ ABI 5.1.5).
+ghost use Rattle.std.specs.Prelude.{◌≡◌, ◌<◌, OnOk, length, false};
+ghost use Rattle.demangle_text.specs.State.{IsLiving, shape, IsRun, SameFrame};
+ghost use Rattle.demangle_quals.specs.Quals.{no_quals};
+ghost use Rattle.itanium_syntax.specs.Args.{attached_case};
+ghost use Rattle.itanium_syntax.specs.Types.{params_case, past_cv};
+ghost use Rattle.itanium_reader.specs.Parser as spec;
+ghost use Rattle.itanium_reader.specs.Outcome.{state, Gives, HasRoom, Bounds, OptionalBounds, GivesList, ListBounds, SavedBounds};
+
+use crate::args::read_attached;
+use crate::names::read_name;
+use demangle_edit::{Pointer, Quals, list_next, separate};
+use demangle_text::Piece;
+use itanium_reader::{Reader, Stop};
+use itanium_syntax::args::{AttachedCase, attached_case};
+use itanium_syntax::context::Context;
+use itanium_syntax::numerals::optional_number;
+use itanium_syntax::types::{
+    CvCase, FunctionCase, ParamsCase, TypeCase, TypesCase, cv_case, cv_quals, elaborated_text,
+    function_case, params_case, type_case, types_case,
+};
+
+/// `<template-args>` after a type, which is saved with them, or none.
+#[tactic(auto, using(itanium_reader::proofs::Rules::fronts))]
+#[cycle(reader)]
+pub(crate) fn read_type_attached(
+    reader: &mut Reader,
+    depth: usize,
+    context: Context,
+    name: Piece,
+) -> Result<(), Stop>
+    requires room { HasRoom 1 (state reader.old) }
+    requires living { IsLiving reader.old.buffer name }
+    ensures reads { Gives result reader.new (spec.type_attached_as (attached_case reader.old.rest.now)
+        (spec.parse_args depth context false) (shape reader.old.buffer name) (state reader.old)) }
+    ensures run { OnOk result (IsRun reader.old.buffer reader.new.buffer) }
+    ensures bounds { OptionalBounds result (state reader.old) (state reader.new) }
+    ensures saved { SavedBounds 0 result (state reader.old) (state reader.new) }
+{
+    match attached_case(reader.rest) {
+        AttachedCase::NoneAttached => {
+            reader.found = name;
+            Ok(())
+        }
+        AttachedCase::ArgsAttached => {
+            read_attached(reader, depth, context, false, name)?;
+            reader.save_found()?;
+            Ok(())
+        }
+    }
+}
+
+/// `<type>`, within `depth` open productions.
+#[tactic(auto, using(itanium_reader::proofs::Rules::types))]
+#[cycle(reader)]
+pub(crate) fn read_type(reader: &mut Reader, depth: usize, context: Context) -> Result<(), Stop>
+    requires room { HasRoom 2 (state reader.old) }
+    ensures reads { Gives result reader.new (spec.parse_type depth context (state reader.old)) }
+    ensures run { OnOk result (IsRun reader.old.buffer reader.new.buffer) }
+    ensures refused { depth ≡ 0 → reader.new.entered ≡ reader.old.entered }
+    ensures bounds { Bounds 0 result (state reader.old) (state reader.new) }
+    ensures saved { SavedBounds 0 result (state reader.old) (state reader.new) }
+{
+    if depth == 0 {
+        return Err(Stop::Unread);
+    }
+    reader.entered += 1;
+    let inside = context.inside_type();
+    match type_case(reader.rest) {
+        TypeCase::BuiltinType => {
+            reader.read_builtin()?;
+            Ok(())
+        }
+        TypeCase::UnreadType => Err(Stop::Unread),
+        TypeCase::ExpansionType => read_expansion(reader, depth - 1, inside),
+        TypeCase::VendorType => reader.read_vendor(),
+        TypeCase::ArrayType => read_array(reader, depth - 1, inside),
+        TypeCase::FunctionType => read_function_type(reader, depth - 1, inside),
+        TypeCase::MemberType => read_member(reader, depth - 1, inside),
+        TypeCase::PointerType(kind) => read_pointer(reader, depth - 1, inside, kind),
+        TypeCase::CvType => read_cv_type(reader, depth - 1, inside),
+        TypeCase::ElaboratedType => read_elaborated(reader, depth - 1, inside),
+        TypeCase::ParameterType => read_parameter_type(reader, depth - 1, inside),
+        TypeCase::SubstitutionType => read_substitution_type(reader, depth - 1, inside),
+        TypeCase::NameType => read_name_type(reader, depth - 1, inside),
+    }
+}
+
+/// `Dp <type>`: its dots are printed where no pack is around it.
+#[tactic(auto, using(itanium_reader::proofs::Rules::buffers))]
+#[cycle(reader)]
+pub(crate) fn read_expansion(
+    reader: &mut Reader,
+    depth: usize,
+    context: Context,
+) -> Result<(), Stop>
+    requires room { HasRoom 1 (state reader.old) }
+    requires some { 0 < length reader.old.rest.now }
+    ensures reads { Gives result reader.new
+        (spec.parse_expansion (spec.parse_type depth context) context.pack (state reader.old)) }
+    ensures run { OnOk result (IsRun reader.old.buffer reader.new.buffer) }
+    ensures bounds { Bounds 2 result (state reader.old) (state reader.new) }
+    ensures saved { SavedBounds 0 result (state reader.old) (state reader.new) }
+{
+    reader.skip(2);
+    read_type(reader, depth, context)?;
+    reader.save_expansion(context.pack)?;
+    Ok(())
+}
+
+/// `<array-type> ::= A [<number>] _ <type>`
+#[tactic(auto, using(itanium_reader::proofs::Rules::buffers))]
+#[cycle(reader)]
+pub(crate) fn read_array(reader: &mut Reader, depth: usize, context: Context) -> Result<(), Stop>
+    requires room { HasRoom 1 (state reader.old) }
+    requires some { 0 < length reader.old.rest.now }
+    ensures reads { Gives result reader.new (spec.parse_array (spec.parse_type depth context) (state reader.old)) }
+    ensures run { OnOk result (IsRun reader.old.buffer reader.new.buffer) }
+    ensures bounds { Bounds 2 result (state reader.old) (state reader.new) }
+    ensures saved { SavedBounds 0 result (state reader.old) (state reader.new) }
+{
+    reader.skip(1);
+    let Some((dimension, rest)) = optional_number(reader.rest) else {
+        return Err(Stop::Unread);
+    };
+    reader.rest = rest;
+    read_type(reader, depth, context)?;
+    reader.save_array(dimension)
+}
+
+/// `P <type>`, `R <type>` and `O <type>`
+#[tactic(auto, using(itanium_reader::proofs::Rules::buffers))]
+#[cycle(reader)]
+pub(crate) fn read_pointer(
+    reader: &mut Reader,
+    depth: usize,
+    context: Context,
+    kind: Pointer,
+) -> Result<(), Stop>
+    requires room { HasRoom 1 (state reader.old) }
+    requires some { 0 < length reader.old.rest.now }
+    ensures reads { Gives result reader.new (spec.parse_pointer
+        (spec.parse_type depth context) kind (state reader.old)) }
+    ensures run { OnOk result (IsRun reader.old.buffer reader.new.buffer) }
+    ensures bounds { Bounds 2 result (state reader.old) (state reader.new) }
+    ensures saved { SavedBounds 0 result (state reader.old) (state reader.new) }
+{
+    reader.skip(1);
+    read_type(reader, depth, context)?;
+    reader.save_pointer(kind)?;
+    Ok(())
+}
+
+/// A `<function-type>` without qualifiers, which is saved.
+#[tactic(auto, using(itanium_reader::proofs::Rules::buffers))]
+#[cycle(reader)]
+pub(crate) fn read_function_type(
+    reader: &mut Reader,
+    depth: usize,
+    context: Context,
+) -> Result<(), Stop>
+    requires room { HasRoom 1 (state reader.old) }
+    requires some { 0 < length reader.old.rest.now }
+    ensures reads { Gives result reader.new
+        (spec.saved_by (spec.parse_function (spec.parse_type depth context) no_quals) (state reader.old)) }
+    ensures run { OnOk result (IsRun reader.old.buffer reader.new.buffer) }
+    ensures bounds { Bounds 2 result (state reader.old) (state reader.new) }
+    ensures saved { SavedBounds 0 result (state reader.old) (state reader.new) }
+{
+    read_function(reader, depth, context, Quals::none())?;
+    reader.save_found()?;
+    Ok(())
+}
+
+/// A `<qualified-type>`, which is saved once.
+#[tactic(auto, using(itanium_reader::proofs::Rules::buffers))]
+#[cycle(reader)]
+pub(crate) fn read_cv_type(reader: &mut Reader, depth: usize, context: Context) -> Result<(), Stop>
+    requires room { HasRoom 1 (state reader.old) }
+    requires some { length (past_cv reader.old.rest.now) < length reader.old.rest.now }
+    ensures reads { Gives result reader.new
+        (spec.saved_by (spec.parse_cv (spec.parse_type depth context)) (state reader.old)) }
+    ensures run { OnOk result (IsRun reader.old.buffer reader.new.buffer) }
+    ensures bounds { Bounds 2 result (state reader.old) (state reader.new) }
+    ensures saved { SavedBounds 0 result (state reader.old) (state reader.new) }
+{
+    read_cv(reader, depth, context)?;
+    reader.save_found()?;
+    Ok(())
+}
+
+/// `<class-enum-type> ::= Ts <name> | Tu <name> | Te <name>`
+#[tactic(auto, using(itanium_reader::proofs::Rules::buffers))]
+#[cycle(reader)]
+pub(crate) fn read_elaborated(
+    reader: &mut Reader,
+    depth: usize,
+    context: Context,
+) -> Result<(), Stop>
+    requires room { HasRoom 1 (state reader.old) }
+    ensures reads { Gives result reader.new (spec.parse_elaborated (spec.parse_name depth context) (state reader.old)) }
+    ensures run { OnOk result (IsRun reader.old.buffer reader.new.buffer) }
+    ensures bounds { Bounds 1 result (state reader.old) (state reader.new) }
+    ensures saved { SavedBounds 0 result (state reader.old) (state reader.new) }
+{
+    let word = elaborated_text(reader.rest);
+    reader.skip(2);
+    read_name(reader, depth, context)?;
+    reader.save_elaborated(word)?;
+    Ok(())
+}
+
+/// `<template-param> [<template-args>]`: saved without and with its arguments.
+#[tactic(auto, using(itanium_reader::proofs::Rules::buffers))]
+#[cycle(reader)]
+pub(crate) fn read_parameter_type(
+    reader: &mut Reader,
+    depth: usize,
+    context: Context,
+) -> Result<(), Stop>
+    requires room { HasRoom 1 (state reader.old) }
+    ensures reads { Gives result reader.new
+        (spec.parameter_type (spec.parse_args depth context false) context (state reader.old)) }
+    ensures run { OnOk result (IsRun reader.old.buffer reader.new.buffer) }
+    ensures bounds { Bounds 1 result (state reader.old) (state reader.new) }
+    ensures saved { SavedBounds 0 result (state reader.old) (state reader.new) }
+{
+    reader.read_saved_parameter(context)?;
+    read_type_attached(reader, depth, context, reader.found)
+}
+
+/// `<substitution> [<template-args>]`: saved with its arguments alone.
+#[tactic(auto, using(itanium_reader::proofs::Rules::buffers))]
+#[cycle(reader)]
+pub(crate) fn read_substitution_type(
+    reader: &mut Reader,
+    depth: usize,
+    context: Context,
+) -> Result<(), Stop>
+    requires room { HasRoom 1 (state reader.old) }
+    ensures reads { Gives result reader.new
+        (spec.substitution_type (spec.parse_args depth context false) (state reader.old)) }
+    ensures run { OnOk result (IsRun reader.old.buffer reader.new.buffer) }
+    ensures bounds { Bounds 1 result (state reader.old) (state reader.new) }
+    ensures saved { SavedBounds 0 result (state reader.old) (state reader.new) }
+{
+    reader.read_substitution()?;
+    read_type_attached(reader, depth, context, reader.found)
+}
+
+/// `<class-enum-type> ::= <name>`, which is saved.
+#[tactic(auto, using(itanium_reader::proofs::Rules::buffers))]
+#[cycle(reader)]
+pub(crate) fn read_name_type(
+    reader: &mut Reader,
+    depth: usize,
+    context: Context,
+) -> Result<(), Stop>
+    requires room { HasRoom 1 (state reader.old) }
+    ensures reads { Gives result reader.new (spec.saved_by (spec.parse_name depth context) (state reader.old)) }
+    ensures run { OnOk result (IsRun reader.old.buffer reader.new.buffer) }
+    ensures bounds { Bounds 1 result (state reader.old) (state reader.new) }
+    ensures saved { SavedBounds 0 result (state reader.old) (state reader.new) }
+{
+    read_name(reader, depth, context)?;
+    reader.save_found()?;
+    Ok(())
+}
+
+/// A `<type>` in a frame of its own: what lived keeps its shape.
+#[tactic(auto, using(itanium_reader::proofs::Rules::buffers))]
+#[cycle(reader)]
+pub(crate) fn framed_type(reader: &mut Reader, depth: usize, context: Context) -> Result<(), Stop>
+    requires room { HasRoom 2 (state reader.old) }
+    ensures reads { Gives result reader.new (spec.parse_type depth context (state reader.old)) }
+    ensures kept { OnOk result (SameFrame reader.old.buffer reader.new.buffer) }
+    ensures bounds { Bounds 0 result (state reader.old) (state reader.new) }
+    ensures saved { SavedBounds 0 result (state reader.old) (state reader.new) }
+{
+    let mark = reader.buffer.open();
+    read_type(reader, depth, context)?;
+    reader.found = reader.buffer.close(mark, reader.found)?;
+    Ok(())
+}
+
+/// `<pointer-to-member-type> ::= M <type> <type>`: the class, and the member in a frame of its own.
+#[tactic(auto, using(itanium_reader::proofs::Rules::buffers))]
+#[cycle(reader)]
+pub(crate) fn read_member(reader: &mut Reader, depth: usize, context: Context) -> Result<(), Stop>
+    requires room { HasRoom 1 (state reader.old) }
+    requires some { 0 < length reader.old.rest.now }
+    ensures reads { Gives result reader.new (spec.parse_member (spec.parse_type depth context) (state reader.old)) }
+    ensures run { OnOk result (IsRun reader.old.buffer reader.new.buffer) }
+    ensures bounds { Bounds 2 result (state reader.old) (state reader.new) }
+    ensures saved { SavedBounds 0 result (state reader.old) (state reader.new) }
+{
+    reader.skip(1);
+    read_type(reader, depth, context)?;
+    let class = reader.found;
+    framed_type(reader, depth, context)?;
+    reader.save_member(class)
+}
+
+/// `<qualified-type> ::= <CV-qualifiers> <type>`: a function type takes the qualifiers in.
+#[tactic(auto, using(itanium_reader::proofs::Rules::buffers))]
+#[cycle(reader)]
+pub(crate) fn read_cv(reader: &mut Reader, depth: usize, context: Context) -> Result<(), Stop>
+    requires room { HasRoom 1 (state reader.old) }
+    requires some { length (past_cv reader.old.rest.now) < length reader.old.rest.now }
+    ensures reads { Gives result reader.new (spec.parse_cv (spec.parse_type depth context) (state reader.old)) }
+    ensures run { OnOk result (IsRun reader.old.buffer reader.new.buffer) }
+    ensures bounds { Bounds 2 result (state reader.old) (state reader.new) }
+    ensures saved { SavedBounds 1 result (state reader.old) (state reader.new) }
+{
+    let (quals, rest) = cv_quals(reader.rest);
+    reader.rest = rest;
+    match cv_case(reader.rest) {
+        CvCase::CvFunction => read_function(reader, depth, context, quals),
+        CvCase::CvOther => {
+            read_type(reader, depth, context)?;
+            reader.wrap_found(quals)?;
+            Ok(())
+        }
+    }
+}
+
+/// `<function-type> ::= F <return type> <parameter types> [<ref-qualifier>] E`, with qualifiers in front of it.
+#[tactic(auto, using(itanium_reader::proofs::Rules::buffers))]
+#[cycle(reader)]
+pub(crate) fn read_function(
+    reader: &mut Reader,
+    depth: usize,
+    context: Context,
+    quals: Quals,
+) -> Result<(), Stop>
+    requires room { HasRoom 1 (state reader.old) }
+    requires some { 0 < length reader.old.rest.now }
+    ensures reads { Gives result reader.new (spec.parse_function
+        (spec.parse_type depth context) quals (state reader.old)) }
+    ensures run { OnOk result (IsRun reader.old.buffer reader.new.buffer) }
+    ensures bounds { Bounds 2 result (state reader.old) (state reader.new) }
+    ensures saved { SavedBounds 1 result (state reader.old) (state reader.new) }
+{
+    match function_case(reader.rest) {
+        FunctionCase::ExternFunction => Err(Stop::Unread),
+        FunctionCase::PlainFunction => {
+            reader.skip(1);
+            read_type(reader, depth, context)?;
+            let ret = reader.found;
+            let params = read_params(reader, depth, context)?;
+            reader.end_function(quals, ret, &params)
+        }
+    }
+}
+
+/// The parameters of a `<function-type>`: `v` right in front of its end stands for none.
+#[tactic(auto, using(itanium_reader::proofs::Rules::buffers))]
+#[cycle(reader)]
+pub(crate) fn read_params(
+    reader: &mut Reader,
+    depth: usize,
+    context: Context,
+) -> Result<Vec<Piece>, Stop>
+    requires room { HasRoom 2 (state reader.old) }
+    ensures reads { GivesList result reader.new
+        (spec.params_as (params_case reader.old.rest.now) (spec.parse_type depth context) (state reader.old)) }
+    ensures kept { OnOk result (SameFrame reader.old.buffer reader.new.buffer) }
+    ensures bounds { ListBounds result (state reader.old) (state reader.new) }
+    ensures saved { SavedBounds 0 result (state reader.old) (state reader.new) }
+{
+    match params_case(reader.rest) {
+        ParamsCase::NoParams => {
+            reader.skip(1);
+            let none = Vec::new(reader.alloc);
+            Ok(none)
+        }
+        ParamsCase::SomeParams => read_types(reader, depth, context),
+    }
+}
+
+/// Types up to `E`, or to a `<ref-qualifier>` in front of it.
+#[tactic(auto, using(itanium_reader::proofs::Rules::buffers))]
+#[cycle(reader)]
+pub(crate) fn read_types(
+    reader: &mut Reader,
+    depth: usize,
+    context: Context,
+) -> Result<Vec<Piece>, Stop>
+    requires room { HasRoom 2 (state reader.old) }
+    ensures reads { GivesList result reader.new (spec.parse_types (spec.parse_type depth context) (state reader.old)) }
+    ensures kept { OnOk result (SameFrame reader.old.buffer reader.new.buffer) }
+    ensures bounds { ListBounds result (state reader.old) (state reader.new) }
+    ensures saved { SavedBounds 0 result (state reader.old) (state reader.new) }
+{
+    let mut list = Vec::new(reader.alloc);
+    loop {
+        match types_case(true, reader.rest) {
+            TypesCase::EndOfTypes => return Ok(list),
+            TypesCase::NextType => {
+                framed_type(reader, depth, context)?;
+                list.push(reader.found)?;
+            }
+        }
+    }
+}
+
+/// Types up to `E`, put onto a list as they are read.
+#[tactic(auto, using(itanium_reader::proofs::Rules::typed_lists))]
+#[cycle(reader)]
+pub(crate) fn read_typed(
+    reader: &mut Reader,
+    depth: usize,
+    context: Context,
+    list: Piece,
+) -> Result<(), Stop>
+    requires room { HasRoom 2 (state reader.old) }
+    requires living { IsLiving reader.old.buffer list }
+    ensures reads { Gives result reader.new
+        (spec.parse_typed (spec.parse_type depth context) (shape reader.old.buffer list) (state reader.old)) }
+    ensures run { OnOk result (IsRun reader.old.buffer reader.new.buffer) }
+    ensures bounds { ListBounds result (state reader.old) (state reader.new) }
+    ensures saved { SavedBounds 0 result (state reader.old) (state reader.new) }
+{
+    let mut list = list;
+    let mut first = true;
+    loop {
+        match types_case(false, reader.rest) {
+            TypesCase::EndOfTypes => {
+                reader.found = list;
+                return Ok(());
+            }
+            TypesCase::NextType => {
+                list = separate(&mut reader.buffer, list, first)?;
+                framed_type(reader, depth, context)?;
+                list = list_next(&mut reader.buffer, list, reader.found)?;
+                first = false;
+            }
+        }
+    }
+}
+
+/// Parameters up to `E`, put onto a list as they are read: `v` right in front of the `E` stands for none.
+#[tactic(auto, using(itanium_reader::proofs::Rules::fronts))]
+#[cycle(reader)]
+pub(crate) fn read_typed_params(
+    reader: &mut Reader,
+    depth: usize,
+    context: Context,
+    list: Piece,
+) -> Result<(), Stop>
+    requires room { HasRoom 2 (state reader.old) }
+    requires living { IsLiving reader.old.buffer list }
+    ensures reads { Gives result reader.new (spec.typed_params_as (params_case reader.old.rest.now)
+        (spec.parse_type depth context) (shape reader.old.buffer list) (state reader.old)) }
+    ensures run { OnOk result (IsRun reader.old.buffer reader.new.buffer) }
+    ensures bounds { ListBounds result (state reader.old) (state reader.new) }
+    ensures saved { SavedBounds 0 result (state reader.old) (state reader.new) }
+{
+    match params_case(reader.rest) {
+        ParamsCase::NoParams => {
+            reader.skip(1);
+            reader.found = list;
+            Ok(())
+        }
+        ParamsCase::SomeParams => read_typed(reader, depth, context, list),
+    }
+}

@@ -1,0 +1,51 @@
+-- What the check may use for the readers: the laws of the buffer, and what unfolds each.
+use Rattle.demangle_text.proofs.Laws.{laws, runs}
+use Rattle.itanium_syntax.proofs.Fronts.{cases, names_some, entities_some, expressions_some, arguments_some, specials_some}
+use Rattle.itanium_reader.proofs.Unfold.{bare_name_opens, no_bare_name, name_opens, encoding_opens, local_opens, expression_opens, no_expression, primary_opens, argument_opens, thunk_opens, no_thunk, special_opens, args_opens, no_args, pack_opens, no_pack, type_opens, no_type, substitution_opens, parameter_opens, unqualified_opens, symbol_opens, nested_opens, kept_scope, some_scope}
+use Rattle.itanium_reader.proofs.Loops.{loop_start}
+
+pub ruleset buffers = (laws, runs)
+
+pub ruleset fronts = (buffers, cases)
+
+pub ruleset substitutions = (buffers, substitution_opens)
+
+pub ruleset parameters = (buffers, parameter_opens)
+
+pub ruleset tags = (buffers, loop_start)
+
+pub ruleset free_names = (fronts, names_some)
+
+pub ruleset unqualified_names = (fronts, unqualified_opens, kept_scope, some_scope)
+
+pub ruleset nested_names = (buffers, nested_opens)
+
+pub ruleset bare_names = (fronts, bare_name_opens, no_bare_name)
+
+pub ruleset names = (buffers, name_opens)
+
+pub ruleset encodings = (fronts, encoding_opens)
+
+pub ruleset entities = (fronts, entities_some)
+
+pub ruleset local_names = (buffers, local_opens)
+
+pub ruleset symbols = (buffers, symbol_opens)
+
+pub ruleset thunks = (fronts, thunk_opens, no_thunk)
+
+pub ruleset specials = (fronts, specials_some, special_opens)
+
+pub ruleset primaries = (fronts, primary_opens)
+
+pub ruleset expressions = (fronts, expressions_some, expression_opens, no_expression)
+
+pub ruleset arguments = (fronts, arguments_some, argument_opens)
+
+pub ruleset argument_lists = (buffers, args_opens, no_args)
+
+pub ruleset packs = (buffers, pack_opens, no_pack)
+
+pub ruleset typed_lists = (fronts)
+
+pub ruleset types = (fronts, type_opens, no_type)

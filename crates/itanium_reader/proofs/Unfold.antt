@@ -1,0 +1,282 @@
+-- One level of the parser's functions, and the turns of its loops.
+use Rattle.std.proofs.Common.{◌≡◌, ◌<◌, ◌≤◌, ℕ, zero, suc, ◌+◌, ◌-◌, max, Bool, true, false, List, [], ◌∷◌, ◌++◌, length, drop, map, All, refl, sym, ap, ap₂, arith, Option, Some, None, Result, Ok, Err}
+use Rattle.std.specs.Prelude.{IfSome, option_map, is_some, codes}
+use Rattle.demangle_text.specs.declared.shape.Piece.{Piece}
+use Rattle.demangle_text.specs.declared.buffer.Buffer.{Buffer}
+use Rattle.demangle_text.specs.State.{IsLiving, shape, SameFrame}
+use Rattle.demangle_text.specs.Shape.{Shape, plain_shape, whole_shape}
+use Rattle.demangle_edit.specs.Names.{tagged}
+use Rattle.demangle_edit.specs.Built.{listed_more, arguments_closed}
+use Rattle.itanium_syntax.specs.declared.context.Context.{Context}
+use Rattle.itanium_syntax.specs.declared.numerals.Radix.TheVariants.{Decimal}
+use Rattle.itanium_syntax.specs.Scalars.{index_of, source_name}
+use Rattle.itanium_syntax.specs.Context.{opens_scope, inside_type, inside_pack, inside_lambda, inside_local, inside_encoding}
+use Rattle.itanium_syntax.specs.Names.{symbol_case, name_case, component_case, unqualified_case, tag_case, source_text, first_case, substitution_case, past_internal, past_name_quals, name_quals, saves_first}
+use Rattle.itanium_syntax.specs.Expressions.{expression_case}
+use Rattle.itanium_syntax.specs.Encodings.{entity_case}
+use Rattle.itanium_syntax.specs.Args.{args_case}
+use Rattle.itanium_syntax.specs.Types.{types_case, type_case}
+use Rattle.itanium_reader.specs.declared.reader.Reader.{Reader}
+use Rattle.itanium_reader.specs.declared.stop.Stop.{Stop}
+use Rattle.itanium_reader.specs.declared.stop.Stop.TheVariants.{Unread, Memory}
+use Rattle.itanium_reader.specs.Outcome.{Gives, GivesList, SavedBounds}
+use Rattle.itanium_reader.proofs.Loops.{LoopSoFar, loop_end, loop_more, loop_fail, ListSoFar, list_start, list_end, list_more, list_fail}
+use Rattle.itanium_reader.specs.Cases.{FreeName, NoTag, NextTag, EndOfComponents, ArgsComponent, NameComponent, EndOfArguments, NextArgument, EndOfTypes, NextType}
+use Rattle.itanium_reader.specs.Parser.{ParserState, Parses, ParsesName, ParsesBareName, ◌>>=◌, enter, at, save, skip, begin, put, put_nowhere, taken_back, past_initializer, substitution_as, parse_substitution, parameter_as, parse_parameter, tag_turn, unqualified_as, parse_unqualified, parse_free, in_scope, first_as, attached_by, component_turn, parse_components, parse_nested, name_as, qualified_by, parse_bare_name, parse_name, encoding_as, parse_encoding, entity_as, parse_local, primary_by, parse_primary, special_by, parse_special, thunk_by, parse_thunk, expression_as, parse_expression, parse_argument, argument_by, list_turn, typed_turn, parse_list, parse_packed, parse_args, parse_pack, types_turn, type_as, parse_type, symbol_as, parse_symbol}
+
+pub bare_name_opens : (d : ℕ) (x : Context) (s : ParserState) → 0 < d → parse_bare_name d x s
+    ≡ name_as (name_case s.rest) (parse_unqualified (parse_type (d - 1) x) (parse_type (d - 1) (inside_lambda x))) (parse_args (d - 1) x true)
+    (parse_local (parse_encoding (d - 1) (inside_encoding x)) (parse_bare_name (d - 1) (inside_local x))) x (enter s)
+unfolding parse_bare_name parse_encoding parse_special parse_name
+bare_name_opens zero x s h = absurd (omega arith)
+bare_name_opens (suc d) x s h = let less : suc d - 1 ≡ d = omega arith in rw less refl
+
+pub no_bare_name : (x : Context) (s : ParserState) → parse_bare_name 0 x s ≡ None
+unfolding parse_bare_name
+no_bare_name x s = refl
+
+pub name_opens : (d : ℕ) (x : Context) (s : ParserState) → parse_name d x s ≡ qualified_by (parse_bare_name d x) x s
+unfolding parse_name
+name_opens d x s = refl
+
+pub expression_opens : (d : ℕ) (x : Context) (s : ParserState) → 0 < d → parse_expression d x s
+    ≡ expression_as (expression_case s.rest) (parse_expression (d - 1) x) (parse_primary (d - 1) x) x (enter s)
+unfolding parse_expression parse_primary parse_encoding parse_special parse_name
+expression_opens zero x s h = absurd (omega arith)
+expression_opens (suc d) x s h = let less : suc d - 1 ≡ d = omega arith in rw less refl
+
+pub no_expression : (x : Context) (s : ParserState) → parse_expression 0 x s ≡ None
+unfolding parse_expression
+no_expression x s = refl
+
+pub primary_opens : (d : ℕ) (x : Context) (s : ParserState) → parse_primary d x s ≡ primary_by (parse_type d x) (parse_encoding d (inside_encoding x)) s
+unfolding parse_primary
+primary_opens d x s = refl
+
+pub thunk_opens : (d : ℕ) (x : Context) (s : ParserState) → 0 < d → parse_thunk d x s ≡ thunk_by (parse_symbol (d - 1) x) (enter s)
+unfolding parse_thunk parse_symbol parse_special parse_name
+thunk_opens zero x s h = absurd (omega arith)
+thunk_opens (suc d) x s h = let less : suc d - 1 ≡ d = omega arith in rw less refl
+
+pub no_thunk : (x : Context) (s : ParserState) → parse_thunk 0 x s ≡ None
+unfolding parse_thunk
+no_thunk x s = refl
+
+pub special_opens : (d : ℕ) (x : Context) (s : ParserState) → parse_special d x s ≡ special_by (parse_type d x) (parse_name d x) (parse_thunk d x) s
+unfolding parse_special
+special_opens d x s = refl
+
+pub argument_opens : (d : ℕ) (x : Context) (s : ParserState)
+    → parse_argument d x s ≡ argument_by (parse_pack d x) (parse_type d x) (parse_expression d x) (parse_primary d x) s
+unfolding parse_argument
+argument_opens d x s = refl
+
+pub encoding_opens : (d : ℕ) (x : Context) (s : ParserState)
+    → parse_encoding d x s ≡ encoding_as (symbol_case s.rest) (parse_special d x) (parse_bare_name d x) (parse_type d x) s
+unfolding parse_encoding
+encoding_opens d x s = refl
+
+pub local_opens : (encoding : Parses Shape) (bare : ParsesBareName) (s : ParserState)
+    → parse_local encoding bare s ≡ (encoding s >>= λ found. entity_as (entity_case found.1.rest) bare found.0 found.1)
+unfolding parse_local
+local_opens encoding bare s = refl
+
+pub args_opens : (d : ℕ) (x : Context) (of_name : Bool) (s : ParserState) → 0 < d
+    → parse_args d x of_name s ≡ parse_list (parse_argument (d - 1) x) (opens_scope of_name x) (enter s)
+unfolding parse_args parse_argument parse_primary parse_encoding parse_special parse_name
+args_opens zero x of_name s h = absurd (omega arith)
+args_opens (suc d) x of_name s h = let less : suc d - 1 ≡ d = omega arith in rw less refl
+
+pub no_args : (x : Context) (of_name : Bool) (s : ParserState) → parse_args 0 x of_name s ≡ None
+unfolding parse_args
+no_args x of_name s = refl
+
+pub pack_opens : (d : ℕ) (x : Context) (s : ParserState) → 0 < d
+    → parse_pack d x s ≡ parse_packed (parse_argument (d - 1) (inside_pack x)) (enter s)
+unfolding parse_pack parse_argument parse_primary parse_encoding parse_special parse_name
+pack_opens zero x s h = absurd (omega arith)
+pack_opens (suc d) x s h = let less : suc d - 1 ≡ d = omega arith in rw less refl
+
+pub no_pack : (x : Context) (s : ParserState) → parse_pack 0 x s ≡ None
+unfolding parse_pack
+no_pack x s = refl
+
+pub type_opens : (d : ℕ) (x : Context) (s : ParserState) → 0 < d → parse_type d x s
+    ≡ type_as (type_case s.rest) (parse_type (d - 1) (inside_type x)) (parse_name (d - 1) (inside_type x)) (parse_args (d - 1) (inside_type x) false) (inside_type x) (enter s)
+unfolding parse_type parse_name
+type_opens zero x s h = absurd (omega arith)
+type_opens (suc d) x s h = let less : suc d - 1 ≡ d = omega arith in rw less refl
+
+pub no_type : (x : Context) (s : ParserState) → parse_type 0 x s ≡ None
+unfolding parse_type
+no_type x s = refl
+
+pub substitution_opens : (s : ParserState) → parse_substitution s ≡ substitution_as (substitution_case (drop 1 s.rest)) (skip 1 s)
+unfolding parse_substitution
+substitution_opens s = refl
+
+pub parameter_opens : (x : Context) (s : ParserState)
+    → parse_parameter x s ≡ (index_of Decimal (drop 1 s.rest) >>= λ found. parameter_as x.lambda found.0 s >>= λ t. Some (t, at found.1 s))
+unfolding parse_parameter
+parameter_opens x s = refl
+
+pub unqualified_opens : (type param : Parses Shape) (scope : Option Shape) (s : ParserState)
+    → parse_unqualified type param scope s ≡ unqualified_as (unqualified_case (is_some scope) (past_internal s.rest)) type param scope (at (past_internal s.rest) s)
+unfolding parse_unqualified
+unqualified_opens type param scope s = refl
+
+-- a name that asks for no scope is found, and put into its scope
+pub free_found : (type param : Parses Shape) (scope : Option Shape) (s : ParserState) {name found : Shape} {mid after : ParserState} → unqualified_case (is_some scope) (past_internal s.rest) ≡ FreeName
+    → parse_free type param (at (past_internal s.rest) s) ≡ Some (name, mid) → found ≡ in_scope scope name → after ≡ mid → parse_unqualified type param scope s ≡ Some (found, after)
+unfolding parse_unqualified
+free_found type param scope s case read built same = rw (case, read, built, same) refl
+
+pub symbol_opens : (d : ℕ) (x : Context) (s : ParserState) → parse_symbol d x s ≡ symbol_as (symbol_case s.rest) (parse_special d x) (parse_name d x) s
+unfolding parse_symbol
+symbol_opens d x s = refl
+
+pub nested_opens : (unqualified : ParsesName) (args : Parses Shape) (x : Context) (s : ParserState) → parse_nested unqualified args x s
+    ≡ (first_as (first_case (past_name_quals s.rest)) unqualified x (at (past_name_quals s.rest) s) >>= λ first.
+    parse_components unqualified args (saves_first (first_case (past_name_quals s.rest))) first.0 (past_initializer first.1) >>= λ name.
+    Some ((name.0, name_quals s.rest), name.1))
+unfolding parse_nested
+nested_opens unqualified args x s = refl
+
+-- a call that hands on why what it called has stopped: then the whole isn't parsed either
+pub stops : (after : Reader) {inner whole : Option (Shape × ParserState)} (e : Stop) → Gives (Err e) after inner → (inner ≡ None → whole ≡ None) → Gives (Err e) after whole
+stops after Unread none follows = follows none
+stops after Memory gives follows = tt
+
+pub list_stops : (after : Reader) {inner : Option (Shape × ParserState)} {whole : Option (List Shape × ParserState)} (e : Stop) → Gives (Err e) after inner → (inner ≡ None → whole ≡ None) → GivesList (Err e) after whole
+list_stops after Unread none follows = follows none
+list_stops after Memory gives follows = tt
+
+-- a name is saved, and then a list with a byte of its own is read
+pub saved_first : (result : Result (Unit {0}) Stop) (before mid after : ParserState) → SavedBounds 2 result mid after → length mid.saved ≡ length before.saved + 1
+    → length mid.rest ≡ length before.rest → 0 < length before.rest → mid.most_saved ≡ max before.most_saved (length before.saved + 1) → SavedBounds 0 result before after
+saved_first (Ok u) before mid after bounds longer same some most = (omega (arith, bounds.0), omega (arith, bounds.1))
+saved_first (Err Unread) before mid after bounds longer same some most = omega (arith, bounds)
+saved_first (Err Memory) before mid after bounds longer same some most = tt
+
+-- the turns of the components of a nested name
+module _ {whole : Option (Shape × ParserState)} (unqualified : ParsesName) (args : Parses Shape) {takes : Bool} {name : Shape} {s : ParserState}
+    (so_far : LoopSoFar whole (component_turn unqualified args) (takes, name) s) where
+  pub components_end : {found : Shape} {after : ParserState} → component_case s.rest ≡ EndOfComponents → found ≡ name → after ≡ taken_back takes (skip 1 s) → whole ≡ Some (found, after)
+  unfolding component_turn
+  components_end case same left = loop_end so_far (rw (case, same, left) refl)
+
+  pub components_args : {next : Shape} {mid after : ParserState} → component_case s.rest ≡ ArgsComponent → attached_by args name s ≡ Some (next, mid) → length mid.rest < length s.rest
+      → after ≡ past_initializer (save next mid) → length after.rest ≤ length mid.rest → LoopSoFar whole (component_turn unqualified args) (true, next) after
+  unfolding component_turn
+  components_args case found shorter left short = loop_more so_far (rw (case, found, left) refl) (omega arith)
+
+  pub components_no_args : component_case s.rest ≡ ArgsComponent → attached_by args name s ≡ None → whole ≡ None
+  unfolding component_turn
+  components_no_args case none = loop_fail so_far (rw (case, none) refl)
+
+  pub components_name : {next : Shape} {mid after : ParserState} → component_case s.rest ≡ NameComponent → unqualified (Some name) s ≡ Some (next, mid) → length mid.rest < length s.rest
+      → after ≡ past_initializer (save next mid) → length after.rest ≤ length mid.rest → LoopSoFar whole (component_turn unqualified args) (true, next) after
+  unfolding component_turn
+  components_name case found shorter left short = loop_more so_far (rw (case, found, left) refl) (omega arith)
+
+  pub components_no_name : component_case s.rest ≡ NameComponent → unqualified (Some name) s ≡ None → whole ≡ None
+  unfolding component_turn
+  components_no_name case none = loop_fail so_far (rw (case, none) refl)
+
+-- the turns of the tags of a name
+module _ {whole : Option (Shape × ParserState)} {name : Shape} {s : ParserState} (so_far : LoopSoFar whole tag_turn name s) where
+  pub tags_end : tag_case s.rest ≡ NoTag → whole ≡ Some (name, s)
+  unfolding tag_turn
+  tags_end case = loop_end so_far (rw case refl)
+
+  pub tags_fail : tag_case s.rest ≡ NextTag → source_name (drop 1 s.rest) ≡ None → whole ≡ None
+  unfolding tag_turn
+  tags_fail case none = loop_fail so_far (rw (case, none) refl)
+
+  pub tags_more : {text rest : List ℕ} {next : Shape} {after : ParserState} → tag_case s.rest ≡ NextTag → source_name (drop 1 s.rest) ≡ Some (text, rest)
+      → next ≡ tagged name (source_text text) → after.rest ≡ rest → after.saved ≡ s.saved → after.scopes ≡ s.scopes → after.entered ≡ s.entered → after.most_saved ≡ s.most_saved
+      → length rest < length s.rest → LoopSoFar whole tag_turn next after
+  unfolding tag_turn
+  tags_more {text} {rest} {next} {after} case found built left lists opened count most shorter =
+      let same : record { rest = after.rest; saved = after.saved; scopes = after.scopes; entered = after.entered; most_saved = after.most_saved } ≡ at rest s = rw (left, lists, opened, count, most) refl in
+      loop_more so_far (rw (case, found, built, sym same) refl) (rw left shorter)
+
+-- a list begins
+pub args_start : (d : ℕ) (x : Context) (of_name : Bool) (s : ParserState) {opens : Bool} {n : ℕ} {list : Shape} {after : ParserState} → 0 < d → opens ≡ opens_scope of_name x
+    → list ≡ plain_shape (codes "<") → after ≡ begin opens (skip 1 (enter s)) → n ≡ length after.scopes
+    → ListSoFar (parse_args d x of_name s) (list_turn (put opens n) (parse_argument (d - 1) x)) (λ found. whole_shape (arguments_closed found)) (true, list) after
+args_start d x of_name s deep opened built left scopes = rw (scopes, left, opened, built) (list_start (args_opens d x of_name s deep))
+
+-- a pack begins
+pub pack_start : (d : ℕ) (x : Context) (s : ParserState) {inside : Context} {list : Shape} {after : ParserState} → 0 < d → inside ≡ inside_pack x → list ≡ plain_shape [] → after ≡ skip 1 (enter s)
+    → ListSoFar (parse_pack d x s) (list_turn put_nowhere (parse_argument (d - 1) inside)) whole_shape (true, list) after
+pack_start d x s deep within built left = rw (left, within, built) (list_start (pack_opens d x s deep))
+
+-- the turns of a list up to its E
+module _ {whole : Option (Shape × ParserState)} (put : Shape → ParserState → ParserState) (item : Parses Shape) (finish : Shape → Shape) {first : Bool} {list : Shape} {s : ParserState}
+    (so_far : ListSoFar whole (list_turn put item) finish (first, list) s) where
+  pub items_end : {found : Shape} {after : ParserState} → args_case s.rest ≡ EndOfArguments → found ≡ finish list → after ≡ skip 1 s → whole ≡ Some (found, after)
+  unfolding list_turn
+  items_end case built left = rw (built, left) (list_end so_far (rw case refl))
+
+  pub items_more : {next found : Shape} {mid after : ParserState} → args_case s.rest ≡ NextArgument → item s ≡ Some (next, mid) → length mid.rest < length s.rest
+      → found ≡ listed_more first list next → after ≡ put next mid → after.rest ≡ mid.rest → ListSoFar whole (list_turn put item) finish (false, found) after
+  unfolding list_turn
+  items_more case read shorter built left same = list_more so_far (rw (case, read, built, left) refl) (rw same shorter)
+
+  pub items_fail : args_case s.rest ≡ NextArgument → item s ≡ None → whole ≡ None
+  unfolding list_turn
+  items_fail case none = list_fail so_far (rw (case, none) refl)
+
+-- the turns of types that are put onto a list
+module _ {whole : Option (Shape × ParserState)} (type : Parses Shape) {first : Bool} {list : Shape} {s : ParserState} (so_far : LoopSoFar whole (typed_turn type) (first, list) s) where
+  pub typed_end : types_case false s.rest ≡ EndOfTypes → whole ≡ Some (list, s)
+  unfolding typed_turn
+  typed_end case = loop_end so_far (rw case refl)
+
+  pub typed_more : {next found : Shape} {after : ParserState} → types_case false s.rest ≡ NextType → type s ≡ Some (next, after) → length after.rest < length s.rest
+      → found ≡ listed_more first list next → LoopSoFar whole (typed_turn type) (false, found) after
+  unfolding typed_turn
+  typed_more case read shorter built = loop_more so_far (rw (case, read, built) refl) shorter
+
+  pub typed_fail : types_case false s.rest ≡ NextType → type s ≡ None → whole ≡ None
+  unfolding typed_turn
+  typed_fail case none = loop_fail so_far (rw (case, none) refl)
+
+-- the turns of a list of types
+pub types_end : {whole : Option (List Shape × ParserState)} (type : Parses Shape) {so_far : List Shape} {s : ParserState} → LoopSoFar whole (types_turn type) so_far s
+    → types_case true s.rest ≡ EndOfTypes → whole ≡ Some (so_far, s)
+unfolding types_turn
+types_end type sofar case = loop_end sofar (rw case refl)
+
+pub types_more : {whole : Option (List Shape × ParserState)} (type : Parses Shape) {so_far : List Shape} {next : Shape} {s after : ParserState} → LoopSoFar whole (types_turn type) so_far s
+    → types_case true s.rest ≡ NextType → type s ≡ Some (next, after) → length after.rest < length s.rest → LoopSoFar whole (types_turn type) (so_far ++ next ∷ []) after
+unfolding types_turn
+types_more type sofar case found shorter = loop_more sofar (rw (case, found) refl) shorter
+
+pub types_fail : {whole : Option (List Shape × ParserState)} (type : Parses Shape) {so_far : List Shape} {s : ParserState} → LoopSoFar whole (types_turn type) so_far s
+    → types_case true s.rest ≡ NextType → type s ≡ None → whole ≡ None
+unfolding types_turn
+types_fail type sofar case none = loop_fail sofar (rw (case, none) refl)
+
+-- a scope that may be there keeps its shape
+pub kept_scope : (old new : Buffer) (scope : Option Piece) → SameFrame old new → IfSome scope (IsLiving old) → option_map (shape new) scope ≡ option_map (shape old) scope
+kept_scope old new None kept living = refl
+kept_scope old new (Some p) kept living = ap Some (kept.pieces p living).shape_is
+
+pub some_scope : (b : Buffer) (scope : Option Piece) → is_some (option_map (shape b) scope) ≡ is_some scope
+some_scope b None = refl
+some_scope b (Some p) = refl
+
+-- what lived keeps its shape
+pub kept_shapes : (old new : Buffer) (ps : List Piece) → SameFrame old new → All (IsLiving old) ps → map (shape new) ps ≡ map (shape old) ps
+kept_shapes old new [] kept live = refl
+kept_shapes old new (p ∷ ps) kept live =
+    ap₂ (λ t ts. t ∷ ts) (kept.pieces p (live 0 p (omega arith))).shape_is (kept_shapes old new ps kept (λ k d h. live (suc k) d (omega arith)))
+
+-- and one more piece lives
+pub one_more_lives : (old new : Buffer) (ps : List Piece) (p : Piece) → SameFrame old new → All (IsLiving old) ps → IsLiving new p → All (IsLiving new) (ps ++ p ∷ [])
+one_more_lives old new [] p kept live lives zero d h = lives
+one_more_lives old new [] p kept live lives (suc k) d h = absurd (omega arith)
+one_more_lives old new (q ∷ ps) p kept live lives zero d h = (kept.pieces q (live 0 q (omega arith))).living
+one_more_lives old new (q ∷ ps) p kept live lives (suc k) d h = one_more_lives old new ps p kept (λ i e g. live (suc i) e (omega arith)) lives k d (omega arith)

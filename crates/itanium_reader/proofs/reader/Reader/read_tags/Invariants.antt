@@ -1,0 +1,21 @@
+use Rattle.std.proofs.Common.{◌≡◌, ◌≤◌, length}
+use Rattle.demangle_text.specs.State.{IsLiving, IsRun, shape, saved, scopes}
+use Rattle.itanium_reader.specs.Parser as spec
+use Rattle.itanium_reader.specs.Outcome.{state}
+use Rattle.itanium_reader.proofs.Loops.{LoopSoFar}
+use Rattle.itanium_reader.proofs.reader.Reader.read_tags.Given as goal
+
+abbrev pub invariant-loop-name : goal.invariant-loop-name
+invariant-loop-name l = record {
+  reads : LoopSoFar (spec.parse_tags (shape l.fn.self.buffer l.fn.name) (state l.fn.self)) spec.tag_turn (shape l.self.buffer l.name) (state l.self);
+  living : IsLiving l.self.buffer l.name;
+  run : IsRun l.fn.self.buffer l.self.buffer;
+  taken : length l.self.rest.now ≤ length l.fn.self.rest.now;
+  lists : saved l.self.buffer ≡ saved l.fn.self.buffer;
+  scopes_same : scopes l.self.buffer ≡ scopes l.fn.self.buffer;
+  entered : l.self.entered ≡ l.fn.self.entered;
+  most : l.self.most_saved ≡ l.fn.self.most_saved;
+}
+
+abbrev pub decreases-loop-name : goal.decreases-loop-name
+decreases-loop-name l = length l.self.rest.now

@@ -1,0 +1,47 @@
+-- The cases of each production, as the code has them.
+pub use Rattle.itanium_syntax.specs.declared.names.SymbolCase.{SymbolCase}
+pub use Rattle.itanium_syntax.specs.declared.names.SymbolCase.TheVariants.{SpecialSymbol, NameSymbol}
+pub use Rattle.itanium_syntax.specs.declared.names.NameCase.{NameCase}
+pub use Rattle.itanium_syntax.specs.declared.names.NameCase.TheVariants.{NestedName, LocalName, UnscopedName}
+pub use Rattle.itanium_syntax.specs.declared.names.UnscopedCase.{UnscopedCase}
+pub use Rattle.itanium_syntax.specs.declared.names.UnscopedCase.TheVariants.{StdName, SubstitutionName, PlainName}
+pub use Rattle.itanium_syntax.specs.declared.names.FirstCase.{FirstCase}
+pub use Rattle.itanium_syntax.specs.declared.names.FirstCase.TheVariants.{ParameterFirst, StdFirst, SubstitutionFirst, NameFirst}
+pub use Rattle.itanium_syntax.specs.declared.names.ComponentCase.{ComponentCase}
+pub use Rattle.itanium_syntax.specs.declared.names.ComponentCase.TheVariants.{EndOfComponents, ArgsComponent, NameComponent}
+pub use Rattle.itanium_syntax.specs.declared.names.UnqualifiedCase.{UnqualifiedCase}
+pub use Rattle.itanium_syntax.specs.declared.names.UnqualifiedCase.TheVariants.{ConstructorName, DestructorName, FreeName}
+pub use Rattle.itanium_syntax.specs.declared.names.FreeCase.{FreeCase}
+pub use Rattle.itanium_syntax.specs.declared.names.FreeCase.TheVariants.{SourceName, UnnamedTypeName, LambdaName, ConversionName, LiteralOperatorName, OperatorName, NoName}
+pub use Rattle.itanium_syntax.specs.declared.names.TagCase.{TagCase}
+pub use Rattle.itanium_syntax.specs.declared.names.TagCase.TheVariants.{NoTag, NextTag}
+pub use Rattle.itanium_syntax.specs.declared.encodings.ReturnCase.{ReturnCase}
+pub use Rattle.itanium_syntax.specs.declared.encodings.ReturnCase.TheVariants.{NoReturnType, SomeReturnType}
+pub use Rattle.itanium_syntax.specs.declared.encodings.SignatureCase.{SignatureCase}
+pub use Rattle.itanium_syntax.specs.declared.encodings.SignatureCase.TheVariants.{NoSignature, SomeSignature}
+pub use Rattle.itanium_syntax.specs.declared.encodings.EntityCase.{EntityCase}
+pub use Rattle.itanium_syntax.specs.declared.encodings.EntityCase.TheVariants.{StringLiteralEntity, DefaultArgumentEntity, NameEntity, NoEntity}
+pub use Rattle.itanium_syntax.specs.declared.names.SubstitutionCase.{SubstitutionCase}
+pub use Rattle.itanium_syntax.specs.declared.names.SubstitutionCase.TheVariants.{AbbreviationSubstitution, ComponentSubstitution}
+pub use Rattle.itanium_syntax.specs.declared.args.AttachedCase.{AttachedCase}
+pub use Rattle.itanium_syntax.specs.declared.args.AttachedCase.TheVariants.{NoneAttached, ArgsAttached}
+pub use Rattle.itanium_syntax.specs.declared.args.ArgsCase.{ArgsCase}
+pub use Rattle.itanium_syntax.specs.declared.args.ArgsCase.TheVariants.{EndOfArguments, NextArgument}
+pub use Rattle.itanium_syntax.specs.declared.args.ArgumentCase.{ArgumentCase}
+pub use Rattle.itanium_syntax.specs.declared.args.ArgumentCase.TheVariants.{ExpressionArgument, PackArgument, LiteralArgument, ConstraintArgument, TypeArgument}
+pub use Rattle.itanium_syntax.specs.declared.expressions.LiteralCase.{LiteralCase}
+pub use Rattle.itanium_syntax.specs.declared.expressions.LiteralCase.TheVariants.{ExternalName, ValueLiteral, NoLiteral}
+pub use Rattle.itanium_syntax.specs.declared.expressions.ExpressionCase.{ExpressionCase}
+pub use Rattle.itanium_syntax.specs.declared.expressions.ExpressionCase.TheVariants.{PreExpression, AddressExpression, UnaryExpression, PostExpression, BinaryExpression, GreaterExpression, ConditionalExpression, ParameterExpression, LiteralExpression, NoExpression}
+pub use Rattle.itanium_syntax.specs.declared.specials.SpecialCase.{SpecialCase}
+pub use Rattle.itanium_syntax.specs.declared.specials.SpecialCase.TheVariants.{TypeSpecial, NameSpecial, TemporarySpecial, ConstructionSpecial, ThunkSpecial, NoSpecial}
+pub use Rattle.itanium_syntax.specs.declared.types.TypeCase.{TypeCase}
+pub use Rattle.itanium_syntax.specs.declared.types.TypeCase.TheVariants.{BuiltinType, ExpansionType, VendorType, ArrayType, FunctionType, MemberType, PointerType, CvType, ElaboratedType, ParameterType, SubstitutionType, UnreadType, NameType}
+pub use Rattle.itanium_syntax.specs.declared.types.CvCase.{CvCase}
+pub use Rattle.itanium_syntax.specs.declared.types.CvCase.TheVariants.{CvFunction, CvOther}
+pub use Rattle.itanium_syntax.specs.declared.types.FunctionCase.{FunctionCase}
+pub use Rattle.itanium_syntax.specs.declared.types.FunctionCase.TheVariants.{ExternFunction, PlainFunction}
+pub use Rattle.itanium_syntax.specs.declared.types.ParamsCase.{ParamsCase}
+pub use Rattle.itanium_syntax.specs.declared.types.ParamsCase.TheVariants.{NoParams, SomeParams}
+pub use Rattle.itanium_syntax.specs.declared.types.TypesCase.{TypesCase}
+pub use Rattle.itanium_syntax.specs.declared.types.TypesCase.TheVariants.{EndOfTypes, NextType}

@@ -1,0 +1,110 @@
+-- What a reader says of a call.
+use Rattle.std.specs.Prelude.{◌≡◌, ◌≤◌, ℕ, ◌+◌, ◌*◌, ◌^◌, ◌<◌, ◌-◌, max, List, length, map, All, Vec, Option, Some, None, Result, Ok, Err}
+use Rattle.std.specs.Global.{Global}
+use Rattle.demangle_text.specs.declared.shape.Piece.{Piece}
+use Rattle.demangle_text.specs.Shape.{Shape}
+use Rattle.demangle_text.specs.State.{IsLiving, shape, saved, scopes}
+use Rattle.demangle_quals.specs.declared.quals.Quals.{Quals}
+use Rattle.itanium_reader.specs.Parser.{ParserState}
+use Rattle.itanium_reader.specs.declared.reader.Reader.{Reader}
+use Rattle.itanium_reader.specs.declared.stop.Stop.{Stop}
+use Rattle.itanium_reader.specs.declared.stop.Stop.TheVariants.{Unread, Memory}
+
+-- the parser's state that a reader stands for
+abbrev pub state : Reader → ParserState
+state r = record {
+  rest = r.rest.now;
+  saved = saved r.buffer;
+  scopes = scopes r.buffer;
+  entered = r.entered;
+  most_saved = r.most_saved;
+}
+
+-- the call gives what the parser gives: the piece that it found lives, with that shape; nothing is said where memory
+-- ran out
+abbrev pub Gives : Result (Unit {0}) Stop → Reader → Option (Shape × ParserState) → Type 0
+Gives (Ok u) after parsed =
+    IsLiving after.buffer after.found
+    × (parsed ≡ Some (shape after.buffer after.found, state after))
+Gives (Err Unread) after parsed = parsed ≡ None
+Gives (Err Memory) after parsed = Unit {0}
+
+-- the same of a name without its own qualifiers, which the call answers
+abbrev pub GivesBareName : Result Quals Stop → Reader → Option ((Shape × Quals) × ParserState) → Type 0
+GivesBareName (Ok quals) after parsed =
+    IsLiving after.buffer after.found
+    × (parsed ≡ Some ((shape after.buffer after.found, quals), state after))
+GivesBareName (Err Unread) after parsed = parsed ≡ None
+GivesBareName (Err Memory) after parsed = Unit {0}
+
+-- the same of a call that finds no piece: it leaves the state that the parser leaves
+abbrev pub Leaves : Result (Unit {0}) Stop → Reader → Option ParserState → Type 0
+Leaves (Ok u) after parsed = parsed ≡ Some (state after)
+Leaves (Err Unread) after parsed = parsed ≡ None
+Leaves (Err Memory) after parsed = Unit {0}
+
+-- the same of a call that answers several pieces
+abbrev pub GivesList : Result (Vec Piece Global) Stop → Reader → Option (List Shape × ParserState) → Type 0
+GivesList (Ok ps) after parsed =
+    All (IsLiving after.buffer) ps.items
+    × (parsed ≡ Some (map (shape after.buffer) ps.items, state after))
+GivesList (Err Unread) after parsed = parsed ≡ None
+GivesList (Err Memory) after parsed = Unit {0}
+
+-- there is room to count what a reading or a failing run can enter
+abbrev pub HasRoom : ℕ → ParserState → Type 0
+HasRoom more s = s.entered + 2 * length s.rest + more < 2 ^ 64
+
+-- a reading takes bytes, enters at most two productions for each, less the slack, and drops no scope that stood before
+abbrev pub Taken : ℕ → ParserState → ParserState → Type 0
+Taken slack before after =
+    (length after.rest < length before.rest)
+    × (after.entered + 2 * length after.rest + slack ≤ before.entered + 2 * length before.rest)
+    × (length before.scopes ≤ length after.scopes)
+
+-- the same of what may be left out: it may take no byte
+abbrev pub OptionallyTaken : ParserState → ParserState → Type 0
+OptionallyTaken before after =
+    (length after.rest ≤ length before.rest)
+    × (after.entered + 2 * length after.rest ≤ before.entered + 2 * length before.rest)
+    × (length before.scopes ≤ length after.scopes)
+
+-- what is entered by a reading, and by a failing run, which enters two more at most
+abbrev pub Bounds : {A : Type 0} → ℕ → Result A Stop → ParserState → ParserState → Type 0
+Bounds slack (Ok a) before after = Taken slack before after
+Bounds slack (Err Unread) before after = after.entered + slack ≤ before.entered + 2 * length before.rest + 2
+Bounds slack (Err Memory) before after = Unit {0}
+
+-- the same of what may be left out
+abbrev pub OptionalBounds : {A : Type 0} → Result A Stop → ParserState → ParserState → Type 0
+OptionalBounds (Ok a) before after = OptionallyTaken before after
+OptionalBounds (Err Unread) before after = after.entered ≤ before.entered + 2 * length before.rest + 1
+OptionalBounds (Err Memory) before after = Unit {0}
+
+-- the same of a list, which may be empty
+abbrev pub ListBounds : {A : Type 0} → Result A Stop → ParserState → ParserState → Type 0
+ListBounds (Ok a) before after = OptionallyTaken before after
+ListBounds (Err Unread) before after = after.entered ≤ before.entered + 2 * length before.rest + 2
+ListBounds (Err Memory) before after = Unit {0}
+
+-- at no moment are more shapes saved than were there before, with one for each byte that was left, less the slack
+abbrev pub MostSaved : ℕ → ParserState → ParserState → Type 0
+MostSaved slack before after =
+    after.most_saved + slack ≤ max (before.most_saved + slack) (length before.saved + length before.rest)
+
+-- the saved list rises by at most one for each byte that a reading takes, less the slack; also in a failing run at no
+-- moment are too many saved
+abbrev pub SavedBounds : {A : Type 0} → ℕ → Result A Stop → ParserState → ParserState → Type 0
+SavedBounds slack (Ok a) before after =
+    (length after.saved + length after.rest + slack ≤ length before.saved + length before.rest)
+    × MostSaved (slack - 1) before after
+SavedBounds slack (Err Unread) before after = MostSaved (slack - 1) before after
+SavedBounds slack (Err Memory) before after = Unit {0}
+
+-- one shape more is saved, or none
+abbrev pub SavesOne : {A : Type 0} → Result A Stop → ParserState → ParserState → Type 0
+SavesOne (Ok a) before after =
+    (length after.saved ≡ length before.saved + 1)
+    × (after.most_saved ≡ max before.most_saved (length before.saved + 1))
+SavesOne (Err Unread) before after = after.most_saved ≡ before.most_saved
+SavesOne (Err Memory) before after = Unit {0}

@@ -1,0 +1,734 @@
+-- A bridge between the readers and the grammar, and no definition: what the readers do, as functions over shapes. The
+-- grammar is what is promised; theorems over it say that these functions read what it reads, and nothing else.
+use Rattle.std.specs.Prelude.{ℕ, zero, suc, ◌+◌, ◌-◌, max, Bool, true, false, not, if◌then◌else◌, is_some, slice_get, List, [], ◌∷◌, ◌++◌, Option, Some, None, option_and_then, take, drop, length, codes}
+use Rattle.demangle_text.specs.Shape.{Shape, plain_shape, whole_shape, appended}
+use Rattle.demangle_text.specs.State.{last_args, with_arg}
+use Rattle.demangle_quals.specs.declared.quals.Quals.{Quals}
+use Rattle.demangle_quals.specs.declared.quals.Pointer.{Pointer}
+use Rattle.demangle_quals.specs.Quals.{no_quals}
+use Rattle.demangle_edit.specs.Names.{qualified, qualified_ctor, attached, tagged, with_name_qualifiers}
+use Rattle.demangle_edit.specs.Types.{pointer_shape, cv_shape, array_step, member_pointer_step, function_step, expansion_shape}
+use Rattle.demangle_edit.specs.Expressions.{literal_step, operand_shape, address_shape}
+use Rattle.demangle_edit.specs.Built.{listed_more, arguments_closed, lambda_closed, params_opened, params_closed}
+use Rattle.itanium_syntax.specs.declared.context.Context.{Context}
+use Rattle.itanium_syntax.specs.declared.numerals.Radix.TheVariants.{Decimal, Base36}
+use Rattle.itanium_syntax.specs.Scalars.{source_name, index_of, unnamed_type_number, lambda_number, optional_number}
+use Rattle.itanium_syntax.specs.Operators.{operator_here}
+use Rattle.itanium_syntax.specs.Abbreviations.{abbreviation_of}
+use Rattle.itanium_syntax.specs.Context.{opens_scope, inside_type, inside_pack, inside_lambda, inside_local, inside_encoding}
+use Rattle.itanium_syntax.specs.Names.{symbol_case, name_case, unscoped_case, first_case, component_case, unqualified_case, free_case, tag_case, past_internal, past_initializer_letter, source_text, name_quals, past_name_quals, saves_first, substitution_case}
+use Rattle.itanium_syntax.specs.Bytes.{begins}
+use Rattle.itanium_syntax.specs.Expressions.{is_external, literal_case, literal_value, expression_text, expression_case}
+use Rattle.itanium_syntax.specs.Offsets.{thunk_offsets}
+use Rattle.itanium_syntax.specs.Specials.{special_case, special_text, special_close}
+use Rattle.itanium_syntax.specs.Encodings.{return_case, signature_case, entity_case, shows_words}
+use Rattle.itanium_syntax.specs.Args.{attached_case, args_case, argument_case}
+use Rattle.itanium_syntax.specs.Types.{type_case, builtin_text, past_builtin, cv_quals, past_cv, with_reference, past_reference, cv_case, function_case, params_case, types_case, elaborated_text}
+use Rattle.itanium_grammar.specs.Tree.{worded_shape, temporary_shape, construction_shape, thunk_shape, pre_shape, post_shape, binary_shape, greater_shape, conditional_shape, abbreviation_shape, conversion_shape, elaborated_shape, unnamed_text, literal_operator_text}
+use Rattle.itanium_reader.specs.Cases.{SymbolCase, SpecialSymbol, NameSymbol, SpecialCase, TypeSpecial, NameSpecial, TemporarySpecial, ConstructionSpecial, ThunkSpecial, NoSpecial, NameCase, NestedName, LocalName, UnscopedName, ReturnCase, NoReturnType, SomeReturnType, SignatureCase, NoSignature, SomeSignature, EntityCase, StringLiteralEntity, DefaultArgumentEntity, NameEntity, NoEntity, UnscopedCase, StdName, SubstitutionName, PlainName, AttachedCase, NoneAttached, ArgsAttached, FirstCase, ParameterFirst, StdFirst, SubstitutionFirst, NameFirst, ComponentCase, EndOfComponents, ArgsComponent, NameComponent, UnqualifiedCase, ConstructorName, DestructorName, FreeName, FreeCase, SourceName, UnnamedTypeName, LambdaName, ConversionName, LiteralOperatorName, OperatorName, NoName, TagCase, NoTag, NextTag, SubstitutionCase, AbbreviationSubstitution, ComponentSubstitution, ArgsCase, EndOfArguments, NextArgument, LiteralCase, ExternalName, ValueLiteral, NoLiteral, ExpressionCase, PreExpression, AddressExpression, UnaryExpression, PostExpression, BinaryExpression, GreaterExpression, ConditionalExpression, ParameterExpression, LiteralExpression, NoExpression, ArgumentCase, ExpressionArgument, PackArgument, LiteralArgument, ConstraintArgument, TypeArgument, TypeCase, BuiltinType, ExpansionType, VendorType, ArrayType, FunctionType, MemberType, PointerType, CvType, ElaboratedType, ParameterType, SubstitutionType, UnreadType, NameType, CvCase, CvFunction, CvOther, FunctionCase, ExternFunction, PlainFunction, ParamsCase, NoParams, SomeParams, TypesCase, EndOfTypes, NextType}
+
+infixl 10 ◌>>=◌
+abbrev pub ◌>>=◌ : {A B : Type 0} → Option A → (A → Option B) → Option B
+o >>= f = option_and_then f o
+
+-- the bytes that are left, the saved shapes, the scopes, how many counted productions were entered, and the greatest
+-- length to which a shape was saved
+pub record ParserState : Type 0 where
+  pub rest : List ℕ
+  pub saved : List Shape
+  pub scopes : List (List Shape)
+  pub entered : ℕ
+  pub most_saved : ℕ
+
+-- a parser answers a value and the state after it, or nothing
+abbrev pub Parses : Type 0 → Type 0
+Parses A = ParserState → Option (A × ParserState)
+
+-- the state at the start of a symbol
+abbrev pub begun : List ℕ → ParserState
+begun bytes = record { rest = bytes; saved = []; scopes = []; entered = 0; most_saved = 0 }
+
+-- the same state, before these bytes
+abbrev pub at : List ℕ → ParserState → ParserState
+at bytes s = record s { rest = bytes }
+
+-- the state after n bytes
+abbrev pub skip : ℕ → ParserState → ParserState
+skip n s = at (drop n s.rest) s
+
+-- the shape is saved last
+abbrev pub save : Shape → ParserState → ParserState
+save t s = record s { saved = s.saved ++ t ∷ []; most_saved = max s.most_saved (length s.saved + 1) }
+
+-- one more counted production is entered
+abbrev pub enter : ParserState → ParserState
+enter s = record s { entered = s.entered + 1 }
+
+-- the last saved shape is taken back, where it is to be
+abbrev pub taken_back : Bool → ParserState → ParserState
+taken_back takes s = record s { saved = if takes then take (length s.saved - 1) s.saved else s.saved }
+
+-- past the M of a data member's initializer
+abbrev pub past_initializer : ParserState → ParserState
+past_initializer s = at (past_initializer_letter s.rest) s
+
+-- what one turn of a loop gives: the answer, or what is there so far
+pub data Turn (L A : Type 0) : Type 0 where
+  -- the loop ends with its answer
+  ends : A → Turn L A
+  -- the loop goes on
+  goes_on : L → Turn L A
+
+-- what follows a turn
+abbrev pub after_turn : {L A : Type 0} → Turn L A → (L → Parses A) → Parses A
+after_turn (ends answer) again s = Some (answer, s)
+after_turn (goes_on so_far) again s = again so_far s
+
+-- a loop of at most so many turns
+unfoldable pub loop : {L A : Type 0} → (L → Parses (Turn L A)) → ℕ → L → Parses A
+loop turn zero so_far s = None
+loop turn (suc n) so_far s = turn so_far s >>= λ t. after_turn t.0 (loop turn n) t.1
+
+-- a loop whose turns take a byte each, but for the last: so one turn more than there are bytes is enough
+abbrev pub parse_loop : {L A : Type 0} → (L → Parses (Turn L A)) → L → Parses A
+parse_loop turn so_far s = loop turn (length s.rest + 1) so_far s
+
+-- the name in its scope, where there is one
+abbrev pub in_scope : Option Shape → Shape → Shape
+in_scope None leaf = leaf
+in_scope (Some scope) leaf = qualified scope leaf
+
+-- a source name
+abbrev pub parse_source : Parses Shape
+parse_source s = source_name s.rest >>= λ found. Some (plain_shape (source_text found.0), at found.1 s)
+
+-- a list begins: it may open a scope
+abbrev pub begin : Bool → ParserState → ParserState
+begin opens s = record s { scopes = if opens then s.scopes ++ [] ∷ [] else s.scopes }
+
+-- the scopes past the first n are dropped, and the argument goes into the scope that its list opened
+abbrev pub put : Bool → ℕ → Shape → ParserState → ParserState
+put opens n t s = record s { scopes = if opens then with_arg t (take n s.scopes) else take n s.scopes }
+
+-- <substitution> after its S
+abbrev pub substitution_as : SubstitutionCase → Parses Shape
+substitution_as AbbreviationSubstitution s =
+    abbreviation_of s.rest >>= λ found. Some (abbreviation_shape found, skip 1 s)
+substitution_as ComponentSubstitution s =
+    index_of Base36 s.rest >>= λ found. slice_get s.saved found.0 >>= λ t. Some (t, at found.1 s)
+
+-- <substitution>
+unfoldable pub parse_substitution : Parses Shape
+parse_substitution s = substitution_as (substitution_case (drop 1 s.rest)) (skip 1 s)
+
+-- the argument that a <template-param> names
+abbrev pub parameter_as : Bool → ℕ → ParserState → Option Shape
+parameter_as true i s = Some (plain_shape (codes "auto"))
+parameter_as false i s = slice_get (last_args s.scopes) i
+
+-- <template-param>
+unfoldable pub parse_parameter : Context → Parses Shape
+parse_parameter x s =
+    index_of Decimal (drop 1 s.rest) >>= λ found. parameter_as x.lambda found.0 s >>= λ t. Some (t, at found.1 s)
+
+-- a template parameter that is saved
+abbrev pub saved_parameter : Context → Parses Shape
+saved_parameter x s = parse_parameter x s >>= λ found. Some (found.0, save found.0 found.1)
+
+-- one more <abi-tag> of a name, or none
+abbrev pub tag_as : TagCase → Shape → Parses (Turn Shape Shape)
+tag_as NoTag name s = Some (ends name, s)
+tag_as NextTag name s =
+    source_name (drop 1 s.rest) >>= λ found. Some (goes_on (tagged name (source_text found.0)), at found.1 s)
+
+-- the same, by what comes next
+unfoldable pub tag_turn : Shape → Parses (Turn Shape Shape)
+tag_turn name s = tag_as (tag_case s.rest) name s
+
+-- <abi-tags> after a name
+abbrev pub parse_tags : Shape → Parses Shape
+parse_tags name s = parse_loop tag_turn name s
+
+-- one more item of a list, with what stands in front of it, or the list's E
+abbrev pub list_as : ArgsCase → (Shape → ParserState → ParserState) → Parses Shape → Bool × Shape
+    → Parses (Turn (Bool × Shape) Shape)
+list_as EndOfArguments put item so_far s = Some (ends so_far.1, skip 1 s)
+list_as NextArgument put item so_far s =
+    item s >>= λ next. Some (goes_on (false, listed_more so_far.0 so_far.1 next.0), put next.0 next.1)
+
+-- the same, by what comes next
+unfoldable pub list_turn : (Shape → ParserState → ParserState) → Parses Shape → Bool × Shape
+    → Parses (Turn (Bool × Shape) Shape)
+list_turn put item so_far s = list_as (args_case s.rest) put item so_far s
+
+-- an item that goes nowhere but into its list
+abbrev pub put_nowhere : Shape → ParserState → ParserState
+put_nowhere item s = s
+
+-- one more type of a list, with what stands in front of it, or its end, which isn't taken
+abbrev pub typed_as : TypesCase → Parses Shape → Bool × Shape → Parses (Turn (Bool × Shape) Shape)
+typed_as EndOfTypes type so_far s = Some (ends so_far.1, s)
+typed_as NextType type so_far s =
+    type s >>= λ next. Some (goes_on (false, listed_more so_far.0 so_far.1 next.0), next.1)
+
+-- the same, by what comes next
+unfoldable pub typed_turn : Parses Shape → Bool × Shape → Parses (Turn (Bool × Shape) Shape)
+typed_turn type so_far s = typed_as (types_case false s.rest) type so_far s
+
+-- types up to E, put onto a list
+abbrev pub parse_typed : Parses Shape → Shape → Parses Shape
+parse_typed type list s = parse_loop (typed_turn type) (true, list) s
+
+-- parameters up to E, put onto a list: v right before the E stands for none
+abbrev pub typed_params_as : ParamsCase → Parses Shape → Shape → Parses Shape
+typed_params_as NoParams type list s = Some (list, skip 1 s)
+typed_params_as SomeParams type list s = parse_typed type list s
+
+-- what is after the parameters of a lambda
+abbrev pub lambda_end : Shape → Parses Shape
+lambda_end list s = lambda_number (drop 1 s.rest) >>= λ found. Some (lambda_closed found.0 list, at found.1 s)
+
+-- <closure-type-name> after its Ul
+abbrev pub parse_lambda : Parses Shape → Parses Shape
+parse_lambda type s =
+    typed_params_as (params_case s.rest) type (plain_shape (codes "{lambda(")) s >>= λ list. lambda_end list.0 list.1
+
+-- <unnamed-type-name> after its Ut
+abbrev pub parse_unnamed_type : Parses Shape
+parse_unnamed_type s =
+    unnamed_type_number s.rest >>= λ found. Some (plain_shape (unnamed_text found.0), at found.1 s)
+
+-- a conversion after its cv
+abbrev pub parse_conversion : Parses Shape → Parses Shape
+parse_conversion type s = type s >>= λ found. Some (conversion_shape found.0, found.1)
+
+-- a literal operator after its li
+abbrev pub parse_literal_operator : Parses Shape
+parse_literal_operator s =
+    source_name s.rest >>= λ found. Some (plain_shape (literal_operator_text found.0), at found.1 s)
+
+-- an operator
+abbrev pub parse_operator : Parses Shape
+parse_operator s = operator_here s.rest >>= λ text. Some (plain_shape (codes "operator" ++ text), skip 2 s)
+
+-- <unqualified-name> that asks for no scope, without its tags: types by the first parser, in a lambda by the second
+abbrev pub free_as : FreeCase → Parses Shape → Parses Shape → Parses Shape
+free_as SourceName type param s = parse_source s
+free_as UnnamedTypeName type param s = parse_unnamed_type (skip 2 s)
+free_as LambdaName type param s = parse_lambda param (skip 2 s)
+free_as ConversionName type param s = parse_conversion type (skip 2 s)
+free_as LiteralOperatorName type param s = parse_literal_operator (skip 2 s)
+free_as OperatorName type param s = parse_operator s
+free_as NoName type param s = None
+
+-- the same with its tags
+abbrev pub parse_free : Parses Shape → Parses Shape → Parses Shape
+parse_free type param s = free_as (free_case s.rest) type param s >>= λ name. parse_tags name.0 name.1
+
+-- a constructor or a destructor of the scope, and its tags
+abbrev pub ctor_dtor_as : Bool → Option Shape → Parses Shape
+ctor_dtor_as destructor None s = None
+ctor_dtor_as destructor (Some scope) s = parse_tags (qualified_ctor scope destructor) (skip 2 s)
+
+-- <unqualified-name>
+abbrev pub unqualified_as : UnqualifiedCase → Parses Shape → Parses Shape → Option Shape → Parses Shape
+unqualified_as ConstructorName type param scope s = ctor_dtor_as false scope s
+unqualified_as DestructorName type param scope s = ctor_dtor_as true scope s
+unqualified_as FreeName type param scope s =
+    parse_free type param s >>= λ name. Some (in_scope scope name.0, name.1)
+
+-- [L] <unqualified-name>
+unfoldable pub parse_unqualified : Parses Shape → Parses Shape → Option Shape → Parses Shape
+parse_unqualified type param scope s =
+    unqualified_as (unqualified_case (is_some scope) (past_internal s.rest)) type param scope
+    (at (past_internal s.rest) s)
+
+-- a parser of unqualified names, in the scope that stands in front of them
+abbrev pub ParsesName : Type 0
+ParsesName = Option Shape → Parses Shape
+
+-- a list after what stands
+abbrev pub attached_by : Parses Shape → Shape → Parses Shape
+attached_by args name s = args s >>= λ list. Some (attached name list.0, list.1)
+
+-- <template-args> after a name, or none
+abbrev pub attached_as : AttachedCase → Parses Shape → Shape → Parses Shape
+attached_as NoneAttached args name s = Some (name, s)
+attached_as ArgsAttached args name s = attached_by args name (save name s)
+
+-- the list that a substitution for a template's name has
+abbrev pub template_as : AttachedCase → Parses Shape → Shape → Parses Shape
+template_as NoneAttached args name s = None
+template_as ArgsAttached args name s = attached_by args name s
+
+-- <unscoped-name> [<template-args>]
+abbrev pub unscoped_as : UnscopedCase → ParsesName → Parses Shape → Parses Shape
+unscoped_as StdName unqualified args s =
+    unqualified (Some (plain_shape (codes "std"))) (skip 2 s) >>= λ name.
+    attached_as (attached_case name.1.rest) args name.0 name.1
+unscoped_as SubstitutionName unqualified args s =
+    parse_substitution s >>= λ name. template_as (attached_case name.1.rest) args name.0 name.1
+unscoped_as PlainName unqualified args s =
+    unqualified None s >>= λ name. attached_as (attached_case name.1.rest) args name.0 name.1
+
+-- the first component of a <nested-name>
+abbrev pub first_as : FirstCase → ParsesName → Context → Parses Shape
+first_as ParameterFirst unqualified x s = saved_parameter x s
+first_as StdFirst unqualified x s = Some (plain_shape (codes "std"), skip 2 s)
+first_as SubstitutionFirst unqualified x s = parse_substitution s
+first_as NameFirst unqualified x s = unqualified None s >>= λ name. Some (name.0, save name.0 name.1)
+
+-- what stands of a <nested-name> so far is saved, and the last saved shape is to be taken back at its end
+abbrev pub next_component : Shape × ParserState → Option (Turn (Bool × Shape) Shape × ParserState)
+next_component next = Some (goes_on (true, next.0), past_initializer (save next.0 next.1))
+
+-- one more component of a <nested-name>, or its E
+abbrev pub component_as : ComponentCase → ParsesName → Parses Shape → Bool × Shape
+    → Parses (Turn (Bool × Shape) Shape)
+component_as EndOfComponents unqualified args so_far s = Some (ends so_far.1, taken_back so_far.0 (skip 1 s))
+component_as ArgsComponent unqualified args so_far s = attached_by args so_far.1 s >>= next_component
+component_as NameComponent unqualified args so_far s = unqualified (Some so_far.1) s >>= next_component
+
+-- the same, by what comes next
+unfoldable pub component_turn : ParsesName → Parses Shape → Bool × Shape → Parses (Turn (Bool × Shape) Shape)
+component_turn unqualified args so_far s = component_as (component_case s.rest) unqualified args so_far s
+
+-- the later components of a <nested-name>, up to its E
+abbrev pub parse_components : ParsesName → Parses Shape → Bool → Shape → Parses Shape
+parse_components unqualified args takes name s = parse_loop (component_turn unqualified args) (takes, name) s
+
+-- a parser of names without their own qualifiers, and with these beside them
+abbrev pub ParsesBareName : Type 0
+ParsesBareName = Parses (Shape × Quals)
+
+-- what is after the N of a <nested-name>
+unfoldable pub parse_nested : ParsesName → Parses Shape → Context → ParsesBareName
+parse_nested unqualified args x s =
+    first_as (first_case (past_name_quals s.rest)) unqualified x (at (past_name_quals s.rest) s) >>= λ first.
+    parse_components unqualified args (saves_first (first_case (past_name_quals s.rest))) first.0
+    (past_initializer first.1) >>= λ name.
+    Some ((name.0, name_quals s.rest), name.1)
+
+-- what was parsed is dropped, but for what it saved and the scopes that it left
+abbrev pub dropped : {A : Type 0} → Option (A × ParserState) → Option ParserState
+dropped parsed = parsed >>= λ found. Some found.1
+
+-- the return type of an encoding, which is dropped, or none
+abbrev pub return_as : ReturnCase → Parses Shape → ParserState → Option ParserState
+return_as NoReturnType type s = Some s
+return_as SomeReturnType type s = dropped (type s)
+
+-- the parameters of an encoding after its name, or none: and then the qualifiers that waited
+abbrev pub signature_as : SignatureCase → Parses Shape → Shape × Quals → Parses Shape
+signature_as NoSignature type name s = Some (with_name_qualifiers name.0 name.1 true, s)
+signature_as SomeSignature type name s =
+    typed_params_as (params_case s.rest) type (params_opened name.0) s >>= λ list.
+    Some (params_closed name.1 list.0, list.1)
+
+-- what is after the name of an encoding
+abbrev pub encoding_end : Parses Shape → Shape × Quals → Parses Shape
+encoding_end type name s =
+    return_as (return_case name.0.templ name.0.ctor s.rest) type s >>= λ after.
+    signature_as (signature_case after.rest) type name after
+
+-- a name with its own qualifiers
+abbrev pub qualified_by : ParsesBareName → Context → Parses Shape
+qualified_by bare x s =
+    bare s >>= λ name.
+    Some (with_name_qualifiers name.0.0 name.0.1 (shows_words (name_case s.rest) x.shown), name.1)
+
+-- words around a type or in front of a name
+abbrev pub parse_worded : Parses Shape → Parses Shape
+parse_worded inner s =
+    inner (skip 2 s) >>= λ t. Some (worded_shape (special_text s.rest) t.0 (special_close s.rest), t.1)
+
+-- what is after the name of a reference temporary
+abbrev pub temporary_end : Shape → Parses Shape
+temporary_end name s = index_of Base36 s.rest >>= λ found. Some (temporary_shape found.0 name, at found.1 s)
+
+-- GR <name> [<seq-id>] _
+abbrev pub parse_temporary : Parses Shape → Parses Shape
+parse_temporary name s = name (skip 2 s) >>= λ t. temporary_end t.0 t.1
+
+-- TC <type> <type>
+abbrev pub parse_construction : Parses Shape → Parses Shape
+parse_construction type s =
+    type (skip 2 s) >>= λ t. type t.1 >>= λ u. Some (construction_shape t.0 u.0, u.1)
+
+-- <special-name>, by what it begins with
+abbrev pub special_as : SpecialCase → Parses Shape → Parses Shape → Parses Shape → Parses Shape
+special_as TypeSpecial type name thunk s = parse_worded type s
+special_as NameSpecial type name thunk s = parse_worded name s
+special_as TemporarySpecial type name thunk s = parse_temporary name s
+special_as ConstructionSpecial type name thunk s = parse_construction type s
+special_as ThunkSpecial type name thunk s = thunk s
+special_as NoSpecial type name thunk s = None
+
+-- <special-name>
+abbrev pub special_by : Parses Shape → Parses Shape → Parses Shape → Parses Shape
+special_by type name thunk s = special_as (special_case s.rest) type name thunk s
+
+-- what follows the prefix of a symbol, by what it begins with
+abbrev pub symbol_as : SymbolCase → Parses Shape → Parses Shape → Parses Shape
+symbol_as SpecialSymbol special name s = special s
+symbol_as NameSymbol special name s = name s
+
+-- what follows the prefix of a symbol, by what it is made of
+abbrev pub symbol_by : Parses Shape → ParsesBareName → Parses Shape → Context → Parses Shape
+symbol_by type bare thunk x s =
+    symbol_as (symbol_case s.rest) (special_by type (qualified_by bare x) thunk) (qualified_by bare x) s
+
+-- the offsets of a thunk, and its encoding without parameters
+abbrev pub thunk_by : Parses Shape → Parses Shape
+thunk_by symbol s =
+    thunk_offsets (drop 1 s.rest) >>= λ found. symbol (at found.1 s) >>= λ t. Some (thunk_shape found.0 t.0, t.1)
+
+-- <encoding>, by what it begins with
+abbrev pub encoding_as : SymbolCase → Parses Shape → ParsesBareName → Parses Shape → Parses Shape
+encoding_as SpecialSymbol special bare type s = special s
+encoding_as NameSymbol special bare type s = bare s >>= λ name. encoding_end type name.0 name.1
+
+-- <encoding>, by what it is made of
+abbrev pub encoding_by : Parses Shape → ParsesBareName → Parses Shape → Context → Parses Shape
+encoding_by type bare thunk x s =
+    encoding_as (symbol_case s.rest) (special_by type (qualified_by bare x) thunk) bare type s
+
+-- what follows the encoding of a <local-name>
+abbrev pub entity_as : EntityCase → ParsesBareName → Shape → ParsesBareName
+entity_as StringLiteralEntity bare encoding s =
+    Some ((appended (codes "::string literal") encoding, no_quals), skip 2 s)
+entity_as DefaultArgumentEntity bare encoding s =
+    optional_number (drop 2 s.rest) >>= λ found. dropped (bare (at found.1 s)) >>= λ after.
+    Some ((encoding, no_quals), after)
+entity_as NameEntity bare encoding s =
+    bare (skip 1 s) >>= λ entity. Some ((qualified encoding entity.0.0, entity.0.1), entity.1)
+entity_as NoEntity bare encoding s = None
+
+-- what is after the Z of a <local-name>: an encoding, and a name in it
+unfoldable pub parse_local : Parses Shape → ParsesBareName → ParsesBareName
+parse_local encoding bare s = encoding s >>= λ found. entity_as (entity_case found.1.rest) bare found.0 found.1
+
+-- <name>, by what it begins with
+abbrev pub name_as : NameCase → ParsesName → Parses Shape → ParsesBareName → Context → ParsesBareName
+name_as NestedName unqualified args local x s = parse_nested unqualified args x (skip 1 s)
+name_as LocalName unqualified args local x s = local (skip 1 s)
+name_as UnscopedName unqualified args local x s =
+    unscoped_as (unscoped_case s.rest) unqualified args s >>= λ name. Some ((name.0, no_quals), name.1)
+
+-- past an E, which stands there
+abbrev pub past_end : ParserState → Option ParserState
+past_end s = if begins (codes "E") s.rest then Some (skip 1 s) else None
+
+-- what was parsed, with an E after it
+abbrev pub ended : Option (Shape × ParserState) → Option (Shape × ParserState)
+ended parsed = parsed >>= λ found. past_end found.1 >>= λ after. Some (found.0, after)
+
+-- the value of a literal after its type
+abbrev pub literal_end : Shape → Parses Shape
+literal_end type s =
+    literal_value s.rest >>= λ found. literal_step type found.0 >>= λ literal. Some (literal, at found.1 s)
+
+-- <expr-primary>, by what it begins with
+abbrev pub literal_as : LiteralCase → Parses Shape → Parses Shape → Parses Shape
+literal_as ExternalName type encoding s = ended (encoding (skip 3 s))
+literal_as ValueLiteral type encoding s = type (skip 1 s) >>= λ t. literal_end t.0 t.1
+literal_as NoLiteral type encoding s = None
+
+-- <expr-primary>, by what it is made of
+abbrev pub primary_by : Parses Shape → Parses Shape → Parses Shape
+primary_by type encoding s = literal_as (literal_case s.rest) type encoding s
+
+-- an operand of an expression
+abbrev pub operand_by : Parses Shape → Parses Shape
+operand_by expression s = expression s >>= λ t. Some (operand_shape (not (is_external s.rest)) t.0, t.1)
+
+-- pp_ <expression> and mm_ <expression>
+abbrev pub parse_pre : Parses Shape → Parses Shape
+parse_pre expression s = expression (skip 3 s) >>= λ t. Some (pre_shape (expression_text s.rest) t.0, t.1)
+
+-- ad and an external name
+abbrev pub parse_address : Parses Shape → Parses Shape
+parse_address expression s = expression (skip 2 s) >>= λ t. Some (address_shape t.0, t.1)
+
+-- an operator in front of its operand
+abbrev pub parse_unary : Parses Shape → Parses Shape
+parse_unary expression s =
+    operand_by expression (skip 2 s) >>= λ t. Some (pre_shape (expression_text s.rest) t.0, t.1)
+
+-- pp <expression> and mm <expression>
+abbrev pub parse_post : Parses Shape → Parses Shape
+parse_post expression s =
+    operand_by expression (skip 2 s) >>= λ t. Some (post_shape t.0 (expression_text s.rest), t.1)
+
+-- an operator between its operands
+abbrev pub parse_binary : Parses Shape → Parses Shape
+parse_binary expression s =
+    operand_by expression (skip 2 s) >>= λ t. operand_by expression t.1 >>= λ u.
+    Some (binary_shape t.0 (expression_text s.rest) u.0, u.1)
+
+-- gt <expression> <expression>
+abbrev pub parse_greater : Parses Shape → Parses Shape
+parse_greater expression s =
+    expression (skip 2 s) >>= λ t. expression t.1 >>= λ u. Some (greater_shape t.0 u.0, u.1)
+
+-- the two operands between which a condition chooses
+abbrev pub parse_alternatives : Parses Shape → Shape → Parses Shape
+parse_alternatives expression condition s =
+    operand_by expression s >>= λ t. operand_by expression t.1 >>= λ u.
+    Some (conditional_shape condition t.0 u.0, u.1)
+
+-- qu <expression> <expression> <expression>
+abbrev pub parse_conditional : Parses Shape → Parses Shape
+parse_conditional expression s =
+    operand_by expression (skip 2 s) >>= λ condition. parse_alternatives expression condition.0 condition.1
+
+-- <expression>, by what it begins with
+abbrev pub expression_as : ExpressionCase → Parses Shape → Parses Shape → Context → Parses Shape
+expression_as PreExpression expression primary x s = parse_pre expression s
+expression_as AddressExpression expression primary x s = parse_address expression s
+expression_as UnaryExpression expression primary x s = parse_unary expression s
+expression_as PostExpression expression primary x s = parse_post expression s
+expression_as BinaryExpression expression primary x s = parse_binary expression s
+expression_as GreaterExpression expression primary x s = parse_greater expression s
+expression_as ConditionalExpression expression primary x s = parse_conditional expression s
+expression_as ParameterExpression expression primary x s = parse_parameter x s
+expression_as LiteralExpression expression primary x s = primary s
+expression_as NoExpression expression primary x s = None
+
+-- <template-arg>, by what it begins with
+abbrev pub argument_as : ArgumentCase → Parses Shape → Parses Shape → Parses Shape → Parses Shape → Parses Shape
+argument_as ExpressionArgument pack type expression primary s = ended (expression (skip 1 s))
+argument_as PackArgument pack type expression primary s = pack s
+argument_as LiteralArgument pack type expression primary s = primary s
+argument_as ConstraintArgument pack type expression primary s = None
+argument_as TypeArgument pack type expression primary s = type s
+
+-- <template-arg>
+abbrev pub argument_by : Parses Shape → Parses Shape → Parses Shape → Parses Shape → Parses Shape
+argument_by pack type expression primary s = argument_as (argument_case s.rest) pack type expression primary s
+
+-- a pack from its J to its E
+abbrev pub parse_packed : Parses Shape → Parses Shape
+parse_packed argument s =
+    parse_loop (list_turn put_nowhere argument) (true, plain_shape []) (skip 1 s) >>= λ list.
+    Some (whole_shape list.0, list.1)
+
+-- how many scopes there are once a list has begun
+abbrev pub scopes_in : Bool → ParserState → ℕ
+scopes_in opens s = length (begin opens s).scopes
+
+-- a list from its I to its E
+abbrev pub parse_list : Parses Shape → Bool → Parses Shape
+parse_list argument opens s =
+    parse_loop (list_turn (put opens (scopes_in opens s)) argument) (true, plain_shape (codes "<"))
+    (begin opens (skip 1 s)) >>= λ list.
+    Some (whole_shape (arguments_closed list.0), list.1)
+
+-- <template-args> after a type, which is saved with them
+abbrev pub type_attached_as : AttachedCase → Parses Shape → Shape → Parses Shape
+type_attached_as NoneAttached args name s = Some (name, s)
+type_attached_as ArgsAttached args name s = attached_by args name s >>= λ whole. Some (whole.0, save whole.0 whole.1)
+
+-- one more type of a list, or its end
+abbrev pub types_as : TypesCase → Parses Shape → List Shape → Parses (Turn (List Shape) (List Shape))
+types_as EndOfTypes type so_far s = Some (ends so_far, s)
+types_as NextType type so_far s = type s >>= λ next. Some (goes_on (so_far ++ next.0 ∷ []), next.1)
+
+-- the same, by what comes next
+unfoldable pub types_turn : Parses Shape → List Shape → Parses (Turn (List Shape) (List Shape))
+types_turn type so_far s = types_as (types_case true s.rest) type so_far s
+
+-- types up to their end
+abbrev pub parse_types : Parses Shape → Parses (List Shape)
+parse_types type s = parse_loop (types_turn type) [] s
+
+-- the parameters of a function
+abbrev pub params_as : ParamsCase → Parses Shape → Parses (List Shape)
+params_as NoParams type s = Some ([], skip 1 s)
+params_as SomeParams type s = parse_types type s
+
+-- what is after the parameters of a function
+abbrev pub function_end : Quals → Shape → List Shape → Parses Shape
+function_end quals ret params s =
+    function_step ret params (with_reference quals s.rest) >>= λ whole.
+    Some (whole, skip 1 (at (past_reference s.rest) s))
+
+-- <function-type>, by what it begins with
+abbrev pub function_as : FunctionCase → Parses Shape → Quals → Parses Shape
+function_as ExternFunction type quals s = None
+function_as PlainFunction type quals s =
+    type (skip 1 s) >>= λ ret. params_as (params_case ret.1.rest) type ret.1 >>= λ params.
+    function_end quals ret.0 params.0 params.1
+
+-- <function-type>
+abbrev pub parse_function : Parses Shape → Quals → Parses Shape
+parse_function type quals s = function_as (function_case s.rest) type quals s
+
+-- what <CV-qualifiers> stand in front of
+abbrev pub cv_as : CvCase → Parses Shape → Quals → Parses Shape
+cv_as CvFunction type quals s = parse_function type quals s
+cv_as CvOther type quals s = type s >>= λ inner. Some (cv_shape quals inner.0, inner.1)
+
+-- a type after <CV-qualifiers>
+abbrev pub parse_cv : Parses Shape → Parses Shape
+parse_cv type s = cv_as (cv_case (past_cv s.rest)) type (cv_quals s.rest) (at (past_cv s.rest) s)
+
+-- what was read is saved
+abbrev pub saved_as : Shape → Parses Shape
+saved_as t s = Some (t, save t s)
+
+-- a vendor's type, which no <template-args> follow
+abbrev pub vendor_as : AttachedCase → Shape → Parses Shape
+vendor_as NoneAttached t s = saved_as t s
+vendor_as ArgsAttached t s = None
+
+-- u <source-name>
+abbrev pub parse_vendor : Parses Shape
+parse_vendor s = parse_source (skip 1 s) >>= λ found. vendor_as (attached_case found.1.rest) found.0 found.1
+
+-- the array of what was read, where there is one
+abbrev pub saved_array : Option ℕ → Shape → Parses Shape
+saved_array dimension elem s = array_step dimension elem >>= λ whole. saved_as whole s
+
+-- the pointer to a member that was read, where there is one
+abbrev pub saved_member : Shape → Shape → Parses Shape
+saved_member class member s = member_pointer_step class member >>= λ whole. saved_as whole s
+
+-- <pointer-to-member-type>
+abbrev pub parse_member : Parses Shape → Parses Shape
+parse_member type s = type (skip 1 s) >>= λ class. type class.1 >>= λ member. saved_member class.0 member.0 member.1
+
+-- what a parser gives is saved
+abbrev pub saved_by : Parses Shape → Parses Shape
+saved_by parse s = parse s >>= λ found. saved_as found.0 found.1
+
+-- <array-type>
+abbrev pub parse_array : Parses Shape → Parses Shape
+parse_array type s =
+    optional_number (drop 1 s.rest) >>= λ found. type (at found.1 s) >>= λ elem. saved_array found.0 elem.0 elem.1
+
+-- P <type>, R <type> and O <type>
+abbrev pub parse_pointer : Parses Shape → Pointer → Parses Shape
+parse_pointer type kind s = type (skip 1 s) >>= λ inner. saved_as (pointer_shape kind inner.0) inner.1
+
+-- Ts <name>, Tu <name> and Te <name>
+abbrev pub parse_elaborated : Parses Shape → Parses Shape
+parse_elaborated name s =
+    name (skip 2 s) >>= λ found. saved_as (elaborated_shape (elaborated_text s.rest) found.0) found.1
+
+-- <template-param> [<template-args>]
+abbrev pub parameter_type : Parses Shape → Context → Parses Shape
+parameter_type args x s =
+    saved_parameter x s >>= λ found. type_attached_as (attached_case found.1.rest) args found.0 found.1
+
+-- <substitution> [<template-args>]
+abbrev pub substitution_type : Parses Shape → Parses Shape
+substitution_type args s =
+    parse_substitution s >>= λ found. type_attached_as (attached_case found.1.rest) args found.0 found.1
+
+-- the dots of an expansion, which aren't printed in a pack
+abbrev pub expansion_in : Bool → Shape → Shape
+expansion_in in_pack t = if in_pack then t else expansion_shape t
+
+-- Dp <type>
+abbrev pub parse_expansion : Parses Shape → Bool → Parses Shape
+parse_expansion type in_pack s = type (skip 2 s) >>= λ found. saved_as (expansion_in in_pack found.0) found.1
+
+-- <type>, by what it begins with
+abbrev pub type_as : TypeCase → Parses Shape → Parses Shape → Parses Shape → Context → Parses Shape
+type_as BuiltinType type name args x s = Some (plain_shape (builtin_text s.rest), at (past_builtin s.rest) s)
+type_as ExpansionType type name args x s = parse_expansion type x.pack s
+type_as VendorType type name args x s = parse_vendor s
+type_as ArrayType type name args x s = parse_array type s
+type_as FunctionType type name args x s = saved_by (parse_function type no_quals) s
+type_as MemberType type name args x s = parse_member type s
+type_as (PointerType kind) type name args x s = parse_pointer type kind s
+type_as CvType type name args x s = saved_by (parse_cv type) s
+type_as ElaboratedType type name args x s = parse_elaborated name s
+type_as ParameterType type name args x s = parameter_type args x s
+type_as SubstitutionType type name args x s = substitution_type args s
+type_as UnreadType type name args x s = None
+type_as NameType type name args x s = saved_by name s
+
+-- The first number is how many counted productions may still open.
+unfoldable mutual
+  -- <name>, without its own qualifiers
+  pub parse_bare_name : ℕ → Context → ParsesBareName
+  parse_bare_name zero x s = None
+  parse_bare_name (suc d) x s =
+      name_as (name_case s.rest) (parse_unqualified (parse_type d x) (parse_type d (inside_lambda x)))
+      (parse_args d x true)
+      (parse_local
+      (encoding_by (parse_type d (inside_encoding x)) (parse_bare_name d (inside_encoding x))
+      (parse_thunk d (inside_encoding x)) (inside_encoding x))
+      (parse_bare_name d (inside_local x)))
+      x (enter s)
+
+  -- <template-args>
+  pub parse_args : ℕ → Context → Bool → Parses Shape
+  parse_args zero x of_name s = None
+  parse_args (suc d) x of_name s =
+      parse_list (argument_by (parse_pack d x) (parse_type d x) (parse_expression d x)
+      (primary_by (parse_type d x)
+      (encoding_by (parse_type d (inside_encoding x)) (parse_bare_name d (inside_encoding x))
+      (parse_thunk d (inside_encoding x)) (inside_encoding x))))
+      (opens_scope of_name x) (enter s)
+
+  -- J <template-arg>* E
+  pub parse_pack : ℕ → Context → Parses Shape
+  parse_pack zero x s = None
+  parse_pack (suc d) x s =
+      parse_packed (argument_by (parse_pack d (inside_pack x)) (parse_type d (inside_pack x))
+      (parse_expression d (inside_pack x))
+      (primary_by (parse_type d (inside_pack x))
+      (encoding_by (parse_type d (inside_encoding (inside_pack x)))
+      (parse_bare_name d (inside_encoding (inside_pack x))) (parse_thunk d (inside_encoding (inside_pack x)))
+      (inside_encoding (inside_pack x)))))
+      (enter s)
+
+  -- <type>
+  pub parse_type : ℕ → Context → Parses Shape
+  parse_type zero x s = None
+  parse_type (suc d) x s =
+      type_as (type_case s.rest) (parse_type d (inside_type x))
+      (qualified_by (parse_bare_name d (inside_type x)) (inside_type x))
+      (parse_args d (inside_type x) false) (inside_type x) (enter s)
+
+  -- <expression>
+  pub parse_expression : ℕ → Context → Parses Shape
+  parse_expression zero x s = None
+  parse_expression (suc d) x s =
+      expression_as (expression_case s.rest) (parse_expression d x) (primary_by (parse_type d x)
+      (encoding_by (parse_type d (inside_encoding x)) (parse_bare_name d (inside_encoding x))
+      (parse_thunk d (inside_encoding x)) (inside_encoding x)))
+      x (enter s)
+
+  -- T <call-offset> <encoding> and T c <call-offset> <call-offset> <encoding>
+  pub parse_thunk : ℕ → Context → Parses Shape
+  parse_thunk zero x s = None
+  parse_thunk (suc d) x s =
+      thunk_by (symbol_by (parse_type d x) (parse_bare_name d x) (parse_thunk d x) x) (enter s)
+
+-- <name>
+unfoldable pub parse_name : ℕ → Context → Parses Shape
+parse_name d x = qualified_by (parse_bare_name d x) x
+
+-- <special-name>
+unfoldable pub parse_special : ℕ → Context → Parses Shape
+parse_special d x = special_by (parse_type d x) (parse_name d x) (parse_thunk d x)
+
+-- <encoding>
+unfoldable pub parse_encoding : ℕ → Context → Parses Shape
+parse_encoding d x s = encoding_as (symbol_case s.rest) (parse_special d x) (parse_bare_name d x) (parse_type d x) s
+
+-- <expr-primary>
+unfoldable pub parse_primary : ℕ → Context → Parses Shape
+parse_primary d x = primary_by (parse_type d x) (parse_encoding d (inside_encoding x))
+
+-- <template-arg>
+unfoldable pub parse_argument : ℕ → Context → Parses Shape
+parse_argument d x = argument_by (parse_pack d x) (parse_type d x) (parse_expression d x) (parse_primary d x)
+
+-- what follows the prefix of a symbol
+unfoldable pub parse_symbol : ℕ → Context → Parses Shape
+parse_symbol d x s = symbol_as (symbol_case s.rest) (parse_special d x) (parse_name d x) s

@@ -1,0 +1,151 @@
+//! The steps of types that read no type: each makes a type of those that were found, and saves it.
+ghost use Rattle.std.specs.Prelude.{◌≡◌, ◌≤◌, OnOk, All, map, length};
+ghost use Rattle.demangle_text.specs.State.{IsLiving, shape, Lives, IsRun, SameFrame, scopes};
+ghost use Rattle.demangle_edit.specs.Types.{pointer_shape, cv_shape};
+ghost use Rattle.itanium_syntax.specs.Args.{attached_case};
+ghost use Rattle.itanium_grammar.specs.Tree.{elaborated_shape};
+ghost use Rattle.itanium_reader.specs.Parser as spec;
+ghost use Rattle.itanium_reader.specs.Outcome.{state, Gives, Bounds, OptionalBounds, SavedBounds, SavesOne};
+
+use crate::reader::Reader;
+use crate::stop::Stop;
+use demangle_edit::{
+    Glue, Pointer, Quals, expand, function_type, glue, wrap_array, wrap_cv, wrap_member_pointer,
+    wrap_pointer,
+};
+use demangle_text::Piece;
+use itanium_syntax::args::{AttachedCase, attached_case};
+use itanium_syntax::types::ref_qualifier;
+use std::alloc::AllocError;
+
+#[tactic(auto, using(crate::proofs::Rules::buffers))]
+impl<'a> Reader<'a> {
+    /// A pointer or a reference to what was found.
+    pub fn save_pointer(&mut self, kind: Pointer) -> Result<(), AllocError>
+        requires living { IsLiving self.old.buffer self.old.found }
+        ensures shape { OnOk result (Lives self.new.buffer self.new.found (pointer_shape kind
+            (shape self.old.buffer self.old.found))) }
+        ensures state { OnOk result (state self.new ≡ spec.save (pointer_shape kind
+            (shape self.old.buffer self.old.found)) (state self.old)) }
+        ensures run { OnOk result (IsRun self.old.buffer self.new.buffer) }
+    {
+        self.found = wrap_pointer(&mut self.buffer, self.found, kind)?;
+        self.save_found()
+    }
+
+    /// What was found with the words of its qualifiers.
+    pub fn wrap_found(&mut self, quals: Quals) -> Result<(), AllocError>
+        requires living { IsLiving self.old.buffer self.old.found }
+        ensures shape { OnOk result (Lives self.new.buffer self.new.found (cv_shape quals
+            (shape self.old.buffer self.old.found))) }
+        ensures state { OnOk result (state self.new ≡ state self.old) }
+        ensures run { OnOk result (IsRun self.old.buffer self.new.buffer) }
+    {
+        self.found = wrap_cv(&mut self.buffer, self.found, quals)?;
+        Ok(())
+    }
+
+    /// The expansion of what was found, which prints its dots where it isn't in a pack.
+    pub fn save_expansion(&mut self, in_pack: bool) -> Result<(), AllocError>
+        requires living { IsLiving self.old.buffer self.old.found }
+        ensures shape { OnOk result (Lives self.new.buffer self.new.found
+            (spec.expansion_in in_pack (shape self.old.buffer self.old.found))) }
+        ensures state { OnOk result (state self.new ≡ spec.save
+            (spec.expansion_in in_pack (shape self.old.buffer self.old.found)) (state self.old)) }
+        ensures run { OnOk result (IsRun self.old.buffer self.new.buffer) }
+    {
+        if !in_pack {
+            self.found = expand(&mut self.buffer, self.found)?;
+        }
+        self.save_found()
+    }
+
+    /// The array of what was found, where there is one.
+    pub fn save_array(&mut self, dimension: Option<u64>) -> Result<(), Stop>
+        requires living { IsLiving self.old.buffer self.old.found }
+        ensures reads { Gives result self.new (spec.saved_array dimension
+            (shape self.old.buffer self.old.found) (state self.old)) }
+        ensures run { OnOk result (IsRun self.old.buffer self.new.buffer) }
+        ensures bounds { OptionalBounds result (state self.old) (state self.new) }
+        ensures one { SavesOne result (state self.old) (state self.new) }
+    {
+        let Some(whole) = wrap_array(&mut self.buffer, self.found, dimension)? else {
+            return Err(Stop::Unread);
+        };
+        self.found = whole;
+        self.save_found()?;
+        Ok(())
+    }
+
+    /// The pointer to what was found as a member of the class, where there is one.
+    pub fn save_member(&mut self, class: Piece) -> Result<(), Stop>
+        requires class { IsLiving self.old.buffer class }
+        requires living { IsLiving self.old.buffer self.old.found }
+        ensures reads { Gives result self.new
+            (spec.saved_member (shape self.old.buffer class) (shape self.old.buffer self.old.found) (state self.old)) }
+        ensures run { OnOk result (IsRun self.old.buffer self.new.buffer) }
+        ensures bounds { OptionalBounds result (state self.old) (state self.new) }
+        ensures one { SavesOne result (state self.old) (state self.new) }
+    {
+        let Some(whole) = wrap_member_pointer(&mut self.buffer, class, self.found)? else {
+            return Err(Stop::Unread);
+        };
+        self.found = whole;
+        self.save_found()?;
+        Ok(())
+    }
+
+    /// The function type, where there is one, and what is after its parameters: `[<ref-qualifier>] E`.
+    pub fn end_function(&mut self, quals: Quals, ret: Piece, params: &[Piece]) -> Result<(), Stop>
+        requires ret { IsLiving self.old.buffer ret }
+        requires params { All (IsLiving self.old.buffer) params.now }
+        ensures reads { Gives result self.new
+            (spec.function_end quals (shape self.old.buffer ret) (map (shape self.old.buffer) params.now)
+            (state self.old)) }
+        ensures run { OnOk result (IsRun self.old.buffer self.new.buffer) }
+        ensures bounds { OptionalBounds result (state self.old) (state self.new) }
+        ensures saved { SavedBounds 0 result (state self.old) (state self.new) }
+    {
+        let (reference, rest) = ref_qualifier(self.rest);
+        let all = Quals { reference, ..quals };
+        let Some(whole) = function_type(&mut self.buffer, ret, params, all)? else {
+            return Err(Stop::Unread);
+        };
+        self.found = whole;
+        self.rest = rest;
+        self.skip(1);
+        Ok(())
+    }
+
+    /// The word of an elaborated type in front of the name that was found.
+    pub fn save_elaborated(&mut self, word: &[u8]) -> Result<(), AllocError>
+        requires living { IsLiving self.old.buffer self.old.found }
+        ensures shape { OnOk result (Lives self.new.buffer self.new.found (elaborated_shape word.now
+            (shape self.old.buffer self.old.found))) }
+        ensures state { OnOk result (state self.new ≡ spec.save (elaborated_shape word.now
+            (shape self.old.buffer self.old.found)) (state self.old)) }
+        ensures run { OnOk result (IsRun self.old.buffer self.new.buffer) }
+    {
+        let parts = [Glue::Text(word), Glue::Piece(self.found)];
+        self.found = glue(&mut self.buffer, &parts)?;
+        self.save_found()
+    }
+
+    /// `u <source-name>`, which no `<template-args>` follow.
+    pub fn read_vendor(&mut self) -> Result<(), Stop>
+        ensures reads { Gives result self.new (spec.parse_vendor (state self.old)) }
+        ensures run { OnOk result (IsRun self.old.buffer self.new.buffer) }
+        ensures bounds { Bounds 2 result (state self.old) (state self.new) }
+        ensures saved { SavedBounds 0 result (state self.old) (state self.new) }
+    {
+        self.skip(1);
+        self.read_source()?;
+        match attached_case(self.rest) {
+            AttachedCase::NoneAttached => {
+                self.save_found()?;
+                Ok(())
+            }
+            AttachedCase::ArgsAttached => Err(Stop::Unread),
+        }
+    }
+}

@@ -1,0 +1,140 @@
+//! Literals, external names and expressions (Itanium C++ ABI 5.1, "Expressions").
+ghost use Rattle.std.specs.Prelude.{◌≡◌, ◌<◌, OnOk};
+ghost use Rattle.demangle_text.specs.State.{IsLiving, Lives, shape, IsRun, SameFrame};
+ghost use Rattle.itanium_grammar.specs.Tree.{pre_shape, post_shape, binary_shape, greater_shape, conditional_shape};
+ghost use Rattle.itanium_reader.specs.Parser as spec;
+ghost use Rattle.itanium_reader.specs.Outcome.{state, Gives, Bounds, SavedBounds};
+
+use crate::reader::Reader;
+use crate::stop::Stop;
+use demangle_edit::{Glue, glue, write_literal};
+use demangle_text::Piece;
+use itanium_syntax::expressions::literal_value;
+use std::alloc::AllocError;
+
+#[tactic(auto, using(crate::proofs::Rules::buffers))]
+impl<'a> Reader<'a> {
+    /// The `E` after what was found.
+    #[tactic(auto, using(crate::proofs::Rules::buffers))]
+    pub fn read_end(&mut self) -> Result<(), Stop>
+        requires living { IsLiving self.old.buffer self.old.found }
+        ensures reads { Gives result self.new
+            (spec.ended (Some (shape self.old.buffer self.old.found, state self.old))) }
+        ensures kept { OnOk result (SameFrame self.old.buffer self.new.buffer) }
+        ensures bounds { Bounds 2 result (state self.old) (state self.new) }
+        ensures saved { SavedBounds 1 result (state self.old) (state self.new) }
+    {
+        match self.rest {
+            [b'E', rest @ ..] => {
+                self.rest = rest;
+                Ok(())
+            }
+            _ => Err(Stop::Unread),
+        }
+    }
+
+    /// The value of a literal of the type that was found, up to the `E` after it.
+    pub fn end_literal(&mut self) -> Result<(), Stop>
+        requires living { IsLiving self.old.buffer self.old.found }
+        ensures reads { Gives result self.new
+            (spec.literal_end (shape self.old.buffer self.old.found) (state self.old)) }
+        ensures run { OnOk result (IsRun self.old.buffer self.new.buffer) }
+        ensures bounds { Bounds 2 result (state self.old) (state self.new) }
+        ensures saved { SavedBounds 1 result (state self.old) (state self.new) }
+    {
+        let Some((value, rest)) = literal_value(self.rest) else {
+            return Err(Stop::Unread);
+        };
+        let Some(literal) = write_literal(&mut self.buffer, self.found, value)? else {
+            return Err(Stop::Unread);
+        };
+        self.found = literal;
+        self.rest = rest;
+        Ok(())
+    }
+
+    /// An operator's text in front of what was found.
+    pub fn print_pre(&mut self, text: &str) -> Result<(), AllocError>
+        requires living { IsLiving self.old.buffer self.old.found }
+        ensures shape { OnOk result (Lives self.new.buffer self.new.found
+            (pre_shape text.now (shape self.old.buffer self.old.found))) }
+        ensures state { OnOk result (state self.new ≡ state self.old) }
+        ensures run { OnOk result (IsRun self.old.buffer self.new.buffer) }
+    {
+        let parts = [Glue::Text(text.as_bytes()), Glue::Piece(self.found)];
+        self.found = glue(&mut self.buffer, &parts)?;
+        Ok(())
+    }
+
+    /// An operator's text after what was found.
+    pub fn print_post(&mut self, text: &str) -> Result<(), AllocError>
+        requires living { IsLiving self.old.buffer self.old.found }
+        ensures shape { OnOk result (Lives self.new.buffer self.new.found
+            (post_shape (shape self.old.buffer self.old.found) text.now)) }
+        ensures state { OnOk result (state self.new ≡ state self.old) }
+        ensures run { OnOk result (IsRun self.old.buffer self.new.buffer) }
+    {
+        let parts = [Glue::Piece(self.found), Glue::Text(text.as_bytes())];
+        self.found = glue(&mut self.buffer, &parts)?;
+        Ok(())
+    }
+
+    /// An operator's text between the left operand and the right one, which was found.
+    pub fn print_binary(&mut self, left: Piece, text: &str) -> Result<(), AllocError>
+        requires left { IsLiving self.old.buffer left }
+        requires living { IsLiving self.old.buffer self.old.found }
+        ensures shape { OnOk result (Lives self.new.buffer self.new.found
+            (binary_shape (shape self.old.buffer left) text.now (shape self.old.buffer self.old.found))) }
+        ensures state { OnOk result (state self.new ≡ state self.old) }
+        ensures run { OnOk result (IsRun self.old.buffer self.new.buffer) }
+    {
+        let parts = [
+            Glue::Piece(left),
+            Glue::Text(text.as_bytes()),
+            Glue::Piece(self.found),
+        ];
+        self.found = glue(&mut self.buffer, &parts)?;
+        Ok(())
+    }
+
+    /// `>` between the left expression and the right one, which was found, in parentheses.
+    pub fn print_greater(&mut self, left: Piece) -> Result<(), AllocError>
+        requires left { IsLiving self.old.buffer left }
+        requires living { IsLiving self.old.buffer self.old.found }
+        ensures shape { OnOk result (Lives self.new.buffer self.new.found
+            (greater_shape (shape self.old.buffer left) (shape self.old.buffer self.old.found))) }
+        ensures state { OnOk result (state self.new ≡ state self.old) }
+        ensures run { OnOk result (IsRun self.old.buffer self.new.buffer) }
+    {
+        let parts = [
+            Glue::Text(b"(("),
+            Glue::Piece(left),
+            Glue::Text(b")>("),
+            Glue::Piece(self.found),
+            Glue::Text(b"))"),
+        ];
+        self.found = glue(&mut self.buffer, &parts)?;
+        Ok(())
+    }
+
+    /// `?` and `:` between a condition and two operands, of which the last was found.
+    pub fn print_conditional(&mut self, condition: Piece, then: Piece) -> Result<(), AllocError>
+        requires condition { IsLiving self.old.buffer condition }
+        requires then { IsLiving self.old.buffer then }
+        requires living { IsLiving self.old.buffer self.old.found }
+        ensures shape { OnOk result (Lives self.new.buffer self.new.found (conditional_shape
+            (shape self.old.buffer condition) (shape self.old.buffer then) (shape self.old.buffer self.old.found))) }
+        ensures state { OnOk result (state self.new ≡ state self.old) }
+        ensures run { OnOk result (IsRun self.old.buffer self.new.buffer) }
+    {
+        let parts = [
+            Glue::Piece(condition),
+            Glue::Text(b"?"),
+            Glue::Piece(then),
+            Glue::Text(b" : "),
+            Glue::Piece(self.found),
+        ];
+        self.found = glue(&mut self.buffer, &parts)?;
+        Ok(())
+    }
+}

@@ -1,0 +1,13 @@
+//! What the readers of productions share: the bytes that are left, the buffer with what was saved, the piece that was
+//! found, and all steps that call no other reader. It is a part of `itanium_demangle`, and for no other use.
+#![tactic(auto)]
+
+mod declarators;
+mod expressions;
+mod names;
+mod reader;
+mod specials;
+mod stop;
+
+pub use crate::reader::Reader;
+pub use crate::stop::Stop;

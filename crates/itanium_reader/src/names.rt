@@ -1,0 +1,179 @@
+//! Names (Itanium C++ ABI 5.1.2).
+ghost use Rattle.std.specs.Prelude.{◌≡◌, ◌<◌, codes, option_map, IfSome, OnOk, true};
+ghost use Rattle.demangle_text.specs.Shape.{appended};
+ghost use Rattle.demangle_text.specs.State.{IsLiving, shape, Lives, IsEdit, IsRun, saved};
+ghost use Rattle.itanium_grammar.specs.Tree.{conversion_shape};
+ghost use Rattle.itanium_reader.specs.Parser as spec;
+ghost use Rattle.itanium_reader.specs.Outcome.{state, Gives, Bounds, OptionalBounds, SavedBounds};
+
+use crate::reader::Reader;
+use crate::stop::Stop;
+use demangle_edit::{append_number, close_lambda, qualify, qualify_ctor, tag};
+use demangle_text::{Piece, Place};
+use itanium_syntax::names::{TagCase, source_text, tag_case};
+use itanium_syntax::numerals::{lambda_number, unnamed_type_number};
+use itanium_syntax::operators::operator_here;
+use itanium_syntax::scalar::source_name;
+use std::alloc::AllocError;
+
+#[tactic(auto, using(crate::proofs::Rules::buffers))]
+impl<'a> Reader<'a> {
+    /// The string literal of an encoding.
+    pub fn print_string_literal(&mut self, encoding: Piece) -> Result<(), AllocError>
+        requires living { IsLiving self.old.buffer encoding }
+        ensures shape { OnOk result (Lives self.new.buffer self.new.found
+            (appended (codes "::string literal") (shape self.old.buffer encoding))) }
+        ensures state { OnOk result (state self.new ≡ state self.old) }
+        ensures edit { OnOk result (IsEdit self.old.buffer self.new.buffer) }
+    {
+        self.found = self.buffer.append(encoding, b"::string literal")?;
+        Ok(())
+    }
+
+    /// The name in its scope, where there is one.
+    pub fn enclose(&mut self, scope: Option<Piece>, name: Piece) -> Result<(), AllocError>
+        requires scope { IfSome scope (IsLiving self.old.buffer) }
+        requires name { IsLiving self.old.buffer name }
+        ensures shape { OnOk result (Lives self.new.buffer self.new.found
+            (spec.in_scope (option_map (shape self.old.buffer) scope) (shape self.old.buffer name))) }
+        ensures state { OnOk result (state self.new ≡ state self.old) }
+        ensures edit { OnOk result (IsEdit self.old.buffer self.new.buffer) }
+    {
+        self.found = match scope {
+            None => name,
+            Some(scope) => qualify(&mut self.buffer, scope, name)?,
+        };
+        Ok(())
+    }
+
+    /// `<abi-tags> ::= (B <source-name>)*` after a name.
+    #[tactic(auto, using(crate::proofs::Rules::tags))]
+    pub fn read_tags(&mut self, name: Piece) -> Result<(), Stop>
+        requires living { IsLiving self.old.buffer name }
+        ensures reads { Gives result self.new (spec.parse_tags (shape self.old.buffer name) (state self.old)) }
+        ensures run { OnOk result (IsRun self.old.buffer self.new.buffer) }
+        ensures bounds { OptionalBounds result (state self.old) (state self.new) }
+        ensures saved { SavedBounds 0 result (state self.old) (state self.new) }
+    {
+        let mut name = name;
+        loop {
+            match tag_case(self.rest) {
+                TagCase::NoTag => {
+                    self.found = name;
+                    return Ok(());
+                }
+                TagCase::NextTag => {
+                    self.skip(1);
+                    let Some((from, to)) = source_name(self.rest, 0) else {
+                        return Err(Stop::Unread);
+                    };
+                    let text = source_text(&self.rest[from..to]);
+                    name = tag(&mut self.buffer, name, text)?;
+                    self.rest = &self.rest[to..];
+                }
+            }
+        }
+    }
+
+    /// A constructor or a destructor of the scope, and `<abi-tags>` after it.
+    pub fn read_ctor_dtor(&mut self, destructor: bool, scope: Option<Piece>) -> Result<(), Stop>
+        requires scope { IfSome scope (IsLiving self.old.buffer) }
+        ensures reads { Gives result self.new
+            (spec.ctor_dtor_as destructor (option_map (shape self.old.buffer) scope) (state self.old)) }
+        ensures run { OnOk result (IsRun self.old.buffer self.new.buffer) }
+        ensures bounds { OptionalBounds result (spec.skip 2 (state self.old)) (state self.new) }
+        ensures saved { SavedBounds 0 result (spec.skip 2 (state self.old)) (state self.new) }
+    {
+        let Some(scope) = scope else {
+            return Err(Stop::Unread);
+        };
+        self.skip(2);
+        self.found = qualify_ctor(&mut self.buffer, scope, destructor)?;
+        self.read_tags(self.found)
+    }
+
+    /// `<unnamed-type-name> ::= Ut [<nonnegative number>] _`, after its `Ut`.
+    pub fn read_unnamed_type(&mut self) -> Result<(), Stop>
+        ensures reads { Gives result self.new (spec.parse_unnamed_type (state self.old)) }
+        ensures run { OnOk result (IsRun self.old.buffer self.new.buffer) }
+        ensures bounds { Bounds 2 result (state self.old) (state self.new) }
+        ensures saved { SavedBounds 1 result (state self.old) (state self.new) }
+    {
+        let Some((number, rest)) = unnamed_type_number(self.rest) else {
+            return Err(Stop::Unread);
+        };
+        self.rest = rest;
+        let opened = self.buffer.push(b"{unnamed type#")?;
+        let numbered = append_number(&mut self.buffer, opened, number)?;
+        let closed = self.buffer.append(numbered, b"}")?;
+        self.found = self.buffer.whole(closed);
+        Ok(())
+    }
+
+    /// `<operator-name> ::= li <source-name>`, after its `li`.
+    pub fn read_literal_operator(&mut self) -> Result<(), Stop>
+        ensures reads { Gives result self.new (spec.parse_literal_operator (state self.old)) }
+        ensures run { OnOk result (IsRun self.old.buffer self.new.buffer) }
+        ensures bounds { Bounds 2 result (state self.old) (state self.new) }
+        ensures saved { SavedBounds 2 result (state self.old) (state self.new) }
+    {
+        let Some((from, to)) = source_name(self.rest, 0) else {
+            return Err(Stop::Unread);
+        };
+        let text = source_text(&self.rest[from..to]);
+        let opened = self.buffer.push(b"operator\"\" ")?;
+        let named = self.buffer.append(opened, text)?;
+        self.found = self.buffer.whole(named);
+        self.rest = &self.rest[to..];
+        Ok(())
+    }
+
+    /// `<operator-name>`, a code of two letters.
+    pub fn read_operator(&mut self) -> Result<(), Stop>
+        ensures reads { Gives result self.new (spec.parse_operator (state self.old)) }
+        ensures run { OnOk result (IsRun self.old.buffer self.new.buffer) }
+        ensures bounds { Bounds 2 result (state self.old) (state self.new) }
+        ensures saved { SavedBounds 2 result (state self.old) (state self.new) }
+    {
+        let Some(text) = operator_here(self.rest) else {
+            return Err(Stop::Unread);
+        };
+        let opened = self.buffer.push(b"operator")?;
+        let named = self.buffer.append(opened, text.as_bytes())?;
+        self.found = self.buffer.whole(named);
+        self.skip(2);
+        Ok(())
+    }
+
+    /// The end of a lambda's parameters, `E [<nonnegative number>] _`.
+    pub fn end_lambda(&mut self, list: Piece) -> Result<(), Stop>
+        requires living { IsLiving self.old.buffer list }
+        ensures reads { Gives result self.new (spec.lambda_end (shape self.old.buffer list) (state self.old)) }
+        ensures run { OnOk result (IsRun self.old.buffer self.new.buffer) }
+        ensures bounds { Bounds 2 result (state self.old) (state self.new) }
+        ensures saved { SavedBounds 1 result (state self.old) (state self.new) }
+    {
+        self.skip(1);
+        let Some((number, rest)) = lambda_number(self.rest) else {
+            return Err(Stop::Unread);
+        };
+        self.rest = rest;
+        self.found = close_lambda(&mut self.buffer, list, number)?;
+        Ok(())
+    }
+
+    /// The conversion to the type that was found.
+    pub fn convert_found(&mut self) -> Result<(), AllocError>
+        requires living { IsLiving self.old.buffer self.old.found }
+        ensures shape { OnOk result (Lives self.new.buffer self.new.found
+            (conversion_shape (shape self.old.buffer self.old.found))) }
+        ensures state { OnOk result (state self.new ≡ state self.old) }
+        ensures run { OnOk result (IsRun self.old.buffer self.new.buffer) }
+    {
+        let plain = self.buffer.plain(self.found);
+        let named = self.buffer.insert(plain, Place::Start, b"operator ")?;
+        let whole = self.buffer.whole(named);
+        self.found = self.buffer.with_flags(whole, false, true);
+        Ok(())
+    }
+}

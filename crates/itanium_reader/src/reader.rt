@@ -1,0 +1,257 @@
+//! What the readers share: the bytes that are left, the buffer with what was saved, and the piece that was found.
+ghost use Rattle.std.specs.Prelude.{◌≡◌, ◌<◌, ◌≤◌, ◌+◌, IfOk, OnOk, length, max, true};
+ghost use Rattle.demangle_text.specs.Shape.{plain_shape};
+ghost use Rattle.demangle_text.specs.State.{IsLiving, Lives, shape, SameFrame, saved, scopes};
+ghost use Rattle.itanium_syntax.specs.Types.{builtin_text, past_builtin};
+ghost use Rattle.itanium_grammar.specs.Tree.{abbreviation_shape};
+ghost use Rattle.itanium_reader.specs.Parser as spec;
+ghost use Rattle.itanium_reader.specs.Outcome.{state, Gives, Bounds, SavedBounds};
+
+use crate::stop::Stop;
+use demangle_text::{Buffer, Piece};
+use itanium_syntax::abbreviations::{
+    Abbreviation, abbreviation_of, abbreviation_own_len, abbreviation_text,
+};
+use itanium_syntax::context::Context;
+use itanium_syntax::names::{
+    SubstitutionCase, past_initializer_letter, source_text, substitution_case,
+};
+use itanium_syntax::numerals::{Radix, index_of};
+use itanium_syntax::scalar::source_name;
+use itanium_syntax::types::{builtin_text, past_builtin};
+use std::alloc::{AllocError, Global};
+
+/// A reader of mangled bytes. Each production has a method that answers `Ok` where it was read: then `found` is the
+/// piece of its printing. It answers `Stop::Unread` where it isn't read, and `Stop::Memory` where memory is refused.
+#[derive(Drop)]
+pub struct Reader<'a> {
+    pub rest: &'a [u8],
+    pub buffer: Buffer,
+    pub found: Piece,
+    pub entered: usize,
+    pub most_saved: usize,
+    pub alloc: Global,
+}
+
+#[tactic(auto, using(crate::proofs::Rules::buffers))]
+impl<'a> Reader<'a> {
+    /// A reader at the front of the bytes, over a buffer that is cleared.
+    pub fn new(alloc: Global, buffer: Buffer, bytes: &'a [u8]) -> Result<Self, AllocError>
+        ensures state { IfOk result (λ reader. state reader ≡ spec.begun bytes.entry.now) }
+    {
+        let mut buffer = buffer;
+        buffer.clear();
+        let found = buffer.push(b"")?;
+        Ok(Reader {
+            rest: bytes,
+            buffer,
+            found,
+            entered: 0,
+            most_saved: 0,
+            alloc,
+        })
+    }
+
+    /// Goes past n bytes, or to the end.
+    pub fn skip(&mut self, n: usize)
+        ensures state { state self.new ≡ spec.skip n (state self.old) }
+        ensures found { self.new.found ≡ self.old.found }
+        ensures buffer { self.new.buffer ≡ self.old.buffer }
+    {
+        self.rest = if n <= self.rest.len() {
+            &self.rest[n..]
+        } else {
+            &[]
+        };
+    }
+
+    /// Goes past the `M` of a data member's initializer, where one stands.
+    pub fn skip_initializer(&mut self)
+        ensures state { state self.new ≡ spec.past_initializer (state self.old) }
+        ensures within { length self.new.rest.now ≤ length self.old.rest.now }
+        ensures saved { saved self.new.buffer ≡ saved self.old.buffer }
+        ensures buffer { self.new.buffer ≡ self.old.buffer }
+    {
+        self.rest = past_initializer_letter(self.rest);
+    }
+
+    /// Saves a component for substitutions.
+    pub fn save(&mut self, piece: Piece) -> Result<(), AllocError>
+        requires living { IsLiving self.old.buffer piece }
+        ensures state { OnOk result (state self.new ≡ spec.save (shape self.old.buffer piece) (state self.old)) }
+        ensures found { OnOk result (self.new.found ≡ self.old.found) }
+        ensures longer { OnOk result (length (saved self.new.buffer) ≡ length (saved self.old.buffer) + 1) }
+        ensures most { OnOk result (self.new.most_saved
+            ≡ max self.old.most_saved (length (saved self.old.buffer) + 1)) }
+        ensures kept { OnOk result (SameFrame self.old.buffer self.new.buffer) }
+    {
+        self.buffer.save(piece)?;
+        self.most_saved = self.most_saved.max(self.buffer.saved_len());
+        Ok(())
+    }
+
+    /// Saves what was found.
+    pub fn save_found(&mut self) -> Result<(), AllocError>
+        requires living { IsLiving self.old.buffer self.old.found }
+        ensures shape { OnOk result (Lives self.new.buffer self.new.found (shape self.old.buffer self.old.found)) }
+        ensures state { OnOk result (state self.new ≡ spec.save
+            (shape self.old.buffer self.old.found) (state self.old)) }
+        ensures longer { OnOk result (length (saved self.new.buffer) ≡ length (saved self.old.buffer) + 1) }
+        ensures most { OnOk result (self.new.most_saved
+            ≡ max self.old.most_saved (length (saved self.old.buffer) + 1)) }
+        ensures kept { OnOk result (SameFrame self.old.buffer self.new.buffer) }
+    {
+        self.save(self.found)
+    }
+
+    /// Takes the last saved component back, where it is to be.
+    pub fn take_back(&mut self, takes: bool)
+        requires saved { takes ≡ true → 0 < length (saved self.old.buffer) }
+        ensures state { state self.new ≡ spec.taken_back takes (state self.old) }
+        ensures fewer { length (saved self.new.buffer) ≤ length (saved self.old.buffer) }
+        ensures kept { SameFrame self.old.buffer self.new.buffer }
+    {
+        if takes {
+            self.buffer.unsave();
+        }
+    }
+
+    /// `<source-name> ::= <positive length number> <identifier>`
+    pub fn read_source(&mut self) -> Result<(), Stop>
+        ensures reads { Gives result self.new (spec.parse_source (state self.old)) }
+        ensures kept { OnOk result (SameFrame self.old.buffer self.new.buffer) }
+        ensures bounds { Bounds 2 result (state self.old) (state self.new) }
+        ensures saved { SavedBounds 2 result (state self.old) (state self.new) }
+    {
+        let Some((from, to)) = source_name(self.rest, 0) else {
+            return Err(Stop::Unread);
+        };
+        let text = source_text(&self.rest[from..to]);
+        self.found = self.buffer.push(text)?;
+        self.rest = &self.rest[to..];
+        Ok(())
+    }
+
+    /// The name of std that a `<substitution>` stands for.
+    fn push_abbreviation(&mut self, known: Abbreviation) -> Result<(), AllocError>
+        ensures shape { OnOk result (Lives self.new.buffer self.new.found (abbreviation_shape known)) }
+        ensures state { OnOk result (state self.new ≡ state self.old) }
+        ensures kept { OnOk result (SameFrame self.old.buffer self.new.buffer) }
+    {
+        let piece = self.buffer.push(abbreviation_text(known))?;
+        let end = 5 + abbreviation_own_len(known);
+        self.found = self.buffer.own_at(piece, 5, end);
+        Ok(())
+    }
+
+    /// `<substitution> ::= S [<seq-id>] _ | Sa | Sb | Ss | Si | So | Sd`
+    #[tactic(auto, using(crate::proofs::Rules::substitutions))]
+    pub fn read_substitution(&mut self) -> Result<(), Stop>
+        ensures reads { Gives result self.new (spec.parse_substitution (state self.old)) }
+        ensures kept { OnOk result (SameFrame self.old.buffer self.new.buffer) }
+        ensures bounds { Bounds 2 result (state self.old) (state self.new) }
+        ensures saved { SavedBounds 2 result (state self.old) (state self.new) }
+    {
+        self.skip(1);
+        match substitution_case(self.rest) {
+            SubstitutionCase::AbbreviationSubstitution => {
+                let Some(known) = abbreviation_of(self.rest) else {
+                    return Err(Stop::Unread);
+                };
+                self.skip(1);
+                self.push_abbreviation(known)?;
+                Ok(())
+            }
+            SubstitutionCase::ComponentSubstitution => {
+                let Some((index, rest)) = index_of(Radix::Base36, self.rest) else {
+                    return Err(Stop::Unread);
+                };
+                let Some(component) = self.buffer.saved(index) else {
+                    return Err(Stop::Unread);
+                };
+                self.rest = rest;
+                self.found = component;
+                Ok(())
+            }
+        }
+    }
+
+    /// `<template-param> ::= T [<number>] _`: an argument of the last scope, or `auto` in a lambda's signature.
+    #[tactic(auto, using(crate::proofs::Rules::parameters))]
+    pub fn read_parameter(&mut self, context: Context) -> Result<(), Stop>
+        ensures reads { Gives result self.new (spec.parse_parameter context (state self.old)) }
+        ensures kept { OnOk result (SameFrame self.old.buffer self.new.buffer) }
+        ensures bounds { Bounds 2 result (state self.old) (state self.new) }
+        ensures saved { SavedBounds 2 result (state self.old) (state self.new) }
+    {
+        self.skip(1);
+        let Some((index, rest)) = index_of(Radix::Decimal, self.rest) else {
+            return Err(Stop::Unread);
+        };
+        self.rest = rest;
+        if context.lambda {
+            self.found = self.buffer.push(b"auto")?;
+            return Ok(());
+        }
+        let Some(argument) = self.buffer.arg(index) else {
+            return Err(Stop::Unread);
+        };
+        self.found = argument;
+        Ok(())
+    }
+
+    /// A `<template-param>` that is saved.
+    pub fn read_saved_parameter(&mut self, context: Context) -> Result<(), Stop>
+        ensures reads { Gives result self.new (spec.saved_parameter context (state self.old)) }
+        ensures some { OnOk result (0 < length (saved self.new.buffer)) }
+        ensures kept { OnOk result (SameFrame self.old.buffer self.new.buffer) }
+        ensures bounds { Bounds 2 result (state self.old) (state self.new) }
+        ensures saved { SavedBounds 1 result (state self.old) (state self.new) }
+    {
+        self.read_parameter(context)?;
+        self.save_found()?;
+        Ok(())
+    }
+
+    /// `<builtin-type>`, which stands there.
+    pub fn read_builtin(&mut self) -> Result<(), AllocError>
+        ensures shape { OnOk result
+            (Lives self.new.buffer self.new.found (plain_shape (builtin_text self.old.rest.now))) }
+        ensures state { OnOk result (state self.new ≡ spec.at (past_builtin self.old.rest.now) (state self.old)) }
+        ensures kept { OnOk result (SameFrame self.old.buffer self.new.buffer) }
+    {
+        self.found = self.buffer.push(builtin_text(self.rest))?;
+        self.rest = past_builtin(self.rest);
+        Ok(())
+    }
+
+    /// A list begins, and opens a scope where it is to.
+    pub fn begin(&mut self, opens: bool) -> Result<(), AllocError>
+        ensures state { OnOk result (state self.new ≡ spec.begin opens (state self.old)) }
+        ensures more { OnOk result (length (scopes self.old.buffer) ≤ length (scopes self.new.buffer)) }
+        ensures opened { OnOk result (opens ≡ true → 0 < length (scopes self.new.buffer)) }
+        ensures kept { OnOk result (SameFrame self.old.buffer self.new.buffer) }
+    {
+        if opens {
+            self.buffer.open_scope()?;
+        }
+        Ok(())
+    }
+
+    /// Drops the scopes past the first n, which an argument opened, and puts it into the scope that its list opened.
+    pub fn put(&mut self, opens: bool, n: usize, piece: Piece) -> Result<(), AllocError>
+        requires living { IsLiving self.old.buffer piece }
+        requires scopes { n ≤ length (scopes self.old.buffer) }
+        requires opened { opens ≡ true → 0 < n }
+        ensures state { OnOk result (state self.new ≡ spec.put opens n
+            (shape self.old.buffer piece) (state self.old)) }
+        ensures stand { OnOk result (length (scopes self.new.buffer) ≡ n) }
+        ensures kept { OnOk result (SameFrame self.old.buffer self.new.buffer) }
+    {
+        self.buffer.keep_scopes(n);
+        if opens {
+            self.buffer.push_arg(piece)?;
+        }
+        Ok(())
+    }
+}

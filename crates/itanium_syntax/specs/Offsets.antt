@@ -1,0 +1,50 @@
+-- Call offsets of thunks (Itanium C++ ABI 5.1.4).
+use Rattle.std.specs.Prelude.{ℕ, List, Bool, not, ◌&&◌, ◌==◌, drop, codes, if◌then◌else◌, Option, None, option_and_then, option_map}
+use Rattle.itanium_syntax.specs.declared.numerals.Radix.TheVariants.{Decimal}
+use Rattle.itanium_syntax.specs.declared.offsets.Signed.{Signed}
+use Rattle.itanium_syntax.specs.declared.offsets.CallOffset.{CallOffset}
+use Rattle.itanium_syntax.specs.declared.offsets.CallOffset.TheVariants.{Plain, Virtual}
+use Rattle.itanium_syntax.specs.declared.offsets.ThunkOffsets.{ThunkOffsets}
+use Rattle.itanium_syntax.specs.declared.offsets.ThunkOffsets.TheVariants.{Single, Covariant}
+use Rattle.itanium_syntax.specs.Bytes.{begins}
+use Rattle.itanium_syntax.specs.Scalars.{numeral, past_underscore}
+
+-- a number with a minus or without one: zero is never negative
+abbrev pub with_sign : Bool → ℕ → Signed
+with_sign minus n = record { negative = minus && not (n == 0); magnitude = n }
+
+-- a number with n in front for a minus
+abbrev pub signed_number : List ℕ → Option (Signed × List ℕ)
+signed_number bytes =
+    let minus = begins (codes "n") bytes in
+    option_map (λ n. (with_sign minus n.0, n.1)) (numeral Decimal (if minus then drop 1 bytes else bytes))
+
+-- the same with `_` after it
+abbrev pub signed_part : List ℕ → Option (Signed × List ℕ)
+signed_part bytes = option_and_then (λ n. option_map (λ rest. (n.0, rest)) (past_underscore n.1)) (signed_number bytes)
+
+-- <nv-offset> _ after its h
+abbrev pub plain_offset : List ℕ → Option (CallOffset × List ℕ)
+plain_offset bytes = option_map (λ n. (Plain n.0, n.1)) (signed_part bytes)
+
+-- <v-offset> _ after its v
+abbrev pub virtual_offset : List ℕ → Option (CallOffset × List ℕ)
+virtual_offset bytes =
+    option_and_then (λ a. option_map (λ b. (Virtual a.0 b.0, b.1)) (signed_part a.1)) (signed_part bytes)
+
+-- <call-offset> ::= h <nv-offset> _ | v <v-offset> _
+abbrev pub call_offset : List ℕ → Option (CallOffset × List ℕ)
+call_offset bytes =
+    if begins (codes "h") bytes then plain_offset (drop 1 bytes) else
+    if begins (codes "v") bytes then virtual_offset (drop 1 bytes) else None
+
+-- the two offsets after `c`
+abbrev pub covariant_offsets : List ℕ → Option (ThunkOffsets × List ℕ)
+covariant_offsets bytes =
+    option_and_then (λ a. option_map (λ b. (Covariant a.0 b.0, b.1)) (call_offset a.1)) (call_offset bytes)
+
+-- the offsets of a thunk after its T: one, or c and two
+unfoldable pub thunk_offsets : List ℕ → Option (ThunkOffsets × List ℕ)
+thunk_offsets bytes =
+    if begins (codes "c") bytes then covariant_offsets (drop 1 bytes)
+    else option_map (λ a. (Single a.0, a.1)) (call_offset bytes)
