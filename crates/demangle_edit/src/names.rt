@@ -1,5 +1,6 @@
 //! Edits that make a name out of names (Itanium C++ ABI 5.1.2).
 ghost use Rattle.std.specs.Prelude.{◌≡◌, All, map, IfOk, OnOk};
+ghost use Rattle.demangle_text.specs.Shape.{plain_shape};
 ghost use Rattle.demangle_text.specs.State.{IsLiving, shape, Lives, IsEdit};
 ghost use Rattle.demangle_edit.specs.Names.{qualified, qualified_ctor, angle_gap, attached, tagged};
 ghost use Rattle.demangle_edit.specs.Names.{encoding_shape, with_name_qualifiers};
@@ -30,6 +31,27 @@ pub fn qualify(buf: &mut Buffer, scope: Piece, leaf: Piece) -> Result<Piece, All
     let _len = buf.len(whole);
     let named = buf.own_at(whole, before + 2 + from, before + 2 + to);
     Ok(buf.with_flags(named, templ, ctor))
+}
+
+/// A name in its scope, `scope::text`, as a plain piece whose last own name is the text, with no flag
+/// set: what `qualify` answers for a piece that was pushed with this text.
+///
+/// An error comes where memory is refused, and then only `clear` of the buffer is promised.
+#[tactic(auto, using(demangle_text::proofs::Laws::laws))]
+#[inline(always)]
+pub fn qualify_text(buf: &mut Buffer, scope: Piece, text: &[u8]) -> Result<Piece, AllocError>
+    requires scope { IsLiving buf.old scope }
+    ensures shape { IfOk result (λ p. Lives buf.new p
+        (qualified (shape buf.old scope) (plain_shape text.now))) }
+    ensures edit { OnOk result (IsEdit buf.old buf.new) }
+{
+    let plain = buf.plain(scope);
+    let opened = buf.append(plain, b"::")?;
+    let from = buf.len(opened);
+    let whole = buf.append(opened, text)?;
+    let to = buf.len(whole);
+    let named = buf.own_at(whole, from, to);
+    Ok(buf.with_flags(named, false, false))
 }
 
 /// The constructor of a scope, `scope::name` with the last own name of the scope, or its
