@@ -1,14 +1,18 @@
 //! Names (Itanium C++ ABI 5.1.2).
-ghost use Rattle.std.specs.Prelude.{◌≡◌, ◌<◌, codes, option_map, IfSome, OnOk, true};
+ghost use Rattle.std.specs.Prelude.{◌≡◌, ◌<◌, codes, option_map, None, Some, IfSome, OnOk, true};
 ghost use Rattle.demangle_text.specs.Shape.{appended};
-ghost use Rattle.demangle_text.specs.State.{IsLiving, shape, Lives, IsEdit, IsRun, saved};
+ghost use Rattle.demangle_text.specs.State.{IsLiving, shape, Lives, IsEdit, IsRun, SameFrame, saved};
+ghost use Rattle.demangle_edit.specs.Names.{with_name_qualifiers};
 ghost use Rattle.itanium_grammar.specs.Tree.{conversion_shape};
 ghost use Rattle.itanium_reader.specs.Parser as spec;
 ghost use Rattle.itanium_reader.specs.Outcome.{state, Gives, Bounds, OptionalBounds, SavedBounds};
 
 use crate::reader::Reader;
 use crate::stop::Stop;
-use demangle_edit::{append_number, close_lambda, qualify, qualify_ctor, tag};
+use demangle_edit::{
+    Quals, append_number, apply_name_qualifiers, close_lambda, qualify, qualify_ctor, qualify_text,
+    tag,
+};
 use demangle_text::{Piece, Place};
 use itanium_syntax::names::{TagCase, source_text, tag_case};
 use itanium_syntax::numerals::{lambda_number, unnamed_type_number};
@@ -73,6 +77,88 @@ impl<'a> Reader<'a> {
                 }
             }
         }
+    }
+
+    /// A `<source-name>` in no scope, and `<abi-tags>` after it.
+    #[tactic(auto, using(crate::proofs::Rules::source_names))]
+    #[inline(always)]
+    pub fn read_source_name(&mut self) -> Result<(), Stop>
+        ensures reads { Gives result self.new (spec.parse_source_in None (state self.old)) }
+        ensures kept { OnOk result (SameFrame self.old.buffer self.new.buffer) }
+        ensures bounds { Bounds 2 result (state self.old) (state self.new) }
+        ensures saved { SavedBounds 1 result (state self.old) (state self.new) }
+    {
+        let Some((from, to)) = source_name(self.rest, 0) else {
+            return Err(Stop::Unread);
+        };
+        let rest = &self.rest[to..];
+        match tag_case(rest) {
+            TagCase::NoTag => {
+                self.found = self.buffer.push(source_text(&self.rest[from..to]))?;
+                self.rest = rest;
+                Ok(())
+            }
+            TagCase::NextTag => self.framed_tagged_source(),
+        }
+    }
+
+    /// A `<source-name>` in the scope that was found, and `<abi-tags>` after it.
+    #[tactic(auto, using(crate::proofs::Rules::source_names))]
+    #[inline(always)]
+    pub fn read_source_component(&mut self) -> Result<(), Stop>
+        requires living { IsLiving self.old.buffer self.old.found }
+        ensures reads { Gives result self.new
+            (spec.parse_source_in (Some (shape self.old.buffer self.old.found)) (state self.old)) }
+        ensures run { OnOk result (IsRun self.old.buffer self.new.buffer) }
+        ensures bounds { Bounds 2 result (state self.old) (state self.new) }
+        ensures saved { SavedBounds 1 result (state self.old) (state self.new) }
+    {
+        let Some((from, to)) = source_name(self.rest, 0) else {
+            return Err(Stop::Unread);
+        };
+        let rest = &self.rest[to..];
+        match tag_case(rest) {
+            TagCase::NoTag => {
+                let text = source_text(&self.rest[from..to]);
+                self.found = qualify_text(&mut self.buffer, self.found, text)?;
+                self.rest = rest;
+                Ok(())
+            }
+            TagCase::NextTag => self.read_tagged_component(),
+        }
+    }
+
+    /// A `<source-name>` and `<abi-tags>` after it, in a frame of their own: what lived keeps its shape.
+    #[cold]
+    #[inline(never)]
+    fn framed_tagged_source(&mut self) -> Result<(), Stop>
+        ensures reads { Gives result self.new (spec.parse_tagged_source (state self.old)) }
+        ensures kept { OnOk result (SameFrame self.old.buffer self.new.buffer) }
+        ensures bounds { Bounds 2 result (state self.old) (state self.new) }
+        ensures saved { SavedBounds 1 result (state self.old) (state self.new) }
+    {
+        let mark = self.buffer.open();
+        self.read_source()?;
+        self.read_tags(self.found)?;
+        self.found = self.buffer.close(mark, self.found)?;
+        Ok(())
+    }
+
+    /// The same in the scope that was found.
+    #[cold]
+    #[inline(never)]
+    fn read_tagged_component(&mut self) -> Result<(), Stop>
+        requires living { IsLiving self.old.buffer self.old.found }
+        ensures reads { Gives result self.new
+            (spec.parse_source_in (Some (shape self.old.buffer self.old.found)) (state self.old)) }
+        ensures run { OnOk result (IsRun self.old.buffer self.new.buffer) }
+        ensures bounds { Bounds 2 result (state self.old) (state self.new) }
+        ensures saved { SavedBounds 1 result (state self.old) (state self.new) }
+    {
+        let scope = self.found;
+        self.framed_tagged_source()?;
+        self.found = qualify(&mut self.buffer, scope, self.found)?;
+        Ok(())
     }
 
     /// A constructor or a destructor of the scope, and `<abi-tags>` after it.
@@ -159,6 +245,21 @@ impl<'a> Reader<'a> {
         };
         self.rest = rest;
         self.found = close_lambda(&mut self.buffer, list, number)?;
+        Ok(())
+    }
+
+    /// The own qualifiers of the name that was found, after it.
+    #[inline(always)]
+    pub fn print_quals(&mut self, quals: Quals, shown: bool) -> Result<(), AllocError>
+        requires living { IsLiving self.old.buffer self.old.found }
+        ensures shape { OnOk result (Lives self.new.buffer self.new.found
+            (with_name_qualifiers (shape self.old.buffer self.old.found) quals shown)) }
+        ensures state { OnOk result (state self.new ≡ state self.old) }
+        ensures run { OnOk result (IsRun self.old.buffer self.new.buffer) }
+    {
+        if quals.is_set() {
+            self.found = apply_name_qualifiers(&mut self.buffer, self.found, quals, shown)?;
+        }
         Ok(())
     }
 

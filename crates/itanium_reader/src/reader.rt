@@ -1,13 +1,15 @@
 //! What the readers share: the bytes that are left, the buffer with what was saved, and the piece that was found.
 ghost use Rattle.std.specs.Prelude.{◌≡◌, ◌<◌, ◌≤◌, ◌+◌, IfOk, OnOk, length, max, true};
 ghost use Rattle.demangle_text.specs.Shape.{plain_shape};
-ghost use Rattle.demangle_text.specs.State.{IsLiving, Lives, shape, SameFrame, saved, scopes};
+ghost use Rattle.demangle_text.specs.State.{IsLiving, Lives, shape, IsRun, SameFrame, saved, scopes};
+ghost use Rattle.demangle_edit.specs.Built.{separated};
 ghost use Rattle.itanium_syntax.specs.Types.{builtin_text, past_builtin};
 ghost use Rattle.itanium_grammar.specs.Tree.{abbreviation_shape};
 ghost use Rattle.itanium_reader.specs.Parser as spec;
 ghost use Rattle.itanium_reader.specs.Outcome.{state, Gives, Bounds, SavedBounds};
 
 use crate::stop::Stop;
+use demangle_edit::separate;
 use demangle_text::{Buffer, Piece};
 use itanium_syntax::abbreviations::{
     Abbreviation, abbreviation_of, abbreviation_own_len, abbreviation_text,
@@ -70,6 +72,7 @@ impl<'a> Reader<'a> {
         ensures state { state self.new ≡ spec.past_initializer (state self.old) }
         ensures within { length self.new.rest.now ≤ length self.old.rest.now }
         ensures saved { saved self.new.buffer ≡ saved self.old.buffer }
+        ensures found { self.new.found ≡ self.old.found }
         ensures buffer { self.new.buffer ≡ self.old.buffer }
     {
         self.rest = past_initializer_letter(self.rest);
@@ -109,6 +112,7 @@ impl<'a> Reader<'a> {
         requires saved { takes ≡ true → 0 < length (saved self.old.buffer) }
         ensures state { state self.new ≡ spec.taken_back takes (state self.old) }
         ensures fewer { length (saved self.new.buffer) ≤ length (saved self.old.buffer) }
+        ensures found { self.new.found ≡ self.old.found }
         ensures kept { SameFrame self.old.buffer self.new.buffer }
     {
         if takes {
@@ -223,6 +227,21 @@ impl<'a> Reader<'a> {
         self.found = self.buffer.push(builtin_text(self.rest))?;
         self.rest = past_builtin(self.rest);
         Ok(())
+    }
+
+    /// What stands in front of a list's next text: nothing in front of the first.
+    #[tactic(auto, using(crate::proofs::Rules::lists))]
+    #[inline(always)]
+    pub fn separate_list(&mut self, list: Piece, first: bool) -> Result<Piece, AllocError>
+        requires living { IsLiving self.old.buffer list }
+        ensures shape { IfOk result (λ p. Lives self.new.buffer p (separated first (shape self.old.buffer list))) }
+        ensures state { OnOk result (state self.new ≡ state self.old) }
+        ensures run { OnOk result (IsRun self.old.buffer self.new.buffer) }
+    {
+        if first {
+            return Ok(self.buffer.plain(list));
+        }
+        separate(&mut self.buffer, list, false)
     }
 
     /// A list begins, and opens a scope where it is to.

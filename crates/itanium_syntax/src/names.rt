@@ -177,6 +177,14 @@ fn operator_case(bytes: &[u8]) -> FreeCase
     }
 }
 
+/// Whether a `<source-name>` stands there: a digit from `1` to `9`.
+#[inline(always)]
+pub fn begins_source(bytes: &[u8]) -> bool
+    ensures value { result ≡ spec.begins_source bytes.now }
+{
+    matches!(bytes, [b'1'..=b'9', ..])
+}
+
 /// Whether an `<abi-tag>` stands there: `B`, which a digit follows.
 pub fn tag_case(bytes: &[u8]) -> TagCase
     ensures case { result ≡ spec.tag_case bytes.now }
