@@ -6,7 +6,7 @@ ghost use Rattle.itanium_reader.specs.Outcome.{state, Gives, HasRoom, Bounds, Sa
 
 use crate::expressions::{read_expression, read_primary};
 use crate::types::read_type;
-use demangle_edit::{attach_template_args, close_arguments, list_next, separate};
+use demangle_edit::{attach_template_args, close_arguments, list_next};
 use demangle_text::Piece;
 use itanium_reader::{Reader, Stop};
 use itanium_syntax::args::{ArgsCase, ArgumentCase, args_case, argument_case};
@@ -48,7 +48,7 @@ pub(crate) fn read_args(
                 return Ok(());
             }
             ArgsCase::NextArgument => {
-                list = separate(&mut reader.buffer, list, first)?;
+                list = reader.separate_list(list, first)?;
                 framed_argument(reader, depth - 1, context)?;
                 let argument = reader.found;
                 reader.put(opens, scopes, argument)?;
@@ -134,7 +134,7 @@ pub(crate) fn read_pack(reader: &mut Reader, depth: usize, context: Context) -> 
                 return Ok(());
             }
             ArgsCase::NextArgument => {
-                list = separate(&mut reader.buffer, list, first)?;
+                list = reader.separate_list(list, first)?;
                 framed_argument(reader, depth - 1, inside)?;
                 list = list_next(&mut reader.buffer, list, reader.found)?;
                 first = false;

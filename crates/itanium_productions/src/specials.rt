@@ -5,7 +5,7 @@ ghost use Rattle.demangle_text.specs.State.{IsRun};
 ghost use Rattle.itanium_reader.specs.Parser as spec;
 ghost use Rattle.itanium_reader.specs.Outcome.{state, Gives, HasRoom, Bounds, SavedBounds};
 
-use crate::names::read_name;
+use crate::names::{framed_name, read_name};
 use crate::types::{framed_type, read_type};
 use itanium_reader::{Reader, Stop};
 use itanium_syntax::context::Context;
@@ -32,8 +32,9 @@ pub(crate) fn read_type_special(
     let words = special_text(reader.rest);
     let close = special_close(reader.rest);
     reader.skip(2);
-    read_type(reader, depth, context)?;
-    reader.print_worded(words, close)?;
+    let begun = reader.buffer.push(words)?;
+    framed_type(reader, depth, context)?;
+    reader.print_worded(begun, close)?;
     Ok(())
 }
 
@@ -56,8 +57,9 @@ pub(crate) fn read_name_special(
     let words = special_text(reader.rest);
     let close = special_close(reader.rest);
     reader.skip(2);
-    read_name(reader, depth, context)?;
-    reader.print_worded(words, close)?;
+    let begun = reader.buffer.push(words)?;
+    framed_name(reader, depth, context)?;
+    reader.print_worded(begun, close)?;
     Ok(())
 }
 

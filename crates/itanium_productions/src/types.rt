@@ -9,7 +9,7 @@ ghost use Rattle.itanium_reader.specs.Outcome.{state, Gives, HasRoom, Bounds, Op
 
 use crate::args::read_attached;
 use crate::names::read_name;
-use demangle_edit::{Pointer, Quals, list_next, separate};
+use demangle_edit::{Pointer, Quals, list_next};
 use demangle_text::Piece;
 use itanium_reader::{Reader, Stop};
 use itanium_syntax::args::{AttachedCase, attached_case};
@@ -430,7 +430,7 @@ pub(crate) fn read_typed(
                 return Ok(());
             }
             TypesCase::NextType => {
-                list = separate(&mut reader.buffer, list, first)?;
+                list = reader.separate_list(list, first)?;
                 framed_type(reader, depth, context)?;
                 list = list_next(&mut reader.buffer, list, reader.found)?;
                 first = false;

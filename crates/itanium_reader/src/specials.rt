@@ -95,20 +95,19 @@ fn framed_offset(buf: &mut Buffer, offset: CallOffset) -> Result<Piece, AllocErr
 
 #[tactic(auto, using(crate::proofs::Rules::buffers))]
 impl<'a> Reader<'a> {
-    /// Words around what was found.
-    pub fn print_worded<'t>(&mut self, words: &'t [u8], close: &'t [u8]) -> Result<(), AllocError>
+    /// What was found after the words in front of it, which stand right before it, and the words that close it.
+    #[tactic(auto, using(crate::proofs::Rules::words))]
+    pub fn print_worded(&mut self, words: Piece, close: &[u8]) -> Result<(), AllocError>
+        requires words { IsLiving self.old.buffer words }
         requires living { IsLiving self.old.buffer self.old.found }
         ensures shape { OnOk result (Lives self.new.buffer self.new.found
-            (worded_shape words.now (shape self.old.buffer self.old.found) close.now)) }
+            (worded_shape (text (shape self.old.buffer words)) (shape self.old.buffer self.old.found) close.now)) }
         ensures state { OnOk result (state self.new ≡ state self.old) }
         ensures run { OnOk result (IsRun self.old.buffer self.new.buffer) }
     {
-        let worded = [
-            Glue::Text(words),
-            Glue::Piece(self.found),
-            Glue::Text(close),
-        ];
-        self.found = glue(&mut self.buffer, &worded)?;
+        let worded = self.buffer.join(words, b"", self.found)?;
+        let closed = self.buffer.append(worded, close)?;
+        self.found = self.buffer.whole(closed);
         Ok(())
     }
 

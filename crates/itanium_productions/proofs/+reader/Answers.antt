@@ -59,16 +59,16 @@ names::read_components-returns-in_err-read_attached-in-ArgsComponent-clause-read
     rw (e.1, e.2) (stops _ _ (c.in_err-read_attached-in-ArgsComponent.ensures {u = tt}).reads
     (components_no_args _ _ c.loop-reader.invariant.reads (sym c.in-ArgsComponent.ensures.case)))
 
-pub names::read_components-returns-in_err-read_unqualified-in-NameComponent-clause-reads : goal.names::read_components-returns-in_err-read_unqualified-in-NameComponent-clause-reads
-names::read_components-returns-in_err-read_unqualified-in-NameComponent-clause-reads t c =
-    let r = c.from_residual-in_err-read_unqualified-in-NameComponent in
+pub names::read_components-returns-in_err-read_component-in-NameComponent-clause-reads : goal.names::read_components-returns-in_err-read_component-in-NameComponent-clause-reads
+names::read_components-returns-in_err-read_component-in-NameComponent-clause-reads t c =
+    let r = c.from_residual-in_err-read_component-in-NameComponent in
     let e = err_from_is_err_and r.result r.ensures.1 in
-    rw (e.1, e.2) (stops _ _ (c.in_err-read_unqualified-in-NameComponent.ensures {u = tt}).reads
+    rw (e.1, e.2) (stops _ _ (c.in_err-read_component-in-NameComponent.ensures {u = tt}).reads
     (components_no_name _ _ c.loop-reader.invariant.reads (sym c.in-NameComponent.ensures.case)))
 
 pub names::read_components-loop-reader-preserved : goal.names::read_components-loop-reader-preserved
 names::read_components-loop-reader-preserved t c = record {
-  reads = components_name _ _ c.loop-reader.invariant.reads {mid = state c.read_unqualified.new.reader} (sym c.in-NameComponent.ensures.case) (search rules) (search rules) (search rules) (search rules);
+  reads = components_name _ _ c.loop-reader.invariant.reads {mid = state c.read_component.new.reader} (sym c.in-NameComponent.ensures.case) (search rules) (search rules) (search rules) (search rules);
   living = search rules;
   run = search rules;
   some_saved = search rules;
