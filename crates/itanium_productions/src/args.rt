@@ -7,7 +7,6 @@ ghost use Rattle.itanium_reader.specs.Outcome.{state, Gives, HasRoom, Bounds, Sa
 use crate::expressions::{read_expression, read_primary};
 use crate::types::read_type;
 use demangle_edit::{attach_template_args, close_arguments, list_next};
-use demangle_text::Piece;
 use itanium_reader::{Reader, Stop};
 use itanium_syntax::args::{ArgsCase, ArgumentCase, args_case, argument_case};
 use itanium_syntax::context::Context;
@@ -81,7 +80,7 @@ pub(crate) fn framed_args(
     Ok(())
 }
 
-/// `<template-args>` after what stands.
+/// `<template-args>` after what was found.
 #[tactic(auto, using(itanium_reader::proofs::Rules::buffers))]
 #[cycle(reader)]
 pub(crate) fn read_attached(
@@ -89,17 +88,18 @@ pub(crate) fn read_attached(
     depth: usize,
     context: Context,
     of_name: bool,
-    name: Piece,
 ) -> Result<(), Stop>
     requires room { HasRoom 1 (state reader.old) }
     requires some { 0 < length reader.old.rest.now }
-    requires living { IsLiving reader.old.buffer name }
+    requires living { IsLiving reader.old.buffer reader.old.found }
     ensures reads { Gives result reader.new
-        (spec.attached_by (spec.parse_args depth context of_name) (shape reader.old.buffer name) (state reader.old)) }
+        (spec.attached_by (spec.parse_args depth context of_name)
+        (shape reader.old.buffer reader.old.found) (state reader.old)) }
     ensures run { OnOk result (IsRun reader.old.buffer reader.new.buffer) }
     ensures bounds { Bounds 1 result (state reader.old) (state reader.new) }
     ensures saved { SavedBounds 2 result (state reader.old) (state reader.new) }
 {
+    let name = reader.found;
     framed_args(reader, depth, context, of_name)?;
     reader.found = attach_template_args(&mut reader.buffer, name, reader.found)?;
     Ok(())

@@ -262,7 +262,7 @@ pub(crate) fn read_components(
                 return Ok(());
             }
             ComponentCase::ArgsComponent => {
-                read_attached(reader, depth, context, true, reader.found)?;
+                read_attached(reader, depth, context, true)?;
                 reader.save_found()?;
                 reader.skip_initializer();
                 takes = true;
@@ -277,32 +277,28 @@ pub(crate) fn read_components(
     }
 }
 
-/// `<template-args>` after a name, which is saved in front of them, or none.
+/// `<template-args>` after the name that was found, which is saved in front of them, or none.
 #[tactic(auto, using(itanium_reader::proofs::Rules::fronts))]
 #[cycle(reader)]
 pub(crate) fn read_attached_args(
     reader: &mut Reader,
     depth: usize,
     context: Context,
-    name: Piece,
 ) -> Result<(), Stop>
     requires room { HasRoom 1 (state reader.old) }
-    requires living { IsLiving reader.old.buffer name }
+    requires living { IsLiving reader.old.buffer reader.old.found }
     ensures reads { Gives result reader.new (spec.attached_as (attached_case reader.old.rest.now)
         (spec.parse_args depth context true)
-        (shape reader.old.buffer name) (state reader.old)) }
+        (shape reader.old.buffer reader.old.found) (state reader.old)) }
     ensures run { OnOk result (IsRun reader.old.buffer reader.new.buffer) }
     ensures bounds { OptionalBounds result (state reader.old) (state reader.new) }
     ensures saved { SavedBounds 0 result (state reader.old) (state reader.new) }
 {
     match attached_case(reader.rest) {
-        AttachedCase::NoneAttached => {
-            reader.found = name;
-            Ok(())
-        }
+        AttachedCase::NoneAttached => Ok(()),
         AttachedCase::ArgsAttached => {
-            reader.save(name)?;
-            read_attached(reader, depth, context, true, name)
+            reader.save_found()?;
+            read_attached(reader, depth, context, true)
         }
     }
 }
@@ -327,24 +323,18 @@ pub(crate) fn read_unscoped(reader: &mut Reader, depth: usize, context: Context)
             reader.skip(2);
             reader.found = reader.buffer.push(b"std")?;
             read_component(reader, depth, context)?;
-            read_attached_args(reader, depth, context, reader.found)
+            read_attached_args(reader, depth, context)
         }
         UnscopedCase::SubstitutionName => {
             reader.read_substitution()?;
             match attached_case(reader.rest) {
                 AttachedCase::NoneAttached => Err(Stop::Unread),
-                AttachedCase::ArgsAttached => read_attached(
-                    reader,
-                    depth,
-                    context,
-                    true,
-                    reader.found,
-                ),
+                AttachedCase::ArgsAttached => read_attached(reader, depth, context, true),
             }
         }
         UnscopedCase::PlainName => {
             read_outer_name(reader, depth, context)?;
-            read_attached_args(reader, depth, context, reader.found)
+            read_attached_args(reader, depth, context)
         }
     }
 }

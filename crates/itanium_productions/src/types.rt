@@ -20,30 +20,26 @@ use itanium_syntax::types::{
     function_case, params_case, type_case, types_case,
 };
 
-/// `<template-args>` after a type, which is saved with them, or none.
+/// `<template-args>` after the type that was found, which is saved with them, or none.
 #[tactic(auto, using(itanium_reader::proofs::Rules::fronts))]
 #[cycle(reader)]
 pub(crate) fn read_type_attached(
     reader: &mut Reader,
     depth: usize,
     context: Context,
-    name: Piece,
 ) -> Result<(), Stop>
     requires room { HasRoom 1 (state reader.old) }
-    requires living { IsLiving reader.old.buffer name }
+    requires living { IsLiving reader.old.buffer reader.old.found }
     ensures reads { Gives result reader.new (spec.type_attached_as (attached_case reader.old.rest.now)
-        (spec.parse_args depth context false) (shape reader.old.buffer name) (state reader.old)) }
+        (spec.parse_args depth context false) (shape reader.old.buffer reader.old.found) (state reader.old)) }
     ensures run { OnOk result (IsRun reader.old.buffer reader.new.buffer) }
     ensures bounds { OptionalBounds result (state reader.old) (state reader.new) }
     ensures saved { SavedBounds 0 result (state reader.old) (state reader.new) }
 {
     match attached_case(reader.rest) {
-        AttachedCase::NoneAttached => {
-            reader.found = name;
-            Ok(())
-        }
+        AttachedCase::NoneAttached => Ok(()),
         AttachedCase::ArgsAttached => {
-            read_attached(reader, depth, context, false, name)?;
+            read_attached(reader, depth, context, false)?;
             reader.save_found()?;
             Ok(())
         }
@@ -226,7 +222,7 @@ pub(crate) fn read_parameter_type(
     ensures saved { SavedBounds 0 result (state reader.old) (state reader.new) }
 {
     reader.read_saved_parameter(context)?;
-    read_type_attached(reader, depth, context, reader.found)
+    read_type_attached(reader, depth, context)
 }
 
 /// `<substitution> [<template-args>]`: saved with its arguments alone.
@@ -245,7 +241,7 @@ pub(crate) fn read_substitution_type(
     ensures saved { SavedBounds 0 result (state reader.old) (state reader.new) }
 {
     reader.read_substitution()?;
-    read_type_attached(reader, depth, context, reader.found)
+    read_type_attached(reader, depth, context)
 }
 
 /// `<class-enum-type> ::= <name>`, which is saved.

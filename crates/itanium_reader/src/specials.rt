@@ -95,7 +95,8 @@ fn framed_offset(buf: &mut Buffer, offset: CallOffset) -> Result<Piece, AllocErr
 
 #[tactic(auto, using(crate::proofs::Rules::buffers))]
 impl<'a> Reader<'a> {
-    /// What was found after the words in front of it, which stand right before it, and the words that close it.
+    /// The words with what was found after them, and the words that close it. Nothing moves where the first words were
+    /// pushed right before what was found.
     #[tactic(auto, using(crate::proofs::Rules::words))]
     pub fn print_worded(&mut self, words: Piece, close: &[u8]) -> Result<(), AllocError>
         requires words { IsLiving self.old.buffer words }

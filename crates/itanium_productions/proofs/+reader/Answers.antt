@@ -119,10 +119,10 @@ types::read_types-loop-list-preserved t c =
       most = search rules;
     }
 
-pub names::read_attached_args-returns-in_ok-save-in-ArgsAttached-clause-saved : goal.names::read_attached_args-returns-in_ok-save-in-ArgsAttached-clause-saved
-names::read_attached_args-returns-in_ok-save-in-ArgsAttached-clause-saved t c =
-    let save = c.in_ok-save-in-ArgsAttached.ensures {u = tt} in
-    saved_first c.read_attached.result (state c.args.reader.now) (state c.save.new.self) (state c.read_attached.new.reader) c.read_attached.ensures.saved
+pub names::read_attached_args-returns-in_ok-save_found-in-ArgsAttached-clause-saved : goal.names::read_attached_args-returns-in_ok-save_found-in-ArgsAttached-clause-saved
+names::read_attached_args-returns-in_ok-save_found-in-ArgsAttached-clause-saved t c =
+    let save = c.in_ok-save_found-in-ArgsAttached.ensures {u = tt} in
+    saved_first c.read_attached.result (state c.args.reader.now) (state c.save_found.new.self) (state c.read_attached.new.reader) c.read_attached.ensures.saved
     save.longer (search rules) (search (rules, attached_some)) save.most
 
 pub args::read_pack-loop-reader-init : goal.args::read_pack-loop-reader-init
