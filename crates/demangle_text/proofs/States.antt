@@ -39,7 +39,12 @@ module _ (main side new : List ℕ) (e : Extends side new) where
       ap (λ (t : List ℕ). shape_in t new p) (sym (append-nil main)) ∙ ap (λ (t : List ℕ). shape_in (main ++ []) t p) e.all
       ∙ shape_in-grown main side [] e.more p h
 
-  IsPiece-extends : (p : Piece) → IsPiece main side p → IsPiece main new p
+  pub piece_text-extends : (p : Piece) → IsPiece main side p → piece_text main new p ≡ piece_text main side p
+  piece_text-extends p h =
+      ap (λ (t : List ℕ). piece_text t new p) (sym (append-nil main)) ∙ ap (λ (t : List ℕ). piece_text (main ++ []) t p) e.all
+      ∙ piece_text-grown main side [] e.more p h
+
+  pub IsPiece-extends : (p : Piece) → IsPiece main side p → IsPiece main new p
   IsPiece-extends p h =
       let a = IsPiece-grown main side [] e.more p h in
       subst (λ (t : List ℕ). IsPiece t new p) (append-nil main) (subst (λ (t : List ℕ). IsPiece (main ++ []) t p) (sym e.all) a)

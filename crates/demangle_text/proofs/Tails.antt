@@ -118,8 +118,25 @@ IsJoint-copied s t first bytes second from apart inner starts is =
       in_place = λ h. absurd (apart h);
     }
 
+-- the first text and the bytes in front of a second one that ends the main text
+pub IsJoint-moved : (s t : Store) (first : Piece) (bytes : List ℕ) (second : Piece) → (IsAdjacent s first second → ⊥) → IsTail s second → second.from_byte ≤ second.to_byte
+    → t.main_text ≡ take second.from_byte s.main_text ++ ((piece_text s.main_text s.side_text first ++ bytes) ++ drop second.from_byte s.main_text)
+    → IsJoint s t first bytes second second.from_byte
+IsJoint-moved s t first bytes second apart h ordered is =
+    let main = s.main_text in
+    let more = piece_text main s.side_text first ++ bytes in
+    let at = second.from_byte in
+    let there : at ≤ length main = omega (arith, h.ends) in
+    let low = length-take-le at main there in
+    record {
+      within = omega (arith, ap length is ∙ length-inserted main more at);
+      text = ap (drop at) is ∙ drop_at (take at main) (more ++ drop at main) at low ∙ ap (λ (v : List ℕ). more ++ v) (sym (tail_text s second h));
+      front = ap (take s.frame_main) is ∙ front_inserted main more s.frame_main at h.inner there;
+      in_place = λ k. absurd (apart k);
+    }
+
 -- how long the text of a piece is
-length-text : (s : Store) (p : Piece) → IsLiving s p → length (piece_text s.main_text s.side_text p) ≡ p.to_byte - p.from_byte
+pub length-text : (s : Store) (p : Piece) → IsLiving s p → length (piece_text s.main_text s.side_text p) ≡ p.to_byte - p.from_byte
 unfolding IsLiving
 length-text s p h = length-between (home_bytes s.main_text s.side_text p.in_side) p.from_byte p.to_byte h.within
 

@@ -5,7 +5,7 @@ ghost use Rattle.std.specs.Prelude.{is_some};
 ghost use Rattle.demangle_text.specs.Shape.{gap_after, grouped};
 
 use crate::moves::{carry, set_apart};
-use crate::parts::{add_joined, add_part, add_spliced};
+use crate::parts::{add_joined, add_part, add_spliced, insert_joined};
 use crate::ranges::Ranges;
 use crate::shape::{Kind, Mark, Piece, Place};
 use crate::text::Text;
@@ -62,7 +62,7 @@ impl Buffer {
     ghost use Rattle.demangle_text.specs.Shape.{opened_group, joined, shortened, CanInsert, IsPlain, IsDeclared};
     ghost use Rattle.demangle_text.specs.Shape.{flagged, with_own, flattened, whole_shape, own_shape, IsNotFunction};
     ghost use Rattle.demangle_text.specs.Shape.{kind_of, group_of, after_of, declared_at, declared_group};
-    ghost use Rattle.demangle_text.specs.Pieces.{IsTail, IsSplice, IsAdjacent, IsJoint, piece_text};
+    ghost use Rattle.demangle_text.specs.Pieces.{IsTail, IsSplice, IsAdjacent, IsJoint, EndsBy, piece_text};
 
     /// An empty buffer, with no mark open. It takes no memory.
     pub fn new(alloc: Global) -> Self
@@ -423,8 +423,10 @@ impl Buffer {
     /// A plain piece: the text of the first piece, the bytes, and the text of the second. Its last
     /// own name is the whole text, and both flags are off. Where the first ends where the second
     /// begins, and both stand up to the end of the main text, from the innermost mark or later,
-    /// they stay there; else both are copied to the end. Ends pieces, and keeps all after
-    /// `AllocError`, as `append` does.
+    /// they stay there. Else, where the second stands up to that end, from the innermost mark or
+    /// later, and the first lies elsewhere, the text of the first and the bytes go in front of it.
+    /// Else both are copied to the end. Ends pieces, and keeps all after `AllocError`, as `append`
+    /// does.
     #[inline(always)]
     pub fn join(&mut self, first: Piece, bytes: &[u8], second: Piece) -> Result<Piece, AllocError>
         requires first_living { IsLiving self.old first }
@@ -454,9 +456,44 @@ impl Buffer {
             self.insert_at(second.from_byte, bytes)?;
             return Ok(first.from_byte);
         }
+        if self.is_tail(second) && first.ends_by(second.from_byte) {
+            self.join_within(second.from_byte, first, bytes)?;
+            return Ok(second.from_byte);
+        }
         let from = self.main.len();
         add_joined(&mut self.main, &self.side, first, bytes, second)?;
         Ok(from)
+    }
+
+    // The text of a piece and bytes at a place of the main text since the innermost mark, by which the piece ends if it
+    // lies there: what lies after the place moves on.
+    fn join_within(&mut self, at: usize, first: Piece, bytes: &[u8]) -> Result<(), AllocError>
+        requires inner { self.old.frame_main ≤ at }
+        requires within { at ≤ length self.old.main_text }
+        requires living { IsLiving self.old first }
+        requires before { EndsBy at first }
+        ensures edit { OnOk result (IsEdit self.old self.new) }
+        ensures err { OnErr result (KeepsAll self.old self.new) }
+        ensures main { OnOk result (self.new.main_text ≡ take at self.old.main_text
+            ++ ((piece_text self.old.main_text self.old.side_text first ++ bytes.now)
+            ++ drop at self.old.main_text)) }
+        ensures main_err { OnErr result (self.new.main_text ≡ self.old.main_text) }
+    {
+        let len = self.main.len();
+        set_apart(
+            self.main.as_slice(),
+            &mut self.side,
+            &mut self.saved,
+            &mut self.args,
+            at,
+            at,
+            len,
+        )?;
+        insert_joined(&mut self.main, &self.side, at, first, bytes)?;
+        let dest = at + (self.main.len() - len);
+        carry(&mut self.saved, at, at, len, dest);
+        carry(&mut self.args, at, at, len, dest);
+        Ok(())
     }
 
     // Whether the second piece begins where the first ends, and both stand up to the end of the main text, from the

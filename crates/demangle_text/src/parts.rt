@@ -1,7 +1,7 @@
-//! Texts of pieces, put at the end of the main text.
+//! Texts of pieces, put at the end of the main text or at a place of it.
 ghost use Rattle.std.specs.Prelude.{◌≡◌, ℕ, ◌+◌, ◌-◌, ◌<◌, ◌≤◌, ◌++◌, length, take, drop, slice_range, IfOk, OnOk};
 ghost use Rattle.std.specs.Prelude.{OnErr};
-ghost use Rattle.demangle_text.specs.Pieces.{home_bytes, piece_text, Extends};
+ghost use Rattle.demangle_text.specs.Pieces.{home_bytes, piece_text, Extends, EndsBy};
 
 use crate::shape::Piece;
 use crate::text::Text;
@@ -120,4 +120,49 @@ pub(crate) fn add_joined(
             Err(error)
         }
     }
+}
+
+// The text of a piece at a place of the main text, by which it ends if it lies there, over the bytes that stood there:
+// where it ends.
+#[inline(always)]
+fn put_text(main: &mut Text, side: &Text, at: usize, piece: Piece) -> usize
+    requires ordered { piece.from_byte ≤ piece.to_byte }
+    requires within { piece.to_byte ≤ length (home_bytes main.old side.now piece.in_side) }
+    requires before { EndsBy at piece }
+    requires room { at + (piece.to_byte - piece.from_byte) ≤ length main.old }
+    ensures value { main.new ≡ take at main.old ++ (piece_text main.old side.now piece
+        ++ drop (at + (piece.to_byte - piece.from_byte)) main.old) }
+    ensures ends { result ≡ at + (piece.to_byte - piece.from_byte) }
+{
+    if piece.in_side {
+        main.put(at, side.part(piece.from_byte, piece.to_byte))
+    } else {
+        main.put_part(at, piece.from_byte, piece.to_byte)
+    }
+}
+
+// The text of a piece and bytes at a place of the main text, by which the piece ends if it lies there: what lies after
+// the place moves on.
+pub(crate) fn insert_joined(
+    main: &mut Text,
+    side: &Text,
+    at: usize,
+    first: Piece,
+    bytes: &[u8],
+) -> Result<(), AllocError>
+    requires place { at ≤ length main.old }
+    requires ordered { first.from_byte ≤ first.to_byte }
+    requires within { first.to_byte ≤ length (home_bytes main.old side.now first.in_side) }
+    requires before { EndsBy at first }
+    ensures ok { OnOk result (main.new ≡ take at main.old
+        ++ ((piece_text main.old side.now first ++ bytes.now) ++ drop at main.old)) }
+    ensures err { OnErr result (main.new ≡ main.old) }
+{
+    let Some(n) = first.text_len().checked_add(bytes.len()) else {
+        return Err(AllocError);
+    };
+    main.open_room(at, n)?;
+    let middle = put_text(main, side, at, first);
+    main.put(middle, bytes);
+    Ok(())
 }

@@ -1,7 +1,7 @@
 //! Pieces: where their texts lie, how these are cut into the parts of a shape, and where the last own name lies.
-ghost use Rattle.std.specs.Prelude.{◌≡◌, ℕ, ◌+◌, ◌-◌, ◌^◌, ◌<◌, ◌≤◌, if◌then◌else◌};
+ghost use Rattle.std.specs.Prelude.{◌≡◌, ℕ, ◌+◌, ◌-◌, ◌^◌, ◌<◌, ◌≤◌, true, if◌then◌else◌};
 ghost use Rattle.demangle_text.specs.Pieces.{place_at, layout_with, layout_opened, layout_end, own_at, own_of};
-ghost use Rattle.demangle_text.specs.Pieces.{whole_marks, cut_marks, marks_of, IsAt, Layout, layout_by};
+ghost use Rattle.demangle_text.specs.Pieces.{whole_marks, cut_marks, marks_of, IsAt, EndsBy, Layout, layout_by};
 ghost use Rattle.demangle_text.specs.Shape.{moved};
 
 /// What a declarator declares.
@@ -99,6 +99,14 @@ impl Piece {
         ensures value { result ≡ self.to_byte - self.from_byte }
     {
         self.to_byte - self.from_byte
+    }
+
+    // Whether it lies in the side text, or ends by a byte of the main text.
+    #[inline(always)]
+    pub(crate) fn ends_by(self, at: usize) -> bool
+        ensures ends { result ≡ true → EndsBy at self }
+    {
+        self.in_side || self.to_byte <= at
     }
 
     // Where a place lies in its text.

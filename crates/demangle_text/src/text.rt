@@ -1,6 +1,7 @@
 //! A text that grows: the front of a vector that is as long as what is reserved.
 ghost use Rattle.std.specs.Prelude.{◌≡◌, ℕ, ◌+◌, ◌-◌, ◌<◌, ◌≤◌, List, [], ◌++◌, length, take, drop, slice_range, OnOk};
 ghost use Rattle.std.specs.Prelude.{OnErr};
+ghost use Rattle.demangle_text.specs.Pieces.{HasRoom};
 
 use crate::lanes::copy_text;
 use std::alloc::{AllocError, Global};
@@ -114,6 +115,46 @@ impl Text {
         self.bytes[at..at + n].copy_from_slice(bytes);
         self.len += n;
         Ok(())
+    }
+
+    // Room of n bytes at a place: what lies after it moves on.
+    #[inline(always)]
+    pub(crate) fn open_room(&mut self, at: usize, n: usize) -> Result<(), AllocError>
+        requires within { at ≤ length self.old }
+        ensures ok { OnOk result (HasRoom (take at self.old) (drop at self.old) self.new n) }
+        ensures err { OnErr result (self.new ≡ self.old) }
+    {
+        make_room(&mut self.bytes, self.len, n)?;
+        self.bytes.copy_within(at..self.len, at + n);
+        self.len += n;
+        Ok(())
+    }
+
+    // Bytes at a place, over those that stood there: where they end.
+    #[inline(always)]
+    pub(crate) fn put(&mut self, at: usize, bytes: &[u8]) -> usize
+        requires within { at + length bytes.now ≤ length self.old }
+        ensures value { self.new ≡ take at self.old ++ (bytes.now ++ drop (at + length bytes.now) self.old) }
+        ensures ends { result ≡ at + length bytes.now }
+    {
+        copy_text(&mut self.bytes[at..at + bytes.len()], bytes);
+        at + bytes.len()
+    }
+
+    // A part of the text at a place after it, over the bytes that stood there: where it ends.
+    #[inline(always)]
+    pub(crate) fn put_part(&mut self, at: usize, from: usize, to: usize) -> usize
+        requires ordered { from ≤ to }
+        requires before { to ≤ at }
+        requires within { at + (to - from) ≤ length self.old }
+        ensures value { self.new ≡ take at self.old
+            ++ (slice_range self.old from to ++ drop (at + (to - from)) self.old) }
+        ensures ends { result ≡ at + (to - from) }
+    {
+        let (front, rest) = self.bytes.split_at_mut(at);
+        let n = to - from;
+        copy_text(&mut rest[..n], &front[from..to]);
+        at + n
     }
 
     // A part of the text moves down to a place, and what stood between and after them goes.

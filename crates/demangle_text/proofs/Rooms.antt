@@ -1,0 +1,61 @@
+-- Room between two texts, which is filled from its front on.
+use Rattle.std.proofs.Common.{◌≡◌, ℕ, ◌+◌, ◌-◌, ◌≤◌, List, ◌++◌, length, take, drop, refl, sym, ap, ◌∙◌, arith, append_assoc}
+use Rattle.std.proofs.lemmas.List.{length-append, length-drop, length-take-le, take_at, drop_at, drop-append-le, take-append-drop, drop-drop, nil_from_length}
+use Rattle.std.specs.List.{copy_within}
+use Rattle.demangle_text.specs.Pieces.{HasRoom}
+use Rattle.demangle_text.proofs.Fronts.{front-inserted}
+
+-- how long the whole is
+pub length-HasRoom : (front back all : List ℕ) (n : ℕ) → HasRoom front back all n → length all ≡ length front + (n + length back)
+length-HasRoom front back all n h =
+    ap length h.parts ∙ length-append front (h.room ++ back) ∙ ap (λ (k : ℕ). length front + k) (length-append h.room back ∙ ap (λ (k : ℕ). k + length back) h.long)
+
+-- no room is left
+pub HasRoom-filled : (front back all : List ℕ) → HasRoom front back all 0 → all ≡ front ++ back
+HasRoom-filled front back all h = h.parts ∙ ap (λ (v : List ℕ). front ++ (v ++ back)) (nil_from_length h.room h.long)
+
+-- bytes at the front of the room
+pub HasRoom-put : (front back all bytes new : List ℕ) (n m at k : ℕ) → HasRoom front back all n → at ≡ length front → k ≡ length bytes → n ≡ k + m
+    → new ≡ take at all ++ (bytes ++ drop (at + k) all) → HasRoom (front ++ bytes) back new m
+HasRoom-put front back all bytes new n m at k h by_at by_k by_n is =
+    let r = h.room in
+    let low : take at all ≡ front = ap (take at) h.parts ∙ take_at front (r ++ back) at (sym by_at) in
+    let high : drop (at + k) all ≡ drop k r ++ back =
+    sym (drop-drop k at all) ∙ ap (λ (v : List ℕ). drop k (drop at v)) h.parts ∙ ap (drop k) (drop_at front (r ++ back) at (sym by_at)) ∙ drop-append-le k r back (omega (arith, h.long)) in
+    record {
+      room = drop k r;
+      long = omega (arith, length-drop k r, h.long);
+      parts = is ∙ ap (λ (v : List ℕ). v ++ (bytes ++ drop (at + k) all)) low ∙ ap (λ (v : List ℕ). front ++ (bytes ++ v)) high
+          ∙ sym (append_assoc front bytes (drop k r ++ back));
+    }
+
+-- a text and bytes, one after the other, in room for both
+pub both-put : (front back all one bytes mid new : List ℕ) (n at k : ℕ) → HasRoom front back all n → at ≡ length front → k ≡ length one → n ≡ k + length bytes
+    → mid ≡ take at all ++ (one ++ drop (at + k) all) → new ≡ take (at + k) mid ++ (bytes ++ drop (at + k + length bytes) mid) → new ≡ front ++ ((one ++ bytes) ++ back)
+both-put front back all one bytes mid new n at k h by_at by_k by_n is_mid is_new =
+    let first = HasRoom-put front back all one mid n (length bytes) at k h by_at by_k by_n is_mid in
+    let there : at + k ≡ length (front ++ one) = omega (arith, length-append front one) in
+    let second = HasRoom-put (front ++ one) back mid bytes new (length bytes) 0 (at + k) (length bytes) first there refl (omega arith) is_new in
+    HasRoom-filled ((front ++ one) ++ bytes) back new second
+    ∙ ap (λ (v : List ℕ). v ++ back) (append_assoc front one bytes) ∙ append_assoc front (one ++ bytes) back
+
+-- room in the front of a vector, when what lies after it was copied to where it goes
+pub HasRoom-opened : (ys : List ℕ) (len at n : ℕ) → at ≤ len → len + n ≤ length ys
+    → HasRoom (take at (take len ys)) (drop at (take len ys)) (take (len + n) (copy_within ys at len (at + n))) n
+HasRoom-opened ys len at n within fits =
+    let zs = copy_within ys at len (at + n) in
+    let room = take n (drop at zs) in
+    let rest = take (len - at) (drop at ys) in
+    let more = drop (at + n + (len - at)) ys in
+    let parts : zs ≡ take (at + n) ys ++ (rest ++ more) = append_assoc (take (at + n) ys) rest more in
+    let a = length-take-le (at + n) ys (omega arith) in
+    let b = length-take-le (len - at) (drop at ys) (omega (arith, length-drop at ys)) in
+    let c = length-drop (at + n + (len - at)) ys in
+    let whole : length zs ≡ length ys = omega (arith, ap length parts, length-append (take (at + n) ys) (rest ++ more), length-append rest more) in
+    let long : length room ≡ n = length-take-le n (drop at zs) (omega (arith, length-drop at zs)) in
+    let split : take at zs ++ (room ++ drop n (drop at zs)) ≡ zs = ap (λ (v : List ℕ). take at zs ++ v) (take-append-drop n (drop at zs)) ∙ take-append-drop at zs in
+    record {
+      room = room;
+      long = long;
+      parts = ap (take (len + n)) (sym split) ∙ front-inserted ys room len at n n within long fits refl;
+    }
