@@ -1,6 +1,6 @@
 -- Room between two texts, which is filled from its front on.
-use Rattle.std.proofs.Common.{◌≡◌, ℕ, ◌+◌, ◌-◌, ◌≤◌, List, ◌++◌, length, take, drop, refl, sym, ap, ◌∙◌, arith, append_assoc}
-use Rattle.std.proofs.lemmas.List.{length-append, length-drop, length-take-le, take_at, drop_at, drop-append-le, take-append-drop, drop-drop, nil_from_length}
+use Rattle.std.proofs.Common.{◌≡◌, ℕ, ◌+◌, ◌-◌, ◌≤◌, List, [], ◌++◌, length, take, drop, refl, sym, ap, ◌∙◌, arith, append_assoc}
+use Rattle.std.proofs.lemmas.List.{length-append, length-drop, length-take-le, take_at, drop_at, drop-append-le, take-append-drop, drop-drop, nil_from_length, append-nil}
 use Rattle.std.specs.List.{copy_within}
 use Rattle.demangle_text.specs.Pieces.{HasRoom}
 use Rattle.demangle_text.proofs.Fronts.{front-inserted}
@@ -59,3 +59,29 @@ HasRoom-opened ys len at n within fits =
       long = long;
       parts = ap (take (len + n)) (sym split) ∙ front-inserted ys room len at n n within long fits refl;
     }
+
+-- room after the front of a vector
+pub HasRoom-after : (ys : List ℕ) (len n : ℕ) → len + n ≤ length ys → HasRoom (take len ys) [] (take (len + n) ys) n
+HasRoom-after ys len n fits =
+    let room = take n (drop len ys) in
+    let l = take len ys in
+    let r = drop len ys in
+    let k : length l ≡ len = length-take-le len ys (omega arith) in
+    let long : length room ≡ n = length-take-le n r (omega (arith, length-drop len ys)) in
+    let all : ys ≡ (l ++ room) ++ drop n r =
+    sym (ap (λ (v : List ℕ). l ++ v) (take-append-drop n r) ∙ take-append-drop len ys) ∙ sym (append_assoc l room (drop n r)) in
+    let front : length (l ++ room) ≡ len + n = omega (arith, length-append l room) in
+    record {
+      room = room;
+      long = long;
+      parts = ap (take (len + n)) all ∙ take_at (l ++ room) (drop n r) (len + n) front ∙ ap (λ (v : List ℕ). l ++ v) (sym (append-nil room));
+    }
+
+-- two texts, one after the other, in room for both at the end
+pub pair-put : (old all one two mid new : List ℕ) (n at middle : ℕ) → HasRoom old [] all n → at ≡ length old → n ≡ length one + length two
+    → mid ≡ take at all ++ (one ++ drop (at + length one) all) → middle ≡ at + length one → new ≡ take middle mid ++ (two ++ drop (middle + length two) mid)
+    → new ≡ old ++ (one ++ two)
+pair-put old all one two mid new n at middle h by_at by_n is_mid by_middle is_new =
+    let done : new ≡ take (at + length one) mid ++ (two ++ drop (at + length one + length two) mid) =
+    is_new ∙ ap (λ (i : ℕ). take i mid ++ (two ++ drop (i + length two) mid)) by_middle in
+    both-put old [] all one two mid new n at (length one) h by_at refl by_n is_mid done ∙ ap (λ (v : List ℕ). old ++ v) (append-nil (one ++ two))

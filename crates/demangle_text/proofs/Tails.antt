@@ -1,12 +1,12 @@
 -- What stands at the end of the main text after an insertion, a copy or a join.
-use Rattle.std.proofs.Common.{◌≡◌, ℕ, ◌+◌, ◌-◌, ◌≤◌, Bool, false, List, ◌++◌, length, take, drop, slice_range, refl, sym, ap, ◌∙◌, subst, arith, append_assoc}
-use Rattle.std.proofs.lemmas.List.{length-append, length-drop, length-take-le, drop_at, take-append-drop, drop-append-le, drop-drop, drop-take, take_all, take-append-le, take-take}
+use Rattle.std.proofs.Common.{◌≡◌, ℕ, ◌+◌, ◌-◌, ◌≤◌, Bool, false, List, [], ◌++◌, length, take, drop, slice_range, refl, sym, ap, ◌∙◌, subst, arith, append_assoc}
+use Rattle.std.proofs.lemmas.List.{length-append, length-drop, length-take-le, drop_at, take-append-drop, drop-append-le, drop-drop, drop-take, take_all, drop_all, append-nil, take-append-le, take-take}
 use Rattle.std.proofs.lemmas.List.Edits.{length-between}
 use Rattle.demangle_text.specs.declared.shape.Piece.{Piece}
 use Rattle.demangle_text.specs.Pieces.{Store, IsTail, IsAdjacent, IsSplice, IsJoint, piece_text, home_bytes}
 use Rattle.demangle_text.specs.Shape.{text, text_len, plain_shape, joined, inserted, own_shape, opened_group, CanInsert, IsDeclared, moved}
 use Rattle.demangle_text.specs.Pieces.{IsAt, IsMarked, marks_of, whole_marks, shape_of, place_at, layout_with, layout_opened, layout_end, own_at}
-use Rattle.demangle_text.specs.State.{IsLiving, shape, Lives}
+use Rattle.demangle_text.specs.State.{IsLiving, shape, Lives, IsEditOf, main_bytes, frame, frame_start, Frame, Stands}
 use Rattle.demangle_text.specs.declared.shape.Place.{Place}
 use Rattle.demangle_text.specs.declared.shape.Place.TheVariants.{Suffix}
 use Rattle.demangle_text.proofs.Inserts.{Inserts, length-inserted, shape-inserted, IsMarked-inserted}
@@ -54,6 +54,29 @@ IsSplice-inserted s t p at bytes h ordered within is =
       front = ap (take s.frame_main) is ∙ front_inserted main bytes s.frame_main (p.from_byte + at) low there;
       in_place = λ _. (refl, n);
     }
+
+-- bytes after such a piece
+pub IsSplice-added : (s t : Store) (p : Piece) (bytes : List ℕ) → IsTail s p → p.from_byte ≤ p.to_byte → t.main_text ≡ s.main_text ++ bytes → IsSplice s t p (p.to_byte - p.from_byte) bytes p.from_byte
+IsSplice-added s t p bytes h ordered is =
+    let main = s.main_text in
+    let k = p.from_byte + (p.to_byte - p.from_byte) in
+    let all : length main ≤ k = omega (arith, h.ends) in
+    let front : take k main ≡ main = take_all k main all in
+    let none : drop k main ≡ [] = drop_all k main all in
+    IsSplice-inserted s t p (p.to_byte - p.from_byte) bytes h ordered (omega arith)
+    (is ∙ ap (λ (v : List ℕ). main ++ v) (sym (append-nil bytes)) ∙ ap (λ (v : List ℕ). main ++ (bytes ++ v)) (sym none) ∙ ap (λ (v : List ℕ). v ++ (bytes ++ drop k main)) (sym front))
+
+-- an edit that spliced bytes into the text of a piece
+pub IsEditOf-spliced : (b n : Store) (p q : Piece) (at from : ℕ) (bytes : List ℕ) → IsSplice b n p at bytes from → IsAt q from (length n.main_text) → IsEditOf b n p q (length bytes)
+unfolding main_bytes frame frame_start Frame Stands
+IsEditOf-spliced b n p q at from bytes s stands = record {
+  front = s.front;
+  ends = (from, stands);
+  in_place = λ i inner there.
+      let tail : IsTail b p = record { in_main = there.in_main; inner = omega (arith, inner, there.begins); ends = there.ends } in
+      let stays = s.in_place tail in
+      (subst (λ (k : ℕ). IsAt q k (length n.main_text)) (stays.0 ∙ there.begins) stands, stays.1);
+}
 
 -- a copy with the bytes in it, of a piece that doesn't
 pub IsSplice-copied : (s t : Store) (p : Piece) (at : ℕ) (bytes : List ℕ) (from : ℕ) → (IsTail s p → ⊥) → s.frame_main ≤ length s.main_text → from ≡ length s.main_text

@@ -331,21 +331,30 @@ impl Buffer {
             self.insert_at(piece.from_byte + at, bytes)?;
             return Ok(piece.from_byte);
         }
-        self.splice_copy(piece, at, bytes)
+        self.splice_copy(piece, at, b"", bytes, b"")
     }
 
-    // The same of a piece that doesn't stand at the end.
+    // The text of a piece that doesn't stand at the end, with three texts at a place of it, at the end of the main text:
+    // where it begins.
     #[inline(never)]
-    fn splice_copy(&mut self, piece: Piece, at: usize, bytes: &[u8]) -> Result<usize, AllocError>
+    fn splice_copy(
+        &mut self,
+        piece: Piece,
+        at: usize,
+        front: &[u8],
+        bytes: &[u8],
+        back: &[u8],
+    ) -> Result<usize, AllocError>
         requires living { IsLiving self.old piece }
         requires within { at ≤ piece.to_byte - piece.from_byte }
         requires apart { IsTail self.old piece → ⊥ }
-        ensures splice { IfOk result (IsSplice self.old self.new piece at bytes.now) }
+        ensures splice { IfOk result (IsSplice self.old self.new piece at
+            (front.now ++ (bytes.now ++ back.now))) }
         ensures kept { KeepsAll self.old self.new }
         ensures main_err { OnErr result (self.new.main_text ≡ self.old.main_text) }
     {
         let from = self.main.len();
-        add_spliced(&mut self.main, &self.side, piece, at, bytes)?;
+        add_spliced(&mut self.main, &self.side, piece, at, front, bytes, back)?;
         Ok(from)
     }
 
@@ -363,6 +372,63 @@ impl Buffer {
         ensures main_err { OnErr result (main_bytes self.new ≡ main_bytes self.old) }
     {
         self.insert(piece, Place::End, bytes)
+    }
+
+    /// The piece with both texts at the end of its text, one after the other. Ends pieces, copies a
+    /// text, and keeps all after `AllocError`, as `append` does.
+    #[inline(always)]
+    pub fn append_pair(
+        &mut self,
+        piece: Piece,
+        first: &[u8],
+        second: &[u8],
+    ) -> Result<Piece, AllocError>
+        requires living { IsLiving self.old piece }
+        ensures shape { IfOk result (λ p. Lives self.new p
+            (appended second.now (appended first.now (shape self.old piece)))) }
+        ensures edit { OnOk result (IsEdit self.old self.new) }
+        ensures err { OnErr result (KeepsAll self.old self.new) }
+        ensures edit_of { IfOk result (λ p. IsEditOf self.old self.new piece p
+            (length first.now + length second.now)) }
+        ensures main_err { OnErr result (main_bytes self.new ≡ main_bytes self.old) }
+    {
+        let from = self.splice_pair(piece, first, second)?;
+        let n = first.len() + second.len();
+        let at = piece.place(Place::End);
+        Ok(piece.with_bytes(Place::End, at, n, from, self.main.len()))
+    }
+
+    // The text of a piece with both texts after it, at the end of the main text: where it begins.
+    #[inline(always)]
+    fn splice_pair(
+        &mut self,
+        piece: Piece,
+        first: &[u8],
+        second: &[u8],
+    ) -> Result<usize, AllocError>
+        requires living { IsLiving self.old piece }
+        ensures splice { IfOk result (IsSplice self.old self.new piece (piece.to_byte - piece.from_byte)
+            (first.now ++ second.now)) }
+        ensures edit { OnOk result (IsEdit self.old self.new) }
+        ensures err { OnErr result (KeepsAll self.old self.new) }
+        ensures main_err { OnErr result (self.new.main_text ≡ self.old.main_text) }
+    {
+        if self.is_tail(piece) {
+            self.add_pair(first, second)?;
+            return Ok(piece.from_byte);
+        }
+        self.splice_copy(piece, piece.place(Place::End), first, second, b"")
+    }
+
+    // Two texts at the end of the main text.
+    #[inline(always)]
+    fn add_pair(&mut self, first: &[u8], second: &[u8]) -> Result<(), AllocError>
+        ensures kept { KeepsAll self.old self.new }
+        ensures main { OnOk result (self.new.main_text ≡ self.old.main_text ++ (first.now ++ second.now)) }
+        ensures main_err { OnErr result (self.new.main_text ≡ self.old.main_text) }
+    {
+        self.main.add_pair(first, second)?;
+        Ok(())
     }
 
     /// The piece with the bytes at a place of its text: `Close` asks for a group, `Suffix` for a

@@ -28,45 +28,51 @@ pub(crate) fn add_part(
     }
 }
 
-// The text of a piece with bytes at a place of it, or a part of that where memory is refused.
+// The text of a piece with three texts at a place of it, or a part of that where memory is refused.
 fn splice_parts(
     main: &mut Text,
     side: &Text,
     piece: Piece,
     at: usize,
+    front: &[u8],
     bytes: &[u8],
+    back: &[u8],
 ) -> Result<(), AllocError>
     requires ordered { piece.from_byte ≤ piece.to_byte }
     requires within { piece.to_byte ≤ length (home_bytes main.old side.now piece.in_side) }
     requires place { at ≤ piece.to_byte - piece.from_byte }
     ensures ok { OnOk result (main.new ≡ main.old ++ (take at (piece_text main.old side.now piece)
-        ++ (bytes.now ++ drop at (piece_text main.old side.now piece)))) }
+        ++ ((front.now ++ (bytes.now ++ back.now)) ++ drop at (piece_text main.old side.now piece)))) }
     ensures grows { Extends main.old main.new }
 {
     let middle = piece.from_byte + at;
     add_part(main, side, piece.in_side, piece.from_byte, middle)?;
+    main.add(front)?;
     main.add(bytes)?;
+    main.add(back)?;
     add_part(main, side, piece.in_side, middle, piece.to_byte)?;
     Ok(())
 }
 
-// The text of a piece with bytes at a place of it. After an error the main text is as it was.
+// The text of a piece with three texts at a place of it. After an error the main text is as it was.
 pub(crate) fn add_spliced(
     main: &mut Text,
     side: &Text,
     piece: Piece,
     at: usize,
+    front: &[u8],
     bytes: &[u8],
+    back: &[u8],
 ) -> Result<(), AllocError>
     requires ordered { piece.from_byte ≤ piece.to_byte }
     requires within { piece.to_byte ≤ length (home_bytes main.old side.now piece.in_side) }
     requires place { at ≤ piece.to_byte - piece.from_byte }
     ensures ok { OnOk result (main.new ≡ main.old ++ (take at (piece_text main.old side.now piece)
-        ++ (bytes.now ++ drop at (piece_text main.old side.now piece)))) }
+        ++ ((front.now ++ (bytes.now ++ back.now)) ++ drop at (piece_text main.old side.now piece)))) }
     ensures err { OnErr result (main.new ≡ main.old) }
 {
     let len = main.len();
-    match splice_parts(main, side, piece, at, bytes) {
+    match splice_parts(main, side, piece, at, front, bytes, back) {
         Ok(()) => Ok(()),
         Err(error) => {
             main.truncate(len);

@@ -89,6 +89,19 @@ impl Text {
         Ok(())
     }
 
+    // Two texts at the end, one after the other.
+    #[inline(always)]
+    pub(crate) fn add_pair(&mut self, first: &[u8], second: &[u8]) -> Result<(), AllocError>
+        ensures ok { OnOk result (self.new ≡ self.old ++ (first.now ++ second.now)) }
+        ensures err { OnErr result (self.new ≡ self.old) }
+    {
+        let from = self.len();
+        self.add_room(first.len() + second.len())?;
+        let middle = self.put(from, first);
+        self.put(middle, second);
+        Ok(())
+    }
+
     // A part of the text once more at the end.
     pub(crate) fn repeat(&mut self, from: usize, to: usize) -> Result<(), AllocError>
         requires ordered { from ≤ to }
@@ -113,6 +126,17 @@ impl Text {
         make_room(&mut self.bytes, self.len, n)?;
         self.bytes.copy_within(at..self.len, at + n);
         self.bytes[at..at + n].copy_from_slice(bytes);
+        self.len += n;
+        Ok(())
+    }
+
+    // Room of n bytes at the end.
+    #[inline(always)]
+    fn add_room(&mut self, n: usize) -> Result<(), AllocError>
+        ensures ok { OnOk result (HasRoom self.old [] self.new n) }
+        ensures err { OnErr result (self.new ≡ self.old) }
+    {
+        make_room(&mut self.bytes, self.len, n)?;
         self.len += n;
         Ok(())
     }

@@ -1,7 +1,17 @@
+use Rattle.std.proofs.Common.{◌≡◌, ◌++◌, List, ℕ, ap, ◌∙◌, append_assoc}
 use Rattle.demangle_text.proofs.Spliced.{spliced_parts}
 use Rattle.demangle_text.proofs.parts.splice_parts.Goals as goal
 
+-- three texts, one after another
+three-added : (old one two new a b c : List ℕ) → one ≡ old ++ a → two ≡ one ++ b → new ≡ two ++ c → new ≡ old ++ (a ++ (b ++ c))
+three-added old one two new a b c by_one by_two by_new =
+    by_new ∙ ap (λ (v : List ℕ). v ++ c) by_two ∙ ap (λ (v : List ℕ). (v ++ b) ++ c) by_one ∙ append_assoc (old ++ a) b c ∙ append_assoc old a (b ++ c)
+
 pub returns-clause-ok : goal.returns-clause-ok
 returns-clause-ok c =
-    spliced_parts c.args.main.now c.args.side.now c.args.bytes.now c.args.piece c.args.at c.add_part.new.main c.add.new.self c.add_part-2.new.main
-    c.requires.ordered c.requires.within c.requires.place c.in_ok-add_part.ensures.ok c.in_ok-add.ensures.ok c.in_ok-add_part-2.ensures.ok
+    let a = c.args.front.now in
+    let b = c.args.bytes.now in
+    let d = c.args.back.now in
+    let both = three-added c.add_part.new.main c.add.new.self c.add-2.new.self c.add-3.new.self a b d c.in_ok-add.ensures.ok c.in_ok-add-2.ensures.ok c.in_ok-add-3.ensures.ok in
+    spliced_parts c.args.main.now c.args.side.now (a ++ (b ++ d)) c.args.piece c.args.at c.add_part.new.main c.add-3.new.self c.add_part-2.new.main
+    c.requires.ordered c.requires.within c.requires.place c.in_ok-add_part.ensures.ok both c.in_ok-add_part-2.ensures.ok
