@@ -13,6 +13,7 @@ use Rattle.demangle_text.proofs.Inserts.{Inserts, length-inserted, shape-inserte
 use Rattle.demangle_text.proofs.Groups.{Groups, group_text, layout_end_within, shape-opened, IsMarked-opened}
 use Rattle.demangle_text.proofs.Texts.{part-part}
 use Rattle.demangle_text.proofs.States.{Lives-at_end, text_is}
+use Rattle.demangle_text.specs.Flags.{lies_aside, templ_by, ctor_by}
 
 -- the text from a place on, with bytes inserted in it
 tail_inserted : (main bytes : List ℕ) (from at : ℕ) → from + at ≤ length main → drop from (take (from + at) main ++ (bytes ++ drop (from + at) main)) ≡ take at (drop from main) ++ (bytes ++ drop at (drop from main))
@@ -161,7 +162,7 @@ IsJoint-moved s t first bytes second apart h ordered is =
 -- how long the text of a piece is
 pub length-text : (s : Store) (p : Piece) → IsLiving s p → length (piece_text s.main_text s.side_text p) ≡ p.to_byte - p.from_byte
 unfolding IsLiving
-length-text s p h = length-between (home_bytes s.main_text s.side_text p.in_side) p.from_byte p.to_byte h.within
+length-text s p h = length-between (home_bytes s.main_text s.side_text (lies_aside p.flags)) p.from_byte p.to_byte h.within
 
 -- a splice of a living piece
 module _ (b n : Store) (p : Piece) (at : ℕ) (bytes : List ℕ) (from : ℕ) (lies : IsLiving b p) (i : IsSplice b n p at bytes from) where
@@ -196,7 +197,7 @@ module _ (b n : Store) (p : Piece) (at : ℕ) (bytes : List ℕ) (from : ℕ) (l
     pub Lives-inserted : (place : Place) → CanInsert place (shape b p).form → at ≡ place_at place (marks_of p).layout (p.to_byte - p.from_byte)
         → (marks_of q).layout ≡ layout_with place (length bytes) (marks_of p).layout
         → (marks_of q).own ≡ own_at (marks_of p).layout (length n.main_text - from) (moved at (length bytes) (marks_of p).own)
-        → q.is_templ ≡ p.is_templ → q.is_ctor ≡ p.is_ctor → Lives n q (inserted place bytes (shape b p))
+        → templ_by q.flags ≡ templ_by p.flags → ctor_by q.flags ≡ ctor_by p.flags → Lives n q (inserted place bytes (shape b p))
     unfolding IsLiving shape
     Lives-inserted place can at_is layout own templ ctor =
         let m = marks_of p in
@@ -215,7 +216,7 @@ module _ (b n : Store) (p : Piece) (at : ℕ) (bytes : List ℕ) (from : ℕ) (l
     pub Lives-opened : (group : List ℕ) → IsDeclared (shape b p).form → at ≡ place_at Suffix (marks_of p).layout (p.to_byte - p.from_byte) → bytes ≡ group_text group (take at t)
         → (marks_of q).layout ≡ layout_opened (length bytes) (length group + 2) (marks_of p).layout
         → (marks_of q).own ≡ own_at (marks_of p).layout (length n.main_text - from) (moved at (length bytes) (marks_of p).own)
-        → q.is_templ ≡ p.is_templ → q.is_ctor ≡ p.is_ctor → Lives n q (opened_group group (shape b p))
+        → templ_by q.flags ≡ templ_by p.flags → ctor_by q.flags ≡ ctor_by p.flags → Lives n q (opened_group group (shape b p))
     unfolding IsLiving shape
     Lives-opened group declared at_is is layout own templ ctor =
         let m = marks_of p in
@@ -271,7 +272,7 @@ Lives-settled b n p q at lies within is stands marks =
     record { living = lives.living; shape_is = lives.shape_is ∙ ap (shape_of t) marks }
 
 -- a text that stands there already
-pub settled-already : (b : Store) (p : Piece) (at : ℕ) → p.in_side ≡ false → p.from_byte ≡ at → p.to_byte ≡ length b.main_text → b.main_text ≡ take at b.main_text ++ piece_text b.main_text b.side_text p
+pub settled-already : (b : Store) (p : Piece) (at : ℕ) → (lies_aside p.flags) ≡ false → p.from_byte ≡ at → p.to_byte ≡ length b.main_text → b.main_text ≡ take at b.main_text ++ piece_text b.main_text b.side_text p
 settled-already b p at home begins ends =
     let text : piece_text b.main_text b.side_text p ≡ drop at b.main_text =
     ap (λ (h : Bool). slice_range (home_bytes b.main_text b.side_text h) p.from_byte p.to_byte) home
@@ -287,11 +288,11 @@ settled-copy main mid t at from to is within starts ends =
     ap (λ (v : List ℕ). v ++ slice_range mid from to) low ∙ ap (λ (v : List ℕ). take at main ++ v) block
 
 -- the last own name as a piece of its own
-pub Lives-own : (b : Store) (p q : Piece) → IsLiving b p → q.in_side ≡ p.in_side → q.from_byte ≡ p.from_byte + p.own_start → q.to_byte ≡ p.from_byte + p.own_end
+pub Lives-own : (b : Store) (p q : Piece) → IsLiving b p → (lies_aside q.flags) ≡ (lies_aside p.flags) → q.from_byte ≡ p.from_byte + p.own_start → q.to_byte ≡ p.from_byte + p.own_end
     → marks_of q ≡ whole_marks (p.from_byte + p.own_end - (p.from_byte + p.own_start)) → Lives b q (own_shape (shape b p))
 unfolding IsLiving shape
 Lives-own b p q lies home begins ends marks =
-    let bytes = home_bytes b.main_text b.side_text p.in_side in
+    let bytes = home_bytes b.main_text b.side_text (lies_aside p.flags) in
     let t = piece_text b.main_text b.side_text p in
     let u = slice_range bytes (p.from_byte + p.own_start) (p.from_byte + p.own_end) in
     let n = length-text b p lies in

@@ -4,6 +4,7 @@ ghost use Rattle.std.specs.Prelude.{OnOk, OnErr, IfSome, Some, true, option_map,
 ghost use Rattle.std.specs.Prelude.{is_some};
 ghost use Rattle.demangle_text.specs.Shape.{gap_after, grouped};
 
+use crate::flags::{bare, flagged, is_ctor, is_grouped, is_templ, plain};
 use crate::moves::{carry, set_apart};
 use crate::parts::{add_joined, add_part, add_spliced, insert_joined};
 use crate::ranges::Ranges;
@@ -150,7 +151,7 @@ impl Buffer {
         ensures within { at ≤ length self.old.main_text }
     {
         let len = self.main.len();
-        if !piece.in_side && piece.from_byte == at && piece.to_byte == len {
+        if !piece.is_aside() && piece.from_byte == at && piece.to_byte == len {
             return Ok(());
         }
         self.move_down(at, piece)
@@ -166,7 +167,7 @@ impl Buffer {
         ensures main { OnOk result (self.new.main_text ≡ take at self.old.main_text
             ++ piece_text self.old.main_text self.old.side_text piece) }
     {
-        if piece.in_side || piece.from_byte < at {
+        if piece.is_aside() || piece.from_byte < at {
             let from = self.copy_text(piece)?;
             let to = self.main.len();
             return self.keep_block(at, from, to);
@@ -243,7 +244,7 @@ impl Buffer {
         add_part(
             &mut self.main,
             &self.side,
-            piece.in_side,
+            piece.is_aside(),
             piece.from_byte,
             piece.to_byte,
         )?;
@@ -256,7 +257,7 @@ impl Buffer {
         ensures tail { result ≡ true → IsTail self.now piece }
         ensures other { IsTail self.now piece → result ≡ true }
     {
-        !piece.in_side && self.frame_main <= piece.from_byte && piece.to_byte == self.main.len()
+        !piece.is_aside() && self.frame_main <= piece.from_byte && piece.to_byte == self.main.len()
     }
 
     // Bytes at a place of the main text since the innermost mark: what lies after it moves on.
@@ -569,10 +570,10 @@ impl Buffer {
         ensures adjacent { result ≡ true → IsAdjacent self.now first second }
         ensures other { IsAdjacent self.now first second → result ≡ true }
     {
-        !first.in_side
+        !first.is_aside()
             && self.frame_main <= first.from_byte
             && first.to_byte == second.from_byte
-            && !second.in_side
+            && !second.is_aside()
             && second.to_byte == self.main.len()
     }
 
@@ -591,7 +592,7 @@ impl Buffer {
         ensures value { result.now ≡ text (shape self.now piece) }
         ensures stands { (from to : ℕ) → Stands piece from to → result.now ≡ slice_range (main_bytes self.now) from to }
     {
-        if piece.in_side {
+        if piece.is_aside() {
             self.side.part(piece.from_byte, piece.to_byte)
         } else {
             self.main.part(piece.from_byte, piece.to_byte)
@@ -613,7 +614,7 @@ impl Buffer {
         requires living { IsLiving self.now piece }
         ensures value { result ≡ kind_of (shape self.now piece).form }
     {
-        piece.declares
+        piece.declares()
     }
 
     /// Whether the piece is declared with a group.
@@ -622,7 +623,7 @@ impl Buffer {
         requires living { IsLiving self.now piece }
         ensures value { result ≡ is_some (group_of (shape self.now piece).form) }
     {
-        piece.declares.is_some() && piece.group_start.is_some()
+        piece.declares().is_some() && is_grouped(piece.flags)
     }
 
     /// The byte of its text at which `after` begins, or `None` where the piece is plain.
@@ -631,7 +632,7 @@ impl Buffer {
         requires living { IsLiving self.now piece }
         ensures value { result ≡ after_of (shape self.now piece).form }
     {
-        match piece.declares {
+        match piece.declares() {
             None => None,
             Some(_) => Some(piece.after_start),
         }
@@ -653,7 +654,7 @@ impl Buffer {
     pub fn templ(&self, piece: Piece) -> bool
         ensures value { result ≡ (shape self.now piece).templ }
     {
-        piece.is_templ
+        is_templ(piece.flags)
     }
 
     /// Whether the piece names a constructor, a destructor or a conversion.
@@ -661,7 +662,7 @@ impl Buffer {
     pub fn ctor(&self, piece: Piece) -> bool
         ensures value { result ≡ (shape self.now piece).ctor }
     {
-        piece.is_ctor
+        is_ctor(piece.flags)
     }
 
     /// The same shape with these flags. The answer is as old as the piece.
@@ -673,8 +674,7 @@ impl Buffer {
         ensures stands { StandsAs piece result }
     {
         Piece {
-            is_templ: templ,
-            is_ctor: ctor,
+            flags: flagged(piece.flags, templ, ctor),
             ..piece
         }
     }
@@ -723,7 +723,7 @@ impl Buffer {
         ensures stands { StandsAs piece result }
     {
         Piece {
-            declares: None,
+            flags: plain(piece.flags),
             ..piece
         }
     }
@@ -738,7 +738,7 @@ impl Buffer {
         let from = piece.from_byte + piece.own_start;
         let to = piece.from_byte + piece.own_end;
         Piece {
-            in_side: piece.in_side,
+            flags: bare(piece.flags),
             ..Piece::whole_at(from, to)
         }
     }

@@ -1,6 +1,7 @@
 //! Texts of pieces, put at the end of the main text or at a place of it.
 ghost use Rattle.std.specs.Prelude.{◌≡◌, ℕ, ◌+◌, ◌-◌, ◌<◌, ◌≤◌, ◌++◌, length, take, drop, slice_range, IfOk, OnOk};
 ghost use Rattle.std.specs.Prelude.{OnErr};
+ghost use Rattle.demangle_text.specs.Flags.{lies_aside};
 ghost use Rattle.demangle_text.specs.Pieces.{home_bytes, piece_text, Extends, EndsBy};
 
 use crate::shape::Piece;
@@ -39,18 +40,18 @@ fn splice_parts(
     back: &[u8],
 ) -> Result<(), AllocError>
     requires ordered { piece.from_byte ≤ piece.to_byte }
-    requires within { piece.to_byte ≤ length (home_bytes main.old side.now piece.in_side) }
+    requires within { piece.to_byte ≤ length (home_bytes main.old side.now (lies_aside piece.flags)) }
     requires place { at ≤ piece.to_byte - piece.from_byte }
     ensures ok { OnOk result (main.new ≡ main.old ++ (take at (piece_text main.old side.now piece)
         ++ ((front.now ++ (bytes.now ++ back.now)) ++ drop at (piece_text main.old side.now piece)))) }
     ensures grows { Extends main.old main.new }
 {
     let middle = piece.from_byte + at;
-    add_part(main, side, piece.in_side, piece.from_byte, middle)?;
+    add_part(main, side, piece.is_aside(), piece.from_byte, middle)?;
     main.add(front)?;
     main.add(bytes)?;
     main.add(back)?;
-    add_part(main, side, piece.in_side, middle, piece.to_byte)?;
+    add_part(main, side, piece.is_aside(), middle, piece.to_byte)?;
     Ok(())
 }
 
@@ -65,7 +66,7 @@ pub(crate) fn add_spliced(
     back: &[u8],
 ) -> Result<(), AllocError>
     requires ordered { piece.from_byte ≤ piece.to_byte }
-    requires within { piece.to_byte ≤ length (home_bytes main.old side.now piece.in_side) }
+    requires within { piece.to_byte ≤ length (home_bytes main.old side.now (lies_aside piece.flags)) }
     requires place { at ≤ piece.to_byte - piece.from_byte }
     ensures ok { OnOk result (main.new ≡ main.old ++ (take at (piece_text main.old side.now piece)
         ++ ((front.now ++ (bytes.now ++ back.now)) ++ drop at (piece_text main.old side.now piece)))) }
@@ -90,16 +91,16 @@ fn join_parts(
     second: Piece,
 ) -> Result<(), AllocError>
     requires first_ordered { first.from_byte ≤ first.to_byte }
-    requires first_within { first.to_byte ≤ length (home_bytes main.old side.now first.in_side) }
+    requires first_within { first.to_byte ≤ length (home_bytes main.old side.now (lies_aside first.flags)) }
     requires second_ordered { second.from_byte ≤ second.to_byte }
-    requires second_within { second.to_byte ≤ length (home_bytes main.old side.now second.in_side) }
+    requires second_within { second.to_byte ≤ length (home_bytes main.old side.now (lies_aside second.flags)) }
     ensures ok { OnOk result (main.new ≡ main.old ++ (piece_text main.old side.now first
         ++ bytes.now ++ piece_text main.old side.now second)) }
     ensures grows { Extends main.old main.new }
 {
-    add_part(main, side, first.in_side, first.from_byte, first.to_byte)?;
+    add_part(main, side, first.is_aside(), first.from_byte, first.to_byte)?;
     main.add(bytes)?;
-    add_part(main, side, second.in_side, second.from_byte, second.to_byte)
+    add_part(main, side, second.is_aside(), second.from_byte, second.to_byte)
 }
 
 // Two texts with bytes between them. After an error the main text is as it was.
@@ -111,9 +112,9 @@ pub(crate) fn add_joined(
     second: Piece,
 ) -> Result<(), AllocError>
     requires first_ordered { first.from_byte ≤ first.to_byte }
-    requires first_within { first.to_byte ≤ length (home_bytes main.old side.now first.in_side) }
+    requires first_within { first.to_byte ≤ length (home_bytes main.old side.now (lies_aside first.flags)) }
     requires second_ordered { second.from_byte ≤ second.to_byte }
-    requires second_within { second.to_byte ≤ length (home_bytes main.old side.now second.in_side) }
+    requires second_within { second.to_byte ≤ length (home_bytes main.old side.now (lies_aside second.flags)) }
     ensures ok { OnOk result (main.new ≡ main.old ++ (piece_text main.old side.now first
         ++ bytes.now ++ piece_text main.old side.now second)) }
     ensures err { OnErr result (main.new ≡ main.old) }
@@ -133,14 +134,14 @@ pub(crate) fn add_joined(
 #[inline(always)]
 fn put_text(main: &mut Text, side: &Text, at: usize, piece: Piece) -> usize
     requires ordered { piece.from_byte ≤ piece.to_byte }
-    requires within { piece.to_byte ≤ length (home_bytes main.old side.now piece.in_side) }
+    requires within { piece.to_byte ≤ length (home_bytes main.old side.now (lies_aside piece.flags)) }
     requires before { EndsBy at piece }
     requires room { at + (piece.to_byte - piece.from_byte) ≤ length main.old }
     ensures value { main.new ≡ take at main.old ++ (piece_text main.old side.now piece
         ++ drop (at + (piece.to_byte - piece.from_byte)) main.old) }
     ensures ends { result ≡ at + (piece.to_byte - piece.from_byte) }
 {
-    if piece.in_side {
+    if piece.is_aside() {
         main.put(at, side.part(piece.from_byte, piece.to_byte))
     } else {
         main.put_part(at, piece.from_byte, piece.to_byte)
@@ -158,7 +159,7 @@ pub(crate) fn insert_joined(
 ) -> Result<(), AllocError>
     requires place { at ≤ length main.old }
     requires ordered { first.from_byte ≤ first.to_byte }
-    requires within { first.to_byte ≤ length (home_bytes main.old side.now first.in_side) }
+    requires within { first.to_byte ≤ length (home_bytes main.old side.now (lies_aside first.flags)) }
     requires before { EndsBy at first }
     ensures ok { OnOk result (main.new ≡ take at main.old
         ++ ((piece_text main.old side.now first ++ bytes.now) ++ drop at main.old)) }

@@ -6,6 +6,7 @@ use Rattle.demangle_text.specs.Pieces.{HasRoom, home_bytes, piece_text}
 use Rattle.demangle_text.proofs.Texts.{part-below}
 use Rattle.demangle_text.proofs.Rooms.{length-HasRoom, both-put}
 use Rattle.demangle_text.proofs.parts.insert_joined.Goals as goal
+use Rattle.demangle_text.specs.Flags.{lies_aside}
 
 -- a part that ends by the place
 part-kept : (main new side : List ℕ) (h : Bool) (a b at n : ℕ) → a ≤ b → (h ≡ false → b ≤ at) → at ≤ length main → HasRoom (take at main) (drop at main) new n
@@ -30,7 +31,7 @@ put_text-middle-requires c =
     let h = c.in_ok-open_room.ensures.ok in
     record {
       ordered = c.requires.ordered;
-      within = home-longer main _ c.args.side.now p.in_side p.to_byte at _ c.requires.within c.requires.place h;
+      within = home-longer main _ c.args.side.now (lies_aside p.flags) p.to_byte at _ c.requires.within c.requires.place h;
       before = c.requires.before;
       room = omega (arith, length-HasRoom (take at main) (drop at main) _ _ h, length-take-le at main c.requires.place, c.text_len.ensures.value);
     }
@@ -47,7 +48,7 @@ put-requires c =
     let low = length-take-le at main c.requires.place in
     let text = piece_text all c.args.side.now p in
     let k : length text ≡ p.to_byte - p.from_byte =
-    length-between (home_bytes all c.args.side.now p.in_side) p.from_byte p.to_byte (home-longer main all c.args.side.now p.in_side p.to_byte at _ c.requires.within c.requires.place h) in
+    length-between (home_bytes all c.args.side.now (lies_aside p.flags)) p.from_byte p.to_byte (home-longer main all c.args.side.now (lies_aside p.flags) p.to_byte at _ c.requires.within c.requires.place h) in
     let put = ap length c.put_text-middle.ensures.value in
     let end = c.put_text-middle.ensures.ends in
     let rest = drop (at + (p.to_byte - p.from_byte)) all in
@@ -69,8 +70,8 @@ returns-clause-ok c =
     let h = c.in_ok-open_room.ensures.ok in
     let low = length-take-le at main c.requires.place in
     let text = piece_text main side p in
-    let long : length text ≡ k = length-between (home_bytes main side p.in_side) p.from_byte p.to_byte c.requires.within in
-    let same : piece_text all side p ≡ text = part-kept main all side p.in_side p.from_byte p.to_byte at n c.requires.ordered c.requires.before c.requires.place h in
+    let long : length text ≡ k = length-between (home_bytes main side (lies_aside p.flags)) p.from_byte p.to_byte c.requires.within in
+    let same : piece_text all side p ≡ text = part-kept main all side (lies_aside p.flags) p.from_byte p.to_byte at n c.requires.ordered c.requires.before c.requires.place h in
     let is : mid ≡ take at all ++ (text ++ drop (at + k) all) = c.put_text-middle.ensures.value ∙ ap (λ (v : List ℕ). take at all ++ (v ++ drop (at + k) all)) same in
     let done : c.put.new.self ≡ take (at + k) mid ++ (bytes ++ drop (at + k + length bytes) mid) =
     c.put.ensures.value ∙ ap (λ (i : ℕ). take i mid ++ (bytes ++ drop (i + length bytes) mid)) c.put_text-middle.ensures.ends in
