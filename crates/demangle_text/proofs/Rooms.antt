@@ -1,9 +1,10 @@
 -- Room between two texts, which is filled from its front on.
-use Rattle.std.proofs.Common.{◌≡◌, ℕ, ◌+◌, ◌-◌, ◌≤◌, List, [], ◌++◌, length, take, drop, refl, sym, ap, ◌∙◌, arith, append_assoc}
+use Rattle.std.proofs.Common.{◌≡◌, ℕ, ◌+◌, ◌-◌, ◌≤◌, List, [], ◌++◌, length, take, drop, slice_range, refl, sym, ap, ◌∙◌, arith, append_assoc}
 use Rattle.std.proofs.lemmas.List.{length-append, length-drop, length-take-le, take_at, drop_at, drop-append-le, take-append-drop, drop-drop, nil_from_length, append-nil}
 use Rattle.std.specs.List.{copy_within}
 use Rattle.demangle_text.specs.Pieces.{HasRoom}
 use Rattle.demangle_text.proofs.Fronts.{front-inserted}
+use Rattle.demangle_text.proofs.Texts.{part-append}
 
 -- how long the whole is
 pub length-HasRoom : (front back all : List ℕ) (n : ℕ) → HasRoom front back all n → length all ≡ length front + (n + length back)
@@ -85,3 +86,11 @@ pair-put old all one two mid new n at middle h by_at by_n is_mid by_middle is_ne
     let done : new ≡ take (at + length one) mid ++ (two ++ drop (at + length one + length two) mid) =
     is_new ∙ ap (λ (i : ℕ). take i mid ++ (two ++ drop (i + length two) mid)) by_middle in
     both-put old [] all one two mid new n at (length one) h by_at refl by_n is_mid done ∙ ap (λ (v : List ℕ). old ++ v) (append-nil (one ++ two))
+
+-- a part of what stood before the room
+pub part-put : (old all one mid : List ℕ) (n at from to : ℕ) → HasRoom old [] all n → at ≡ length old → mid ≡ take at all ++ (one ++ drop (at + length one) all)
+    → from ≤ to → to ≤ length old → slice_range mid from to ≡ slice_range old from to
+part-put old all one mid n at from to h by_at is ordered within =
+    let low : take at all ≡ old = ap (take at) h.parts ∙ take_at old (h.room ++ []) at (sym by_at) in
+    let rest = one ++ drop (at + length one) all in
+    ap (λ (v : List ℕ). slice_range v from to) (is ∙ ap (λ (v : List ℕ). v ++ rest) low) ∙ part-append old rest from to ordered within

@@ -62,7 +62,7 @@ impl Buffer {
     ghost use Rattle.demangle_text.specs.Shape.{opened_group, joined, shortened, CanInsert, IsPlain, IsDeclared};
     ghost use Rattle.demangle_text.specs.Shape.{flagged, with_own, flattened, whole_shape, own_shape, IsNotFunction};
     ghost use Rattle.demangle_text.specs.Shape.{kind_of, group_of, after_of, declared_at, declared_group};
-    ghost use Rattle.demangle_text.specs.Pieces.{IsTail, IsSplice, IsAdjacent, IsJoint, EndsBy, piece_text};
+    ghost use Rattle.demangle_text.specs.Pieces.{IsTail, IsSplice, IsAdjacent, IsJoint, EndsBy, piece_text, own_text};
 
     /// An empty buffer, with no mark open. It takes no memory.
     pub fn new(alloc: Global) -> Self
@@ -431,6 +431,60 @@ impl Buffer {
         Ok(())
     }
 
+    /// The piece with the bytes and then its own last own name at the end of its text. Ends pieces,
+    /// copies a text, and keeps all after `AllocError`, as `append` does.
+    #[inline(always)]
+    pub fn append_own(&mut self, piece: Piece, between: &[u8]) -> Result<Piece, AllocError>
+        requires living { IsLiving self.old piece }
+        ensures shape { IfOk result (λ p. Lives self.new p
+            (appended (between.now ++ text (own_shape (shape self.old piece))) (shape self.old piece))) }
+        ensures edit { OnOk result (IsEdit self.old self.new) }
+        ensures err { OnErr result (KeepsAll self.old self.new) }
+        ensures edit_of { IfOk result (λ p. IsEditOf self.old self.new piece p
+            (length between.now + text_len (own_shape (shape self.old piece)))) }
+        ensures main_err { OnErr result (main_bytes self.new ≡ main_bytes self.old) }
+    {
+        let from = self.splice_own(piece, between)?;
+        let to = self.main.len();
+        let n = between.len() + (piece.own_end - piece.own_start);
+        let at = piece.place(Place::End);
+        Ok(piece.with_bytes(Place::End, at, n, from, to))
+    }
+
+    // The text of a piece with bytes and its last own name after it, at the end of the main text: where it begins.
+    #[inline(never)]
+    fn splice_own(&mut self, piece: Piece, between: &[u8]) -> Result<usize, AllocError>
+        requires living { IsLiving self.old piece }
+        ensures splice { IfOk result (IsSplice self.old self.new piece (piece.to_byte - piece.from_byte)
+            (between.now ++ own_text self.old.main_text self.old.side_text piece)) }
+        ensures edit { OnOk result (IsEdit self.old self.new) }
+        ensures err { OnErr result (KeepsAll self.old self.new) }
+        ensures main_err { OnErr result (self.new.main_text ≡ self.old.main_text) }
+    {
+        let name = piece.own_name();
+        if self.is_tail(piece) {
+            self.add_with_part(between, name.from_byte, name.to_byte)?;
+            return Ok(piece.from_byte);
+        }
+        let from = self.main.len();
+        add_joined(&mut self.main, &self.side, piece, between, name)?;
+        Ok(from)
+    }
+
+    // Bytes at the end of the main text, and a part of it once more after them.
+    #[inline(always)]
+    fn add_with_part(&mut self, bytes: &[u8], from: usize, to: usize) -> Result<(), AllocError>
+        requires ordered { from ≤ to }
+        requires within { to ≤ length self.old.main_text }
+        ensures kept { KeepsAll self.old self.new }
+        ensures main { OnOk result (self.new.main_text ≡ self.old.main_text
+            ++ (bytes.now ++ slice_range self.old.main_text from to)) }
+        ensures main_err { OnErr result (self.new.main_text ≡ self.old.main_text) }
+    {
+        self.main.add_with_part(bytes, from, to)?;
+        Ok(())
+    }
+
     /// The piece with the bytes at a place of its text: `Close` asks for a group, `Suffix` for a
     /// declarator without one. The last own name moves on where it begins at the place or later,
     /// and grows where the place lies inside it. Ends pieces, copies a text, and keeps all after
@@ -735,12 +789,7 @@ impl Buffer {
         ensures shape { Lives self.now result (own_shape (shape self.now piece)) }
         ensures age { IsAsOld piece result }
     {
-        let from = piece.from_byte + piece.own_start;
-        let to = piece.from_byte + piece.own_end;
-        Piece {
-            in_side: piece.in_side,
-            ..Piece::whole_at(from, to)
-        }
+        piece.own_name()
     }
 
     /// The plain piece as a declarator of this kind, with no group: its `after` begins at the byte

@@ -78,6 +78,25 @@ impl Piece {
         }
     }
 
+    // A plain piece of its last own name, in the same text.
+    #[inline(always)]
+    pub(crate) fn own_name(self) -> Piece
+        requires ordered { self.own_start ≤ self.own_end }
+        requires fits { self.from_byte + self.own_end < 2 ^ 64 }
+        ensures home { result.in_side ≡ self.in_side }
+        ensures begins { result.from_byte ≡ self.from_byte + self.own_start }
+        ensures ends { result.to_byte ≡ self.from_byte + self.own_end }
+        ensures marks { marks_of result
+            ≡ whole_marks (self.from_byte + self.own_end - (self.from_byte + self.own_start)) }
+    {
+        let from = self.from_byte + self.own_start;
+        let to = self.from_byte + self.own_end;
+        Piece {
+            in_side: self.in_side,
+            ..Piece::whole_at(from, to)
+        }
+    }
+
     // The same marks over other bytes of the main text.
     #[inline(always)]
     pub(crate) fn moved_to(self, from: usize, to: usize) -> Piece

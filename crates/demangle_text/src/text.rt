@@ -102,6 +102,28 @@ impl Text {
         Ok(())
     }
 
+    // Bytes at the end, and a part of the text once more after them.
+    pub(crate) fn add_with_part(
+        &mut self,
+        bytes: &[u8],
+        from: usize,
+        to: usize,
+    ) -> Result<(), AllocError>
+        requires ordered { from ≤ to }
+        requires within { to ≤ length self.old }
+        ensures ok { OnOk result (self.new ≡ self.old ++ (bytes.now ++ slice_range self.old from to)) }
+        ensures err { OnErr result (self.new ≡ self.old) }
+    {
+        let Some(n) = bytes.len().checked_add(to - from) else {
+            return Err(AllocError);
+        };
+        let end = self.len();
+        self.add_room(n)?;
+        let middle = self.put(end, bytes);
+        self.put_part(middle, from, to);
+        Ok(())
+    }
+
     // A part of the text once more at the end.
     pub(crate) fn repeat(&mut self, from: usize, to: usize) -> Result<(), AllocError>
         requires ordered { from ≤ to }
