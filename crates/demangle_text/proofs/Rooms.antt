@@ -40,6 +40,38 @@ both-put front back all one bytes mid new n at k h by_at by_k by_n is_mid is_new
     HasRoom-filled ((front ++ one) ++ bytes) back new second
     ∙ ap (λ (v : List ℕ). v ++ back) (append_assoc front one bytes) ∙ append_assoc front (one ++ bytes) back
 
+-- what isn't longer than the room fits in the whole
+pub room-fits : (front back all : List ℕ) (n at k : ℕ) → HasRoom front back all n → at ≡ length front → k ≤ n → at + k ≤ length all
+room-fits front back all n at k h by_at fits = omega (arith, length-HasRoom front back all n h)
+
+-- three texts, one after the other, in room for all
+module _ (front back all a b d one two : List ℕ) (n at i j : ℕ) (h : HasRoom front back all n) (by_at : at ≡ length front) (by_n : n ≡ length a + length d + length b)
+    (is_one : one ≡ take at all ++ (a ++ drop (at + length a) all)) (by_i : i ≡ at + length a) where
+  there-first : i ≡ length (front ++ a)
+  there-first = omega (arith, length-append front a)
+
+  pub room-first : HasRoom (front ++ a) back one (length b + length d)
+  room-first = HasRoom-put front back all a one n (length b + length d) at (length a) h by_at refl (omega arith) is_one
+
+  pub fits-first : i + length b ≤ length one
+  fits-first = room-fits (front ++ a) back one (length b + length d) i (length b) room-first there-first (omega arith)
+
+  module _ (is_two : two ≡ take i one ++ (b ++ drop (i + length b) one)) (by_j : j ≡ i + length b) where
+    there-second : j ≡ length ((front ++ a) ++ b)
+    there-second = omega (arith, there-first, length-append (front ++ a) b)
+
+    pub room-second : HasRoom ((front ++ a) ++ b) back two (length d)
+    room-second = HasRoom-put (front ++ a) back one b two (length b + length d) (length d) i (length b) room-first there-first refl refl is_two
+
+    pub fits-second : j + length d ≤ length two
+    fits-second = room-fits ((front ++ a) ++ b) back two (length d) j (length d) room-second there-second (omega arith)
+
+    pub three-put : (new : List ℕ) → new ≡ take j two ++ (d ++ drop (j + length d) two) → new ≡ front ++ ((a ++ (b ++ d)) ++ back)
+    three-put new is =
+        let last = HasRoom-put ((front ++ a) ++ b) back two d new (length d) 0 j (length d) room-second there-second refl (omega arith) is in
+        HasRoom-filled (((front ++ a) ++ b) ++ d) back new last
+        ∙ ap (λ (v : List ℕ). v ++ back) (append_assoc (front ++ a) b d ∙ append_assoc front a (b ++ d)) ∙ append_assoc front (a ++ (b ++ d)) back
+
 -- room in the front of a vector, when what lies after it was copied to where it goes
 pub HasRoom-opened : (ys : List ℕ) (len at n : ℕ) → at ≤ len → len + n ≤ length ys
     → HasRoom (take at (take len ys)) (drop at (take len ys)) (take (len + n) (copy_within ys at len (at + n))) n

@@ -15,7 +15,6 @@ use std::marker::Model;
 /// A buffer of pieces, with a list of saved shapes and a list of scopes.
 #[derive(Drop)]
 pub struct Buffer {
-    alloc: Global,
     // The texts of pieces: what is made stands in the main text, and what a move would tear in the side text.
     main: Text,
     side: Text,
@@ -72,7 +71,6 @@ impl Buffer {
         ensures no_bytes { main_bytes result ≡ [] }
     {
         Buffer {
-            alloc,
             main: Text::new(alloc),
             side: Text::new(alloc),
             saved: Ranges::new(alloc),
@@ -168,6 +166,9 @@ impl Buffer {
     {
         if piece.in_side || piece.from_byte < at {
             let from = self.copy_text(piece)?;
+            if from == at {
+                return Ok(());
+            }
             let to = self.main.len();
             return self.keep_block(at, from, to);
         }
@@ -518,10 +519,67 @@ impl Buffer {
         ensures main_err { OnErr result (main_bytes self.new ≡ main_bytes self.old) }
     {
         let at = piece.place(Place::Suffix);
-        let group = group_bytes(self.alloc, &self.bytes(piece)[..at], bytes)?;
-        let from = self.splice(piece, at, &group)?;
-        let n = bytes.len() + 2;
-        Ok(piece.with_group(at, group.len(), n, from, self.main.len()))
+        let front = group_front(&self.bytes(piece)[..at]);
+        let from = self.splice_group(piece, at, front, bytes, b")")?;
+        let n = front.len() + bytes.len() + 1;
+        Ok(piece.with_group(at, n, bytes.len() + 2, from, self.main.len()))
+    }
+
+    // The text of a piece with three texts at a place of it, at the end of the main text: where it begins.
+    fn splice_group(
+        &mut self,
+        piece: Piece,
+        at: usize,
+        front: &[u8],
+        bytes: &[u8],
+        back: &[u8],
+    ) -> Result<usize, AllocError>
+        requires living { IsLiving self.old piece }
+        requires within { at ≤ piece.to_byte - piece.from_byte }
+        ensures splice { IfOk result (IsSplice self.old self.new piece at
+            (front.now ++ (bytes.now ++ back.now))) }
+        ensures edit { OnOk result (IsEdit self.old self.new) }
+        ensures err { OnErr result (KeepsAll self.old self.new) }
+        ensures main_err { OnErr result (self.new.main_text ≡ self.old.main_text) }
+    {
+        if self.is_tail(piece) {
+            self.insert_three(piece.from_byte + at, front, bytes, back)?;
+            return Ok(piece.from_byte);
+        }
+        self.splice_copy(piece, at, front, bytes, back)
+    }
+
+    // Three texts at a place of the main text since the innermost mark: what lies after it moves on.
+    fn insert_three(
+        &mut self,
+        at: usize,
+        front: &[u8],
+        bytes: &[u8],
+        back: &[u8],
+    ) -> Result<(), AllocError>
+        requires inner { self.old.frame_main ≤ at }
+        requires within { at ≤ length self.old.main_text }
+        ensures edit { OnOk result (IsEdit self.old self.new) }
+        ensures err { OnErr result (KeepsAll self.old self.new) }
+        ensures main { OnOk result (self.new.main_text ≡ take at self.old.main_text
+            ++ ((front.now ++ (bytes.now ++ back.now)) ++ drop at self.old.main_text)) }
+        ensures main_err { OnErr result (self.new.main_text ≡ self.old.main_text) }
+    {
+        let len = self.main.len();
+        set_apart(
+            self.main.as_slice(),
+            &mut self.side,
+            &mut self.saved,
+            &mut self.args,
+            at,
+            at,
+            len,
+        )?;
+        self.main.insert_three(at, front, bytes, back)?;
+        let next = at + (self.main.len() - len);
+        carry(&mut self.saved, at, at, len, next);
+        carry(&mut self.args, at, at, len, next);
+        Ok(())
     }
 
     /// The plain piece without its last n bytes. Its last own name is what is left of it. Ends
@@ -947,16 +1005,9 @@ fn needs_gap(text: &[u8]) -> bool
     }
 }
 
-// What is inserted after a text for a group: the gap, and the group in its parentheses.
-fn group_bytes(alloc: Global, text: &[u8], group: &[u8]) -> Result<Vec<u8>, AllocError>
-    ensures text { IfOk result (λ v. v.items ≡ gap_after text.now ++ grouped (Some group.now)) }
+// What is inserted after a text for a group, in front of its bytes: the gap and `(`.
+fn group_front(text: &[u8]) -> &'static [u8]
+    ensures text { result.now ≡ gap_after text.now ++ 40 ∷ [] }
 {
-    let mut all = Vec::new(alloc);
-    if needs_gap(text) {
-        all.push(b' ')?;
-    }
-    all.push(b'(')?;
-    all.extend_from_slice(group)?;
-    all.push(b')')?;
-    Ok(all)
+    if needs_gap(text) { b" (" } else { b"(" }
 }

@@ -152,6 +152,29 @@ impl Text {
         Ok(())
     }
 
+    // Three texts at a place, one after the other: what lies after it moves on.
+    pub(crate) fn insert_three(
+        &mut self,
+        at: usize,
+        front: &[u8],
+        bytes: &[u8],
+        back: &[u8],
+    ) -> Result<(), AllocError>
+        requires within { at ≤ length self.old }
+        ensures ok { OnOk result (self.new ≡ take at self.old
+            ++ ((front.now ++ (bytes.now ++ back.now)) ++ drop at self.old)) }
+        ensures err { OnErr result (self.new ≡ self.old) }
+    {
+        let Some(n) = (front.len() + back.len()).checked_add(bytes.len()) else {
+            return Err(AllocError);
+        };
+        self.open_room(at, n)?;
+        let first = self.put(at, front);
+        let second = self.put(first, bytes);
+        self.put(second, back);
+        Ok(())
+    }
+
     // Room of n bytes at the end.
     #[inline(always)]
     fn add_room(&mut self, n: usize) -> Result<(), AllocError>
