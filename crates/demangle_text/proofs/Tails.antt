@@ -1,11 +1,12 @@
 -- What stands at the end of the main text after an insertion, a copy or a join.
+use Rattle.std.specs.Prelude.{Some, None}
 use Rattle.std.proofs.Common.{◌≡◌, ℕ, ◌+◌, ◌-◌, ◌≤◌, Bool, false, List, [], ◌++◌, length, take, drop, slice_range, refl, sym, ap, ◌∙◌, subst, arith, append_assoc}
 use Rattle.std.proofs.lemmas.List.{length-append, length-drop, length-take-le, drop_at, take-append-drop, drop-append-le, drop-drop, drop-take, take_all, drop_all, append-nil, take-append-le, take-take}
 use Rattle.std.proofs.lemmas.List.Edits.{length-between}
 use Rattle.demangle_text.specs.declared.shape.Piece.{Piece}
-use Rattle.demangle_text.specs.Pieces.{Store, IsTail, IsAdjacent, IsSplice, IsJoint, piece_text, home_bytes}
+use Rattle.demangle_text.specs.Pieces.{Store, IsTail, IsAdjacent, IsSplice, IsJoint, piece_text, own_text, home_bytes}
 use Rattle.demangle_text.specs.Shape.{text, text_len, plain_shape, joined, inserted, own_shape, opened_group, CanInsert, IsDeclared, moved}
-use Rattle.demangle_text.specs.Pieces.{IsAt, IsMarked, marks_of, whole_marks, shape_of, place_at, layout_with, layout_opened, layout_end, own_at}
+use Rattle.demangle_text.specs.Pieces.{Layout, Flat, Cut, IsLayout, IsAt, IsMarked, marks_of, whole_marks, shape_of, place_at, layout_with, layout_opened, layout_end, own_at}
 use Rattle.demangle_text.specs.State.{IsLiving, shape, Lives, IsEditOf, main_bytes, frame, frame_start, Frame, Stands}
 use Rattle.demangle_text.specs.declared.shape.Place.{Place}
 use Rattle.demangle_text.specs.declared.shape.Place.TheVariants.{Suffix}
@@ -92,6 +93,20 @@ IsSplice-copied s t p at bytes from apart inner starts is =
       in_place = λ h. absurd (apart h);
     }
 
+-- a copy of a text with bytes and more text after it, of a piece that doesn't
+pub IsSplice-joined : (s t : Store) (p : Piece) (bytes more : List ℕ) (from : ℕ) → (IsTail s p → ⊥) → length (piece_text s.main_text s.side_text p) ≡ p.to_byte - p.from_byte
+    → s.frame_main ≤ length s.main_text → from ≡ length s.main_text → t.main_text ≡ s.main_text ++ (piece_text s.main_text s.side_text p ++ bytes ++ more)
+    → IsSplice s t p (p.to_byte - p.from_byte) (bytes ++ more) from
+IsSplice-joined s t p bytes more from apart long inner starts is =
+    let text = piece_text s.main_text s.side_text p in
+    let k = p.to_byte - p.from_byte in
+    let all : length text ≤ k = omega arith in
+    let front : take k text ≡ text = take_all k text all in
+    let none : drop k text ≡ [] = drop_all k text all in
+    IsSplice-copied s t p k (bytes ++ more) from apart inner starts
+    (is ∙ ap (λ (v : List ℕ). s.main_text ++ v) (append_assoc text bytes more ∙ ap (λ (v : List ℕ). text ++ v) (sym (append-nil (bytes ++ more)))
+    ∙ ap (λ (v : List ℕ). text ++ ((bytes ++ more) ++ v)) (sym none) ∙ ap (λ (v : List ℕ). v ++ ((bytes ++ more) ++ drop k text)) (sym front)))
+
 -- the texts of two pieces that meet and end the main text
 adjacent_text : (s : Store) (first second : Piece) → IsAdjacent s first second → first.from_byte ≤ first.to_byte → second.from_byte ≤ second.to_byte
     → (piece_text s.main_text s.side_text first ≡ take (second.from_byte - first.from_byte) (drop first.from_byte s.main_text))
@@ -158,6 +173,12 @@ IsJoint-moved s t first bytes second apart h ordered is =
       front = ap (take s.frame_main) is ∙ front_inserted main more s.frame_main at h.inner there;
       in_place = λ k. absurd (apart k);
     }
+
+-- where `after` begins in a text
+pub suffix_within : (t : List ℕ) (l : Layout) → IsLayout t l → place_at Suffix l (length t) ≤ length t
+suffix_within t Flat h = omega arith
+suffix_within t (Cut kind None at) h = h
+suffix_within t (Cut kind (Some group) at) h = h.1
 
 -- how long the text of a piece is
 pub length-text : (s : Store) (p : Piece) → IsLiving s p → length (piece_text s.main_text s.side_text p) ≡ p.to_byte - p.from_byte
@@ -286,6 +307,41 @@ settled-copy main mid t at from to is within starts ends =
     let low = ap (take at) is ∙ take-append-le at main t within in
     let block = take_all (to - from) (drop from mid) (omega (arith, ends, length-drop from mid)) ∙ ap (drop from) is ∙ drop_at main t from (sym starts) in
     ap (λ (v : List ℕ). v ++ slice_range mid from to) low ∙ ap (λ (v : List ℕ). take at main ++ v) block
+
+-- where the last own name lies
+module _ (b : Store) (p q : Piece) (lies : IsLiving b p) (home : lies_aside q.flags ≡ lies_aside p.flags) (begins : q.from_byte ≡ p.from_byte + p.own_start) (ends : q.to_byte ≡ p.from_byte + p.own_end) where
+  pub own-ordered : q.from_byte ≤ q.to_byte
+  unfolding IsLiving
+  own-ordered = omega (arith, begins, ends, lies.marked.own_ordered)
+
+  own-inside : p.from_byte + p.own_end ≤ p.to_byte
+  unfolding IsLiving
+  own-inside = omega (arith, length-text b p lies, lies.marked.own_within, lies.ordered)
+
+  pub own-within : q.to_byte ≤ length (home_bytes b.main_text b.side_text (lies_aside q.flags))
+  unfolding IsLiving
+  own-within = rw home (omega (arith, ends, own-inside, lies.within))
+
+  -- and its bytes
+  pub own-part : slice_range (home_bytes b.main_text b.side_text (lies_aside p.flags)) q.from_byte q.to_byte ≡ own_text b.main_text b.side_text p
+  unfolding IsLiving
+  own-part =
+      let bytes = home_bytes b.main_text b.side_text (lies_aside p.flags) in
+      ap (λ (k : ℕ). slice_range bytes k q.to_byte) begins ∙ ap (λ (k : ℕ). slice_range bytes (p.from_byte + p.own_start) k) ends
+      ∙ part-part bytes p.from_byte p.to_byte p.own_start p.own_end lies.marked.own_ordered own-inside
+
+  pub own-piece : piece_text b.main_text b.side_text q ≡ own_text b.main_text b.side_text p
+  own-piece = ap (λ (h : Bool). slice_range (home_bytes b.main_text b.side_text h) q.from_byte q.to_byte) home ∙ own-part
+
+-- they are the text of the last own name
+pub own_text-is : (b : Store) (p : Piece) → IsLiving b p → own_text b.main_text b.side_text p ≡ text (own_shape (shape b p))
+unfolding IsLiving shape
+own_text-is b p lies = ap (λ (v : List ℕ). slice_range v p.own_start p.own_end) (sym (text_is b p lies))
+
+-- how long it is
+pub length-own : (b : Store) (p : Piece) → IsLiving b p → length (own_text b.main_text b.side_text p) ≡ p.own_end - p.own_start
+unfolding IsLiving
+length-own b p lies = length-between (piece_text b.main_text b.side_text p) p.own_start p.own_end lies.marked.own_within
 
 -- the last own name as a piece of its own
 pub Lives-own : (b : Store) (p q : Piece) → IsLiving b p → (lies_aside q.flags) ≡ (lies_aside p.flags) → q.from_byte ≡ p.from_byte + p.own_start → q.to_byte ≡ p.from_byte + p.own_end

@@ -125,6 +125,10 @@ home_bytes main side true = side
 abbrev pub piece_text : List ℕ → List ℕ → Piece → List ℕ
 piece_text main side p = slice_range (home_bytes main side (lies_aside p.flags)) p.from_byte p.to_byte
 
+-- the last own name of a piece
+abbrev pub own_text : List ℕ → List ℕ → Piece → List ℕ
+own_text main side p = slice_range (piece_text main side p) p.own_start p.own_end
+
 -- the piece lies in the two texts
 pub record IsPiece (main side : List ℕ) (p : Piece) : Type 0 where
   pub ordered : p.from_byte ≤ p.to_byte

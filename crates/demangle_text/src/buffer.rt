@@ -4,7 +4,7 @@ ghost use Rattle.std.specs.Prelude.{OnOk, OnErr, IfSome, Some, true, option_map,
 ghost use Rattle.std.specs.Prelude.{is_some};
 ghost use Rattle.demangle_text.specs.Shape.{gap_after, grouped};
 
-use crate::flags::{bare, flagged, is_ctor, is_grouped, is_templ, plain};
+use crate::flags::{flagged, is_ctor, is_grouped, is_templ, plain};
 use crate::moves::{carry, set_apart};
 use crate::parts::{add_joined, add_part, add_spliced, insert_joined};
 use crate::ranges::Ranges;
@@ -16,7 +16,6 @@ use std::marker::Model;
 /// A buffer of pieces, with a list of saved shapes and a list of scopes.
 #[derive(Drop)]
 pub struct Buffer {
-    alloc: Global,
     // The texts of pieces: what is made stands in the main text, and what a move would tear in the side text.
     main: Text,
     side: Text,
@@ -63,7 +62,7 @@ impl Buffer {
     ghost use Rattle.demangle_text.specs.Shape.{opened_group, joined, shortened, CanInsert, IsPlain, IsDeclared};
     ghost use Rattle.demangle_text.specs.Shape.{flagged, with_own, flattened, whole_shape, own_shape, IsNotFunction};
     ghost use Rattle.demangle_text.specs.Shape.{kind_of, group_of, after_of, declared_at, declared_group};
-    ghost use Rattle.demangle_text.specs.Pieces.{IsTail, IsSplice, IsAdjacent, IsJoint, EndsBy, piece_text};
+    ghost use Rattle.demangle_text.specs.Pieces.{IsTail, IsSplice, IsAdjacent, IsJoint, EndsBy, piece_text, own_text};
 
     /// An empty buffer, with no mark open. It takes no memory.
     pub fn new(alloc: Global) -> Self
@@ -73,7 +72,6 @@ impl Buffer {
         ensures no_bytes { main_bytes result ≡ [] }
     {
         Buffer {
-            alloc,
             main: Text::new(alloc),
             side: Text::new(alloc),
             saved: Ranges::new(alloc),
@@ -169,6 +167,9 @@ impl Buffer {
     {
         if piece.is_aside() || piece.from_byte < at {
             let from = self.copy_text(piece)?;
+            if from == at {
+                return Ok(());
+            }
             let to = self.main.len();
             return self.keep_block(at, from, to);
         }
@@ -432,6 +433,60 @@ impl Buffer {
         Ok(())
     }
 
+    /// The piece with the bytes and then its own last own name at the end of its text. Ends pieces,
+    /// copies a text, and keeps all after `AllocError`, as `append` does.
+    #[inline(always)]
+    pub fn append_own(&mut self, piece: Piece, between: &[u8]) -> Result<Piece, AllocError>
+        requires living { IsLiving self.old piece }
+        ensures shape { IfOk result (λ p. Lives self.new p
+            (appended (between.now ++ text (own_shape (shape self.old piece))) (shape self.old piece))) }
+        ensures edit { OnOk result (IsEdit self.old self.new) }
+        ensures err { OnErr result (KeepsAll self.old self.new) }
+        ensures edit_of { IfOk result (λ p. IsEditOf self.old self.new piece p
+            (length between.now + text_len (own_shape (shape self.old piece)))) }
+        ensures main_err { OnErr result (main_bytes self.new ≡ main_bytes self.old) }
+    {
+        let from = self.splice_own(piece, between)?;
+        let to = self.main.len();
+        let n = between.len() + (piece.own_end - piece.own_start);
+        let at = piece.place(Place::End);
+        Ok(piece.with_bytes(Place::End, at, n, from, to))
+    }
+
+    // The text of a piece with bytes and its last own name after it, at the end of the main text: where it begins.
+    #[inline(never)]
+    fn splice_own(&mut self, piece: Piece, between: &[u8]) -> Result<usize, AllocError>
+        requires living { IsLiving self.old piece }
+        ensures splice { IfOk result (IsSplice self.old self.new piece (piece.to_byte - piece.from_byte)
+            (between.now ++ own_text self.old.main_text self.old.side_text piece)) }
+        ensures edit { OnOk result (IsEdit self.old self.new) }
+        ensures err { OnErr result (KeepsAll self.old self.new) }
+        ensures main_err { OnErr result (self.new.main_text ≡ self.old.main_text) }
+    {
+        let name = piece.own_name();
+        if self.is_tail(piece) {
+            self.add_with_part(between, name.from_byte, name.to_byte)?;
+            return Ok(piece.from_byte);
+        }
+        let from = self.main.len();
+        add_joined(&mut self.main, &self.side, piece, between, name)?;
+        Ok(from)
+    }
+
+    // Bytes at the end of the main text, and a part of it once more after them.
+    #[inline(always)]
+    fn add_with_part(&mut self, bytes: &[u8], from: usize, to: usize) -> Result<(), AllocError>
+        requires ordered { from ≤ to }
+        requires within { to ≤ length self.old.main_text }
+        ensures kept { KeepsAll self.old self.new }
+        ensures main { OnOk result (self.new.main_text ≡ self.old.main_text
+            ++ (bytes.now ++ slice_range self.old.main_text from to)) }
+        ensures main_err { OnErr result (self.new.main_text ≡ self.old.main_text) }
+    {
+        self.main.add_with_part(bytes, from, to)?;
+        Ok(())
+    }
+
     /// The piece with the bytes at a place of its text: `Close` asks for a group, `Suffix` for a
     /// declarator without one. The last own name moves on where it begins at the place or later,
     /// and grows where the place lies inside it. Ends pieces, copies a text, and keeps all after
@@ -465,10 +520,67 @@ impl Buffer {
         ensures main_err { OnErr result (main_bytes self.new ≡ main_bytes self.old) }
     {
         let at = piece.place(Place::Suffix);
-        let group = group_bytes(self.alloc, &self.bytes(piece)[..at], bytes)?;
-        let from = self.splice(piece, at, &group)?;
-        let n = bytes.len() + 2;
-        Ok(piece.with_group(at, group.len(), n, from, self.main.len()))
+        let front = group_front(&self.bytes(piece)[..at]);
+        let from = self.splice_group(piece, at, front, bytes, b")")?;
+        let n = front.len() + bytes.len() + 1;
+        Ok(piece.with_group(at, n, bytes.len() + 2, from, self.main.len()))
+    }
+
+    // The text of a piece with three texts at a place of it, at the end of the main text: where it begins.
+    fn splice_group(
+        &mut self,
+        piece: Piece,
+        at: usize,
+        front: &[u8],
+        bytes: &[u8],
+        back: &[u8],
+    ) -> Result<usize, AllocError>
+        requires living { IsLiving self.old piece }
+        requires within { at ≤ piece.to_byte - piece.from_byte }
+        ensures splice { IfOk result (IsSplice self.old self.new piece at
+            (front.now ++ (bytes.now ++ back.now))) }
+        ensures edit { OnOk result (IsEdit self.old self.new) }
+        ensures err { OnErr result (KeepsAll self.old self.new) }
+        ensures main_err { OnErr result (self.new.main_text ≡ self.old.main_text) }
+    {
+        if self.is_tail(piece) {
+            self.insert_three(piece.from_byte + at, front, bytes, back)?;
+            return Ok(piece.from_byte);
+        }
+        self.splice_copy(piece, at, front, bytes, back)
+    }
+
+    // Three texts at a place of the main text since the innermost mark: what lies after it moves on.
+    fn insert_three(
+        &mut self,
+        at: usize,
+        front: &[u8],
+        bytes: &[u8],
+        back: &[u8],
+    ) -> Result<(), AllocError>
+        requires inner { self.old.frame_main ≤ at }
+        requires within { at ≤ length self.old.main_text }
+        ensures edit { OnOk result (IsEdit self.old self.new) }
+        ensures err { OnErr result (KeepsAll self.old self.new) }
+        ensures main { OnOk result (self.new.main_text ≡ take at self.old.main_text
+            ++ ((front.now ++ (bytes.now ++ back.now)) ++ drop at self.old.main_text)) }
+        ensures main_err { OnErr result (self.new.main_text ≡ self.old.main_text) }
+    {
+        let len = self.main.len();
+        set_apart(
+            self.main.as_slice(),
+            &mut self.side,
+            &mut self.saved,
+            &mut self.args,
+            at,
+            at,
+            len,
+        )?;
+        self.main.insert_three(at, front, bytes, back)?;
+        let next = at + (self.main.len() - len);
+        carry(&mut self.saved, at, at, len, next);
+        carry(&mut self.args, at, at, len, next);
+        Ok(())
     }
 
     /// The plain piece without its last n bytes. Its last own name is what is left of it. Ends
@@ -735,12 +847,7 @@ impl Buffer {
         ensures shape { Lives self.now result (own_shape (shape self.now piece)) }
         ensures age { IsAsOld piece result }
     {
-        let from = piece.from_byte + piece.own_start;
-        let to = piece.from_byte + piece.own_end;
-        Piece {
-            flags: bare(piece.flags),
-            ..Piece::whole_at(from, to)
-        }
+        piece.own_name()
     }
 
     /// The plain piece as a declarator of this kind, with no group: its `after` begins at the byte
@@ -898,16 +1005,9 @@ fn needs_gap(text: &[u8]) -> bool
     }
 }
 
-// What is inserted after a text for a group: the gap, and the group in its parentheses.
-fn group_bytes(alloc: Global, text: &[u8], group: &[u8]) -> Result<Vec<u8>, AllocError>
-    ensures text { IfOk result (λ v. v.items ≡ gap_after text.now ++ grouped (Some group.now)) }
+// What is inserted after a text for a group, in front of its bytes: the gap and `(`.
+fn group_front(text: &[u8]) -> &'static [u8]
+    ensures text { result.now ≡ gap_after text.now ++ 40 ∷ [] }
 {
-    let mut all = Vec::new(alloc);
-    if needs_gap(text) {
-        all.push(b' ')?;
-    }
-    all.push(b'(')?;
-    all.extend_from_slice(group)?;
-    all.push(b')')?;
-    Ok(all)
+    if needs_gap(text) { b" (" } else { b"(" }
 }

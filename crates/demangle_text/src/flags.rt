@@ -4,9 +4,6 @@ ghost use Rattle.demangle_text.specs.Flags.{lowest, above, lies_aside, templ_by,
 
 use crate::shape::Kind;
 
-/// A plain text of the main text, with no flag.
-pub(crate) const PLAIN: usize = 0;
-
 /// A number with a bit below it.
 #[tactic(auto, unfolding(crate::specs::Flags::lowest, crate::specs::Flags::above))]
 #[inline(always)]
@@ -161,11 +158,25 @@ pub(crate) fn declared(flags: usize, kind: Kind, grouped: bool) -> usize
     with_kind(flags, grouped, kind_number(kind))
 }
 
-/// The same of a plain shape with no flag.
+/// A plain shape in the main text, with no flag.
+#[tactic(auto, unfolding(crate::specs::Flags::lowest, crate::specs::Flags::above))]
+#[inline(always)]
+pub(crate) fn bare_in_main() -> usize
+    ensures aside { lies_aside result ≡ false }
+    ensures templ { templ_by result ≡ false }
+    ensures ctor { ctor_by result ≡ false }
+    ensures kind { kind_by result ≡ None }
+{
+    0
+}
+
+/// A plain shape in the same text, with no flag.
 #[inline(always)]
 pub(crate) fn bare(flags: usize) -> usize
     ensures aside { lies_aside result ≡ lies_aside flags }
-    ensures rest { above result ≡ 0 }
+    ensures templ { templ_by result ≡ false }
+    ensures ctor { ctor_by result ≡ false }
+    ensures kind { kind_by result ≡ None }
 {
-    with_lowest(is_aside(flags), 0)
+    plain(flagged(flags, false, false))
 }

@@ -100,7 +100,13 @@ fn join_parts(
 {
     add_part(main, side, first.is_aside(), first.from_byte, first.to_byte)?;
     main.add(bytes)?;
-    add_part(main, side, second.is_aside(), second.from_byte, second.to_byte)
+    add_part(
+        main,
+        side,
+        second.is_aside(),
+        second.from_byte,
+        second.to_byte,
+    )
 }
 
 // Two texts with bytes between them. After an error the main text is as it was.

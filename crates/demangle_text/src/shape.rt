@@ -5,7 +5,7 @@ ghost use Rattle.demangle_text.specs.Pieces.{whole_marks, cut_marks, marks_of, I
 ghost use Rattle.demangle_text.specs.Shape.{moved};
 ghost use Rattle.demangle_text.specs.Flags.{lies_aside, templ_by, ctor_by, grouped_by, kind_by, group_from};
 
-use crate::flags::{PLAIN, declared, declares, in_main, is_aside, is_grouped, plain};
+use crate::flags::{bare, bare_in_main, declared, declares, in_main, is_aside, is_grouped, plain};
 
 /// What a declarator declares.
 #[derive(Clone, Copy, Debug, PartialEq, Eq)]
@@ -72,7 +72,26 @@ impl Piece {
             own_end: to - from,
             group_start: 0,
             after_start: 0,
-            flags: PLAIN,
+            flags: bare_in_main(),
+        }
+    }
+
+    // A plain piece of its last own name, in the same text.
+    #[inline(always)]
+    pub(crate) fn own_name(self) -> Piece
+        requires ordered { self.own_start ≤ self.own_end }
+        requires fits { self.from_byte + self.own_end < 2 ^ 64 }
+        ensures home { lies_aside result.flags ≡ lies_aside self.flags }
+        ensures begins { result.from_byte ≡ self.from_byte + self.own_start }
+        ensures ends { result.to_byte ≡ self.from_byte + self.own_end }
+        ensures marks { marks_of result
+            ≡ whole_marks (self.from_byte + self.own_end - (self.from_byte + self.own_start)) }
+    {
+        let from = self.from_byte + self.own_start;
+        let to = self.from_byte + self.own_end;
+        Piece {
+            flags: bare(self.flags),
+            ..Piece::whole_at(from, to)
         }
     }
 

@@ -102,6 +102,28 @@ impl Text {
         Ok(())
     }
 
+    // Bytes at the end, and a part of the text once more after them.
+    pub(crate) fn add_with_part(
+        &mut self,
+        bytes: &[u8],
+        from: usize,
+        to: usize,
+    ) -> Result<(), AllocError>
+        requires ordered { from ≤ to }
+        requires within { to ≤ length self.old }
+        ensures ok { OnOk result (self.new ≡ self.old ++ (bytes.now ++ slice_range self.old from to)) }
+        ensures err { OnErr result (self.new ≡ self.old) }
+    {
+        let Some(n) = bytes.len().checked_add(to - from) else {
+            return Err(AllocError);
+        };
+        let end = self.len();
+        self.add_room(n)?;
+        let middle = self.put(end, bytes);
+        self.put_part(middle, from, to);
+        Ok(())
+    }
+
     // A part of the text once more at the end.
     pub(crate) fn repeat(&mut self, from: usize, to: usize) -> Result<(), AllocError>
         requires ordered { from ≤ to }
@@ -127,6 +149,29 @@ impl Text {
         self.bytes.copy_within(at..self.len, at + n);
         self.bytes[at..at + n].copy_from_slice(bytes);
         self.len += n;
+        Ok(())
+    }
+
+    // Three texts at a place, one after the other: what lies after it moves on.
+    pub(crate) fn insert_three(
+        &mut self,
+        at: usize,
+        front: &[u8],
+        bytes: &[u8],
+        back: &[u8],
+    ) -> Result<(), AllocError>
+        requires within { at ≤ length self.old }
+        ensures ok { OnOk result (self.new ≡ take at self.old
+            ++ ((front.now ++ (bytes.now ++ back.now)) ++ drop at self.old)) }
+        ensures err { OnErr result (self.new ≡ self.old) }
+    {
+        let Some(n) = (front.len() + back.len()).checked_add(bytes.len()) else {
+            return Err(AllocError);
+        };
+        self.open_room(at, n)?;
+        let first = self.put(at, front);
+        let second = self.put(first, bytes);
+        self.put(second, back);
         Ok(())
     }
 
