@@ -1,7 +1,7 @@
 //! What the readers share: the bytes that are left, the buffer with what was saved, and the piece that was found.
-ghost use Rattle.std.specs.Prelude.{◌≡◌, ◌<◌, ◌≤◌, ◌+◌, IfOk, OnOk, length, max, true};
+ghost use Rattle.std.specs.Prelude.{◌≡◌, ◌<◌, ◌≤◌, ◌+◌, IfOk, OnOk, [], length, max, true};
 ghost use Rattle.demangle_text.specs.Shape.{plain_shape};
-ghost use Rattle.demangle_text.specs.State.{IsLiving, Lives, shape, IsRun, SameFrame, saved, scopes};
+ghost use Rattle.demangle_text.specs.State.{IsLiving, Lives, shape, IsRun, SameFrame, saved, scopes, main_bytes};
 ghost use Rattle.demangle_edit.specs.Built.{separated};
 ghost use Rattle.itanium_syntax.specs.Types.{builtin_text, past_builtin};
 ghost use Rattle.itanium_grammar.specs.Tree.{abbreviation_shape};
@@ -40,6 +40,7 @@ impl<'a> Reader<'a> {
     /// A reader at the front of the bytes, over a buffer that is cleared.
     pub fn new(alloc: Global, buffer: Buffer, bytes: &'a [u8]) -> Result<Self, AllocError>
         ensures state { IfOk result (λ reader. state reader ≡ spec.begun bytes.entry.now) }
+        ensures main { IfOk result (λ reader. main_bytes reader.buffer ≡ []) }
     {
         let mut buffer = buffer;
         buffer.clear();
