@@ -33,24 +33,23 @@ pub fn qualify(buf: &mut Buffer, scope: Piece, leaf: Piece) -> Result<Piece, All
     Ok(buf.with_flags(named, templ, ctor))
 }
 
-/// A name in its scope, `scope::text`, as a plain piece whose last own name is the text, with no flag
-/// set: what `qualify` answers for a piece that was pushed with this text.
+/// A text in a scope, `scope::text`, as a plain piece whose last own name is the text, with no flag
+/// set.
 ///
 /// An error comes where memory is refused, and then only `clear` of the buffer is promised.
-#[tactic(auto, using(demangle_text::proofs::Laws::laws))]
 #[inline(always)]
+#[tactic(auto, using(demangle_text::proofs::Laws::laws))]
 pub fn qualify_text(buf: &mut Buffer, scope: Piece, text: &[u8]) -> Result<Piece, AllocError>
     requires scope { IsLiving buf.old scope }
     ensures shape { IfOk result (λ p. Lives buf.new p
         (qualified (shape buf.old scope) (plain_shape text.now))) }
     ensures edit { OnOk result (IsEdit buf.old buf.new) }
 {
+    let before = buf.len(scope);
     let plain = buf.plain(scope);
-    let opened = buf.append(plain, b"::")?;
-    let from = buf.len(opened);
-    let whole = buf.append(opened, text)?;
-    let to = buf.len(whole);
-    let named = buf.own_at(whole, from, to);
+    let whole = buf.append_pair(plain, b"::", text)?;
+    let end = buf.len(whole);
+    let named = buf.own_at(whole, before + 2, end);
     Ok(buf.with_flags(named, false, false))
 }
 
@@ -67,9 +66,9 @@ pub fn qualify_ctor(buf: &mut Buffer, scope: Piece, destructor: bool) -> Result<
     ensures edit { OnOk result (IsEdit buf.old buf.new) }
 {
     let before = buf.len(scope);
-    let name = buf.own(scope);
+    let name = buf.plain(scope);
     let between: &[u8] = if destructor { b"::~" } else { b"::" };
-    let whole = buf.join(scope, between, name)?;
+    let whole = buf.append_own(name, between)?;
     let len = buf.len(whole);
     let named = buf.own_at(whole, before + 2, len);
     Ok(buf.with_flags(named, false, true))

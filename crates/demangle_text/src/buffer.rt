@@ -336,8 +336,8 @@ impl Buffer {
         self.splice_copy(piece, at, b"", bytes, b"")
     }
 
-    // The text of a piece that doesn't stand at the end, with three texts at a place of it, at the end of the main text:
-    // where it begins.
+    // The text of a piece that doesn't stand at the end, with three texts at a place of it, at the end of the main
+    // text: where it begins.
     #[inline(never)]
     fn splice_copy(
         &mut self,
