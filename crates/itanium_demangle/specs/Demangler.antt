@@ -1,6 +1,8 @@
 -- What a demangler keeps between calls.
 use Rattle.std.specs.Prelude.{◌≡◌, ℕ, ◌++◌, Bool, true, List, [], map, Option, Some, None}
 use Rattle.std.specs.Str.{IsUtf8}
+use Rattle.std.specs.Prelude.{Box}
+use Rattle.std.specs.Global.{Global}
 use Rattle.demangle_text.specs.declared.buffer.Buffer.{Buffer}
 use Rattle.demangle_text.specs.Shape.{text}
 use Rattle.demangle_text.specs.State.{saved, main_bytes}
@@ -23,13 +25,13 @@ abbrev pub no_run : LastRun
 no_run = record { text = None; entered = 0; most_saved = 0; components = [] }
 
 -- the answer: all of the buffer's main text, where there is one
-abbrev pub answer_text : Bool → Option Buffer → Option (List ℕ)
-answer_text true (Some buffer) = Some (main_bytes buffer)
+abbrev pub answer_text : Bool → Option (Box Buffer Global) → Option (List ℕ)
+answer_text true (Some buffer) = Some (main_bytes buffer.value)
 answer_text answered buffer = None
 
 -- the texts of a buffer's components, where there is an answer
-abbrev pub component_texts : Bool → Option Buffer → List (List ℕ)
-component_texts true (Some buffer) = map text (saved buffer)
+abbrev pub component_texts : Bool → Option (Box Buffer Global) → List (List ℕ)
+component_texts true (Some buffer) = map text (saved buffer.value)
 component_texts answered buffer = []
 
 -- what the fields mean

@@ -29,7 +29,7 @@ pub struct Demangler {
     answered: bool,
     entered: usize,
     most_saved: usize,
-    buffer: Option<Buffer>,
+    buffer: Option<Box<Buffer>>,
 }
 
 impl Model for Demangler {
@@ -45,12 +45,12 @@ impl Model for Demangler {
 /// Makes the printing that was found, and all that follows from a dot after it, the main text of the buffer. False
 /// where the printing isn't UTF-8.
 fn end_answer(reader: &mut Reader, mark: Mark) -> Result<bool, AllocError>
-    requires innermost { frame reader.old.buffer ≡ inside mark }
+    requires innermost { frame reader.old.buffer.value ≡ inside mark }
     requires start { frame_start (inside mark) ≡ 0 }
-    requires living { IsLiving reader.old.buffer reader.old.found }
-    ensures answer { IfOk result (λ answered. IsPrinted (text (shape reader.old.buffer reader.old.found))
+    requires living { IsLiving reader.old.buffer.value reader.old.found }
+    ensures answer { IfOk result (λ answered. IsPrinted (text (shape reader.old.buffer.value reader.old.found))
         (spec.suffix reader.old.rest.now) (answer_text answered (Some reader.new.buffer))) }
-    ensures saved { OnOk result (saved reader.new.buffer ≡ saved reader.old.buffer) }
+    ensures saved { OnOk result (saved reader.new.buffer.value ≡ saved reader.old.buffer.value) }
     ensures entered { reader.new.entered ≡ reader.old.entered }
     ensures most_saved { reader.new.most_saved ≡ reader.old.most_saved }
 {
@@ -121,7 +121,7 @@ impl Demangler {
         };
         let buffer = match self.buffer.take() {
             Some(buffer) => buffer,
-            None => Buffer::new(alloc),
+            None => Box::new(alloc, Buffer::new(alloc))?,
         };
         let mut reader = Reader::new(alloc, buffer, inside)?;
         let mark = reader.buffer.open();

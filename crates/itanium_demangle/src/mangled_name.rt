@@ -20,7 +20,7 @@ pub(crate) fn read_mangled_name(
     ensures reads { Gives result reader.new (spec.parse_symbol depth context (state reader.old)) }
     // Of trees: a reading of the bytes, with which every other agrees, or none.
     ensures reading { ReadsAs result context depth reader.old reader.new }
-    ensures run { OnOk result (IsRun reader.old.buffer reader.new.buffer) }
+    ensures run { OnOk result (IsRun reader.old.buffer.value reader.new.buffer.value) }
     ensures bounds { Bounds 1 result (state reader.old) (state reader.new) }
     ensures saved { SavedBounds 1 result (state reader.old) (state reader.new) }
 {

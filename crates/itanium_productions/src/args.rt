@@ -23,7 +23,7 @@ pub(crate) fn read_args(
     requires room { HasRoom 1 (state reader.old) }
     requires some { 0 < length reader.old.rest.now }
     ensures reads { Gives result reader.new (spec.parse_args depth context of_name (state reader.old)) }
-    ensures run { OnOk result (IsRun reader.old.buffer reader.new.buffer) }
+    ensures run { OnOk result (IsRun reader.old.buffer.value reader.new.buffer.value) }
     ensures refused { depth ≡ 0 → reader.new.entered ≡ reader.old.entered }
     ensures bounds { Bounds 1 result (state reader.old) (state reader.new) }
     ensures saved { SavedBounds 2 result (state reader.old) (state reader.new) }
@@ -70,7 +70,7 @@ pub(crate) fn framed_args(
     requires room { HasRoom 1 (state reader.old) }
     requires some { 0 < length reader.old.rest.now }
     ensures reads { Gives result reader.new (spec.parse_args depth context of_name (state reader.old)) }
-    ensures kept { OnOk result (SameFrame reader.old.buffer reader.new.buffer) }
+    ensures kept { OnOk result (SameFrame reader.old.buffer.value reader.new.buffer.value) }
     ensures bounds { Bounds 1 result (state reader.old) (state reader.new) }
     ensures saved { SavedBounds 2 result (state reader.old) (state reader.new) }
 {
@@ -91,11 +91,11 @@ pub(crate) fn read_attached(
 ) -> Result<(), Stop>
     requires room { HasRoom 1 (state reader.old) }
     requires some { 0 < length reader.old.rest.now }
-    requires living { IsLiving reader.old.buffer reader.old.found }
+    requires living { IsLiving reader.old.buffer.value reader.old.found }
     ensures reads { Gives result reader.new
         (spec.attached_by (spec.parse_args depth context of_name)
-        (shape reader.old.buffer reader.old.found) (state reader.old)) }
-    ensures run { OnOk result (IsRun reader.old.buffer reader.new.buffer) }
+        (shape reader.old.buffer.value reader.old.found) (state reader.old)) }
+    ensures run { OnOk result (IsRun reader.old.buffer.value reader.new.buffer.value) }
     ensures bounds { Bounds 1 result (state reader.old) (state reader.new) }
     ensures saved { SavedBounds 2 result (state reader.old) (state reader.new) }
 {
@@ -113,7 +113,7 @@ pub(crate) fn read_pack(reader: &mut Reader, depth: usize, context: Context) -> 
     requires room { HasRoom 1 (state reader.old) }
     requires some { 0 < length reader.old.rest.now }
     ensures reads { Gives result reader.new (spec.parse_pack depth context (state reader.old)) }
-    ensures run { OnOk result (IsRun reader.old.buffer reader.new.buffer) }
+    ensures run { OnOk result (IsRun reader.old.buffer.value reader.new.buffer.value) }
     ensures refused { depth ≡ 0 → reader.new.entered ≡ reader.old.entered }
     ensures bounds { Bounds 1 result (state reader.old) (state reader.new) }
     ensures saved { SavedBounds 1 result (state reader.old) (state reader.new) }
@@ -155,7 +155,7 @@ pub(crate) fn read_expression_argument(
     requires some { 0 < length reader.old.rest.now }
     ensures reads { Gives result reader.new
         (spec.ended (spec.parse_expression depth context (spec.skip 1 (state reader.old)))) }
-    ensures run { OnOk result (IsRun reader.old.buffer reader.new.buffer) }
+    ensures run { OnOk result (IsRun reader.old.buffer.value reader.new.buffer.value) }
     ensures bounds { Bounds 0 result (state reader.old) (state reader.new) }
     ensures saved { SavedBounds 0 result (state reader.old) (state reader.new) }
 {
@@ -171,7 +171,7 @@ pub(crate) fn read_argument(reader: &mut Reader, depth: usize, context: Context)
     requires room { HasRoom 2 (state reader.old) }
     ensures reads { Gives result reader.new
         (spec.parse_argument depth context (state reader.old)) }
-    ensures run { OnOk result (IsRun reader.old.buffer reader.new.buffer) }
+    ensures run { OnOk result (IsRun reader.old.buffer.value reader.new.buffer.value) }
     ensures bounds { Bounds 0 result (state reader.old) (state reader.new) }
     ensures saved { SavedBounds 0 result (state reader.old) (state reader.new) }
 {
@@ -195,7 +195,7 @@ pub(crate) fn framed_argument(
     requires room { HasRoom 2 (state reader.old) }
     ensures reads { Gives result reader.new
         (spec.parse_argument depth context (state reader.old)) }
-    ensures kept { OnOk result (SameFrame reader.old.buffer reader.new.buffer) }
+    ensures kept { OnOk result (SameFrame reader.old.buffer.value reader.new.buffer.value) }
     ensures bounds { Bounds 0 result (state reader.old) (state reader.new) }
     ensures saved { SavedBounds 0 result (state reader.old) (state reader.new) }
 {

@@ -28,7 +28,7 @@ use itanium_syntax::names::{
 pub(crate) fn read_lambda(reader: &mut Reader, depth: usize, context: Context) -> Result<(), Stop>
     requires room { HasRoom 2 (state reader.old) }
     ensures reads { Gives result reader.new (spec.parse_lambda (spec.parse_type depth context) (state reader.old)) }
-    ensures run { OnOk result (IsRun reader.old.buffer reader.new.buffer) }
+    ensures run { OnOk result (IsRun reader.old.buffer.value reader.new.buffer.value) }
     ensures bounds { Bounds 0 result (state reader.old) (state reader.new) }
     ensures saved { SavedBounds 1 result (state reader.old) (state reader.new) }
 {
@@ -48,7 +48,7 @@ pub(crate) fn read_free_name(
     requires room { HasRoom 0 (state reader.old) }
     ensures reads { Gives result reader.new (spec.free_as (free_case reader.old.rest.now)
         (spec.parse_type depth context) (spec.parse_type depth (inside_lambda context)) (state reader.old)) }
-    ensures run { OnOk result (IsRun reader.old.buffer reader.new.buffer) }
+    ensures run { OnOk result (IsRun reader.old.buffer.value reader.new.buffer.value) }
     ensures bounds { Bounds 2 result (state reader.old) (state reader.new) }
     ensures saved { SavedBounds 1 result (state reader.old) (state reader.new) }
 {
@@ -88,7 +88,7 @@ pub(crate) fn framed_free_name(
     requires room { HasRoom 0 (state reader.old) }
     ensures reads { Gives result reader.new (spec.parse_free (spec.parse_type depth context)
         (spec.parse_type depth (inside_lambda context)) (state reader.old)) }
-    ensures kept { OnOk result (SameFrame reader.old.buffer reader.new.buffer) }
+    ensures kept { OnOk result (SameFrame reader.old.buffer.value reader.new.buffer.value) }
     ensures bounds { Bounds 2 result (state reader.old) (state reader.new) }
     ensures saved { SavedBounds 1 result (state reader.old) (state reader.new) }
 {
@@ -109,11 +109,11 @@ pub(crate) fn read_unqualified(
     scope: Option<Piece>,
 ) -> Result<(), Stop>
     requires room { HasRoom 0 (state reader.old) }
-    requires scope { IfSome scope (IsLiving reader.old.buffer) }
+    requires scope { IfSome scope (IsLiving reader.old.buffer.value) }
     ensures reads { Gives result reader.new
         (spec.parse_unqualified (spec.parse_type depth context) (spec.parse_type depth (inside_lambda context))
-        (option_map (shape reader.old.buffer) scope) (state reader.old)) }
-    ensures run { OnOk result (IsRun reader.old.buffer reader.new.buffer) }
+        (option_map (shape reader.old.buffer.value) scope) (state reader.old)) }
+    ensures run { OnOk result (IsRun reader.old.buffer.value reader.new.buffer.value) }
     ensures bounds { Bounds 2 result (state reader.old) (state reader.new) }
     ensures saved { SavedBounds 1 result (state reader.old) (state reader.new) }
 {
@@ -142,7 +142,7 @@ pub(crate) fn read_outer_name(
     ensures reads { Gives result reader.new
         (spec.parse_unqualified (spec.parse_type depth context) (spec.parse_type depth (inside_lambda context))
         None (state reader.old)) }
-    ensures run { OnOk result (IsRun reader.old.buffer reader.new.buffer) }
+    ensures run { OnOk result (IsRun reader.old.buffer.value reader.new.buffer.value) }
     ensures bounds { Bounds 2 result (state reader.old) (state reader.new) }
     ensures saved { SavedBounds 1 result (state reader.old) (state reader.new) }
 {
@@ -162,11 +162,11 @@ pub(crate) fn read_component(
     context: Context,
 ) -> Result<(), Stop>
     requires room { HasRoom 0 (state reader.old) }
-    requires living { IsLiving reader.old.buffer reader.old.found }
+    requires living { IsLiving reader.old.buffer.value reader.old.found }
     ensures reads { Gives result reader.new
         (spec.parse_unqualified (spec.parse_type depth context) (spec.parse_type depth (inside_lambda context))
-        (Some (shape reader.old.buffer reader.old.found)) (state reader.old)) }
-    ensures run { OnOk result (IsRun reader.old.buffer reader.new.buffer) }
+        (Some (shape reader.old.buffer.value reader.old.found)) (state reader.old)) }
+    ensures run { OnOk result (IsRun reader.old.buffer.value reader.new.buffer.value) }
     ensures bounds { Bounds 2 result (state reader.old) (state reader.new) }
     ensures saved { SavedBounds 1 result (state reader.old) (state reader.new) }
 {
@@ -184,9 +184,9 @@ pub(crate) fn read_first(reader: &mut Reader, depth: usize, context: Context) ->
     ensures reads { Gives result reader.new (spec.first_as (first_case reader.old.rest.now)
         (spec.parse_unqualified (spec.parse_type depth context)
         (spec.parse_type depth (inside_lambda context))) context (state reader.old)) }
-    ensures run { OnOk result (IsRun reader.old.buffer reader.new.buffer) }
+    ensures run { OnOk result (IsRun reader.old.buffer.value reader.new.buffer.value) }
     ensures first_saved { OnOk result (saves_first (first_case reader.old.rest.now) ≡ true
-        → 0 < length (saved reader.new.buffer)) }
+        → 0 < length (saved reader.new.buffer.value)) }
     ensures bounds { Bounds 2 result (state reader.old) (state reader.new) }
     ensures saved { SavedBounds 0 result (state reader.old) (state reader.new) }
 {
@@ -220,7 +220,7 @@ pub(crate) fn read_nested(
         (spec.parse_unqualified (spec.parse_type depth context)
         (spec.parse_type depth (inside_lambda context)))
         (spec.parse_args depth context true) context (state reader.old)) }
-    ensures run { OnOk result (IsRun reader.old.buffer reader.new.buffer) }
+    ensures run { OnOk result (IsRun reader.old.buffer.value reader.new.buffer.value) }
     ensures bounds { Bounds 1 result (state reader.old) (state reader.new) }
     ensures saved { SavedBounds 1 result (state reader.old) (state reader.new) }
 {
@@ -243,13 +243,13 @@ pub(crate) fn read_components(
     takes: bool,
 ) -> Result<(), Stop>
     requires room { HasRoom 1 (state reader.old) }
-    requires living { IsLiving reader.old.buffer reader.old.found }
-    requires saved { takes ≡ true → 0 < length (saved reader.old.buffer) }
+    requires living { IsLiving reader.old.buffer.value reader.old.found }
+    requires saved { takes ≡ true → 0 < length (saved reader.old.buffer.value) }
     ensures reads { Gives result reader.new
         (spec.parse_components (spec.parse_unqualified (spec.parse_type depth context)
         (spec.parse_type depth (inside_lambda context)))
-        (spec.parse_args depth context true) takes (shape reader.old.buffer reader.old.found) (state reader.old)) }
-    ensures run { OnOk result (IsRun reader.old.buffer reader.new.buffer) }
+        (spec.parse_args depth context true) takes (shape reader.old.buffer.value reader.old.found) (state reader.old)) }
+    ensures run { OnOk result (IsRun reader.old.buffer.value reader.new.buffer.value) }
     ensures bounds { Bounds 1 result (state reader.old) (state reader.new) }
     ensures saved { SavedBounds 1 result (state reader.old) (state reader.new) }
 {
@@ -286,11 +286,11 @@ pub(crate) fn read_attached_args(
     context: Context,
 ) -> Result<(), Stop>
     requires room { HasRoom 1 (state reader.old) }
-    requires living { IsLiving reader.old.buffer reader.old.found }
+    requires living { IsLiving reader.old.buffer.value reader.old.found }
     ensures reads { Gives result reader.new (spec.attached_as (attached_case reader.old.rest.now)
         (spec.parse_args depth context true)
-        (shape reader.old.buffer reader.old.found) (state reader.old)) }
-    ensures run { OnOk result (IsRun reader.old.buffer reader.new.buffer) }
+        (shape reader.old.buffer.value reader.old.found) (state reader.old)) }
+    ensures run { OnOk result (IsRun reader.old.buffer.value reader.new.buffer.value) }
     ensures bounds { OptionalBounds result (state reader.old) (state reader.new) }
     ensures saved { SavedBounds 0 result (state reader.old) (state reader.new) }
 {
@@ -314,7 +314,7 @@ pub(crate) fn read_unscoped(reader: &mut Reader, depth: usize, context: Context)
         (spec.parse_unqualified (spec.parse_type depth context)
         (spec.parse_type depth (inside_lambda context)))
         (spec.parse_args depth context true) (state reader.old)) }
-    ensures run { OnOk result (IsRun reader.old.buffer reader.new.buffer) }
+    ensures run { OnOk result (IsRun reader.old.buffer.value reader.new.buffer.value) }
     ensures bounds { Bounds 2 result (state reader.old) (state reader.new) }
     ensures saved { SavedBounds 1 result (state reader.old) (state reader.new) }
 {
@@ -350,7 +350,7 @@ pub(crate) fn read_bare_name(
 ) -> Result<Quals, Stop>
     requires room { HasRoom 1 (state reader.old) }
     ensures reads { GivesBareName result reader.new (spec.parse_bare_name depth context (state reader.old)) }
-    ensures run { OnOk result (IsRun reader.old.buffer reader.new.buffer) }
+    ensures run { OnOk result (IsRun reader.old.buffer.value reader.new.buffer.value) }
     ensures refused { depth ≡ 0 → reader.new.entered ≡ reader.old.entered }
     ensures bounds { Bounds 1 result (state reader.old) (state reader.new) }
     ensures saved { SavedBounds 1 result (state reader.old) (state reader.new) }
@@ -381,7 +381,7 @@ pub(crate) fn read_bare_name(
 pub(crate) fn read_name(reader: &mut Reader, depth: usize, context: Context) -> Result<(), Stop>
     requires room { HasRoom 1 (state reader.old) }
     ensures reads { Gives result reader.new (spec.parse_name depth context (state reader.old)) }
-    ensures run { OnOk result (IsRun reader.old.buffer reader.new.buffer) }
+    ensures run { OnOk result (IsRun reader.old.buffer.value reader.new.buffer.value) }
     ensures bounds { Bounds 1 result (state reader.old) (state reader.new) }
     ensures saved { SavedBounds 1 result (state reader.old) (state reader.new) }
 {
@@ -397,7 +397,7 @@ pub(crate) fn read_name(reader: &mut Reader, depth: usize, context: Context) -> 
 pub(crate) fn framed_name(reader: &mut Reader, depth: usize, context: Context) -> Result<(), Stop>
     requires room { HasRoom 1 (state reader.old) }
     ensures reads { Gives result reader.new (spec.parse_name depth context (state reader.old)) }
-    ensures kept { OnOk result (SameFrame reader.old.buffer reader.new.buffer) }
+    ensures kept { OnOk result (SameFrame reader.old.buffer.value reader.new.buffer.value) }
     ensures bounds { Bounds 1 result (state reader.old) (state reader.new) }
     ensures saved { SavedBounds 1 result (state reader.old) (state reader.new) }
 {

@@ -24,11 +24,11 @@ use std::alloc::AllocError;
 impl<'a> Reader<'a> {
     /// The string literal of an encoding.
     pub fn print_string_literal(&mut self, encoding: Piece) -> Result<(), AllocError>
-        requires living { IsLiving self.old.buffer encoding }
-        ensures shape { OnOk result (Lives self.new.buffer self.new.found
-            (appended (codes "::string literal") (shape self.old.buffer encoding))) }
+        requires living { IsLiving self.old.buffer.value encoding }
+        ensures shape { OnOk result (Lives self.new.buffer.value self.new.found
+            (appended (codes "::string literal") (shape self.old.buffer.value encoding))) }
         ensures state { OnOk result (state self.new ≡ state self.old) }
-        ensures edit { OnOk result (IsEdit self.old.buffer self.new.buffer) }
+        ensures edit { OnOk result (IsEdit self.old.buffer.value self.new.buffer.value) }
     {
         self.found = self.buffer.append(encoding, b"::string literal")?;
         Ok(())
@@ -36,12 +36,12 @@ impl<'a> Reader<'a> {
 
     /// The name in its scope, where there is one.
     pub fn enclose(&mut self, scope: Option<Piece>, name: Piece) -> Result<(), AllocError>
-        requires scope { IfSome scope (IsLiving self.old.buffer) }
-        requires name { IsLiving self.old.buffer name }
-        ensures shape { OnOk result (Lives self.new.buffer self.new.found
-            (spec.in_scope (option_map (shape self.old.buffer) scope) (shape self.old.buffer name))) }
+        requires scope { IfSome scope (IsLiving self.old.buffer.value) }
+        requires name { IsLiving self.old.buffer.value name }
+        ensures shape { OnOk result (Lives self.new.buffer.value self.new.found
+            (spec.in_scope (option_map (shape self.old.buffer.value) scope) (shape self.old.buffer.value name))) }
         ensures state { OnOk result (state self.new ≡ state self.old) }
-        ensures edit { OnOk result (IsEdit self.old.buffer self.new.buffer) }
+        ensures edit { OnOk result (IsEdit self.old.buffer.value self.new.buffer.value) }
     {
         self.found = match scope {
             None => name,
@@ -53,9 +53,9 @@ impl<'a> Reader<'a> {
     /// `<abi-tags> ::= (B <source-name>)*` after a name.
     #[tactic(auto, using(crate::proofs::Rules::tags))]
     pub fn read_tags(&mut self, name: Piece) -> Result<(), Stop>
-        requires living { IsLiving self.old.buffer name }
-        ensures reads { Gives result self.new (spec.parse_tags (shape self.old.buffer name) (state self.old)) }
-        ensures run { OnOk result (IsRun self.old.buffer self.new.buffer) }
+        requires living { IsLiving self.old.buffer.value name }
+        ensures reads { Gives result self.new (spec.parse_tags (shape self.old.buffer.value name) (state self.old)) }
+        ensures run { OnOk result (IsRun self.old.buffer.value self.new.buffer.value) }
         ensures bounds { OptionalBounds result (state self.old) (state self.new) }
         ensures saved { SavedBounds 0 result (state self.old) (state self.new) }
     {
@@ -84,7 +84,7 @@ impl<'a> Reader<'a> {
     #[inline(always)]
     pub fn read_source_name(&mut self) -> Result<(), Stop>
         ensures reads { Gives result self.new (spec.parse_source_in None (state self.old)) }
-        ensures kept { OnOk result (SameFrame self.old.buffer self.new.buffer) }
+        ensures kept { OnOk result (SameFrame self.old.buffer.value self.new.buffer.value) }
         ensures bounds { Bounds 2 result (state self.old) (state self.new) }
         ensures saved { SavedBounds 1 result (state self.old) (state self.new) }
     {
@@ -106,10 +106,10 @@ impl<'a> Reader<'a> {
     #[tactic(auto, using(crate::proofs::Rules::source_names))]
     #[inline(always)]
     pub fn read_source_component(&mut self) -> Result<(), Stop>
-        requires living { IsLiving self.old.buffer self.old.found }
+        requires living { IsLiving self.old.buffer.value self.old.found }
         ensures reads { Gives result self.new
-            (spec.parse_source_in (Some (shape self.old.buffer self.old.found)) (state self.old)) }
-        ensures run { OnOk result (IsRun self.old.buffer self.new.buffer) }
+            (spec.parse_source_in (Some (shape self.old.buffer.value self.old.found)) (state self.old)) }
+        ensures run { OnOk result (IsRun self.old.buffer.value self.new.buffer.value) }
         ensures bounds { Bounds 2 result (state self.old) (state self.new) }
         ensures saved { SavedBounds 1 result (state self.old) (state self.new) }
     {
@@ -133,7 +133,7 @@ impl<'a> Reader<'a> {
     #[inline(never)]
     fn framed_tagged_source(&mut self) -> Result<(), Stop>
         ensures reads { Gives result self.new (spec.parse_tagged_source (state self.old)) }
-        ensures kept { OnOk result (SameFrame self.old.buffer self.new.buffer) }
+        ensures kept { OnOk result (SameFrame self.old.buffer.value self.new.buffer.value) }
         ensures bounds { Bounds 2 result (state self.old) (state self.new) }
         ensures saved { SavedBounds 1 result (state self.old) (state self.new) }
     {
@@ -148,10 +148,10 @@ impl<'a> Reader<'a> {
     #[cold]
     #[inline(never)]
     fn read_tagged_component(&mut self) -> Result<(), Stop>
-        requires living { IsLiving self.old.buffer self.old.found }
+        requires living { IsLiving self.old.buffer.value self.old.found }
         ensures reads { Gives result self.new
-            (spec.parse_source_in (Some (shape self.old.buffer self.old.found)) (state self.old)) }
-        ensures run { OnOk result (IsRun self.old.buffer self.new.buffer) }
+            (spec.parse_source_in (Some (shape self.old.buffer.value self.old.found)) (state self.old)) }
+        ensures run { OnOk result (IsRun self.old.buffer.value self.new.buffer.value) }
         ensures bounds { Bounds 2 result (state self.old) (state self.new) }
         ensures saved { SavedBounds 1 result (state self.old) (state self.new) }
     {
@@ -163,10 +163,10 @@ impl<'a> Reader<'a> {
 
     /// A constructor or a destructor of the scope, and `<abi-tags>` after it.
     pub fn read_ctor_dtor(&mut self, destructor: bool, scope: Option<Piece>) -> Result<(), Stop>
-        requires scope { IfSome scope (IsLiving self.old.buffer) }
+        requires scope { IfSome scope (IsLiving self.old.buffer.value) }
         ensures reads { Gives result self.new
-            (spec.ctor_dtor_as destructor (option_map (shape self.old.buffer) scope) (state self.old)) }
-        ensures run { OnOk result (IsRun self.old.buffer self.new.buffer) }
+            (spec.ctor_dtor_as destructor (option_map (shape self.old.buffer.value) scope) (state self.old)) }
+        ensures run { OnOk result (IsRun self.old.buffer.value self.new.buffer.value) }
         ensures bounds { OptionalBounds result (spec.skip 2 (state self.old)) (state self.new) }
         ensures saved { SavedBounds 0 result (spec.skip 2 (state self.old)) (state self.new) }
     {
@@ -181,7 +181,7 @@ impl<'a> Reader<'a> {
     /// `<unnamed-type-name> ::= Ut [<nonnegative number>] _`, after its `Ut`.
     pub fn read_unnamed_type(&mut self) -> Result<(), Stop>
         ensures reads { Gives result self.new (spec.parse_unnamed_type (state self.old)) }
-        ensures run { OnOk result (IsRun self.old.buffer self.new.buffer) }
+        ensures run { OnOk result (IsRun self.old.buffer.value self.new.buffer.value) }
         ensures bounds { Bounds 2 result (state self.old) (state self.new) }
         ensures saved { SavedBounds 1 result (state self.old) (state self.new) }
     {
@@ -199,7 +199,7 @@ impl<'a> Reader<'a> {
     /// `<operator-name> ::= li <source-name>`, after its `li`.
     pub fn read_literal_operator(&mut self) -> Result<(), Stop>
         ensures reads { Gives result self.new (spec.parse_literal_operator (state self.old)) }
-        ensures run { OnOk result (IsRun self.old.buffer self.new.buffer) }
+        ensures run { OnOk result (IsRun self.old.buffer.value self.new.buffer.value) }
         ensures bounds { Bounds 2 result (state self.old) (state self.new) }
         ensures saved { SavedBounds 2 result (state self.old) (state self.new) }
     {
@@ -217,7 +217,7 @@ impl<'a> Reader<'a> {
     /// `<operator-name>`, a code of two letters.
     pub fn read_operator(&mut self) -> Result<(), Stop>
         ensures reads { Gives result self.new (spec.parse_operator (state self.old)) }
-        ensures run { OnOk result (IsRun self.old.buffer self.new.buffer) }
+        ensures run { OnOk result (IsRun self.old.buffer.value self.new.buffer.value) }
         ensures bounds { Bounds 2 result (state self.old) (state self.new) }
         ensures saved { SavedBounds 2 result (state self.old) (state self.new) }
     {
@@ -233,9 +233,9 @@ impl<'a> Reader<'a> {
 
     /// The end of a lambda's parameters, `E [<nonnegative number>] _`.
     pub fn end_lambda(&mut self, list: Piece) -> Result<(), Stop>
-        requires living { IsLiving self.old.buffer list }
-        ensures reads { Gives result self.new (spec.lambda_end (shape self.old.buffer list) (state self.old)) }
-        ensures run { OnOk result (IsRun self.old.buffer self.new.buffer) }
+        requires living { IsLiving self.old.buffer.value list }
+        ensures reads { Gives result self.new (spec.lambda_end (shape self.old.buffer.value list) (state self.old)) }
+        ensures run { OnOk result (IsRun self.old.buffer.value self.new.buffer.value) }
         ensures bounds { Bounds 2 result (state self.old) (state self.new) }
         ensures saved { SavedBounds 1 result (state self.old) (state self.new) }
     {
@@ -251,11 +251,11 @@ impl<'a> Reader<'a> {
     /// The own qualifiers of the name that was found, after it.
     #[inline(always)]
     pub fn print_quals(&mut self, quals: Quals, shown: bool) -> Result<(), AllocError>
-        requires living { IsLiving self.old.buffer self.old.found }
-        ensures shape { OnOk result (Lives self.new.buffer self.new.found
-            (with_name_qualifiers (shape self.old.buffer self.old.found) quals shown)) }
+        requires living { IsLiving self.old.buffer.value self.old.found }
+        ensures shape { OnOk result (Lives self.new.buffer.value self.new.found
+            (with_name_qualifiers (shape self.old.buffer.value self.old.found) quals shown)) }
         ensures state { OnOk result (state self.new ≡ state self.old) }
-        ensures run { OnOk result (IsRun self.old.buffer self.new.buffer) }
+        ensures run { OnOk result (IsRun self.old.buffer.value self.new.buffer.value) }
     {
         if quals.is_set() {
             self.found = apply_name_qualifiers(&mut self.buffer, self.found, quals, shown)?;
@@ -265,11 +265,11 @@ impl<'a> Reader<'a> {
 
     /// The conversion to the type that was found.
     pub fn convert_found(&mut self) -> Result<(), AllocError>
-        requires living { IsLiving self.old.buffer self.old.found }
-        ensures shape { OnOk result (Lives self.new.buffer self.new.found
-            (conversion_shape (shape self.old.buffer self.old.found))) }
+        requires living { IsLiving self.old.buffer.value self.old.found }
+        ensures shape { OnOk result (Lives self.new.buffer.value self.new.found
+            (conversion_shape (shape self.old.buffer.value self.old.found))) }
         ensures state { OnOk result (state self.new ≡ state self.old) }
-        ensures run { OnOk result (IsRun self.old.buffer self.new.buffer) }
+        ensures run { OnOk result (IsRun self.old.buffer.value self.new.buffer.value) }
     {
         let plain = self.buffer.plain(self.found);
         let named = self.buffer.insert(plain, Place::Start, b"operator ")?;

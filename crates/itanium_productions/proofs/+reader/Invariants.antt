@@ -74,17 +74,17 @@ decreases-names::read_nested l = 16 * l.depth + 10
 abbrev pub invariant-names::read_components-loop-reader : goal.invariant-names::read_components-loop-reader
 invariant-names::read_components-loop-reader l = record {
   reads : LoopSoFar (spec.parse_components (spec.parse_unqualified (spec.parse_type l.depth l.context) (spec.parse_type l.depth (inside_lambda l.context)))
-      (spec.parse_args l.depth l.context true) l.fn.takes (shape l.fn.reader.buffer l.fn.reader.found) (state l.fn.reader))
+      (spec.parse_args l.depth l.context true) l.fn.takes (shape l.fn.reader.buffer.value l.fn.reader.found) (state l.fn.reader))
       (spec.component_turn (spec.parse_unqualified (spec.parse_type l.depth l.context) (spec.parse_type l.depth (inside_lambda l.context))) (spec.parse_args l.depth l.context true))
-      (l.takes, shape l.reader.buffer l.reader.found) (state l.reader);
-  living : IsLiving l.reader.buffer l.reader.found;
-  run : IsRun l.fn.reader.buffer l.reader.buffer;
-  some_saved : l.takes ≡ true → 0 < length (saved l.reader.buffer);
+      (l.takes, shape l.reader.buffer.value l.reader.found) (state l.reader);
+  living : IsLiving l.reader.buffer.value l.reader.found;
+  run : IsRun l.fn.reader.buffer.value l.reader.buffer.value;
+  some_saved : l.takes ≡ true → 0 < length (saved l.reader.buffer.value);
   taken : length l.reader.rest.now ≤ length l.fn.reader.rest.now;
   counted : l.reader.entered + 2 * length l.reader.rest.now ≤ l.fn.reader.entered + 2 * length l.fn.reader.rest.now;
-  scopes_stand : length (scopes l.fn.reader.buffer) ≤ length (scopes l.reader.buffer);
-  list : length (saved l.reader.buffer) + length l.reader.rest.now ≤ length (saved l.fn.reader.buffer) + length l.fn.reader.rest.now;
-  most : l.reader.most_saved ≤ max l.fn.reader.most_saved (length (saved l.fn.reader.buffer) + length l.fn.reader.rest.now);
+  scopes_stand : length (scopes l.fn.reader.buffer.value) ≤ length (scopes l.reader.buffer.value);
+  list : length (saved l.reader.buffer.value) + length l.reader.rest.now ≤ length (saved l.fn.reader.buffer.value) + length l.fn.reader.rest.now;
+  most : l.reader.most_saved ≤ max l.fn.reader.most_saved (length (saved l.fn.reader.buffer.value) + length l.fn.reader.rest.now);
 }
 
 abbrev pub decreases-names::read_components-loop-reader : goal.decreases-names::read_components-loop-reader
@@ -95,16 +95,16 @@ invariant-args::read_args-loop-reader l = record {
   positive : 0 < l.depth;
   reads : ListSoFar (spec.parse_args l.depth l.context l.of_name (state l.fn.reader))
       (spec.list_turn (spec.put l.opens l.scopes) (spec.parse_argument (l.depth - 1) l.context))
-      (λ list. whole_shape (arguments_closed list)) (l.first, shape l.reader.buffer l.list) (state l.reader);
-  living : IsLiving l.reader.buffer l.list;
-  run : IsRun l.fn.reader.buffer l.reader.buffer;
-  scopes_stand : length (scopes l.fn.reader.buffer) ≤ l.scopes;
-  scopes_kept : l.scopes ≤ length (scopes l.reader.buffer);
+      (λ list. whole_shape (arguments_closed list)) (l.first, shape l.reader.buffer.value l.list) (state l.reader);
+  living : IsLiving l.reader.buffer.value l.list;
+  run : IsRun l.fn.reader.buffer.value l.reader.buffer.value;
+  scopes_stand : length (scopes l.fn.reader.buffer.value) ≤ l.scopes;
+  scopes_kept : l.scopes ≤ length (scopes l.reader.buffer.value);
   opened : l.opens ≡ true → 0 < l.scopes;
   taken : length l.reader.rest.now < length l.fn.reader.rest.now;
   counted : l.reader.entered + 2 * length l.reader.rest.now + 1 ≤ l.fn.reader.entered + 2 * length l.fn.reader.rest.now;
-  list : length (saved l.reader.buffer) + length l.reader.rest.now + 1 ≤ length (saved l.fn.reader.buffer) + length l.fn.reader.rest.now;
-  most : l.reader.most_saved + 1 ≤ max (l.fn.reader.most_saved + 1) (length (saved l.fn.reader.buffer) + length l.fn.reader.rest.now);
+  list : length (saved l.reader.buffer.value) + length l.reader.rest.now + 1 ≤ length (saved l.fn.reader.buffer.value) + length l.fn.reader.rest.now;
+  most : l.reader.most_saved + 1 ≤ max (l.fn.reader.most_saved + 1) (length (saved l.fn.reader.buffer.value) + length l.fn.reader.rest.now);
 }
 
 abbrev pub decreases-args::read_args-loop-reader : goal.decreases-args::read_args-loop-reader
@@ -127,14 +127,14 @@ decreases-types::read_cv l = 16 * l.depth + 5
 
 abbrev pub invariant-types::read_types-loop-list : goal.invariant-types::read_types-loop-list
 invariant-types::read_types-loop-list l = record {
-  reads : LoopSoFar (spec.parse_types (spec.parse_type l.depth l.context) (state l.fn.reader)) (spec.types_turn (spec.parse_type l.depth l.context)) (map (shape l.reader.buffer) l.list.items) (state l.reader);
-  living : All (IsLiving l.reader.buffer) l.list.items;
-  kept : SameFrame l.fn.reader.buffer l.reader.buffer;
-  scopes_stand : length (scopes l.fn.reader.buffer) ≤ length (scopes l.reader.buffer);
+  reads : LoopSoFar (spec.parse_types (spec.parse_type l.depth l.context) (state l.fn.reader)) (spec.types_turn (spec.parse_type l.depth l.context)) (map (shape l.reader.buffer.value) l.list.items) (state l.reader);
+  living : All (IsLiving l.reader.buffer.value) l.list.items;
+  kept : SameFrame l.fn.reader.buffer.value l.reader.buffer.value;
+  scopes_stand : length (scopes l.fn.reader.buffer.value) ≤ length (scopes l.reader.buffer.value);
   taken : length l.reader.rest.now ≤ length l.fn.reader.rest.now;
   counted : l.reader.entered + 2 * length l.reader.rest.now ≤ l.fn.reader.entered + 2 * length l.fn.reader.rest.now;
-  list : length (saved l.reader.buffer) + length l.reader.rest.now ≤ length (saved l.fn.reader.buffer) + length l.fn.reader.rest.now;
-  most : l.reader.most_saved ≤ max l.fn.reader.most_saved (length (saved l.fn.reader.buffer) + length l.fn.reader.rest.now);
+  list : length (saved l.reader.buffer.value) + length l.reader.rest.now ≤ length (saved l.fn.reader.buffer.value) + length l.fn.reader.rest.now;
+  most : l.reader.most_saved ≤ max l.fn.reader.most_saved (length (saved l.fn.reader.buffer.value) + length l.fn.reader.rest.now);
 }
 
 abbrev pub decreases-types::read_types-loop-list : goal.decreases-types::read_types-loop-list
@@ -208,14 +208,14 @@ invariant-args::read_pack-loop-reader l = record {
   positive : 0 < l.depth;
   reads : ListSoFar (spec.parse_pack l.depth l.fn.context (state l.fn.reader))
       (spec.list_turn spec.put_nowhere (spec.parse_argument (l.depth - 1) l.inside))
-      whole_shape (l.first, shape l.reader.buffer l.list) (state l.reader);
-  living : IsLiving l.reader.buffer l.list;
-  run : IsRun l.fn.reader.buffer l.reader.buffer;
-  scopes_stand : length (scopes l.fn.reader.buffer) ≤ length (scopes l.reader.buffer);
+      whole_shape (l.first, shape l.reader.buffer.value l.list) (state l.reader);
+  living : IsLiving l.reader.buffer.value l.list;
+  run : IsRun l.fn.reader.buffer.value l.reader.buffer.value;
+  scopes_stand : length (scopes l.fn.reader.buffer.value) ≤ length (scopes l.reader.buffer.value);
   taken : length l.reader.rest.now < length l.fn.reader.rest.now;
   counted : l.reader.entered + 2 * length l.reader.rest.now + 1 ≤ l.fn.reader.entered + 2 * length l.fn.reader.rest.now;
-  list : length (saved l.reader.buffer) + length l.reader.rest.now + 1 ≤ length (saved l.fn.reader.buffer) + length l.fn.reader.rest.now;
-  most : l.reader.most_saved ≤ max l.fn.reader.most_saved (length (saved l.fn.reader.buffer) + length l.fn.reader.rest.now);
+  list : length (saved l.reader.buffer.value) + length l.reader.rest.now + 1 ≤ length (saved l.fn.reader.buffer.value) + length l.fn.reader.rest.now;
+  most : l.reader.most_saved ≤ max l.fn.reader.most_saved (length (saved l.fn.reader.buffer.value) + length l.fn.reader.rest.now);
 }
 
 abbrev pub decreases-args::read_pack-loop-reader : goal.decreases-args::read_pack-loop-reader
@@ -223,15 +223,15 @@ decreases-args::read_pack-loop-reader l = length l.reader.rest.now
 
 abbrev pub invariant-types::read_typed-loop-list : goal.invariant-types::read_typed-loop-list
 invariant-types::read_typed-loop-list l = record {
-  reads : LoopSoFar (spec.parse_typed (spec.parse_type l.depth l.context) (shape l.fn.reader.buffer l.fn.list) (state l.fn.reader))
-      (spec.typed_turn (spec.parse_type l.depth l.context)) (l.first, shape l.reader.buffer l.list) (state l.reader);
-  living : IsLiving l.reader.buffer l.list;
-  run : IsRun l.fn.reader.buffer l.reader.buffer;
-  scopes_stand : length (scopes l.fn.reader.buffer) ≤ length (scopes l.reader.buffer);
+  reads : LoopSoFar (spec.parse_typed (spec.parse_type l.depth l.context) (shape l.fn.reader.buffer.value l.fn.list) (state l.fn.reader))
+      (spec.typed_turn (spec.parse_type l.depth l.context)) (l.first, shape l.reader.buffer.value l.list) (state l.reader);
+  living : IsLiving l.reader.buffer.value l.list;
+  run : IsRun l.fn.reader.buffer.value l.reader.buffer.value;
+  scopes_stand : length (scopes l.fn.reader.buffer.value) ≤ length (scopes l.reader.buffer.value);
   taken : length l.reader.rest.now ≤ length l.fn.reader.rest.now;
   counted : l.reader.entered + 2 * length l.reader.rest.now ≤ l.fn.reader.entered + 2 * length l.fn.reader.rest.now;
-  list : length (saved l.reader.buffer) + length l.reader.rest.now ≤ length (saved l.fn.reader.buffer) + length l.fn.reader.rest.now;
-  most : l.reader.most_saved ≤ max l.fn.reader.most_saved (length (saved l.fn.reader.buffer) + length l.fn.reader.rest.now);
+  list : length (saved l.reader.buffer.value) + length l.reader.rest.now ≤ length (saved l.fn.reader.buffer.value) + length l.fn.reader.rest.now;
+  most : l.reader.most_saved ≤ max l.fn.reader.most_saved (length (saved l.fn.reader.buffer.value) + length l.fn.reader.rest.now);
 }
 
 abbrev pub decreases-types::read_typed-loop-list : goal.decreases-types::read_typed-loop-list

@@ -12,7 +12,7 @@ pub returns-in-Err-Unread-clause-bounds : goal.returns-in-Err-Unread-clause-boun
 returns-in-Err-Unread-clause-bounds c =
     let inside = c.in-Some.inside.now in
     let prefix : after_prefix c.args.symbol.now ≡ Some inside = search rules in
-    let reader : Reader = record c.in_ok-reader.reader { buffer = c.open-mark.new.self } in
+    let reader : Reader = record c.in_ok-reader.reader { buffer = record c.in_ok-reader.reader.buffer { value = c.open-mark.new.self } } in
     let starts : state reader ≡ begun inside = opened_state c.in_ok-reader.reader c.open-mark.new.self c.open-mark.result c.open-mark.ensures.opens ∙ (c.in_ok-reader.ensures {u = tt}).state in
     let read = c.in-Err-Unread.ensures {u = tt} in
     let kept = c.keep.ensures in
@@ -23,7 +23,7 @@ pub keep-requires-2 : goal.keep-requires-2
 keep-requires-2 c =
     let inside = c.in-Some.inside.now in
     let prefix : after_prefix c.args.symbol.now ≡ Some inside = search rules in
-    let reader : Reader = record c.in_ok-reader.reader { buffer = c.open-mark.new.self } in
+    let reader : Reader = record c.in_ok-reader.reader { buffer = record c.in_ok-reader.reader.buffer { value = c.open-mark.new.self } } in
     let starts : state reader ≡ begun inside = opened_state c.in_ok-reader.reader c.open-mark.new.self c.open-mark.result c.open-mark.ensures.opens ∙ (c.in_ok-reader.ensures {u = tt}).state in
     let stands : StandsFor reader (start inside) = stands_at_start reader inside starts in
     let good = suffix_utf8 c.args.symbol.now inside _ _ _ _ c.utf8.symbol prefix ((c.in-Ok.ensures {u = tt}).reading.1 (start inside) stands) in
@@ -33,7 +33,7 @@ pub returns-clause-answer : goal.returns-clause-answer
 returns-clause-answer c =
     let inside = c.in-Some.inside.now in
     let prefix : after_prefix c.args.symbol.now ≡ Some inside = search rules in
-    let reader : Reader = record c.in_ok-reader.reader { buffer = c.open-mark.new.self } in
+    let reader : Reader = record c.in_ok-reader.reader { buffer = record c.in_ok-reader.reader.buffer { value = c.open-mark.new.self } } in
     let starts : state reader ≡ begun inside = opened_state c.in_ok-reader.reader c.open-mark.new.self c.open-mark.result c.open-mark.ensures.opens ∙ (c.in_ok-reader.ensures {u = tt}).state in
     let stands : StandsFor reader (start inside) = stands_at_start reader inside starts in
     let kept = c.keep-2.ensures in
@@ -44,7 +44,7 @@ pub returns-clause-counts : goal.returns-clause-counts
 returns-clause-counts c =
     let inside = c.in-Some.inside.now in
     let prefix : after_prefix c.args.symbol.now ≡ Some inside = search rules in
-    let reader : Reader = record c.in_ok-reader.reader { buffer = c.open-mark.new.self } in
+    let reader : Reader = record c.in_ok-reader.reader { buffer = record c.in_ok-reader.reader.buffer { value = c.open-mark.new.self } } in
     let starts : state reader ≡ begun inside = opened_state c.in_ok-reader.reader c.open-mark.new.self c.open-mark.result c.open-mark.ensures.opens ∙ (c.in_ok-reader.ensures {u = tt}).state in
     let stands : StandsFor reader (start inside) = stands_at_start reader inside starts in
     let kept = c.keep-2.ensures in
@@ -56,7 +56,7 @@ pub returns-clause-components : goal.returns-clause-components
 returns-clause-components c =
     let inside = c.in-Some.inside.now in
     let prefix : after_prefix c.args.symbol.now ≡ Some inside = search rules in
-    let reader : Reader = record c.in_ok-reader.reader { buffer = c.open-mark.new.self } in
+    let reader : Reader = record c.in_ok-reader.reader { buffer = record c.in_ok-reader.reader.buffer { value = c.open-mark.new.self } } in
     let starts : state reader ≡ begun inside = opened_state c.in_ok-reader.reader c.open-mark.new.self c.open-mark.result c.open-mark.ensures.opens ∙ (c.in_ok-reader.ensures {u = tt}).state in
     let stands : StandsFor reader (start inside) = stands_at_start reader inside starts in
     let kept = c.keep-2.ensures in
@@ -67,7 +67,7 @@ pub returns-clause-bounds : goal.returns-clause-bounds
 returns-clause-bounds c =
     let inside = c.in-Some.inside.now in
     let prefix : after_prefix c.args.symbol.now ≡ Some inside = search rules in
-    let reader : Reader = record c.in_ok-reader.reader { buffer = c.open-mark.new.self } in
+    let reader : Reader = record c.in_ok-reader.reader { buffer = record c.in_ok-reader.reader.buffer { value = c.open-mark.new.self } } in
     let starts : state reader ≡ begun inside = opened_state c.in_ok-reader.reader c.open-mark.new.self c.open-mark.result c.open-mark.ensures.opens ∙ (c.in_ok-reader.ensures {u = tt}).state in
     let read = c.in-Ok.ensures {u = tt} in
     let kept = c.keep-2.ensures in
