@@ -521,13 +521,13 @@ impl Buffer {
     {
         let at = piece.place(Place::Suffix);
         let front = group_front(&self.bytes(piece)[..at]);
-        let from = self.splice_group(piece, at, front, bytes, b")")?;
+        let from = self.splice_three(piece, at, front, bytes, b")")?;
         let n = front.len() + bytes.len() + 1;
         Ok(piece.with_group(at, n, bytes.len() + 2, from, self.main.len()))
     }
 
     // The text of a piece with three texts at a place of it, at the end of the main text: where it begins.
-    fn splice_group(
+    fn splice_three(
         &mut self,
         piece: Piece,
         at: usize,

@@ -1,6 +1,6 @@
 use Rattle.demangle_text.specs.State.{IsLiving}
 use Rattle.demangle_text.proofs.Tails.{IsSplice-inserted}
-use Rattle.demangle_text.proofs.buffer.Buffer.splice_group.Goals as goal
+use Rattle.demangle_text.proofs.buffer.Buffer.splice_three.Goals as goal
 
 pub returns-then-is_tail-clause-splice : goal.returns-then-is_tail-clause-splice
 unfolding IsLiving
