@@ -7,4 +7,6 @@ pub ruleset buffers = (laws, runs)
 
 pub ruleset readings = (buffers, reads_as)
 
-pub ruleset answers = (one_reading, no_prefix, not_read, stands_at_start, opened_state, laws)
+pub ruleset answers = (one_reading, no_prefix, not_read, stands_at_start, laws)
+
+pub ruleset opened = (opened_state)

@@ -1,5 +1,5 @@
 //! One value that answers symbol after symbol.
-ghost use Rattle.std.specs.Prelude.{◌≡◌, IfOk, OnOk, OnErr, IfSome, MatchResult, ⊤, option_map, is_some, slice_get, map, [], false, Some, None};
+ghost use Rattle.std.specs.Prelude.{◌≡◌, IfOk, OnOk, OnErr, IfSome, MatchResult, ⊤, option_map, is_some, slice_get, map, [], length, false, Some, None};
 ghost use Rattle.std.specs.Borrow.{sem};
 ghost use Rattle.std.specs.String.{string_bytes};
 ghost use Rattle.std.specs.Str.{IsUtf8};
@@ -7,6 +7,7 @@ ghost use Rattle.demangle_text.specs.State.{IsLiving, shape, saved, main_bytes, 
 ghost use Rattle.demangle_text.specs.Shape.{text};
 ghost use Rattle.itanium_grammar.specs.Answer.{IsAnswer, HasOneReading, HasCounts, HasComponents, HasBounds};
 ghost use Rattle.itanium_grammar.specs.Answer as spec;
+ghost use Rattle.itanium_reader.specs.Outcome.{state};
 ghost use Rattle.itanium_demangle.specs.Demangler.{IsPrinted, IsPrepared, IsText, answer_text, component_texts, no_run};
 
 use crate::mangled_name::read_mangled_name;
@@ -40,6 +41,16 @@ impl Model for Demangler {
     ghost view = { last_run };
 
     ghost invariant = { KeepsText };
+}
+
+/// Opens a mark at the end of the main text of a reader's buffer.
+#[tactic(auto, using(crate::proofs::Rules::opened))]
+fn open_mark(reader: &mut Reader) -> Mark
+    ensures state { state reader.new ≡ state reader.old }
+    ensures innermost { frame reader.new.buffer.value ≡ inside result }
+    ensures start { frame_start (inside result) ≡ length (main_bytes reader.old.buffer.value) }
+{
+    reader.buffer.open()
 }
 
 /// Makes the printing that was found, and all that follows from a dot after it, the main text of the buffer. False
@@ -124,7 +135,7 @@ impl Demangler {
             None => Box::new(alloc, Buffer::new(alloc))?,
         };
         let mut reader = Reader::new(alloc, buffer, inside)?;
-        let mark = reader.buffer.open();
+        let mark = open_mark(&mut reader);
         match read_mangled_name(&mut reader, MAX_DEPTH, OUTSIDE) {
             Ok(()) => {}
             Err(Stop::Unread) => {

@@ -5,15 +5,15 @@ use Rattle.itanium_reader.specs.declared.stop.Stop.TheVariants.{Unread}
 use Rattle.itanium_reader.specs.Parser.{begun}
 use Rattle.itanium_reader.specs.Outcome.{state}
 use Rattle.itanium_demangle.specs.Meaning.{StandsFor}
-use Rattle.itanium_demangle.proofs.Symbols.{suffix_utf8, printed, counted, kept_components, kept_text, read_within, unread_within, stands_at_start, opened_state}
+use Rattle.itanium_demangle.proofs.Symbols.{suffix_utf8, printed, counted, kept_components, kept_text, read_within, unread_within, stands_at_start}
 use Rattle.itanium_demangle.proofs.demangler.Demangler.prepare.Goals as goal
 
 pub returns-in-Err-Unread-clause-bounds : goal.returns-in-Err-Unread-clause-bounds
 returns-in-Err-Unread-clause-bounds c =
     let inside = c.in-Some.inside.now in
     let prefix : after_prefix c.args.symbol.now ≡ Some inside = search rules in
-    let reader : Reader = record c.in_ok-reader.reader { buffer = record c.in_ok-reader.reader.buffer { value = c.open-mark.new.self } } in
-    let starts : state reader ≡ begun inside = opened_state c.in_ok-reader.reader c.open-mark.new.self c.open-mark.result c.open-mark.ensures.opens ∙ (c.in_ok-reader.ensures {u = tt}).state in
+    let reader : Reader = c.open_mark-mark.new.reader in
+    let starts : state reader ≡ begun inside = c.open_mark-mark.ensures.state ∙ (c.in_ok-reader.ensures {u = tt}).state in
     let read = c.in-Err-Unread.ensures {u = tt} in
     let kept = c.keep.ensures in
     let is : c.in-Err-Unread.field-0 ≡ Unread = search rules in
@@ -23,8 +23,8 @@ pub keep-requires-2 : goal.keep-requires-2
 keep-requires-2 c =
     let inside = c.in-Some.inside.now in
     let prefix : after_prefix c.args.symbol.now ≡ Some inside = search rules in
-    let reader : Reader = record c.in_ok-reader.reader { buffer = record c.in_ok-reader.reader.buffer { value = c.open-mark.new.self } } in
-    let starts : state reader ≡ begun inside = opened_state c.in_ok-reader.reader c.open-mark.new.self c.open-mark.result c.open-mark.ensures.opens ∙ (c.in_ok-reader.ensures {u = tt}).state in
+    let reader : Reader = c.open_mark-mark.new.reader in
+    let starts : state reader ≡ begun inside = c.open_mark-mark.ensures.state ∙ (c.in_ok-reader.ensures {u = tt}).state in
     let stands : StandsFor reader (start inside) = stands_at_start reader inside starts in
     let good = suffix_utf8 c.args.symbol.now inside _ _ _ _ c.utf8.symbol prefix ((c.in-Ok.ensures {u = tt}).reading.1 (start inside) stands) in
     record { text = kept_text _ _ c.end_answer.new.reader.buffer c.in_ok-answered.answered (c.in_ok-answered.ensures {u = tt}).answer good }
@@ -33,8 +33,8 @@ pub returns-clause-answer : goal.returns-clause-answer
 returns-clause-answer c =
     let inside = c.in-Some.inside.now in
     let prefix : after_prefix c.args.symbol.now ≡ Some inside = search rules in
-    let reader : Reader = record c.in_ok-reader.reader { buffer = record c.in_ok-reader.reader.buffer { value = c.open-mark.new.self } } in
-    let starts : state reader ≡ begun inside = opened_state c.in_ok-reader.reader c.open-mark.new.self c.open-mark.result c.open-mark.ensures.opens ∙ (c.in_ok-reader.ensures {u = tt}).state in
+    let reader : Reader = c.open_mark-mark.new.reader in
+    let starts : state reader ≡ begun inside = c.open_mark-mark.ensures.state ∙ (c.in_ok-reader.ensures {u = tt}).state in
     let stands : StandsFor reader (start inside) = stands_at_start reader inside starts in
     let kept = c.keep-2.ensures in
     rw kept.text (printed c.args.symbol.now inside _ _ _ _ _ prefix ((c.in-Ok.ensures {u = tt}).reading.1 (start inside) stands) (c.in_ok-answered.ensures {u = tt}).answer)
@@ -44,8 +44,8 @@ pub returns-clause-counts : goal.returns-clause-counts
 returns-clause-counts c =
     let inside = c.in-Some.inside.now in
     let prefix : after_prefix c.args.symbol.now ≡ Some inside = search rules in
-    let reader : Reader = record c.in_ok-reader.reader { buffer = record c.in_ok-reader.reader.buffer { value = c.open-mark.new.self } } in
-    let starts : state reader ≡ begun inside = opened_state c.in_ok-reader.reader c.open-mark.new.self c.open-mark.result c.open-mark.ensures.opens ∙ (c.in_ok-reader.ensures {u = tt}).state in
+    let reader : Reader = c.open_mark-mark.new.reader in
+    let starts : state reader ≡ begun inside = c.open_mark-mark.ensures.state ∙ (c.in_ok-reader.ensures {u = tt}).state in
     let stands : StandsFor reader (start inside) = stands_at_start reader inside starts in
     let kept = c.keep-2.ensures in
     let ended = c.in_ok-answered.ensures {u = tt} in
@@ -56,8 +56,8 @@ pub returns-clause-components : goal.returns-clause-components
 returns-clause-components c =
     let inside = c.in-Some.inside.now in
     let prefix : after_prefix c.args.symbol.now ≡ Some inside = search rules in
-    let reader : Reader = record c.in_ok-reader.reader { buffer = record c.in_ok-reader.reader.buffer { value = c.open-mark.new.self } } in
-    let starts : state reader ≡ begun inside = opened_state c.in_ok-reader.reader c.open-mark.new.self c.open-mark.result c.open-mark.ensures.opens ∙ (c.in_ok-reader.ensures {u = tt}).state in
+    let reader : Reader = c.open_mark-mark.new.reader in
+    let starts : state reader ≡ begun inside = c.open_mark-mark.ensures.state ∙ (c.in_ok-reader.ensures {u = tt}).state in
     let stands : StandsFor reader (start inside) = stands_at_start reader inside starts in
     let kept = c.keep-2.ensures in
     let ended = c.in_ok-answered.ensures {u = tt} in
@@ -67,8 +67,8 @@ pub returns-clause-bounds : goal.returns-clause-bounds
 returns-clause-bounds c =
     let inside = c.in-Some.inside.now in
     let prefix : after_prefix c.args.symbol.now ≡ Some inside = search rules in
-    let reader : Reader = record c.in_ok-reader.reader { buffer = record c.in_ok-reader.reader.buffer { value = c.open-mark.new.self } } in
-    let starts : state reader ≡ begun inside = opened_state c.in_ok-reader.reader c.open-mark.new.self c.open-mark.result c.open-mark.ensures.opens ∙ (c.in_ok-reader.ensures {u = tt}).state in
+    let reader : Reader = c.open_mark-mark.new.reader in
+    let starts : state reader ≡ begun inside = c.open_mark-mark.ensures.state ∙ (c.in_ok-reader.ensures {u = tt}).state in
     let read = c.in-Ok.ensures {u = tt} in
     let kept = c.keep-2.ensures in
     let ended = c.in_ok-answered.ensures {u = tt} in
