@@ -1,6 +1,6 @@
--- What a piece keeps in one number. Its lowest bit says whether the text lies in the side text, the next ones whether
--- the shape ends in template arguments, whether it names a constructor, a destructor or a conversion, and whether it has
--- a group. What is left is 0 for a plain shape, 1 for an array and 2 for a function.
+-- What a piece keeps in one number. Its lowest bit says whether the text lies in the side text. The next ones say
+-- whether the shape ends in template arguments, whether it names a constructor, a destructor or a conversion, and
+-- whether it has a group. What is left is 0 for a plain shape, 1 for an array and 2 for a function.
 use Rattle.std.specs.Prelude.{ℕ, zero, suc, ◌/◌, ◌%◌, Bool, true, false, nat_eq, Option, Some, None}
 use Rattle.demangle_text.specs.declared.shape.Kind.{Kind}
 use Rattle.demangle_text.specs.declared.shape.Kind.TheVariants.{Array, Function}

@@ -248,7 +248,8 @@ pub(crate) fn read_components(
     ensures reads { Gives result reader.new
         (spec.parse_components (spec.parse_unqualified (spec.parse_type depth context)
         (spec.parse_type depth (inside_lambda context)))
-        (spec.parse_args depth context true) takes (shape reader.old.buffer.value reader.old.found) (state reader.old)) }
+        (spec.parse_args depth context true) takes
+        (shape reader.old.buffer.value reader.old.found) (state reader.old)) }
     ensures run { OnOk result (IsRun reader.old.buffer.value reader.new.buffer.value) }
     ensures bounds { Bounds 1 result (state reader.old) (state reader.new) }
     ensures saved { SavedBounds 1 result (state reader.old) (state reader.new) }

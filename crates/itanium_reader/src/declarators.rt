@@ -82,7 +82,8 @@ impl<'a> Reader<'a> {
         requires class { IsLiving self.old.buffer.value class }
         requires living { IsLiving self.old.buffer.value self.old.found }
         ensures reads { Gives result self.new
-            (spec.saved_member (shape self.old.buffer.value class) (shape self.old.buffer.value self.old.found) (state self.old)) }
+            (spec.saved_member (shape self.old.buffer.value class)
+            (shape self.old.buffer.value self.old.found) (state self.old)) }
         ensures run { OnOk result (IsRun self.old.buffer.value self.new.buffer.value) }
         ensures bounds { OptionalBounds result (state self.old) (state self.new) }
         ensures one { SavesOne result (state self.old) (state self.new) }

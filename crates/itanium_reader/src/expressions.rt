@@ -123,7 +123,8 @@ impl<'a> Reader<'a> {
         requires then { IsLiving self.old.buffer.value then }
         requires living { IsLiving self.old.buffer.value self.old.found }
         ensures shape { OnOk result (Lives self.new.buffer.value self.new.found (conditional_shape
-            (shape self.old.buffer.value condition) (shape self.old.buffer.value then) (shape self.old.buffer.value self.old.found))) }
+            (shape self.old.buffer.value condition) (shape self.old.buffer.value then)
+            (shape self.old.buffer.value self.old.found))) }
         ensures state { OnOk result (state self.new ≡ state self.old) }
         ensures run { OnOk result (IsRun self.old.buffer.value self.new.buffer.value) }
     {

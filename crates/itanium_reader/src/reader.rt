@@ -97,7 +97,8 @@ impl<'a> Reader<'a> {
     /// Saves what was found.
     pub fn save_found(&mut self) -> Result<(), AllocError>
         requires living { IsLiving self.old.buffer.value self.old.found }
-        ensures shape { OnOk result (Lives self.new.buffer.value self.new.found (shape self.old.buffer.value self.old.found)) }
+        ensures shape { OnOk result (Lives self.new.buffer.value self.new.found
+            (shape self.old.buffer.value self.old.found)) }
         ensures state { OnOk result (state self.new ≡ spec.save
             (shape self.old.buffer.value self.old.found) (state self.old)) }
         ensures longer { OnOk result (length (saved self.new.buffer.value) ≡ length (saved self.old.buffer.value) + 1) }
@@ -235,7 +236,8 @@ impl<'a> Reader<'a> {
     #[inline(always)]
     pub fn separate_list(&mut self, list: Piece, first: bool) -> Result<Piece, AllocError>
         requires living { IsLiving self.old.buffer.value list }
-        ensures shape { IfOk result (λ p. Lives self.new.buffer.value p (separated first (shape self.old.buffer.value list))) }
+        ensures shape { IfOk result (λ p. Lives self.new.buffer.value p
+            (separated first (shape self.old.buffer.value list))) }
         ensures state { OnOk result (state self.new ≡ state self.old) }
         ensures run { OnOk result (IsRun self.old.buffer.value self.new.buffer.value) }
     {

@@ -102,7 +102,8 @@ impl<'a> Reader<'a> {
         requires words { IsLiving self.old.buffer.value words }
         requires living { IsLiving self.old.buffer.value self.old.found }
         ensures shape { OnOk result (Lives self.new.buffer.value self.new.found
-            (worded_shape (text (shape self.old.buffer.value words)) (shape self.old.buffer.value self.old.found) close.now)) }
+            (worded_shape (text (shape self.old.buffer.value words))
+            (shape self.old.buffer.value self.old.found) close.now)) }
         ensures state { OnOk result (state self.new ≡ state self.old) }
         ensures run { OnOk result (IsRun self.old.buffer.value self.new.buffer.value) }
     {
