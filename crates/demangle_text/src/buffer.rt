@@ -622,7 +622,7 @@ impl Buffer {
     }
 
     // Both texts with bytes between them, at the end of the main text: where they begin there.
-    #[inline(never)]
+    #[inline(always)]
     fn join_texts(&mut self, first: Piece, bytes: &[u8], second: Piece) -> Result<usize, AllocError>
         requires first_living { IsLiving self.old first }
         requires second_living { IsLiving self.old second }
@@ -635,6 +635,20 @@ impl Buffer {
             self.insert_at(second.from_byte, bytes)?;
             return Ok(first.from_byte);
         }
+        self.join_elsewhere(first, bytes, second)
+    }
+
+    // The same of texts that aren't adjacent at the end.
+    #[inline(never)]
+    fn join_elsewhere(&mut self, first: Piece, bytes: &[u8], second: Piece) -> Result<usize, AllocError>
+        requires first_living { IsLiving self.old first }
+        requires second_living { IsLiving self.old second }
+        requires apart { IsAdjacent self.old first second → ⊥ }
+        ensures joint { IfOk result (IsJoint self.old self.new first bytes.now second) }
+        ensures edit { OnOk result (IsEdit self.old self.new) }
+        ensures err { OnErr result (KeepsAll self.old self.new) }
+        ensures main_err { OnErr result (self.new.main_text ≡ self.old.main_text) }
+    {
         if self.is_tail(second) && first.ends_by(second.from_byte) {
             self.join_within(second.from_byte, first, bytes)?;
             return Ok(second.from_byte);

@@ -69,7 +69,12 @@ fn end_answer(reader: &mut Reader, mark: Mark) -> Result<bool, AllocError>
         return Ok(false);
     }
     let printed = reader.buffer.plain(reader.found);
-    let whole = reader.buffer.append(printed, suffix(reader.rest))?;
+    let rest = suffix(reader.rest);
+    if rest.is_empty() {
+        reader.buffer.close(mark, printed)?;
+        return Ok(true);
+    }
+    let whole = reader.buffer.append(printed, rest)?;
     reader.buffer.close(mark, whole)?;
     Ok(true)
 }
