@@ -32,6 +32,32 @@ const ALL_QUALS: Quals = Quals {
 
 #[test]
 #[tactic(auto, using(demangle_text::proofs::Laws::laws))]
+fn a_name_grows_in_the_main_text(rt: HostRuntime) {
+    let mut buf = Buffer::new(rt.alloc());
+    let scope = push(&rt, &mut buf, b"A");
+    let leaf = push(&rt, &mut buf, b"B");
+    let name = qualify(&mut buf, scope, leaf).expect(&rt, "no memory");
+    assert_eq!(&rt; buf.main_bytes(), b"A::B".as_slice());
+    let pointer = wrap_pointer(&mut buf, name, Pointer::Star).expect(&rt, "no memory");
+    assert_eq!(&rt; buf.main_bytes(), b"A::B*".as_slice());
+    address(&mut buf, pointer).expect(&rt, "no memory");
+    assert_eq!(&rt; buf.main_bytes(), b"&A::B*".as_slice());
+    drop(buf);
+}
+
+#[test]
+#[tactic(auto, using(demangle_text::proofs::Laws::laws))]
+fn arguments_grow_in_the_main_text(rt: HostRuntime) {
+    let mut buf = Buffer::new(rt.alloc());
+    let name = push(&rt, &mut buf, b"v");
+    let args = push(&rt, &mut buf, b"<int>");
+    attach_template_args(&mut buf, name, args).expect(&rt, "no memory");
+    assert_eq!(&rt; buf.main_bytes(), b"v<int>".as_slice());
+    drop(buf);
+}
+
+#[test]
+#[tactic(auto, using(demangle_text::proofs::Laws::laws))]
 fn qualified_name(rt: HostRuntime) {
     let mut buf = Buffer::new(rt.alloc());
     let scope = push(&rt, &mut buf, b"Foo");
