@@ -23,8 +23,7 @@ pub use crate::lists::{
     open_params, separate,
 };
 pub use crate::names::{
-    apply_name_qualifiers, attach_template_args, format_params, qualify, qualify_ctor,
-    qualify_text, tag,
+    apply_name_qualifiers, attach_template_args, format_params, qualify, qualify_ctor, tag,
 };
 pub use crate::parts::Glue;
 pub use crate::types::{

@@ -16,7 +16,6 @@
 #![tactic(auto)]
 
 mod buffer;
-mod flags;
 mod lanes;
 mod moves;
 mod parts;

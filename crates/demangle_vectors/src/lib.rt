@@ -12,8 +12,6 @@ mod declarators;
 #[cfg(test)]
 mod expressions;
 #[cfg(test)]
-mod lent;
-#[cfg(test)]
 mod local_names;
 #[cfg(test)]
 mod names;
