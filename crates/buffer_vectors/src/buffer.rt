@@ -303,3 +303,261 @@ fn argument_of_the_outer_scope(rt: HostRuntime) {
     assert!(rt; buf.scopes() == 1);
     drop(buf);
 }
+
+#[test]
+#[tactic(auto, using(demangle_text::proofs::Laws::laws, demangle_text::proofs::Laws::runs))]
+fn second_text_is_joined_where_it_stands(rt: HostRuntime) {
+    let mut buf = Buffer::new(rt.alloc());
+    let scope = buf.push(b"A").expect(&rt, "no memory");
+    buf.push(b"xy").expect(&rt, "no memory");
+    let leaf = buf.push(b"B<int>").expect(&rt, "no memory");
+    let named = buf.own_at(leaf, 0, 1);
+    let word = buf.own(named);
+    buf.save(word).expect(&rt, "no memory");
+    let inner = buf.own_at(leaf, 2, 5);
+    let argument = buf.own(inner);
+    buf.save(argument).expect(&rt, "no memory");
+    let joined = buf.join(scope, b"::", leaf).expect(&rt, "no memory");
+    assert_text(&rt, &buf, joined, b"A::B<int>");
+    assert_own(&rt, &buf, joined, 0, 9);
+    assert_main(&rt, &buf, b"AxyA::B<int>");
+    assert_saved(&rt, &buf, 0, b"B");
+    assert_saved(&rt, &buf, 1, b"int");
+    drop(buf);
+}
+
+#[test]
+#[tactic(auto, using(demangle_text::proofs::Laws::laws, demangle_text::proofs::Laws::runs))]
+fn kept_texts_around_a_join(rt: HostRuntime) {
+    let mut buf = Buffer::new(rt.alloc());
+    let text = buf.push(b"A::B").expect(&rt, "no memory");
+    buf.save(text).expect(&rt, "no memory");
+    let front = buf.own_at(text, 0, 1);
+    let scope = buf.own(front);
+    buf.save(scope).expect(&rt, "no memory");
+    let back = buf.own_at(text, 3, 4);
+    let leaf = buf.own(back);
+    buf.open_scope().expect(&rt, "no memory");
+    buf.push_arg(leaf).expect(&rt, "no memory");
+    let joined = buf.join(scope, b".", leaf).expect(&rt, "no memory");
+    assert_text(&rt, &buf, joined, b"A.B");
+    assert_main(&rt, &buf, b"A::A.B");
+    assert_saved(&rt, &buf, 0, b"A::B");
+    assert_saved(&rt, &buf, 1, b"A");
+    assert_arg(&rt, &buf, 0, b"B");
+    drop(buf);
+}
+
+#[test]
+#[tactic(auto, using(demangle_text::proofs::Laws::laws, demangle_text::proofs::Laws::runs))]
+fn first_text_that_holds_the_second_is_copied(rt: HostRuntime) {
+    let mut buf = Buffer::new(rt.alloc());
+    let text = buf.push(b"A::B").expect(&rt, "no memory");
+    buf.save(text).expect(&rt, "no memory");
+    let back = buf.own_at(text, 3, 4);
+    let leaf = buf.own(back);
+    let joined = buf.join(text, b"/", leaf).expect(&rt, "no memory");
+    assert_text(&rt, &buf, joined, b"A::B/B");
+    assert_main(&rt, &buf, b"A::BA::B/B");
+    assert_saved(&rt, &buf, 0, b"A::B");
+    drop(buf);
+}
+
+#[test]
+#[tactic(auto, using(demangle_text::proofs::Laws::laws, demangle_text::proofs::Laws::runs))]
+fn text_set_aside_is_joined_before_another(rt: HostRuntime) {
+    let mut buf = Buffer::new(rt.alloc());
+    let mark = buf.open();
+    let first = buf.push(b"C").expect(&rt, "no memory");
+    let second = buf.push(b"D").expect(&rt, "no memory");
+    buf.save(first).expect(&rt, "no memory");
+    buf.close(mark, second).expect(&rt, "no memory");
+    let leaf = buf.push(b"E").expect(&rt, "no memory");
+    let saved = buf.saved(0).expect(&rt, "nothing is saved");
+    let joined = buf.join(saved, b"::", leaf).expect(&rt, "no memory");
+    assert_text(&rt, &buf, joined, b"C::E");
+    assert_main(&rt, &buf, b"DC::E");
+    assert_saved(&rt, &buf, 0, b"C");
+    drop(buf);
+}
+
+#[test]
+#[tactic(auto, using(demangle_text::proofs::Laws::laws, demangle_text::proofs::Laws::runs))]
+fn text_before_a_mark_is_joined_before_another(rt: HostRuntime) {
+    let mut buf = Buffer::new(rt.alloc());
+    let older = buf.push(b"A").expect(&rt, "no memory");
+    let mark = buf.open();
+    let leaf = buf.push(b"B").expect(&rt, "no memory");
+    let joined = buf.join(older, b"::", leaf).expect(&rt, "no memory");
+    assert_text(&rt, &buf, joined, b"A::B");
+    assert_main(&rt, &buf, b"AA::B");
+    let answer = buf.close(mark, joined).expect(&rt, "no memory");
+    assert_text(&rt, &buf, answer, b"A::B");
+    assert_text(&rt, &buf, older, b"A");
+    drop(buf);
+}
+
+#[test]
+#[tactic(auto, using(demangle_text::proofs::Laws::laws, demangle_text::proofs::Laws::runs))]
+fn two_texts_after_a_name(rt: HostRuntime) {
+    let mut buf = Buffer::new(rt.alloc());
+    let name = buf.push(b"A").expect(&rt, "no memory");
+    buf.save(name).expect(&rt, "no memory");
+    let scoped = buf
+        .append_pair(name, b"::", b"value")
+        .expect(&rt, "no memory");
+    assert_text(&rt, &buf, scoped, b"A::value");
+    assert_own(&rt, &buf, scoped, 0, 1);
+    assert_main(&rt, &buf, b"A::value");
+    assert_saved(&rt, &buf, 0, b"A");
+    drop(buf);
+}
+
+#[test]
+#[tactic(auto, using(demangle_text::proofs::Laws::laws, demangle_text::proofs::Laws::runs))]
+fn two_texts_after_a_function(rt: HostRuntime) {
+    let mut buf = Buffer::new(rt.alloc());
+    let text = buf.push(b"int ()").expect(&rt, "no memory");
+    let function = buf.declare(text, Kind::Function, 4);
+    let worded = buf
+        .append_pair(function, b" const", b" &")
+        .expect(&rt, "no memory");
+    assert_function(&rt, &buf, worded, b"int () const &", false);
+    assert_own(&rt, &buf, worded, 0, 14);
+    assert_after(&rt, &buf, worded, 4);
+    drop(buf);
+}
+
+#[test]
+#[tactic(auto, using(demangle_text::proofs::Laws::laws, demangle_text::proofs::Laws::runs))]
+fn two_texts_after_a_text_before_a_mark(rt: HostRuntime) {
+    let mut buf = Buffer::new(rt.alloc());
+    let older = buf.push(b"A").expect(&rt, "no memory");
+    let mark = buf.open();
+    let scoped = buf.append_pair(older, b"::", b"B").expect(&rt, "no memory");
+    assert_main(&rt, &buf, b"AA::B");
+    let answer = buf.close(mark, scoped).expect(&rt, "no memory");
+    assert_text(&rt, &buf, answer, b"A::B");
+    assert_text(&rt, &buf, older, b"A");
+    drop(buf);
+}
+
+#[test]
+#[tactic(auto, using(demangle_text::proofs::Laws::laws, demangle_text::proofs::Laws::runs))]
+fn own_name_after_its_text(rt: HostRuntime) {
+    let mut buf = Buffer::new(rt.alloc());
+    let text = buf
+        .push(b"std::basic_string_literal<char>")
+        .expect(&rt, "no memory");
+    let class = buf.own_at(text, 5, 25);
+    let word = buf.own(class);
+    buf.save(word).expect(&rt, "no memory");
+    let destructor = buf.append_own(class, b"::~").expect(&rt, "no memory");
+    assert_text(
+        &rt,
+        &buf,
+        destructor,
+        b"std::basic_string_literal<char>::~basic_string_literal",
+    );
+    assert_own(&rt, &buf, destructor, 5, 25);
+    assert_main(
+        &rt,
+        &buf,
+        b"std::basic_string_literal<char>::~basic_string_literal",
+    );
+    assert_saved(&rt, &buf, 0, b"basic_string_literal");
+    drop(buf);
+}
+
+#[test]
+#[tactic(auto, using(demangle_text::proofs::Laws::laws, demangle_text::proofs::Laws::runs))]
+fn own_name_with_nothing_between(rt: HostRuntime) {
+    let mut buf = Buffer::new(rt.alloc());
+    let text = buf.push(b"A::Foo").expect(&rt, "no memory");
+    let class = buf.own_at(text, 3, 6);
+    let twice = buf.append_own(class, b"").expect(&rt, "no memory");
+    assert_text(&rt, &buf, twice, b"A::FooFoo");
+    assert_own(&rt, &buf, twice, 3, 6);
+    drop(buf);
+}
+
+#[test]
+#[tactic(auto, using(demangle_text::proofs::Laws::laws, demangle_text::proofs::Laws::runs))]
+fn own_name_of_a_text_before_a_mark(rt: HostRuntime) {
+    let mut buf = Buffer::new(rt.alloc());
+    let text = buf.push(b"A::Foo").expect(&rt, "no memory");
+    let class = buf.own_at(text, 3, 6);
+    let mark = buf.open();
+    buf.push(b"zz").expect(&rt, "no memory");
+    let constructor = buf.append_own(class, b"::").expect(&rt, "no memory");
+    assert_text(&rt, &buf, constructor, b"A::Foo::Foo");
+    assert_main(&rt, &buf, b"A::FoozzA::Foo::Foo");
+    let answer = buf.close(mark, constructor).expect(&rt, "no memory");
+    assert_text(&rt, &buf, answer, b"A::Foo::Foo");
+    assert_text(&rt, &buf, class, b"A::Foo");
+    drop(buf);
+}
+
+#[test]
+#[tactic(auto, using(demangle_text::proofs::Laws::laws, demangle_text::proofs::Laws::runs))]
+fn own_name_of_a_text_set_aside(rt: HostRuntime) {
+    let mut buf = Buffer::new(rt.alloc());
+    let mark = buf.open();
+    let text = buf.push(b"A::Foo").expect(&rt, "no memory");
+    let class = buf.own_at(text, 3, 6);
+    let last = buf.push(b"D").expect(&rt, "no memory");
+    buf.save(class).expect(&rt, "no memory");
+    buf.close(mark, last).expect(&rt, "no memory");
+    let saved = buf.saved(0).expect(&rt, "nothing is saved");
+    let constructor = buf.append_own(saved, b"::").expect(&rt, "no memory");
+    assert_text(&rt, &buf, constructor, b"A::Foo::Foo");
+    assert_main(&rt, &buf, b"DA::Foo::Foo");
+    assert_saved(&rt, &buf, 0, b"A::Foo");
+    drop(buf);
+}
+
+#[test]
+#[tactic(auto, using(demangle_text::proofs::Laws::laws, demangle_text::proofs::Laws::runs))]
+fn argument_after_a_group(rt: HostRuntime) {
+    let mut buf = Buffer::new(rt.alloc());
+    let text = buf.push(b"int (char)").expect(&rt, "no memory");
+    let inner = buf.own_at(text, 5, 9);
+    let word = buf.own(inner);
+    buf.open_scope().expect(&rt, "no memory");
+    buf.push_arg(word).expect(&rt, "no memory");
+    let function = buf.declare(text, Kind::Function, 4);
+    let pointer = buf.open_group(function, b"A::*").expect(&rt, "no memory");
+    assert_function(&rt, &buf, pointer, b"int (A::*)(char)", true);
+    assert_after(&rt, &buf, pointer, 10);
+    assert_arg(&rt, &buf, 0, b"char");
+    drop(buf);
+}
+
+#[test]
+#[tactic(auto, using(demangle_text::proofs::Laws::laws, demangle_text::proofs::Laws::runs))]
+fn group_of_a_function_before_a_mark(rt: HostRuntime) {
+    let mut buf = Buffer::new(rt.alloc());
+    let text = buf.push(b"int()").expect(&rt, "no memory");
+    let function = buf.declare(text, Kind::Function, 3);
+    let mark = buf.open();
+    let pointer = buf.open_group(function, b"*").expect(&rt, "no memory");
+    assert_function(&rt, &buf, pointer, b"int (*)()", true);
+    assert_main(&rt, &buf, b"int()int (*)()");
+    let answer = buf.close(mark, pointer).expect(&rt, "no memory");
+    assert_function(&rt, &buf, answer, b"int (*)()", true);
+    assert_function(&rt, &buf, function, b"int()", false);
+    drop(buf);
+}
+
+#[test]
+#[tactic(auto, using(demangle_text::proofs::Laws::laws, demangle_text::proofs::Laws::runs))]
+fn text_before_a_mark_is_what_closes_it(rt: HostRuntime) {
+    let mut buf = Buffer::new(rt.alloc());
+    let older = buf.push(b"A").expect(&rt, "no memory");
+    let mark = buf.open();
+    let answer = buf.close(mark, older).expect(&rt, "no memory");
+    assert_text(&rt, &buf, answer, b"A");
+    assert_text(&rt, &buf, older, b"A");
+    assert_main(&rt, &buf, b"AA");
+    drop(buf);
+}

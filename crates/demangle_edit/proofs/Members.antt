@@ -1,7 +1,7 @@
 -- A declarator, cut in two and put together again with a group.
 use Rattle.std.proofs.Common.{◌≡◌, ℕ, ◌+◌, ◌-◌, Bool, Option, Some, List, [], ◌∷◌, ◌++◌, length, take, drop, codes, sym, ap, ◌∙◌, refl, arith, append_assoc}
-use Rattle.std.specs.Prelude.{slice_range}
-use Rattle.std.proofs.lemmas.List.{length-append, append-nil}
+use Rattle.std.specs.Prelude.{slice_range, slice_index}
+use Rattle.std.proofs.lemmas.List.{length-append, append-nil, get_or_at}
 use Rattle.demangle_text.specs.declared.shape.Kind.TheVariants.{Array, Function}
 use Rattle.demangle_text.specs.Shape.{Form, Plain, Declared, Shape, form_text, text, text_len, IsDeclared, IsPlain, plain_shape, appended, flattened, front_text, grouped, gap_after, flagged, kind_of, after_of, declared_group}
 use Rattle.demangle_edit.specs.Types.{after_text, member_gap, member_pointer_shape}
@@ -70,6 +70,14 @@ module _ (front inner after : List ℕ) (from at : ℕ) where
       let text_is : whole_text ≡ (front ++ (40 ∷ (inner ++ (41 ∷ [])))) ++ after = simp append_assoc in
       let at_is : at ≡ length (front ++ (40 ∷ (inner ++ (41 ∷ [])))) = omega (arith, length-append front (40 ∷ (inner ++ (41 ∷ []))), length-append inner (41 ∷ [])) in
       drop_front _ (front ++ (40 ∷ (inner ++ (41 ∷ [])))) after at text_is at_is
+
+-- the parenthesis that closes the group stands right before the text that follows it
+pub closes_at : (front class after all : List ℕ) (len n : ℕ) → all ≡ front ++ class ++ codes "::*)" ++ after → len ≡ length all → n ≡ length after
+    → slice_index all (len - n - 1) ≡ 41
+closes_at front class after all len n is by_len by_n =
+    let text_is : all ≡ (front ++ class ++ codes "::*") ++ 41 ∷ after = is ∙ simp append_assoc in
+    let long : length (front ++ class ++ codes "::*") ≡ len - n - 1 = omega (arith, by_len, by_n, ap length text_is, length-append (front ++ class ++ codes "::*") (41 ∷ after)) in
+    ap (λ (v : List ℕ). slice_index v (len - n - 1)) text_is ∙ get_or_at (front ++ class ++ codes "::*") 41 after 0 (len - n - 1) long
 
 -- a pointer to a member function, put together step by step
 pub member_pointer_shape_is : (class member whole declared : Shape) (templ ctor : Bool) (class_len after_len from at : ℕ) → kind_of member.form ≡ Some Function

@@ -23,7 +23,8 @@ pub use crate::lists::{
     open_params, separate,
 };
 pub use crate::names::{
-    apply_name_qualifiers, attach_template_args, format_params, qualify, qualify_ctor, tag,
+    apply_name_qualifiers, attach_template_args, format_params, qualify, qualify_ctor,
+    qualify_text, tag,
 };
 pub use crate::parts::Glue;
 pub use crate::types::{

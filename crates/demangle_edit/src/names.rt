@@ -1,5 +1,6 @@
 //! Edits that make a name out of names (Itanium C++ ABI 5.1.2).
 ghost use Rattle.std.specs.Prelude.{◌≡◌, All, map, IfOk, OnOk};
+ghost use Rattle.demangle_text.specs.Shape.{plain_shape};
 ghost use Rattle.demangle_text.specs.State.{IsLiving, shape, Lives, IsEdit};
 ghost use Rattle.demangle_edit.specs.Names.{qualified, qualified_ctor, angle_gap, attached, tagged};
 ghost use Rattle.demangle_edit.specs.Names.{encoding_shape, with_name_qualifiers};
@@ -32,6 +33,26 @@ pub fn qualify(buf: &mut Buffer, scope: Piece, leaf: Piece) -> Result<Piece, All
     Ok(buf.with_flags(named, templ, ctor))
 }
 
+/// A text in a scope, `scope::text`, as a plain piece whose last own name is the text, with no flag
+/// set.
+///
+/// An error comes where memory is refused, and then only `clear` of the buffer is promised.
+#[inline(always)]
+#[tactic(auto, using(demangle_text::proofs::Laws::laws))]
+pub fn qualify_text(buf: &mut Buffer, scope: Piece, text: &[u8]) -> Result<Piece, AllocError>
+    requires scope { IsLiving buf.old scope }
+    ensures shape { IfOk result (λ p. Lives buf.new p
+        (qualified (shape buf.old scope) (plain_shape text.now))) }
+    ensures edit { OnOk result (IsEdit buf.old buf.new) }
+{
+    let before = buf.len(scope);
+    let plain = buf.plain(scope);
+    let whole = buf.append_pair(plain, b"::", text)?;
+    let end = buf.len(whole);
+    let named = buf.own_at(whole, before + 2, end);
+    Ok(buf.with_flags(named, false, false))
+}
+
 /// The constructor of a scope, `scope::name` with the last own name of the scope, or its
 /// destructor, which has a `~` in front of that name. A plain piece; its last own name is all after
 /// the `::`. Of the flags `ctor` holds alone.
@@ -45,9 +66,9 @@ pub fn qualify_ctor(buf: &mut Buffer, scope: Piece, destructor: bool) -> Result<
     ensures edit { OnOk result (IsEdit buf.old buf.new) }
 {
     let before = buf.len(scope);
-    let name = buf.own(scope);
+    let name = buf.plain(scope);
     let between: &[u8] = if destructor { b"::~" } else { b"::" };
-    let whole = buf.join(scope, between, name)?;
+    let whole = buf.append_own(name, between)?;
     let len = buf.len(whole);
     let named = buf.own_at(whole, before + 2, len);
     Ok(buf.with_flags(named, false, true))

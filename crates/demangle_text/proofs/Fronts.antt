@@ -1,6 +1,6 @@
 -- The front of a vector that is longer than its text, when bytes are put into it.
 use Rattle.std.proofs.Common.{◌≡◌, ℕ, ◌+◌, ◌-◌, ◌≤◌, List, ◌++◌, length, take, drop, slice_range, sym, ap, ◌∙◌, arith, append_assoc}
-use Rattle.std.proofs.lemmas.List.{length-append, length-take-le, length-drop, take_at, drop_at, take-take, drop-take, drop-drop, take-append-le}
+use Rattle.std.proofs.lemmas.List.{length-append, length-take-le, length-drop, take_at, drop_at, take-take, drop-take, drop-drop, take-append-le, take-append-drop, drop-append-le}
 use Rattle.std.specs.List.{copy_within}
 use Rattle.demangle_text.proofs.Texts.{part-take}
 
@@ -73,3 +73,21 @@ module _ {X : Type 0} (ys bs : List X) (len at n k : ℕ) (within : at ≤ len) 
       ∙ ap (take (len + n)) whole ∙ take_at (take at ys ++ (bs ++ rest)) more (len + n) front
       ∙ ap (λ (v : List X). v ++ (bs ++ rest)) (sym low)
       ∙ ap (λ (v : List X). take at (take len ys) ++ (bs ++ v)) (sym high)
+
+-- bytes over those that stand at a place
+pub front-put : {X : Type 0} (ys bs : List X) (len at n : ℕ) → length bs ≡ n → at + n ≤ len → len ≤ length ys
+    → take len (take at ys ++ (bs ++ drop n (drop at ys))) ≡ take at (take len ys) ++ (bs ++ drop (at + n) (take len ys))
+front-put ys bs len at n long within fits =
+    let l = take len ys in
+    let r = drop len ys in
+    let k : length l ≡ len = length-take-le len ys fits in
+    let a = length-take-le at l (omega arith) in
+    let b = length-drop (at + n) l in
+    let low : take at ys ≡ take at l = sym (take-take at len ys (omega arith)) in
+    let high : drop n (drop at ys) ≡ drop (at + n) l ++ r =
+    drop-drop n at ys ∙ ap (drop (at + n)) (sym (take-append-drop len ys)) ∙ drop-append-le (at + n) l r (omega arith) in
+    let whole : take at l ++ (bs ++ (drop (at + n) l ++ r)) ≡ (take at l ++ (bs ++ drop (at + n) l)) ++ r =
+    ap (λ v. take at l ++ v) (sym (append_assoc bs (drop (at + n) l) r)) ∙ sym (append_assoc (take at l) (bs ++ drop (at + n) l) r) in
+    let front : length (take at l ++ (bs ++ drop (at + n) l)) ≡ len = omega (arith, length-append (take at l) (bs ++ drop (at + n) l), length-append bs (drop (at + n) l)) in
+    ap (λ v. take len (v ++ (bs ++ drop n (drop at ys)))) low ∙ ap (λ v. take len (take at l ++ (bs ++ v))) high
+    ∙ ap (take len) whole ∙ take_at (take at l ++ (bs ++ drop (at + n) l)) r len front

@@ -1,5 +1,6 @@
 -- The marks of a form's text, and what an insertion makes of them.
 use Rattle.std.proofs.Common.{◌≡◌, ℕ, ◌+◌, ◌≤◌, Bool, true, false, if◌then◌else◌, List, ◌∷◌, ◌++◌, length, take, drop, Some, None, refl, sym, ap, ◌∙◌, arith, append_assoc, add_comm, leb}
+use Rattle.std.proofs.lemmas.Bool.Decides.{nat_tests}
 use Rattle.std.proofs.lemmas.List.{length-append, take_at, drop_at, append-nil, take_all, drop_all, take-append-drop}
 use Rattle.demangle_text.specs.declared.shape.Kind.TheVariants.{Array, Function}
 use Rattle.demangle_text.specs.declared.shape.Place.{Place}
@@ -7,7 +8,7 @@ use Rattle.demangle_text.specs.declared.shape.Place.TheVariants.{Start, Close, S
 use Rattle.demangle_text.specs.Pieces.{Layout}
 use Rattle.demangle_text.specs.Pieces.{Cut}
 use Rattle.demangle_text.specs.Pieces.{Marks}
-use Rattle.demangle_text.specs.Shape.{Form, Plain, Declared, Shape, form_text, grouped, own_in, moved, form_with, place_in, inserted, CanInsert}
+use Rattle.demangle_text.specs.Shape.{Form, Plain, Declared, Shape, form_text, grouped, own_in, moved, form_with, place_in, inserted, appended, CanInsert}
 use Rattle.demangle_text.specs.Pieces.{form_of, shape_of, IsOwn, IsMarked, place_at, layout_with, own_at}
 use Rattle.demangle_text.proofs.Forms.{layout_for, form_of-layout_for, IsLayout-layout_for, layout_for-form_of, text-form_of, parts, closed_parts}
 
@@ -192,3 +193,21 @@ module _ (place : Place) (bytes t u : List ℕ) (m w : Marks) where
       let within = moved_within (place_in place (form_of t m.layout)) (length bytes) (length t) m.own h.own_within in
       let fits : range.1 ≤ length (form_text (form_with place bytes (form_of t m.layout))) = omega (arith, n, ap length e, within) in
       rw (e, k) (IsMarked-marks_for (form_with place bytes (form_of t m.layout)) range m.templ m.ctor (moved_ordered (place_in place (form_of t m.layout)) (length bytes) m.own h.own_ordered) fits)
+
+-- the last own name, when bytes are inserted at a place and then more of them after these
+pub moved_twice : (at next n m all : ℕ) (own : ℕ × ℕ) → next ≡ at + n → all ≡ n + m → moved next m (moved at n own) ≡ moved at all own
+moved_twice at next n m all (from, to) follows both = grind (arith, nat_tests)
+
+-- bytes at the end and then more of them there
+module _ (a b : List ℕ) (own : ℕ × ℕ) (templ ctor : Bool) where
+  twice : (f : Form) → appended b (appended a (record { form = f; own = own; templ = templ; ctor = ctor })) ≡ appended (a ++ b) (record { form = f; own = own; templ = templ; ctor = ctor })
+  twice (Plain t) =
+      λ j. record { form = Plain (append_assoc t a b j); own = moved_twice _ _ _ _ _ own (length-append t a) (length-append a b) j; templ = templ; ctor = ctor }
+  twice (Declared Array before group after) =
+      let next : length (before ++ (grouped group ++ (after ++ a))) ≡ length (before ++ (grouped group ++ after)) + length a = omega (arith, length-append {A = ℕ}) in
+      λ j. record { form = Declared Array before group (append_assoc after a b j); own = moved_twice _ _ _ _ _ own next (length-append a b) j; templ = templ; ctor = ctor }
+  twice (Declared Function before group after) =
+      λ j. record { form = Declared Function before group (append_assoc after a b j); own = (0, length (before ++ (grouped group ++ append_assoc after a b j))); templ = templ; ctor = ctor }
+
+pub appended_twice : (a b : List ℕ) (s : Shape) → appended b (appended a s) ≡ appended (a ++ b) s
+appended_twice a b s = twice a b s.own s.templ s.ctor s.form

@@ -10,6 +10,7 @@ use Rattle.demangle_text.specs.Pieces.{Store, IsStore, IsPiece, IsAt, IsMarked, 
 use Rattle.demangle_text.specs.State.{IsLiving, shape, saved, scopes, frame, inside, outside, Frame, IsOlder, KeepsAll, IsEdit, Closes, Lives, parts_at}
 use Rattle.demangle_text.proofs.Forms.{text-form_of}
 use Rattle.demangle_text.proofs.Texts.{part-append, map_same}
+use Rattle.demangle_text.specs.Flags.{lies_aside}
 
 home-grown : (main side m n : List ℕ) (h : Bool) → home_bytes (main ++ m) (side ++ n) h ≡ home_bytes main side h ++ home_bytes m n h
 home-grown main side m n false = refl
@@ -19,13 +20,13 @@ home-grown main side m n true = refl
 module _ (main side m n : List ℕ) (p : Piece) (h : IsPiece main side p) where
   piece_text-grown : piece_text (main ++ m) (side ++ n) p ≡ piece_text main side p
   piece_text-grown =
-      ap (λ (t : List ℕ). slice_range t p.from_byte p.to_byte) (home-grown main side m n p.in_side)
-      ∙ part-append (home_bytes main side p.in_side) (home_bytes m n p.in_side) p.from_byte p.to_byte h.ordered h.within
+      ap (λ (t : List ℕ). slice_range t p.from_byte p.to_byte) (home-grown main side m n (lies_aside p.flags))
+      ∙ part-append (home_bytes main side (lies_aside p.flags)) (home_bytes m n (lies_aside p.flags)) p.from_byte p.to_byte h.ordered h.within
 
   pub IsPiece-grown : IsPiece (main ++ m) (side ++ n) p
   IsPiece-grown = record {
     ordered = h.ordered;
-    within = rw (home-grown main side m n p.in_side) (omega (arith, length-append (home_bytes main side p.in_side) (home_bytes m n p.in_side), h.within));
+    within = rw (home-grown main side m n (lies_aside p.flags)) (omega (arith, length-append (home_bytes main side (lies_aside p.flags)) (home_bytes m n (lies_aside p.flags)), h.within));
     marked = rw piece_text-grown h.marked;
   }
 
@@ -39,7 +40,12 @@ module _ (main side new : List ℕ) (e : Extends side new) where
       ap (λ (t : List ℕ). shape_in t new p) (sym (append-nil main)) ∙ ap (λ (t : List ℕ). shape_in (main ++ []) t p) e.all
       ∙ shape_in-grown main side [] e.more p h
 
-  IsPiece-extends : (p : Piece) → IsPiece main side p → IsPiece main new p
+  pub piece_text-extends : (p : Piece) → IsPiece main side p → piece_text main new p ≡ piece_text main side p
+  piece_text-extends p h =
+      ap (λ (t : List ℕ). piece_text t new p) (sym (append-nil main)) ∙ ap (λ (t : List ℕ). piece_text (main ++ []) t p) e.all
+      ∙ piece_text-grown main side [] e.more p h
+
+  pub IsPiece-extends : (p : Piece) → IsPiece main side p → IsPiece main new p
   IsPiece-extends p h =
       let a = IsPiece-grown main side [] e.more p h in
       subst (λ (t : List ℕ). IsPiece t new p) (append-nil main) (subst (λ (t : List ℕ). IsPiece (main ++ []) t p) (sym e.all) a)

@@ -1,18 +1,20 @@
 -- What stands at the end of the main text after an insertion, a copy or a join.
-use Rattle.std.proofs.Common.{◌≡◌, ℕ, ◌+◌, ◌-◌, ◌≤◌, Bool, false, List, ◌++◌, length, take, drop, slice_range, refl, sym, ap, ◌∙◌, subst, arith, append_assoc}
-use Rattle.std.proofs.lemmas.List.{length-append, length-drop, length-take-le, drop_at, take-append-drop, drop-append-le, drop-drop, drop-take, take_all, take-append-le, take-take}
+use Rattle.std.specs.Prelude.{Some, None}
+use Rattle.std.proofs.Common.{◌≡◌, ℕ, ◌+◌, ◌-◌, ◌≤◌, Bool, false, List, [], ◌++◌, length, take, drop, slice_range, refl, sym, ap, ◌∙◌, subst, arith, append_assoc}
+use Rattle.std.proofs.lemmas.List.{length-append, length-drop, length-take-le, drop_at, take-append-drop, drop-append-le, drop-drop, drop-take, take_all, drop_all, append-nil, take-append-le, take-take}
 use Rattle.std.proofs.lemmas.List.Edits.{length-between}
 use Rattle.demangle_text.specs.declared.shape.Piece.{Piece}
-use Rattle.demangle_text.specs.Pieces.{Store, IsTail, IsAdjacent, IsSplice, IsJoint, piece_text, home_bytes}
+use Rattle.demangle_text.specs.Pieces.{Store, IsTail, IsAdjacent, IsSplice, IsJoint, piece_text, own_text, home_bytes}
 use Rattle.demangle_text.specs.Shape.{text, text_len, plain_shape, joined, inserted, own_shape, opened_group, CanInsert, IsDeclared, moved}
-use Rattle.demangle_text.specs.Pieces.{IsAt, IsMarked, marks_of, whole_marks, shape_of, place_at, layout_with, layout_opened, layout_end, own_at}
-use Rattle.demangle_text.specs.State.{IsLiving, shape, Lives}
+use Rattle.demangle_text.specs.Pieces.{Layout, Flat, Cut, IsLayout, IsAt, IsMarked, marks_of, whole_marks, shape_of, place_at, layout_with, layout_opened, layout_end, own_at}
+use Rattle.demangle_text.specs.State.{IsLiving, shape, Lives, IsEditOf, main_bytes, frame, frame_start, Frame, Stands}
 use Rattle.demangle_text.specs.declared.shape.Place.{Place}
 use Rattle.demangle_text.specs.declared.shape.Place.TheVariants.{Suffix}
 use Rattle.demangle_text.proofs.Inserts.{Inserts, length-inserted, shape-inserted, IsMarked-inserted}
 use Rattle.demangle_text.proofs.Groups.{Groups, group_text, layout_end_within, shape-opened, IsMarked-opened}
 use Rattle.demangle_text.proofs.Texts.{part-part}
 use Rattle.demangle_text.proofs.States.{Lives-at_end, text_is}
+use Rattle.demangle_text.specs.Flags.{lies_aside, templ_by, ctor_by}
 
 -- the text from a place on, with bytes inserted in it
 tail_inserted : (main bytes : List ℕ) (from at : ℕ) → from + at ≤ length main → drop from (take (from + at) main ++ (bytes ++ drop (from + at) main)) ≡ take at (drop from main) ++ (bytes ++ drop at (drop from main))
@@ -55,6 +57,29 @@ IsSplice-inserted s t p at bytes h ordered within is =
       in_place = λ _. (refl, n);
     }
 
+-- bytes after such a piece
+pub IsSplice-added : (s t : Store) (p : Piece) (bytes : List ℕ) → IsTail s p → p.from_byte ≤ p.to_byte → t.main_text ≡ s.main_text ++ bytes → IsSplice s t p (p.to_byte - p.from_byte) bytes p.from_byte
+IsSplice-added s t p bytes h ordered is =
+    let main = s.main_text in
+    let k = p.from_byte + (p.to_byte - p.from_byte) in
+    let all : length main ≤ k = omega (arith, h.ends) in
+    let front : take k main ≡ main = take_all k main all in
+    let none : drop k main ≡ [] = drop_all k main all in
+    IsSplice-inserted s t p (p.to_byte - p.from_byte) bytes h ordered (omega arith)
+    (is ∙ ap (λ (v : List ℕ). main ++ v) (sym (append-nil bytes)) ∙ ap (λ (v : List ℕ). main ++ (bytes ++ v)) (sym none) ∙ ap (λ (v : List ℕ). v ++ (bytes ++ drop k main)) (sym front))
+
+-- an edit that spliced bytes into the text of a piece
+pub IsEditOf-spliced : (b n : Store) (p q : Piece) (at from : ℕ) (bytes : List ℕ) → IsSplice b n p at bytes from → IsAt q from (length n.main_text) → IsEditOf b n p q (length bytes)
+unfolding main_bytes frame frame_start Frame Stands
+IsEditOf-spliced b n p q at from bytes s stands = record {
+  front = s.front;
+  ends = (from, stands);
+  in_place = λ i inner there.
+      let tail : IsTail b p = record { in_main = there.in_main; inner = omega (arith, inner, there.begins); ends = there.ends } in
+      let stays = s.in_place tail in
+      (subst (λ (k : ℕ). IsAt q k (length n.main_text)) (stays.0 ∙ there.begins) stands, stays.1);
+}
+
 -- a copy with the bytes in it, of a piece that doesn't
 pub IsSplice-copied : (s t : Store) (p : Piece) (at : ℕ) (bytes : List ℕ) (from : ℕ) → (IsTail s p → ⊥) → s.frame_main ≤ length s.main_text → from ≡ length s.main_text
     → t.main_text ≡ s.main_text ++ (take at (piece_text s.main_text s.side_text p) ++ (bytes ++ drop at (piece_text s.main_text s.side_text p))) → IsSplice s t p at bytes from
@@ -67,6 +92,20 @@ IsSplice-copied s t p at bytes from apart inner starts is =
       front = ap (take s.frame_main) is ∙ front_longer s.main_text more s.frame_main inner;
       in_place = λ h. absurd (apart h);
     }
+
+-- a copy of a text with bytes and more text after it, of a piece that doesn't
+pub IsSplice-joined : (s t : Store) (p : Piece) (bytes more : List ℕ) (from : ℕ) → (IsTail s p → ⊥) → length (piece_text s.main_text s.side_text p) ≡ p.to_byte - p.from_byte
+    → s.frame_main ≤ length s.main_text → from ≡ length s.main_text → t.main_text ≡ s.main_text ++ (piece_text s.main_text s.side_text p ++ bytes ++ more)
+    → IsSplice s t p (p.to_byte - p.from_byte) (bytes ++ more) from
+IsSplice-joined s t p bytes more from apart long inner starts is =
+    let text = piece_text s.main_text s.side_text p in
+    let k = p.to_byte - p.from_byte in
+    let all : length text ≤ k = omega arith in
+    let front : take k text ≡ text = take_all k text all in
+    let none : drop k text ≡ [] = drop_all k text all in
+    IsSplice-copied s t p k (bytes ++ more) from apart inner starts
+    (is ∙ ap (λ (v : List ℕ). s.main_text ++ v) (append_assoc text bytes more ∙ ap (λ (v : List ℕ). text ++ v) (sym (append-nil (bytes ++ more)))
+    ∙ ap (λ (v : List ℕ). text ++ ((bytes ++ more) ++ v)) (sym none) ∙ ap (λ (v : List ℕ). v ++ ((bytes ++ more) ++ drop k text)) (sym front)))
 
 -- the texts of two pieces that meet and end the main text
 adjacent_text : (s : Store) (first second : Piece) → IsAdjacent s first second → first.from_byte ≤ first.to_byte → second.from_byte ≤ second.to_byte
@@ -118,10 +157,33 @@ IsJoint-copied s t first bytes second from apart inner starts is =
       in_place = λ h. absurd (apart h);
     }
 
+-- the first text and the bytes in front of a second one that ends the main text
+pub IsJoint-moved : (s t : Store) (first : Piece) (bytes : List ℕ) (second : Piece) → (IsAdjacent s first second → ⊥) → IsTail s second → second.from_byte ≤ second.to_byte
+    → t.main_text ≡ take second.from_byte s.main_text ++ ((piece_text s.main_text s.side_text first ++ bytes) ++ drop second.from_byte s.main_text)
+    → IsJoint s t first bytes second second.from_byte
+IsJoint-moved s t first bytes second apart h ordered is =
+    let main = s.main_text in
+    let more = piece_text main s.side_text first ++ bytes in
+    let at = second.from_byte in
+    let there : at ≤ length main = omega (arith, h.ends) in
+    let low = length-take-le at main there in
+    record {
+      within = omega (arith, ap length is ∙ length-inserted main more at);
+      text = ap (drop at) is ∙ drop_at (take at main) (more ++ drop at main) at low ∙ ap (λ (v : List ℕ). more ++ v) (sym (tail_text s second h));
+      front = ap (take s.frame_main) is ∙ front_inserted main more s.frame_main at h.inner there;
+      in_place = λ k. absurd (apart k);
+    }
+
+-- where `after` begins in a text
+pub suffix_within : (t : List ℕ) (l : Layout) → IsLayout t l → place_at Suffix l (length t) ≤ length t
+suffix_within t Flat h = omega arith
+suffix_within t (Cut kind None at) h = h
+suffix_within t (Cut kind (Some group) at) h = h.1
+
 -- how long the text of a piece is
-length-text : (s : Store) (p : Piece) → IsLiving s p → length (piece_text s.main_text s.side_text p) ≡ p.to_byte - p.from_byte
+pub length-text : (s : Store) (p : Piece) → IsLiving s p → length (piece_text s.main_text s.side_text p) ≡ p.to_byte - p.from_byte
 unfolding IsLiving
-length-text s p h = length-between (home_bytes s.main_text s.side_text p.in_side) p.from_byte p.to_byte h.within
+length-text s p h = length-between (home_bytes s.main_text s.side_text (lies_aside p.flags)) p.from_byte p.to_byte h.within
 
 -- a splice of a living piece
 module _ (b n : Store) (p : Piece) (at : ℕ) (bytes : List ℕ) (from : ℕ) (lies : IsLiving b p) (i : IsSplice b n p at bytes from) where
@@ -156,7 +218,7 @@ module _ (b n : Store) (p : Piece) (at : ℕ) (bytes : List ℕ) (from : ℕ) (l
     pub Lives-inserted : (place : Place) → CanInsert place (shape b p).form → at ≡ place_at place (marks_of p).layout (p.to_byte - p.from_byte)
         → (marks_of q).layout ≡ layout_with place (length bytes) (marks_of p).layout
         → (marks_of q).own ≡ own_at (marks_of p).layout (length n.main_text - from) (moved at (length bytes) (marks_of p).own)
-        → q.is_templ ≡ p.is_templ → q.is_ctor ≡ p.is_ctor → Lives n q (inserted place bytes (shape b p))
+        → templ_by q.flags ≡ templ_by p.flags → ctor_by q.flags ≡ ctor_by p.flags → Lives n q (inserted place bytes (shape b p))
     unfolding IsLiving shape
     Lives-inserted place can at_is layout own templ ctor =
         let m = marks_of p in
@@ -175,7 +237,7 @@ module _ (b n : Store) (p : Piece) (at : ℕ) (bytes : List ℕ) (from : ℕ) (l
     pub Lives-opened : (group : List ℕ) → IsDeclared (shape b p).form → at ≡ place_at Suffix (marks_of p).layout (p.to_byte - p.from_byte) → bytes ≡ group_text group (take at t)
         → (marks_of q).layout ≡ layout_opened (length bytes) (length group + 2) (marks_of p).layout
         → (marks_of q).own ≡ own_at (marks_of p).layout (length n.main_text - from) (moved at (length bytes) (marks_of p).own)
-        → q.is_templ ≡ p.is_templ → q.is_ctor ≡ p.is_ctor → Lives n q (opened_group group (shape b p))
+        → templ_by q.flags ≡ templ_by p.flags → ctor_by q.flags ≡ ctor_by p.flags → Lives n q (opened_group group (shape b p))
     unfolding IsLiving shape
     Lives-opened group declared at_is is layout own templ ctor =
         let m = marks_of p in
@@ -231,7 +293,7 @@ Lives-settled b n p q at lies within is stands marks =
     record { living = lives.living; shape_is = lives.shape_is ∙ ap (shape_of t) marks }
 
 -- a text that stands there already
-pub settled-already : (b : Store) (p : Piece) (at : ℕ) → p.in_side ≡ false → p.from_byte ≡ at → p.to_byte ≡ length b.main_text → b.main_text ≡ take at b.main_text ++ piece_text b.main_text b.side_text p
+pub settled-already : (b : Store) (p : Piece) (at : ℕ) → (lies_aside p.flags) ≡ false → p.from_byte ≡ at → p.to_byte ≡ length b.main_text → b.main_text ≡ take at b.main_text ++ piece_text b.main_text b.side_text p
 settled-already b p at home begins ends =
     let text : piece_text b.main_text b.side_text p ≡ drop at b.main_text =
     ap (λ (h : Bool). slice_range (home_bytes b.main_text b.side_text h) p.from_byte p.to_byte) home
@@ -246,12 +308,47 @@ settled-copy main mid t at from to is within starts ends =
     let block = take_all (to - from) (drop from mid) (omega (arith, ends, length-drop from mid)) ∙ ap (drop from) is ∙ drop_at main t from (sym starts) in
     ap (λ (v : List ℕ). v ++ slice_range mid from to) low ∙ ap (λ (v : List ℕ). take at main ++ v) block
 
+-- where the last own name lies
+module _ (b : Store) (p q : Piece) (lies : IsLiving b p) (home : lies_aside q.flags ≡ lies_aside p.flags) (begins : q.from_byte ≡ p.from_byte + p.own_start) (ends : q.to_byte ≡ p.from_byte + p.own_end) where
+  pub own-ordered : q.from_byte ≤ q.to_byte
+  unfolding IsLiving
+  own-ordered = omega (arith, begins, ends, lies.marked.own_ordered)
+
+  own-inside : p.from_byte + p.own_end ≤ p.to_byte
+  unfolding IsLiving
+  own-inside = omega (arith, length-text b p lies, lies.marked.own_within, lies.ordered)
+
+  pub own-within : q.to_byte ≤ length (home_bytes b.main_text b.side_text (lies_aside q.flags))
+  unfolding IsLiving
+  own-within = rw home (omega (arith, ends, own-inside, lies.within))
+
+  -- and its bytes
+  pub own-part : slice_range (home_bytes b.main_text b.side_text (lies_aside p.flags)) q.from_byte q.to_byte ≡ own_text b.main_text b.side_text p
+  unfolding IsLiving
+  own-part =
+      let bytes = home_bytes b.main_text b.side_text (lies_aside p.flags) in
+      ap (λ (k : ℕ). slice_range bytes k q.to_byte) begins ∙ ap (λ (k : ℕ). slice_range bytes (p.from_byte + p.own_start) k) ends
+      ∙ part-part bytes p.from_byte p.to_byte p.own_start p.own_end lies.marked.own_ordered own-inside
+
+  pub own-piece : piece_text b.main_text b.side_text q ≡ own_text b.main_text b.side_text p
+  own-piece = ap (λ (h : Bool). slice_range (home_bytes b.main_text b.side_text h) q.from_byte q.to_byte) home ∙ own-part
+
+-- they are the text of the last own name
+pub own_text-is : (b : Store) (p : Piece) → IsLiving b p → own_text b.main_text b.side_text p ≡ text (own_shape (shape b p))
+unfolding IsLiving shape
+own_text-is b p lies = ap (λ (v : List ℕ). slice_range v p.own_start p.own_end) (sym (text_is b p lies))
+
+-- how long it is
+pub length-own : (b : Store) (p : Piece) → IsLiving b p → length (own_text b.main_text b.side_text p) ≡ p.own_end - p.own_start
+unfolding IsLiving
+length-own b p lies = length-between (piece_text b.main_text b.side_text p) p.own_start p.own_end lies.marked.own_within
+
 -- the last own name as a piece of its own
-pub Lives-own : (b : Store) (p q : Piece) → IsLiving b p → q.in_side ≡ p.in_side → q.from_byte ≡ p.from_byte + p.own_start → q.to_byte ≡ p.from_byte + p.own_end
+pub Lives-own : (b : Store) (p q : Piece) → IsLiving b p → (lies_aside q.flags) ≡ (lies_aside p.flags) → q.from_byte ≡ p.from_byte + p.own_start → q.to_byte ≡ p.from_byte + p.own_end
     → marks_of q ≡ whole_marks (p.from_byte + p.own_end - (p.from_byte + p.own_start)) → Lives b q (own_shape (shape b p))
 unfolding IsLiving shape
 Lives-own b p q lies home begins ends marks =
-    let bytes = home_bytes b.main_text b.side_text p.in_side in
+    let bytes = home_bytes b.main_text b.side_text (lies_aside p.flags) in
     let t = piece_text b.main_text b.side_text p in
     let u = slice_range bytes (p.from_byte + p.own_start) (p.from_byte + p.own_end) in
     let n = length-text b p lies in

@@ -7,6 +7,7 @@ use Rattle.demangle_text.specs.declared.shape.Place.{Place}
 use Rattle.demangle_text.specs.declared.shape.Place.TheVariants.{Start, Close, Suffix, End}
 use Rattle.demangle_text.specs.declared.shape.Piece.{Piece}
 use Rattle.demangle_text.specs.Shape.{Form, Plain, Declared, Shape}
+use Rattle.demangle_text.specs.Flags.{lies_aside, templ_by, ctor_by, grouped_by, kind_by, group_from}
 
 -- how a text is cut
 pub data Layout : Type 0 where
@@ -30,10 +31,10 @@ layout_by (Some kind) group at = Cut kind group at
 -- what the text of a piece stands for
 abbrev pub marks_of : Piece → Marks
 marks_of p = record {
-  layout = layout_by p.declares p.group_start p.after_start;
+  layout = layout_by (kind_by p.flags) (group_from (grouped_by p.flags) p.group_start) p.after_start;
   own = (p.own_start, p.own_end);
-  templ = p.is_templ;
-  ctor = p.is_ctor;
+  templ = templ_by p.flags;
+  ctor = ctor_by p.flags;
 }
 
 -- the form that a layout cuts out of a text
@@ -122,12 +123,16 @@ home_bytes main side true = side
 
 -- the text of a piece
 abbrev pub piece_text : List ℕ → List ℕ → Piece → List ℕ
-piece_text main side p = slice_range (home_bytes main side p.in_side) p.from_byte p.to_byte
+piece_text main side p = slice_range (home_bytes main side (lies_aside p.flags)) p.from_byte p.to_byte
+
+-- the last own name of a piece
+abbrev pub own_text : List ℕ → List ℕ → Piece → List ℕ
+own_text main side p = slice_range (piece_text main side p) p.own_start p.own_end
 
 -- the piece lies in the two texts
 pub record IsPiece (main side : List ℕ) (p : Piece) : Type 0 where
   pub ordered : p.from_byte ≤ p.to_byte
-  pub within : p.to_byte ≤ length (home_bytes main side p.in_side)
+  pub within : p.to_byte ≤ length (home_bytes main side (lies_aside p.flags))
   pub marked : IsMarked (piece_text main side p) (marks_of p)
 
 -- the shape of a piece
@@ -136,7 +141,7 @@ shape_in main side p = shape_of (piece_text main side p) (marks_of p)
 
 -- the piece lies in the main text, at these bytes
 pub record IsAt (p : Piece) (from to : ℕ) : Type 0 where
-  pub in_main : p.in_side ≡ false
+  pub in_main : lies_aside p.flags ≡ false
   pub begins : p.from_byte ≡ from
   pub ends : p.to_byte ≡ to
 
@@ -167,7 +172,7 @@ pub record IsStore (s : Store) : Type 0 where
 
 -- the piece lies in the main text, from the innermost mark or later up to the end
 pub record IsTail (s : Store) (p : Piece) : Type 0 where
-  pub in_main : p.in_side ≡ false
+  pub in_main : lies_aside p.flags ≡ false
   pub inner : s.frame_main ≤ p.from_byte
   pub ends : p.to_byte ≡ length s.main_text
 
@@ -176,9 +181,15 @@ pub record Extends (old new : List ℕ) : Type 0 where
   pub more : List ℕ
   pub all : new ≡ old ++ more
 
+-- the text is two others with n bytes between them
+pub record HasRoom (front back all : List ℕ) (n : ℕ) : Type 0 where
+  pub room : List ℕ
+  pub long : length room ≡ n
+  pub parts : all ≡ front ++ (room ++ back)
+
 -- a piece in the main text ends by `low`, or lies in the block from `from` to `to`
 abbrev pub IsApart : ℕ → ℕ → ℕ → Piece → Type 0
-IsApart low from to p = p.in_side ≡ false → low < p.to_byte → (from ≤ p.from_byte) × (p.to_byte ≤ to)
+IsApart low from to p = lies_aside p.flags ≡ false → low < p.to_byte → (from ≤ p.from_byte) × (p.to_byte ≤ to)
 
 -- both lists keep their shapes while texts of theirs are put at the end of the side text
 pub record IsAside (main old_side new_side : List ℕ) (old_saved new_saved old_args new_args : List Piece) : Type 0 where
@@ -191,7 +202,7 @@ pub record IsAside (main old_side new_side : List ℕ) (old_saved new_saved old_
 
 -- the piece lies in the side text, or ends by a byte of the main text
 abbrev pub EndsBy : ℕ → Piece → Type 0
-EndsBy end p = p.in_side ≡ false → p.to_byte ≤ end
+EndsBy end p = lies_aside p.flags ≡ false → p.to_byte ≤ end
 
 -- the first pieces of a list are there, and end by a byte
 pub record IsBounded (pieces : List Piece) (count end : ℕ) : Type 0 where
@@ -209,14 +220,14 @@ abbrev pub carried : ℕ → ℕ → ℕ → Piece → Piece
 carried low from dest p =
     let ends = nat_le p.to_byte low in
     record p {
-      from_byte = carried_from p.in_side ends from dest p.from_byte;
-      to_byte = carried_from p.in_side ends from dest p.to_byte;
+      from_byte = carried_from (lies_aside p.flags) ends from dest p.from_byte;
+      to_byte = carried_from (lies_aside p.flags) ends from dest p.to_byte;
     }
 
 -- the second piece begins where the first ends, and both lie in the main text, from the innermost mark up to the end
 pub record IsAdjacent (s : Store) (first second : Piece) : Type 0 where
-  pub first_in_main : first.in_side ≡ false
-  pub second_in_main : second.in_side ≡ false
+  pub first_in_main : lies_aside first.flags ≡ false
+  pub second_in_main : lies_aside second.flags ≡ false
   pub inner : s.frame_main ≤ first.from_byte
   pub meets : first.to_byte ≡ second.from_byte
   pub ends : second.to_byte ≡ length s.main_text

@@ -2,6 +2,7 @@
 use Rattle.std.specs.Prelude.{◌≡◌, ℕ, ◌≤◌, Bool, true, false, List, [], ◌∷◌, ◌++◌, ◌+◌, ◌-◌, length, take, drop}
 use Rattle.std.specs.Prelude.{slice_range, slice_index_or, slice_set, map}
 use Rattle.demangle_text.specs.Shape.{Shape}
+use Rattle.demangle_text.specs.Flags.{lies_aside}
 use Rattle.demangle_text.specs.Pieces.{Store, IsPiece, IsAt, shape_in}
 use Rattle.demangle_text.specs.declared.shape.Piece.{Piece}
 use Rattle.demangle_text.specs.declared.shape.Mark.{Mark}
@@ -72,7 +73,7 @@ IsBelow f true n = n ≤ f.1
 -- the piece was made before the frame began
 unfoldable pub IsOlder : Piece → Frame → Type 0
 unfolding Frame
-IsOlder p f = IsBelow f p.in_side p.to_byte
+IsOlder p f = IsBelow f (lies_aside p.flags) p.to_byte
 
 -- what is answered for a piece was made when the piece was
 unfoldable pub IsAsOld : Piece → Piece → Type 0

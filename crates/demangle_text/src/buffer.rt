@@ -4,8 +4,9 @@ ghost use Rattle.std.specs.Prelude.{OnOk, OnErr, IfSome, Some, true, option_map,
 ghost use Rattle.std.specs.Prelude.{is_some};
 ghost use Rattle.demangle_text.specs.Shape.{gap_after, grouped};
 
+use crate::flags::{flagged, is_ctor, is_grouped, is_templ, plain};
 use crate::moves::{carry, set_apart};
-use crate::parts::{add_joined, add_part, add_spliced};
+use crate::parts::{add_joined, add_part, add_spliced, insert_joined};
 use crate::ranges::Ranges;
 use crate::shape::{Kind, Mark, Piece, Place};
 use crate::text::Text;
@@ -15,7 +16,6 @@ use std::marker::Model;
 /// A buffer of pieces, with a list of saved shapes and a list of scopes.
 #[derive(Drop)]
 pub struct Buffer {
-    alloc: Global,
     // The texts of pieces: what is made stands in the main text, and what a move would tear in the side text.
     main: Text,
     side: Text,
@@ -62,7 +62,7 @@ impl Buffer {
     ghost use Rattle.demangle_text.specs.Shape.{opened_group, joined, shortened, CanInsert, IsPlain, IsDeclared};
     ghost use Rattle.demangle_text.specs.Shape.{flagged, with_own, flattened, whole_shape, own_shape, IsNotFunction};
     ghost use Rattle.demangle_text.specs.Shape.{kind_of, group_of, after_of, declared_at, declared_group};
-    ghost use Rattle.demangle_text.specs.Pieces.{IsTail, IsSplice, IsAdjacent, IsJoint, piece_text};
+    ghost use Rattle.demangle_text.specs.Pieces.{IsTail, IsSplice, IsAdjacent, IsJoint, EndsBy, piece_text, own_text};
 
     /// An empty buffer, with no mark open. It takes no memory.
     pub fn new(alloc: Global) -> Self
@@ -72,7 +72,6 @@ impl Buffer {
         ensures no_bytes { main_bytes result ≡ [] }
     {
         Buffer {
-            alloc,
             main: Text::new(alloc),
             side: Text::new(alloc),
             saved: Ranges::new(alloc),
@@ -150,7 +149,7 @@ impl Buffer {
         ensures within { at ≤ length self.old.main_text }
     {
         let len = self.main.len();
-        if !piece.in_side && piece.from_byte == at && piece.to_byte == len {
+        if !piece.is_aside() && piece.from_byte == at && piece.to_byte == len {
             return Ok(());
         }
         self.move_down(at, piece)
@@ -166,8 +165,11 @@ impl Buffer {
         ensures main { OnOk result (self.new.main_text ≡ take at self.old.main_text
             ++ piece_text self.old.main_text self.old.side_text piece) }
     {
-        if piece.in_side || piece.from_byte < at {
+        if piece.is_aside() || piece.from_byte < at {
             let from = self.copy_text(piece)?;
+            if from == at {
+                return Ok(());
+            }
             let to = self.main.len();
             return self.keep_block(at, from, to);
         }
@@ -243,7 +245,7 @@ impl Buffer {
         add_part(
             &mut self.main,
             &self.side,
-            piece.in_side,
+            piece.is_aside(),
             piece.from_byte,
             piece.to_byte,
         )?;
@@ -256,7 +258,7 @@ impl Buffer {
         ensures tail { result ≡ true → IsTail self.now piece }
         ensures other { IsTail self.now piece → result ≡ true }
     {
-        !piece.in_side && self.frame_main <= piece.from_byte && piece.to_byte == self.main.len()
+        !piece.is_aside() && self.frame_main <= piece.from_byte && piece.to_byte == self.main.len()
     }
 
     // Bytes at a place of the main text since the innermost mark: what lies after it moves on.
@@ -331,21 +333,30 @@ impl Buffer {
             self.insert_at(piece.from_byte + at, bytes)?;
             return Ok(piece.from_byte);
         }
-        self.splice_copy(piece, at, bytes)
+        self.splice_copy(piece, at, b"", bytes, b"")
     }
 
-    // The same of a piece that doesn't stand at the end.
+    // The text of a piece that doesn't stand at the end, with three texts at a place of it, at the end of the main
+    // text: where it begins.
     #[inline(never)]
-    fn splice_copy(&mut self, piece: Piece, at: usize, bytes: &[u8]) -> Result<usize, AllocError>
+    fn splice_copy(
+        &mut self,
+        piece: Piece,
+        at: usize,
+        front: &[u8],
+        bytes: &[u8],
+        back: &[u8],
+    ) -> Result<usize, AllocError>
         requires living { IsLiving self.old piece }
         requires within { at ≤ piece.to_byte - piece.from_byte }
         requires apart { IsTail self.old piece → ⊥ }
-        ensures splice { IfOk result (IsSplice self.old self.new piece at bytes.now) }
+        ensures splice { IfOk result (IsSplice self.old self.new piece at
+            (front.now ++ (bytes.now ++ back.now))) }
         ensures kept { KeepsAll self.old self.new }
         ensures main_err { OnErr result (self.new.main_text ≡ self.old.main_text) }
     {
         let from = self.main.len();
-        add_spliced(&mut self.main, &self.side, piece, at, bytes)?;
+        add_spliced(&mut self.main, &self.side, piece, at, front, bytes, back)?;
         Ok(from)
     }
 
@@ -363,6 +374,117 @@ impl Buffer {
         ensures main_err { OnErr result (main_bytes self.new ≡ main_bytes self.old) }
     {
         self.insert(piece, Place::End, bytes)
+    }
+
+    /// The piece with both texts at the end of its text, one after the other. Ends pieces, copies a
+    /// text, and keeps all after `AllocError`, as `append` does.
+    #[inline(always)]
+    pub fn append_pair(
+        &mut self,
+        piece: Piece,
+        first: &[u8],
+        second: &[u8],
+    ) -> Result<Piece, AllocError>
+        requires living { IsLiving self.old piece }
+        ensures shape { IfOk result (λ p. Lives self.new p
+            (appended second.now (appended first.now (shape self.old piece)))) }
+        ensures edit { OnOk result (IsEdit self.old self.new) }
+        ensures err { OnErr result (KeepsAll self.old self.new) }
+        ensures edit_of { IfOk result (λ p. IsEditOf self.old self.new piece p
+            (length first.now + length second.now)) }
+        ensures main_err { OnErr result (main_bytes self.new ≡ main_bytes self.old) }
+    {
+        let from = self.splice_pair(piece, first, second)?;
+        let n = first.len() + second.len();
+        let at = piece.place(Place::End);
+        Ok(piece.with_bytes(Place::End, at, n, from, self.main.len()))
+    }
+
+    // The text of a piece with both texts after it, at the end of the main text: where it begins.
+    #[inline(always)]
+    fn splice_pair(
+        &mut self,
+        piece: Piece,
+        first: &[u8],
+        second: &[u8],
+    ) -> Result<usize, AllocError>
+        requires living { IsLiving self.old piece }
+        ensures splice { IfOk result (IsSplice self.old self.new piece (piece.to_byte - piece.from_byte)
+            (first.now ++ second.now)) }
+        ensures edit { OnOk result (IsEdit self.old self.new) }
+        ensures err { OnErr result (KeepsAll self.old self.new) }
+        ensures main_err { OnErr result (self.new.main_text ≡ self.old.main_text) }
+    {
+        if self.is_tail(piece) {
+            self.add_pair(first, second)?;
+            return Ok(piece.from_byte);
+        }
+        self.splice_copy(piece, piece.place(Place::End), first, second, b"")
+    }
+
+    // Two texts at the end of the main text.
+    #[inline(always)]
+    fn add_pair(&mut self, first: &[u8], second: &[u8]) -> Result<(), AllocError>
+        ensures kept { KeepsAll self.old self.new }
+        ensures main { OnOk result (self.new.main_text ≡ self.old.main_text ++ (first.now ++ second.now)) }
+        ensures main_err { OnErr result (self.new.main_text ≡ self.old.main_text) }
+    {
+        self.main.add_pair(first, second)?;
+        Ok(())
+    }
+
+    /// The piece with the bytes and then its own last own name at the end of its text. Ends pieces,
+    /// copies a text, and keeps all after `AllocError`, as `append` does.
+    #[inline(always)]
+    pub fn append_own(&mut self, piece: Piece, between: &[u8]) -> Result<Piece, AllocError>
+        requires living { IsLiving self.old piece }
+        ensures shape { IfOk result (λ p. Lives self.new p
+            (appended (between.now ++ text (own_shape (shape self.old piece))) (shape self.old piece))) }
+        ensures edit { OnOk result (IsEdit self.old self.new) }
+        ensures err { OnErr result (KeepsAll self.old self.new) }
+        ensures edit_of { IfOk result (λ p. IsEditOf self.old self.new piece p
+            (length between.now + text_len (own_shape (shape self.old piece)))) }
+        ensures main_err { OnErr result (main_bytes self.new ≡ main_bytes self.old) }
+    {
+        let from = self.splice_own(piece, between)?;
+        let to = self.main.len();
+        let n = between.len() + (piece.own_end - piece.own_start);
+        let at = piece.place(Place::End);
+        Ok(piece.with_bytes(Place::End, at, n, from, to))
+    }
+
+    // The text of a piece with bytes and its last own name after it, at the end of the main text: where it begins.
+    #[inline(never)]
+    fn splice_own(&mut self, piece: Piece, between: &[u8]) -> Result<usize, AllocError>
+        requires living { IsLiving self.old piece }
+        ensures splice { IfOk result (IsSplice self.old self.new piece (piece.to_byte - piece.from_byte)
+            (between.now ++ own_text self.old.main_text self.old.side_text piece)) }
+        ensures edit { OnOk result (IsEdit self.old self.new) }
+        ensures err { OnErr result (KeepsAll self.old self.new) }
+        ensures main_err { OnErr result (self.new.main_text ≡ self.old.main_text) }
+    {
+        let name = piece.own_name();
+        if self.is_tail(piece) {
+            self.add_with_part(between, name.from_byte, name.to_byte)?;
+            return Ok(piece.from_byte);
+        }
+        let from = self.main.len();
+        add_joined(&mut self.main, &self.side, piece, between, name)?;
+        Ok(from)
+    }
+
+    // Bytes at the end of the main text, and a part of it once more after them.
+    #[inline(always)]
+    fn add_with_part(&mut self, bytes: &[u8], from: usize, to: usize) -> Result<(), AllocError>
+        requires ordered { from ≤ to }
+        requires within { to ≤ length self.old.main_text }
+        ensures kept { KeepsAll self.old self.new }
+        ensures main { OnOk result (self.new.main_text ≡ self.old.main_text
+            ++ (bytes.now ++ slice_range self.old.main_text from to)) }
+        ensures main_err { OnErr result (self.new.main_text ≡ self.old.main_text) }
+    {
+        self.main.add_with_part(bytes, from, to)?;
+        Ok(())
     }
 
     /// The piece with the bytes at a place of its text: `Close` asks for a group, `Suffix` for a
@@ -398,10 +520,67 @@ impl Buffer {
         ensures main_err { OnErr result (main_bytes self.new ≡ main_bytes self.old) }
     {
         let at = piece.place(Place::Suffix);
-        let group = group_bytes(self.alloc, &self.bytes(piece)[..at], bytes)?;
-        let from = self.splice(piece, at, &group)?;
-        let n = bytes.len() + 2;
-        Ok(piece.with_group(at, group.len(), n, from, self.main.len()))
+        let front = group_front(&self.bytes(piece)[..at]);
+        let from = self.splice_three(piece, at, front, bytes, b")")?;
+        let n = front.len() + bytes.len() + 1;
+        Ok(piece.with_group(at, n, bytes.len() + 2, from, self.main.len()))
+    }
+
+    // The text of a piece with three texts at a place of it, at the end of the main text: where it begins.
+    fn splice_three(
+        &mut self,
+        piece: Piece,
+        at: usize,
+        front: &[u8],
+        bytes: &[u8],
+        back: &[u8],
+    ) -> Result<usize, AllocError>
+        requires living { IsLiving self.old piece }
+        requires within { at ≤ piece.to_byte - piece.from_byte }
+        ensures splice { IfOk result (IsSplice self.old self.new piece at
+            (front.now ++ (bytes.now ++ back.now))) }
+        ensures edit { OnOk result (IsEdit self.old self.new) }
+        ensures err { OnErr result (KeepsAll self.old self.new) }
+        ensures main_err { OnErr result (self.new.main_text ≡ self.old.main_text) }
+    {
+        if self.is_tail(piece) {
+            self.insert_three(piece.from_byte + at, front, bytes, back)?;
+            return Ok(piece.from_byte);
+        }
+        self.splice_copy(piece, at, front, bytes, back)
+    }
+
+    // Three texts at a place of the main text since the innermost mark: what lies after it moves on.
+    fn insert_three(
+        &mut self,
+        at: usize,
+        front: &[u8],
+        bytes: &[u8],
+        back: &[u8],
+    ) -> Result<(), AllocError>
+        requires inner { self.old.frame_main ≤ at }
+        requires within { at ≤ length self.old.main_text }
+        ensures edit { OnOk result (IsEdit self.old self.new) }
+        ensures err { OnErr result (KeepsAll self.old self.new) }
+        ensures main { OnOk result (self.new.main_text ≡ take at self.old.main_text
+            ++ ((front.now ++ (bytes.now ++ back.now)) ++ drop at self.old.main_text)) }
+        ensures main_err { OnErr result (self.new.main_text ≡ self.old.main_text) }
+    {
+        let len = self.main.len();
+        set_apart(
+            self.main.as_slice(),
+            &mut self.side,
+            &mut self.saved,
+            &mut self.args,
+            at,
+            at,
+            len,
+        )?;
+        self.main.insert_three(at, front, bytes, back)?;
+        let next = at + (self.main.len() - len);
+        carry(&mut self.saved, at, at, len, next);
+        carry(&mut self.args, at, at, len, next);
+        Ok(())
     }
 
     /// The plain piece without its last n bytes. Its last own name is what is left of it. Ends
@@ -423,8 +602,10 @@ impl Buffer {
     /// A plain piece: the text of the first piece, the bytes, and the text of the second. Its last
     /// own name is the whole text, and both flags are off. Where the first ends where the second
     /// begins, and both stand up to the end of the main text, from the innermost mark or later,
-    /// they stay there; else both are copied to the end. Ends pieces, and keeps all after
-    /// `AllocError`, as `append` does.
+    /// they stay there. Else, where the second stands up to that end, from the innermost mark or
+    /// later, and the first lies elsewhere, the text of the first and the bytes go in front of it.
+    /// Else both are copied to the end. Ends pieces, and keeps all after `AllocError`, as `append`
+    /// does.
     #[inline(always)]
     pub fn join(&mut self, first: Piece, bytes: &[u8], second: Piece) -> Result<Piece, AllocError>
         requires first_living { IsLiving self.old first }
@@ -441,7 +622,7 @@ impl Buffer {
     }
 
     // Both texts with bytes between them, at the end of the main text: where they begin there.
-    #[inline(never)]
+    #[inline(always)]
     fn join_texts(&mut self, first: Piece, bytes: &[u8], second: Piece) -> Result<usize, AllocError>
         requires first_living { IsLiving self.old first }
         requires second_living { IsLiving self.old second }
@@ -454,9 +635,58 @@ impl Buffer {
             self.insert_at(second.from_byte, bytes)?;
             return Ok(first.from_byte);
         }
+        self.join_elsewhere(first, bytes, second)
+    }
+
+    // The same of texts that aren't adjacent at the end.
+    #[inline(never)]
+    fn join_elsewhere(&mut self, first: Piece, bytes: &[u8], second: Piece) -> Result<usize, AllocError>
+        requires first_living { IsLiving self.old first }
+        requires second_living { IsLiving self.old second }
+        requires apart { IsAdjacent self.old first second → ⊥ }
+        ensures joint { IfOk result (IsJoint self.old self.new first bytes.now second) }
+        ensures edit { OnOk result (IsEdit self.old self.new) }
+        ensures err { OnErr result (KeepsAll self.old self.new) }
+        ensures main_err { OnErr result (self.new.main_text ≡ self.old.main_text) }
+    {
+        if self.is_tail(second) && first.ends_by(second.from_byte) {
+            self.join_within(second.from_byte, first, bytes)?;
+            return Ok(second.from_byte);
+        }
         let from = self.main.len();
         add_joined(&mut self.main, &self.side, first, bytes, second)?;
         Ok(from)
+    }
+
+    // The text of a piece and bytes at a place of the main text since the innermost mark, by which the piece ends if it
+    // lies there: what lies after the place moves on.
+    fn join_within(&mut self, at: usize, first: Piece, bytes: &[u8]) -> Result<(), AllocError>
+        requires inner { self.old.frame_main ≤ at }
+        requires within { at ≤ length self.old.main_text }
+        requires living { IsLiving self.old first }
+        requires before { EndsBy at first }
+        ensures edit { OnOk result (IsEdit self.old self.new) }
+        ensures err { OnErr result (KeepsAll self.old self.new) }
+        ensures main { OnOk result (self.new.main_text ≡ take at self.old.main_text
+            ++ ((piece_text self.old.main_text self.old.side_text first ++ bytes.now)
+            ++ drop at self.old.main_text)) }
+        ensures main_err { OnErr result (self.new.main_text ≡ self.old.main_text) }
+    {
+        let len = self.main.len();
+        set_apart(
+            self.main.as_slice(),
+            &mut self.side,
+            &mut self.saved,
+            &mut self.args,
+            at,
+            at,
+            len,
+        )?;
+        insert_joined(&mut self.main, &self.side, at, first, bytes)?;
+        let dest = at + (self.main.len() - len);
+        carry(&mut self.saved, at, at, len, dest);
+        carry(&mut self.args, at, at, len, dest);
+        Ok(())
     }
 
     // Whether the second piece begins where the first ends, and both stand up to the end of the main text, from the
@@ -466,10 +696,10 @@ impl Buffer {
         ensures adjacent { result ≡ true → IsAdjacent self.now first second }
         ensures other { IsAdjacent self.now first second → result ≡ true }
     {
-        !first.in_side
+        !first.is_aside()
             && self.frame_main <= first.from_byte
             && first.to_byte == second.from_byte
-            && !second.in_side
+            && !second.is_aside()
             && second.to_byte == self.main.len()
     }
 
@@ -488,7 +718,7 @@ impl Buffer {
         ensures value { result.now ≡ text (shape self.now piece) }
         ensures stands { (from to : ℕ) → Stands piece from to → result.now ≡ slice_range (main_bytes self.now) from to }
     {
-        if piece.in_side {
+        if piece.is_aside() {
             self.side.part(piece.from_byte, piece.to_byte)
         } else {
             self.main.part(piece.from_byte, piece.to_byte)
@@ -510,7 +740,7 @@ impl Buffer {
         requires living { IsLiving self.now piece }
         ensures value { result ≡ kind_of (shape self.now piece).form }
     {
-        piece.declares
+        piece.declares()
     }
 
     /// Whether the piece is declared with a group.
@@ -519,7 +749,7 @@ impl Buffer {
         requires living { IsLiving self.now piece }
         ensures value { result ≡ is_some (group_of (shape self.now piece).form) }
     {
-        piece.declares.is_some() && piece.group_start.is_some()
+        piece.declares().is_some() && is_grouped(piece.flags)
     }
 
     /// The byte of its text at which `after` begins, or `None` where the piece is plain.
@@ -528,7 +758,7 @@ impl Buffer {
         requires living { IsLiving self.now piece }
         ensures value { result ≡ after_of (shape self.now piece).form }
     {
-        match piece.declares {
+        match piece.declares() {
             None => None,
             Some(_) => Some(piece.after_start),
         }
@@ -550,7 +780,7 @@ impl Buffer {
     pub fn templ(&self, piece: Piece) -> bool
         ensures value { result ≡ (shape self.now piece).templ }
     {
-        piece.is_templ
+        is_templ(piece.flags)
     }
 
     /// Whether the piece names a constructor, a destructor or a conversion.
@@ -558,7 +788,7 @@ impl Buffer {
     pub fn ctor(&self, piece: Piece) -> bool
         ensures value { result ≡ (shape self.now piece).ctor }
     {
-        piece.is_ctor
+        is_ctor(piece.flags)
     }
 
     /// The same shape with these flags. The answer is as old as the piece.
@@ -570,8 +800,7 @@ impl Buffer {
         ensures stands { StandsAs piece result }
     {
         Piece {
-            is_templ: templ,
-            is_ctor: ctor,
+            flags: flagged(piece.flags, templ, ctor),
             ..piece
         }
     }
@@ -620,7 +849,7 @@ impl Buffer {
         ensures stands { StandsAs piece result }
     {
         Piece {
-            declares: None,
+            flags: plain(piece.flags),
             ..piece
         }
     }
@@ -632,12 +861,7 @@ impl Buffer {
         ensures shape { Lives self.now result (own_shape (shape self.now piece)) }
         ensures age { IsAsOld piece result }
     {
-        let from = piece.from_byte + piece.own_start;
-        let to = piece.from_byte + piece.own_end;
-        Piece {
-            in_side: piece.in_side,
-            ..Piece::whole_at(from, to)
-        }
+        piece.own_name()
     }
 
     /// The plain piece as a declarator of this kind, with no group: its `after` begins at the byte
@@ -795,16 +1019,9 @@ fn needs_gap(text: &[u8]) -> bool
     }
 }
 
-// What is inserted after a text for a group: the gap, and the group in its parentheses.
-fn group_bytes(alloc: Global, text: &[u8], group: &[u8]) -> Result<Vec<u8>, AllocError>
-    ensures text { IfOk result (λ v. v.items ≡ gap_after text.now ++ grouped (Some group.now)) }
+// What is inserted after a text for a group, in front of its bytes: the gap and `(`.
+fn group_front(text: &[u8]) -> &'static [u8]
+    ensures text { result.now ≡ gap_after text.now ++ 40 ∷ [] }
 {
-    let mut all = Vec::new(alloc);
-    if needs_gap(text) {
-        all.push(b' ')?;
-    }
-    all.push(b'(')?;
-    all.extend_from_slice(group)?;
-    all.push(b')')?;
-    Ok(all)
+    if needs_gap(text) { b" (" } else { b"(" }
 }

@@ -16,6 +16,7 @@
 #![tactic(auto)]
 
 mod buffer;
+mod flags;
 mod lanes;
 mod moves;
 mod parts;

@@ -1,8 +1,10 @@
 //! What a move of bytes in the main text does to the pieces that are kept.
 ghost use Rattle.std.specs.Prelude.{◌≡◌, ℕ, ◌+◌, ◌-◌, ◌^◌, ◌<◌, ◌≤◌, ◌++◌, length, slice_range, All, map, IfOk, OnOk};
 ghost use Rattle.std.specs.Prelude.{OnErr, true, false};
-ghost use Rattle.demangle_text.specs.Pieces.{IsPiece, IsApart, IsAside, Extends, shape_in, carried};
+ghost use Rattle.demangle_text.specs.Flags.{lies_aside};
+ghost use Rattle.demangle_text.specs.Pieces.{IsPiece, IsApart, IsAside, Extends, shape_in, marks_of, carried};
 
+use crate::flags::in_side;
 use crate::ranges::Ranges;
 use crate::shape::Piece;
 use crate::text::Text;
@@ -12,20 +14,19 @@ use std::alloc::AllocError;
 fn set_aside(main: &[u8], side: &mut Text, piece: Piece) -> Result<Piece, AllocError>
     requires ordered { piece.from_byte ≤ piece.to_byte }
     requires within { piece.to_byte ≤ length main.now }
-    ensures piece { IfOk result (λ p. p ≡ record piece {
-      in_side = true;
-      from_byte = length side.old;
-      to_byte = length side.old + (piece.to_byte - piece.from_byte);
-    }) }
+    ensures aside { IfOk result (λ p. lies_aside p.flags ≡ true) }
+    ensures begins { IfOk result (λ p. p.from_byte ≡ length side.old) }
+    ensures ends { IfOk result (λ p. p.to_byte ≡ length side.old + (piece.to_byte - piece.from_byte)) }
+    ensures marks { IfOk result (λ p. marks_of p ≡ marks_of piece) }
     ensures text { OnOk result (side.new ≡ side.old ++ slice_range main.now piece.from_byte piece.to_byte) }
     ensures err { OnErr result (side.new ≡ side.old) }
 {
     let from = side.len();
     side.add(&main[piece.from_byte..piece.to_byte])?;
     Ok(Piece {
-        in_side: true,
         from_byte: from,
         to_byte: side.len(),
+        flags: in_side(piece.flags),
         ..piece
     })
 }
@@ -45,7 +46,7 @@ fn evict_one(
     ensures shape { IfOk result (λ p. shape_in main.now side.new p ≡ shape_in main.now side.old piece) }
     ensures apart { IfOk result (IsApart low from to) }
 {
-    if piece.in_side || piece.to_byte <= low {
+    if piece.is_aside() || piece.to_byte <= low {
         return Ok(piece);
     }
     if from <= piece.from_byte && piece.to_byte <= to {
@@ -128,7 +129,7 @@ fn carry_one(piece: Piece, low: usize, from: usize, to: usize, dest: usize) -> P
     requires fits { dest + (to - from) < 2 ^ 64 }
     ensures value { result ≡ carried low from dest piece }
 {
-    if piece.in_side || piece.to_byte <= low {
+    if piece.is_aside() || piece.to_byte <= low {
         return piece;
     }
     Piece {

@@ -1,7 +1,8 @@
-//! Texts of pieces, put at the end of the main text.
+//! Texts of pieces, put at the end of the main text or at a place of it.
 ghost use Rattle.std.specs.Prelude.{◌≡◌, ℕ, ◌+◌, ◌-◌, ◌<◌, ◌≤◌, ◌++◌, length, take, drop, slice_range, IfOk, OnOk};
 ghost use Rattle.std.specs.Prelude.{OnErr};
-ghost use Rattle.demangle_text.specs.Pieces.{home_bytes, piece_text, Extends};
+ghost use Rattle.demangle_text.specs.Flags.{lies_aside};
+ghost use Rattle.demangle_text.specs.Pieces.{home_bytes, piece_text, Extends, EndsBy};
 
 use crate::shape::Piece;
 use crate::text::Text;
@@ -28,45 +29,51 @@ pub(crate) fn add_part(
     }
 }
 
-// The text of a piece with bytes at a place of it, or a part of that where memory is refused.
+// The text of a piece with three texts at a place of it, or a part of that where memory is refused.
 fn splice_parts(
     main: &mut Text,
     side: &Text,
     piece: Piece,
     at: usize,
+    front: &[u8],
     bytes: &[u8],
+    back: &[u8],
 ) -> Result<(), AllocError>
     requires ordered { piece.from_byte ≤ piece.to_byte }
-    requires within { piece.to_byte ≤ length (home_bytes main.old side.now piece.in_side) }
+    requires within { piece.to_byte ≤ length (home_bytes main.old side.now (lies_aside piece.flags)) }
     requires place { at ≤ piece.to_byte - piece.from_byte }
     ensures ok { OnOk result (main.new ≡ main.old ++ (take at (piece_text main.old side.now piece)
-        ++ (bytes.now ++ drop at (piece_text main.old side.now piece)))) }
+        ++ ((front.now ++ (bytes.now ++ back.now)) ++ drop at (piece_text main.old side.now piece)))) }
     ensures grows { Extends main.old main.new }
 {
     let middle = piece.from_byte + at;
-    add_part(main, side, piece.in_side, piece.from_byte, middle)?;
+    add_part(main, side, piece.is_aside(), piece.from_byte, middle)?;
+    main.add(front)?;
     main.add(bytes)?;
-    add_part(main, side, piece.in_side, middle, piece.to_byte)?;
+    main.add(back)?;
+    add_part(main, side, piece.is_aside(), middle, piece.to_byte)?;
     Ok(())
 }
 
-// The text of a piece with bytes at a place of it. After an error the main text is as it was.
+// The text of a piece with three texts at a place of it. After an error the main text is as it was.
 pub(crate) fn add_spliced(
     main: &mut Text,
     side: &Text,
     piece: Piece,
     at: usize,
+    front: &[u8],
     bytes: &[u8],
+    back: &[u8],
 ) -> Result<(), AllocError>
     requires ordered { piece.from_byte ≤ piece.to_byte }
-    requires within { piece.to_byte ≤ length (home_bytes main.old side.now piece.in_side) }
+    requires within { piece.to_byte ≤ length (home_bytes main.old side.now (lies_aside piece.flags)) }
     requires place { at ≤ piece.to_byte - piece.from_byte }
     ensures ok { OnOk result (main.new ≡ main.old ++ (take at (piece_text main.old side.now piece)
-        ++ (bytes.now ++ drop at (piece_text main.old side.now piece)))) }
+        ++ ((front.now ++ (bytes.now ++ back.now)) ++ drop at (piece_text main.old side.now piece)))) }
     ensures err { OnErr result (main.new ≡ main.old) }
 {
     let len = main.len();
-    match splice_parts(main, side, piece, at, bytes) {
+    match splice_parts(main, side, piece, at, front, bytes, back) {
         Ok(()) => Ok(()),
         Err(error) => {
             main.truncate(len);
@@ -84,16 +91,22 @@ fn join_parts(
     second: Piece,
 ) -> Result<(), AllocError>
     requires first_ordered { first.from_byte ≤ first.to_byte }
-    requires first_within { first.to_byte ≤ length (home_bytes main.old side.now first.in_side) }
+    requires first_within { first.to_byte ≤ length (home_bytes main.old side.now (lies_aside first.flags)) }
     requires second_ordered { second.from_byte ≤ second.to_byte }
-    requires second_within { second.to_byte ≤ length (home_bytes main.old side.now second.in_side) }
+    requires second_within { second.to_byte ≤ length (home_bytes main.old side.now (lies_aside second.flags)) }
     ensures ok { OnOk result (main.new ≡ main.old ++ (piece_text main.old side.now first
         ++ bytes.now ++ piece_text main.old side.now second)) }
     ensures grows { Extends main.old main.new }
 {
-    add_part(main, side, first.in_side, first.from_byte, first.to_byte)?;
+    add_part(main, side, first.is_aside(), first.from_byte, first.to_byte)?;
     main.add(bytes)?;
-    add_part(main, side, second.in_side, second.from_byte, second.to_byte)
+    add_part(
+        main,
+        side,
+        second.is_aside(),
+        second.from_byte,
+        second.to_byte,
+    )
 }
 
 // Two texts with bytes between them. After an error the main text is as it was.
@@ -105,9 +118,9 @@ pub(crate) fn add_joined(
     second: Piece,
 ) -> Result<(), AllocError>
     requires first_ordered { first.from_byte ≤ first.to_byte }
-    requires first_within { first.to_byte ≤ length (home_bytes main.old side.now first.in_side) }
+    requires first_within { first.to_byte ≤ length (home_bytes main.old side.now (lies_aside first.flags)) }
     requires second_ordered { second.from_byte ≤ second.to_byte }
-    requires second_within { second.to_byte ≤ length (home_bytes main.old side.now second.in_side) }
+    requires second_within { second.to_byte ≤ length (home_bytes main.old side.now (lies_aside second.flags)) }
     ensures ok { OnOk result (main.new ≡ main.old ++ (piece_text main.old side.now first
         ++ bytes.now ++ piece_text main.old side.now second)) }
     ensures err { OnErr result (main.new ≡ main.old) }
@@ -120,4 +133,49 @@ pub(crate) fn add_joined(
             Err(error)
         }
     }
+}
+
+// The text of a piece at a place of the main text, by which it ends if it lies there, over the bytes that stood there:
+// where it ends.
+#[inline(always)]
+fn put_text(main: &mut Text, side: &Text, at: usize, piece: Piece) -> usize
+    requires ordered { piece.from_byte ≤ piece.to_byte }
+    requires within { piece.to_byte ≤ length (home_bytes main.old side.now (lies_aside piece.flags)) }
+    requires before { EndsBy at piece }
+    requires room { at + (piece.to_byte - piece.from_byte) ≤ length main.old }
+    ensures value { main.new ≡ take at main.old ++ (piece_text main.old side.now piece
+        ++ drop (at + (piece.to_byte - piece.from_byte)) main.old) }
+    ensures ends { result ≡ at + (piece.to_byte - piece.from_byte) }
+{
+    if piece.is_aside() {
+        main.put(at, side.part(piece.from_byte, piece.to_byte))
+    } else {
+        main.put_part(at, piece.from_byte, piece.to_byte)
+    }
+}
+
+// The text of a piece and bytes at a place of the main text, by which the piece ends if it lies there: what lies after
+// the place moves on.
+pub(crate) fn insert_joined(
+    main: &mut Text,
+    side: &Text,
+    at: usize,
+    first: Piece,
+    bytes: &[u8],
+) -> Result<(), AllocError>
+    requires place { at ≤ length main.old }
+    requires ordered { first.from_byte ≤ first.to_byte }
+    requires within { first.to_byte ≤ length (home_bytes main.old side.now (lies_aside first.flags)) }
+    requires before { EndsBy at first }
+    ensures ok { OnOk result (main.new ≡ take at main.old
+        ++ ((piece_text main.old side.now first ++ bytes.now) ++ drop at main.old)) }
+    ensures err { OnErr result (main.new ≡ main.old) }
+{
+    let Some(n) = first.text_len().checked_add(bytes.len()) else {
+        return Err(AllocError);
+    };
+    main.open_room(at, n)?;
+    let middle = put_text(main, side, at, first);
+    main.put(middle, bytes);
+    Ok(())
 }

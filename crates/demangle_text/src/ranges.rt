@@ -148,7 +148,7 @@ fn reached(end: usize, piece: Piece) -> usize
     ensures more { end ≤ result }
     ensures ends { EndsBy result piece }
 {
-    if !piece.in_side && end < piece.to_byte {
+    if !piece.is_aside() && end < piece.to_byte {
         piece.to_byte
     } else {
         end

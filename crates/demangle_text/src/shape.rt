@@ -1,8 +1,11 @@
 //! Pieces: where their texts lie, how these are cut into the parts of a shape, and where the last own name lies.
-ghost use Rattle.std.specs.Prelude.{◌≡◌, ℕ, ◌+◌, ◌-◌, ◌^◌, ◌<◌, ◌≤◌, if◌then◌else◌};
+ghost use Rattle.std.specs.Prelude.{◌≡◌, ℕ, ◌+◌, ◌-◌, ◌^◌, ◌<◌, ◌≤◌, true, if◌then◌else◌};
 ghost use Rattle.demangle_text.specs.Pieces.{place_at, layout_with, layout_opened, layout_end, own_at, own_of};
-ghost use Rattle.demangle_text.specs.Pieces.{whole_marks, cut_marks, marks_of, IsAt, Layout, layout_by};
+ghost use Rattle.demangle_text.specs.Pieces.{whole_marks, cut_marks, marks_of, IsAt, EndsBy, Layout, layout_by};
 ghost use Rattle.demangle_text.specs.Shape.{moved};
+ghost use Rattle.demangle_text.specs.Flags.{lies_aside, templ_by, ctor_by, grouped_by, kind_by, group_from};
+
+use crate::flags::{bare, bare_in_main, declared, declares, in_main, is_aside, is_grouped, plain};
 
 /// What a declarator declares.
 #[derive(Clone, Copy, Debug, PartialEq, Eq)]
@@ -29,19 +32,17 @@ pub enum Place {
 /// A value that stands for a shape in a buffer, from the call of the buffer that answers it.
 #[derive(Clone, Copy)]
 pub struct Piece {
-    // Whether the text lies in the side text and not in the main text, and its bytes there.
-    pub(crate) in_side: bool,
+    // The bytes of the main text or of the side text where its text lies.
     pub(crate) from_byte: usize,
     pub(crate) to_byte: usize,
     // The other places are bytes of its own text. These are the last own name's.
     pub(crate) own_start: usize,
     pub(crate) own_end: usize,
-    // What a declarator declares, where the `(` of its group stands, and where `after` begins.
-    pub(crate) declares: Option<Kind>,
-    pub(crate) group_start: Option<usize>,
+    // Of a declarator: where the `(` of its group stands, and where `after` begins.
+    pub(crate) group_start: usize,
     pub(crate) after_start: usize,
-    pub(crate) is_templ: bool,
-    pub(crate) is_ctor: bool,
+    // Which text it lies in, what it declares, and the rest that is on or off.
+    pub(crate) flags: usize,
 }
 
 /// What `open` hands out, and `close` takes back.
@@ -65,16 +66,32 @@ impl Piece {
         ensures marks { marks_of result ≡ whole_marks (to - from) }
     {
         Piece {
-            in_side: false,
             from_byte: from,
             to_byte: to,
             own_start: 0,
             own_end: to - from,
-            declares: None,
-            group_start: None,
+            group_start: 0,
             after_start: 0,
-            is_templ: false,
-            is_ctor: false,
+            flags: bare_in_main(),
+        }
+    }
+
+    // A plain piece of its last own name, in the same text.
+    #[inline(always)]
+    pub(crate) fn own_name(self) -> Piece
+        requires ordered { self.own_start ≤ self.own_end }
+        requires fits { self.from_byte + self.own_end < 2 ^ 64 }
+        ensures home { lies_aside result.flags ≡ lies_aside self.flags }
+        ensures begins { result.from_byte ≡ self.from_byte + self.own_start }
+        ensures ends { result.to_byte ≡ self.from_byte + self.own_end }
+        ensures marks { marks_of result
+            ≡ whole_marks (self.from_byte + self.own_end - (self.from_byte + self.own_start)) }
+    {
+        let from = self.from_byte + self.own_start;
+        let to = self.from_byte + self.own_end;
+        Piece {
+            flags: bare(self.flags),
+            ..Piece::whole_at(from, to)
         }
     }
 
@@ -85,11 +102,27 @@ impl Piece {
         ensures marks { marks_of result ≡ marks_of self }
     {
         Piece {
-            in_side: false,
             from_byte: from,
             to_byte: to,
+            flags: in_main(self.flags),
             ..self
         }
+    }
+
+    // Whether its text lies in the side text.
+    #[inline(always)]
+    pub(crate) fn is_aside(self) -> bool
+        ensures value { result ≡ lies_aside self.flags }
+    {
+        is_aside(self.flags)
+    }
+
+    // What it declares, where it isn't plain.
+    #[inline(always)]
+    pub(crate) fn declares(self) -> Option<Kind>
+        ensures value { result ≡ kind_by self.flags }
+    {
+        declares(self.flags)
     }
 
     // How many bytes its text has.
@@ -101,6 +134,14 @@ impl Piece {
         self.to_byte - self.from_byte
     }
 
+    // Whether it lies in the side text, or ends by a byte of the main text.
+    #[inline(always)]
+    pub(crate) fn ends_by(self, at: usize) -> bool
+        ensures ends { result ≡ true → EndsBy at self }
+    {
+        self.is_aside() || self.to_byte <= at
+    }
+
     // Where a place lies in its text.
     #[inline(always)]
     pub(crate) fn place(self, place: Place) -> usize
@@ -108,7 +149,7 @@ impl Piece {
         ensures value { result ≡ place_at place (marks_of self).layout (self.to_byte - self.from_byte) }
     {
         let len = self.text_len();
-        if self.declares.is_none() {
+        if self.declares().is_none() {
             return match place {
                 Place::Start => 0,
                 Place::Close | Place::Suffix | Place::End => len,
@@ -141,42 +182,37 @@ impl Piece {
         ensures layout { (marks_of result).layout ≡ layout_with place n (marks_of self).layout }
         ensures own { (marks_of result).own
             ≡ own_at (marks_of self).layout (to - from) (moved at n (marks_of self).own) }
-        ensures templ { result.is_templ ≡ self.is_templ }
-        ensures ctor { result.is_ctor ≡ self.is_ctor }
+        ensures templ { templ_by result.flags ≡ templ_by self.flags }
+        ensures ctor { ctor_by result.flags ≡ ctor_by self.flags }
     {
         let (own_start, own_end) = self.own_moved(at, n, to - from);
         let (group_start, after_start) = self.parts_moved(place, n);
         Piece {
-            in_side: false,
             from_byte: from,
             to_byte: to,
             own_start,
             own_end,
             group_start,
             after_start,
-            ..self
+            flags: in_main(self.flags),
         }
     }
 
     // Where the group and `after` begin after n bytes were inserted at a place.
     #[inline(always)]
-    fn parts_moved(self, place: Place, n: usize) -> (Option<usize>, usize)
+    fn parts_moved(self, place: Place, n: usize) -> (usize, usize)
         requires fits { layout_end (marks_of self).layout + n < 2 ^ 64 }
-        ensures value { layout_by self.declares result.0 result.1 ≡ layout_with place n (marks_of self).layout }
+        ensures value { layout_by (kind_by self.flags) (group_from (grouped_by self.flags) result.0) result.1
+            ≡ layout_with place n (marks_of self).layout }
     {
-        if self.declares.is_none() {
-            return (None, 0);
+        if self.declares().is_none() {
+            return (self.group_start, self.after_start);
         }
         match place {
             Place::End => (self.group_start, self.after_start),
             Place::Close | Place::Suffix => (self.group_start, self.after_start + n),
-            Place::Start => {
-                let group = match self.group_start {
-                    Some(open) => Some(open + n),
-                    None => None,
-                };
-                (group, self.after_start + n)
-            }
+            Place::Start if is_grouped(self.flags) => (self.group_start + n, self.after_start + n),
+            Place::Start => (self.group_start, self.after_start + n),
         }
     }
 
@@ -193,24 +229,25 @@ impl Piece {
         ensures layout { (marks_of result).layout ≡ layout_opened n m (marks_of self).layout }
         ensures own { (marks_of result).own
             ≡ own_at (marks_of self).layout (to - from) (moved at n (marks_of self).own) }
-        ensures templ { result.is_templ ≡ self.is_templ }
-        ensures ctor { result.is_ctor ≡ self.is_ctor }
+        ensures templ { templ_by result.flags ≡ templ_by self.flags }
+        ensures ctor { ctor_by result.flags ≡ ctor_by self.flags }
     {
         let (own_start, own_end) = self.own_moved(at, n, to - from);
-        let (group_start, after_start) = if self.declares.is_some() {
-            (Some(self.after_start + n - m), self.after_start + n)
-        } else {
-            (None, 0)
+        let Some(kind) = self.declares() else {
+            return Piece {
+                own_start,
+                own_end,
+                ..self.moved_to(from, to)
+            };
         };
         Piece {
-            in_side: false,
             from_byte: from,
             to_byte: to,
             own_start,
             own_end,
-            group_start,
-            after_start,
-            ..self
+            group_start: self.after_start + n - m,
+            after_start: self.after_start + n,
+            flags: declared(in_main(self.flags), kind, true),
         }
     }
 
@@ -219,7 +256,7 @@ impl Piece {
     pub(crate) fn cut(self, n: usize) -> Piece
         requires ordered { self.from_byte ≤ self.to_byte }
         requires within { n ≤ self.to_byte - self.from_byte }
-        ensures home { result.in_side ≡ self.in_side }
+        ensures home { lies_aside result.flags ≡ lies_aside self.flags }
         ensures begins { result.from_byte ≡ self.from_byte }
         ensures ends { result.to_byte + n ≡ self.to_byte }
         ensures marks { marks_of result ≡ cut_marks (self.to_byte - self.from_byte - n) (marks_of self) }
@@ -229,7 +266,7 @@ impl Piece {
             to_byte: self.to_byte - n,
             own_start: self.own_start.min(left),
             own_end: self.own_end.min(left),
-            declares: None,
+            flags: plain(self.flags),
             ..self
         }
     }
@@ -238,13 +275,13 @@ impl Piece {
     #[inline(always)]
     pub(crate) fn declared(self, kind: Kind, group: Option<usize>, at: usize) -> Piece
         requires ordered { self.from_byte ≤ self.to_byte }
-        ensures home { result.in_side ≡ self.in_side }
+        ensures home { lies_aside result.flags ≡ lies_aside self.flags }
         ensures begins { result.from_byte ≡ self.from_byte }
         ensures ends { result.to_byte ≡ self.to_byte }
         ensures layout { (marks_of result).layout ≡ Layout.Cut kind group at }
         ensures own { (marks_of result).own ≡ own_of kind (self.to_byte - self.from_byte) (marks_of self).own }
-        ensures templ { result.is_templ ≡ self.is_templ }
-        ensures ctor { result.is_ctor ≡ self.is_ctor }
+        ensures templ { templ_by result.flags ≡ templ_by self.flags }
+        ensures ctor { ctor_by result.flags ≡ ctor_by self.flags }
     {
         let (own_start, own_end) = match kind {
             Kind::Function => (0, self.text_len()),
@@ -253,9 +290,9 @@ impl Piece {
         Piece {
             own_start,
             own_end,
-            declares: Some(kind),
-            group_start: group,
+            group_start: group.unwrap_or(0),
             after_start: at,
+            flags: declared(self.flags, kind, group.is_some()),
             ..self
         }
     }
@@ -267,7 +304,7 @@ impl Piece {
         requires fits { self.own_end + n < 2 ^ 64 }
         ensures value { result ≡ own_at (marks_of self).layout len (moved at n (self.own_start, self.own_end)) }
     {
-        if matches!(self.declares, Some(Kind::Function)) {
+        if matches!(self.declares(), Some(Kind::Function)) {
             (0, len)
         } else {
             moved_range(at, n, (self.own_start, self.own_end))

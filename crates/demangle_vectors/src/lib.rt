@@ -12,6 +12,8 @@ mod declarators;
 #[cfg(test)]
 mod expressions;
 #[cfg(test)]
+mod lent;
+#[cfg(test)]
 mod local_names;
 #[cfg(test)]
 mod names;

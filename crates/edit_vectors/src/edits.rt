@@ -9,8 +9,8 @@ use demangle_edit::{
     Glue, Pointer, Quals, Reference, address, append_number, apply_name_qualifiers,
     attach_template_args, close_arguments, close_lambda, close_params, collapse_ref, expand,
     format_params, function_type, glue, list_next, open_arguments, open_params, qualify,
-    qualify_ctor, separate, subexpr, tag, wrap_array, wrap_cv, wrap_member_pointer, wrap_pointer,
-    write_literal,
+    qualify_ctor, qualify_text, separate, subexpr, tag, wrap_array, wrap_cv, wrap_member_pointer,
+    wrap_pointer, write_literal,
 };
 use demangle_text::{Buffer, Kind, Piece};
 use std::alloc::Global;
@@ -32,6 +32,32 @@ const ALL_QUALS: Quals = Quals {
 
 #[test]
 #[tactic(auto, using(demangle_text::proofs::Laws::laws))]
+fn a_name_grows_in_the_main_text(rt: HostRuntime) {
+    let mut buf = Buffer::new(rt.alloc());
+    let scope = push(&rt, &mut buf, b"A");
+    let leaf = push(&rt, &mut buf, b"B");
+    let name = qualify(&mut buf, scope, leaf).expect(&rt, "no memory");
+    assert_eq!(&rt; buf.main_bytes(), b"A::B".as_slice());
+    let pointer = wrap_pointer(&mut buf, name, Pointer::Star).expect(&rt, "no memory");
+    assert_eq!(&rt; buf.main_bytes(), b"A::B*".as_slice());
+    address(&mut buf, pointer).expect(&rt, "no memory");
+    assert_eq!(&rt; buf.main_bytes(), b"&A::B*".as_slice());
+    drop(buf);
+}
+
+#[test]
+#[tactic(auto, using(demangle_text::proofs::Laws::laws))]
+fn arguments_grow_in_the_main_text(rt: HostRuntime) {
+    let mut buf = Buffer::new(rt.alloc());
+    let name = push(&rt, &mut buf, b"v");
+    let args = push(&rt, &mut buf, b"<int>");
+    attach_template_args(&mut buf, name, args).expect(&rt, "no memory");
+    assert_eq!(&rt; buf.main_bytes(), b"v<int>".as_slice());
+    drop(buf);
+}
+
+#[test]
+#[tactic(auto, using(demangle_text::proofs::Laws::laws))]
 fn qualified_name(rt: HostRuntime) {
     let mut buf = Buffer::new(rt.alloc());
     let scope = push(&rt, &mut buf, b"Foo");
@@ -39,6 +65,17 @@ fn qualified_name(rt: HostRuntime) {
     let name = qualify(&mut buf, scope, leaf).expect(&rt, "no memory");
     assert_named(&rt, &buf, name, b"Foo::bar<int>", 5, 8);
     assert_flags(&rt, &buf, name, true, false);
+    drop(buf);
+}
+
+#[test]
+#[tactic(auto, using(demangle_text::proofs::Laws::laws))]
+fn text_in_a_scope(rt: HostRuntime) {
+    let mut buf = Buffer::new(rt.alloc());
+    let scope = named(&rt, &mut buf, b"A::B<int>", 3, 4, true, true);
+    let name = qualify_text(&mut buf, scope, b"value").expect(&rt, "no memory");
+    assert_named(&rt, &buf, name, b"A::B<int>::value", 11, 16);
+    assert_flags(&rt, &buf, name, false, false);
     drop(buf);
 }
 
@@ -68,6 +105,32 @@ fn destructor(rt: HostRuntime) {
     let destructor = qualify_ctor(&mut buf, class, true).expect(&rt, "no memory");
     assert_named(&rt, &buf, destructor, b"A::Foo::~Foo", 8, 12);
     assert_flags(&rt, &buf, destructor, false, true);
+    drop(buf);
+}
+
+#[test]
+#[tactic(auto, using(demangle_text::proofs::Laws::laws, demangle_text::proofs::Laws::runs))]
+fn saved_class_under_its_constructor(rt: HostRuntime) {
+    let mut buf = Buffer::new(rt.alloc());
+    let class = named(&rt, &mut buf, b"A::Foo", 3, 6, false, false);
+    buf.save(class).expect(&rt, "no memory");
+    let constructor = qualify_ctor(&mut buf, class, false).expect(&rt, "no memory");
+    assert_named(&rt, &buf, constructor, b"A::Foo::Foo", 8, 11);
+    let saved = buf.saved(0).expect(&rt, "nothing is saved");
+    assert_named(&rt, &buf, saved, b"A::Foo", 3, 6);
+    drop(buf);
+}
+
+#[test]
+#[tactic(auto, using(demangle_text::proofs::Laws::laws, demangle_text::proofs::Laws::runs))]
+fn constructor_of_an_older_class(rt: HostRuntime) {
+    let mut buf = Buffer::new(rt.alloc());
+    let class = named(&rt, &mut buf, b"A::Foo", 3, 6, false, false);
+    let mark = buf.open();
+    let destructor = qualify_ctor(&mut buf, class, true).expect(&rt, "no memory");
+    let answer = buf.close(mark, destructor).expect(&rt, "no memory");
+    assert_named(&rt, &buf, answer, b"A::Foo::~Foo", 8, 12);
+    assert_named(&rt, &buf, class, b"A::Foo", 3, 6);
     drop(buf);
 }
 

@@ -1,13 +1,16 @@
 -- What a reader of symbols says, in the grammar's words, and what follows for the answer.
 use Rattle.std.proofs.Common.{◌≡◌, ◌<◌, ℕ, ◌++◌, List, [], ◌∷◌, Bool, true, false, ◌&&◌, ◌==◌, ◌≤◌, ◌*◌, Option, Some, None, Result, Ok, Err, ap, if◌then◌else◌, map, ◌∙◌, sym, refl, subst, arith, length, drop, get_or, ◌+◌, max}
-use Rattle.std.specs.Prelude.{option_map}
 use Rattle.std.proofs.lemmas.Simd.{map-map}
 use Rattle.std.proofs.lemmas.Grind.{common_steps}
 use Rattle.std.proofs.lemmas.List.{length-drop, get_or-drop}
-use Rattle.std.proofs.lemmas.Str.{IsUtf8-nil, IsUtf8-drop, IsCharBoundary-before_ascii}
+use Rattle.std.proofs.lemmas.Str.{IsUtf8-append, IsUtf8-nil, IsUtf8-drop, IsCharBoundary-before_ascii}
 use Rattle.std.specs.Str.{IsUtf8}
+use Rattle.std.specs.Prelude.{Box}
+use Rattle.std.specs.Global.{Global}
 use Rattle.demangle_text.specs.Shape.{Shape, text}
-use Rattle.demangle_text.specs.State.{shape}
+use Rattle.demangle_text.specs.declared.buffer.Buffer.{Buffer}
+use Rattle.demangle_text.specs.declared.shape.Mark.{Mark}
+use Rattle.demangle_text.specs.State.{shape, saved, main_bytes, Opens}
 use Rattle.itanium_syntax.specs.declared.context.Context.{Context}
 use Rattle.itanium_syntax.specs.Bytes.{begins}
 use Rattle.itanium_syntax.proofs.Fronts.{IsAfter, after_then}
@@ -22,7 +25,7 @@ use Rattle.itanium_reader.specs.declared.stop.Stop.TheVariants.{Unread, Memory}
 use Rattle.itanium_reader.specs.Parser.{ParserState, begun, parse_symbol}
 use Rattle.itanium_reader.specs.Outcome.{state, Gives, Bounds, SavedBounds, MostSaved}
 use Rattle.itanium_demangle.specs.Meaning.{state_at, StandsFor, HasReading, HasNoReading, ReadsAs}
-use Rattle.itanium_demangle.specs.Demangler.{IsPrinted, component_texts}
+use Rattle.itanium_demangle.specs.Demangler.{IsPrinted, IsText, answer_text, component_texts}
 use Rattle.itanium_demangle.proofs.CompleteSymbols.{symbol_complete}
 use Rattle.itanium_demangle.proofs.SoundSymbols.{symbol_sound}
 
@@ -53,7 +56,7 @@ pub reads_as : (result : Result (Unit {0}) Stop) (x : Context) (d : ℕ) (before
 reads_as (Ok u) x d before after gives = (
   gives.0,
   λ p stands.
-      found_reading d x p before.entered before.most_saved (shape after.buffer after.found) (state after) (rw stands at gives.1),
+      found_reading d x p before.entered before.most_saved (shape after.buffer.value after.found) (state after) (rw stands at gives.1),
 )
 reads_as (Err Unread) x d before after none = λ p stands. found_none d x p before.entered before.most_saved (rw stands at none)
 reads_as (Err Memory) x d before after gives = tt
@@ -195,10 +198,19 @@ left_saved symbol inside e m found after components answer prefix has is tree ne
     ∙ sym (ap (λ (q : Position). map printing q.saved) same.1)
 
 -- what is kept as components after a reading that was found
-pub kept_components : {A : Type 0} (symbol inside : List ℕ) (e m : ℕ) (found : Shape) (after : Reader) (has_text : A → List ℕ) (kept : Option A) → after_prefix symbol ≡ Some inside
-    → HasReading outside (start inside) max_depth e m found (state after) → HasComponents symbol (option_map has_text kept) (component_texts kept (Some after.buffer))
-kept_components symbol inside e m found after has_text None prefix has = refl
-kept_components symbol inside e m found after has_text (Some t) prefix has = left_saved symbol inside e m found (state after) _ (has_text t) prefix has refl
+pub kept_components : (symbol inside : List ℕ) (e m : ℕ) (found : Shape) (after : ParserState) (buffer : Box Buffer Global) (answered : Bool) → after_prefix symbol ≡ Some inside
+    → HasReading outside (start inside) max_depth e m found after → saved buffer.value ≡ after.saved → HasComponents symbol (answer_text answered (Some buffer)) (component_texts answered (Some buffer))
+kept_components symbol inside e m found after buffer false prefix has same = refl
+kept_components symbol inside e m found after buffer true prefix has same = left_saved symbol inside e m found after _ (main_bytes buffer.value) prefix has (ap (map text) same)
+
+-- an answer that is kept is UTF-8
+pub kept_text : (printing after : List ℕ) (buffer : Box Buffer Global) (answered : Bool) → IsPrinted printing after (answer_text answered (Some buffer)) → IsUtf8 after → IsText (answer_text answered (Some buffer))
+kept_text printing after buffer false printed good = tt
+kept_text printing after buffer true printed good = subst IsUtf8 (sym printed.1) (IsUtf8-append printing after printed.0 good)
+
+-- a mark that is opened leaves the parser's state
+pub opened_state : (r : Reader) (new : Buffer) (m : Mark) → Opens r.buffer.value new m → state (record r { buffer = record r.buffer { value = new } }) ≡ state r
+opened_state r new m o = λ j. record (state r) { saved = o.lists.saved_same j; scopes = o.lists.scopes_same j }
 
 -- what is entered and saved over what follows the prefix is within the bounds of the symbol
 pub within_bounds : (symbol inside : List ℕ) (before after : ParserState) → after_prefix symbol ≡ Some inside → before ≡ begun inside

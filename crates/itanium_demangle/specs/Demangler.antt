@@ -1,10 +1,11 @@
 -- What a demangler keeps between calls.
-use Rattle.std.specs.Prelude.{◌≡◌, ℕ, ◌++◌, List, [], map, Option, Some, None, option_map}
+use Rattle.std.specs.Prelude.{◌≡◌, ℕ, ◌++◌, Bool, true, List, [], map, Option, Some, None}
 use Rattle.std.specs.Str.{IsUtf8}
-use Rattle.std.specs.String.{string_bytes}
+use Rattle.std.specs.Prelude.{Box}
+use Rattle.std.specs.Global.{Global}
 use Rattle.demangle_text.specs.declared.buffer.Buffer.{Buffer}
 use Rattle.demangle_text.specs.Shape.{text}
-use Rattle.demangle_text.specs.State.{saved}
+use Rattle.demangle_text.specs.State.{saved, main_bytes}
 use Rattle.itanium_grammar.specs.Answer.{after_prefix, HasCounts, HasComponents, HasBounds}
 use Rattle.itanium_demangle.specs.declared.demangler.Demangler.TheInside.{Inside}
 
@@ -23,19 +24,33 @@ pub record LastRun : Type 0 where
 abbrev pub no_run : LastRun
 no_run = record { text = None; entered = 0; most_saved = 0; components = [] }
 
+-- the answer: all of the buffer's main text, where there is one
+abbrev pub answer_text : Bool → Option (Box Buffer Global) → Option (List ℕ)
+answer_text true (Some buffer) = Some (main_bytes buffer.value)
+answer_text answered buffer = None
+
 -- the texts of a buffer's components, where there is an answer
-abbrev pub component_texts : {A : Type 0} → Option A → Option Buffer → List (List ℕ)
-component_texts (Some found) (Some buffer) = map text (saved buffer)
-component_texts found buffer = []
+abbrev pub component_texts : Bool → Option (Box Buffer Global) → List (List ℕ)
+component_texts true (Some buffer) = map text (saved buffer.value)
+component_texts answered buffer = []
 
 -- what the fields mean
 abbrev pub last_run : Inside → LastRun
 last_run d = record {
-  text = option_map string_bytes d.text;
+  text = answer_text d.answered d.buffer;
   entered = d.entered;
   most_saved = d.most_saved;
-  components = component_texts d.text d.buffer;
+  components = component_texts d.answered d.buffer;
 }
+
+-- a text, where there is one, is UTF-8
+abbrev pub IsText : Option (List ℕ) → Type 0
+IsText (Some text) = IsUtf8 text
+IsText None = Unit {0}
+
+-- what is kept as an answer is UTF-8
+abbrev pub KeepsText : Inside → Type 0
+KeepsText d = IsText (answer_text d.answered d.buffer)
 
 -- a printing in UTF-8 with what is after it, and no text where it isn't UTF-8
 abbrev pub IsPrinted : List ℕ → List ℕ → Option (List ℕ) → Type 0

@@ -53,8 +53,8 @@ StandsFor r p = state r ≡ state_at p r.entered r.most_saved
 -- what a reader of symbols says of trees
 abbrev pub ReadsAs : Result (Unit {0}) Stop → Context → ℕ → Reader → Reader → Type 0
 ReadsAs (Ok u) x depth before after =
-    IsLiving after.buffer after.found
+    IsLiving after.buffer.value after.found
     × ((p : Position) → StandsFor before p
-    → HasReading x p depth before.entered before.most_saved (shape after.buffer after.found) (state after))
+    → HasReading x p depth before.entered before.most_saved (shape after.buffer.value after.found) (state after))
 ReadsAs (Err Unread) x depth before after = (p : Position) → StandsFor before p → HasNoReading x p depth
 ReadsAs (Err Memory) x depth before after = Unit {0}

@@ -1,23 +1,24 @@
 //! One value that answers symbol after symbol.
-ghost use Rattle.std.specs.Prelude.{◌≡◌, ◌≤◌, ◌*◌, IfOk, OnErr, MatchResult, ⊤, option_map, is_some, slice_get, length, false, None};
+ghost use Rattle.std.specs.Prelude.{◌≡◌, IfOk, OnOk, OnErr, IfSome, MatchResult, ⊤, option_map, is_some, slice_get, map, [], length, false, Some, None};
 ghost use Rattle.std.specs.Borrow.{sem};
 ghost use Rattle.std.specs.String.{string_bytes};
 ghost use Rattle.std.specs.Str.{IsUtf8};
-ghost use Rattle.demangle_text.specs.State.{IsLiving, shape};
+ghost use Rattle.demangle_text.specs.State.{IsLiving, shape, saved, main_bytes, frame, inside, frame_start};
 ghost use Rattle.demangle_text.specs.Shape.{text};
 ghost use Rattle.itanium_grammar.specs.Answer.{IsAnswer, HasOneReading, HasCounts, HasComponents, HasBounds};
 ghost use Rattle.itanium_grammar.specs.Answer as spec;
-ghost use Rattle.itanium_demangle.specs.Demangler.{IsPrinted, IsPrepared, component_texts, no_run};
+ghost use Rattle.itanium_reader.specs.Outcome.{state};
+ghost use Rattle.itanium_demangle.specs.Demangler.{IsPrinted, IsPrepared, IsText, answer_text, component_texts, no_run};
 
 use crate::mangled_name::read_mangled_name;
-use demangle_text::Buffer;
+use demangle_text::{Buffer, Mark};
 use itanium_grammar::symbol::{after_prefix, suffix};
 use itanium_reader::{Reader, Stop};
 use itanium_syntax::context::OUTSIDE;
 use std::alloc::{AllocError, Global};
 use std::fmt::{self, Debug, Formatter, Write};
 use std::marker::Model;
-use std::str::from_utf8;
+use std::str::{from_utf8, from_utf8_unchecked};
 
 /// Most counted productions that may nest in a symbol: names, types, argument lists, packs, thunks and expressions.
 pub const MAX_DEPTH: usize = 128;
@@ -25,36 +26,57 @@ pub const MAX_DEPTH: usize = 128;
 /// Answers symbol after symbol from the same buffers, and keeps the last answer.
 #[derive(Drop)]
 pub struct Demangler {
-    text: Option<String>,
+    // Where there is an answer, it is all of the buffer's main text.
+    answered: bool,
     entered: usize,
     most_saved: usize,
-    buffer: Option<Buffer>,
+    buffer: Option<Box<Buffer>>,
 }
 
 impl Model for Demangler {
-    ghost use Rattle.itanium_demangle.specs.Demangler.{LastRun, last_run};
+    ghost use Rattle.itanium_demangle.specs.Demangler.{LastRun, last_run, KeepsText};
 
     ghost Value = { LastRun };
 
     ghost view = { last_run };
+
+    ghost invariant = { KeepsText };
 }
 
-/// The printing that was found, and the rest from a dot after it, where the printing is UTF-8.
-fn answer(alloc: Global, reader: &Reader) -> Result<Option<String>, AllocError>
-    requires living { IsLiving reader.now.buffer reader.now.found }
-    requires utf8 { IsUtf8 (spec.suffix reader.now.rest.now) }
-    ensures answer { IfOk result (λ found. IsPrinted (text (shape reader.now.buffer reader.now.found))
-        (spec.suffix reader.now.rest.now) (option_map string_bytes found)) }
+/// Opens a mark at the end of the main text of a reader's buffer.
+#[tactic(auto, using(crate::proofs::Rules::opened))]
+fn open_mark(reader: &mut Reader) -> Mark
+    ensures state { state reader.new ≡ state reader.old }
+    ensures innermost { frame reader.new.buffer.value ≡ inside result }
+    ensures start { frame_start (inside result) ≡ length (main_bytes reader.old.buffer.value) }
 {
-    let Ok(printed) = from_utf8(reader.buffer.bytes(reader.found)) else {
-        return Ok(None);
-    };
-    let Ok(rest) = from_utf8(suffix(reader.rest)) else {
-        return Ok(None);
-    };
-    let mut answer = String::from_str(alloc, printed)?;
-    answer.push_str(rest)?;
-    Ok(Some(answer))
+    reader.buffer.open()
+}
+
+/// Makes the printing that was found, and all that follows from a dot after it, the main text of the buffer. False
+/// where the printing isn't UTF-8.
+fn end_answer(reader: &mut Reader, mark: Mark) -> Result<bool, AllocError>
+    requires innermost { frame reader.old.buffer.value ≡ inside mark }
+    requires start { frame_start (inside mark) ≡ 0 }
+    requires living { IsLiving reader.old.buffer.value reader.old.found }
+    ensures answer { IfOk result (λ answered. IsPrinted (text (shape reader.old.buffer.value reader.old.found))
+        (spec.suffix reader.old.rest.now) (answer_text answered (Some reader.new.buffer))) }
+    ensures saved { OnOk result (saved reader.new.buffer.value ≡ saved reader.old.buffer.value) }
+    ensures entered { reader.new.entered ≡ reader.old.entered }
+    ensures most_saved { reader.new.most_saved ≡ reader.old.most_saved }
+{
+    if from_utf8(reader.buffer.bytes(reader.found)).is_err() {
+        return Ok(false);
+    }
+    let printed = reader.buffer.plain(reader.found);
+    let rest = suffix(reader.rest);
+    if rest.is_empty() {
+        reader.buffer.close(mark, printed)?;
+        return Ok(true);
+    }
+    let whole = reader.buffer.append(printed, rest)?;
+    reader.buffer.close(mark, whole)?;
+    Ok(true)
 }
 
 impl Demangler {
@@ -67,21 +89,22 @@ impl Demangler {
         ensures empty { result ≡ no_run }
     {
         Demangler {
-            text: None,
+            answered: false,
             entered: 0,
             most_saved: 0,
             buffer: None,
         }
     }
 
-    /// Keeps the counts of a reader that has ended, its buffer, and the answer.
-    fn keep(&mut self, reader: Reader, text: Option<String>)
-        ensures text { self.new.text ≡ option_map string_bytes text }
+    /// Keeps the counts of a reader that has ended, and its buffer, whose main text is the answer where there is one.
+    fn keep(&mut self, reader: Reader, answered: bool)
+        requires text { IsText (answer_text answered (Some reader.buffer)) }
+        ensures text { self.new.text ≡ answer_text answered (Some reader.entry.buffer) }
         ensures entered { self.new.entered ≡ reader.entry.entered }
         ensures most_saved { self.new.most_saved ≡ reader.entry.most_saved }
-        ensures components { self.new.components ≡ component_texts text (Some reader.entry.buffer) }
+        ensures components { self.new.components ≡ component_texts answered (Some reader.entry.buffer) }
     {
-        self.text = text;
+        self.answered = answered;
         self.entered = reader.entered;
         self.most_saved = reader.most_saved;
         self.buffer = Some(reader.buffer);
@@ -106,7 +129,7 @@ impl Demangler {
         ensures no_prefix { spec.after_prefix symbol.now ≡ None → (result ≡ Ok false) × (self.new ≡ no_run) }
         ensures err { OnErr result (self.new ≡ no_run) }
     {
-        self.text = None;
+        self.answered = false;
         self.entered = 0;
         self.most_saved = 0;
         let Some(inside) = after_prefix(symbol.as_bytes()) else {
@@ -114,30 +137,44 @@ impl Demangler {
         };
         let buffer = match self.buffer.take() {
             Some(buffer) => buffer,
-            None => Buffer::new(alloc),
+            None => Box::new(alloc, Buffer::new(alloc))?,
         };
         let mut reader = Reader::new(alloc, buffer, inside)?;
+        let mark = open_mark(&mut reader);
         match read_mangled_name(&mut reader, MAX_DEPTH, OUTSIDE) {
             Ok(()) => {}
             Err(Stop::Unread) => {
-                self.keep(reader, None);
+                self.keep(reader, false);
                 return Ok(false);
             }
             Err(Stop::Memory) => return Err(AllocError),
         }
-        let text = answer(alloc, &reader)?;
-        let found = text.is_some();
-        self.keep(reader, text);
-        Ok(found)
+        let answered = end_answer(&mut reader, mark)?;
+        self.keep(reader, answered);
+        Ok(answered)
     }
 
     /// The answer of the last `prepare`, where it had one.
     pub fn text(&self) -> Option<&str>
         ensures value { option_map (λ text. text.now) result ≡ self.now.text }
     {
-        match &self.text {
-            Some(text) => Some(text.as_str()),
+        match self.buffer() {
+            Some(buffer) => Some(unsafe { from_utf8_unchecked(buffer.main_bytes()) }),
             None => None,
+        }
+    }
+
+    /// Where the last `prepare` had an answer, the buffer that it stands in, lent until the next call: the answer is
+    /// its main text, and nothing else is in that; the components are its saved shapes. Elsewhere `None`.
+    pub fn buffer(&self) -> Option<&Buffer>
+        ensures value { option_map (λ buffer. main_bytes buffer.now) result ≡ self.now.text }
+        ensures components { IfSome result (λ buffer. map text (saved buffer.now) ≡ self.now.components) }
+        ensures utf8 { IfSome result (λ buffer. IsUtf8 (main_bytes buffer.now)) }
+        ensures none { result ≡ None → self.now.components ≡ [] }
+    {
+        match &self.buffer {
+            Some(buffer) if self.answered => Some(buffer),
+            _ => None,
         }
     }
 
@@ -165,10 +202,7 @@ impl Demangler {
     pub fn component(&self, i: usize) -> Option<&[u8]>
         ensures value { option_map (λ text. text.now) result ≡ slice_get self.now.components i }
     {
-        if self.text.is_none() {
-            return None;
-        }
-        let Some(buffer) = &self.buffer else {
+        let Some(buffer) = self.buffer() else {
             return None;
         };
         match buffer.saved(i) {
@@ -206,7 +240,10 @@ pub fn demangle_owned(alloc: Global, symbol: &str) -> Result<Option<String>, All
 {
     let mut demangler = Demangler::new();
     demangler.prepare(alloc, symbol)?;
-    Ok(demangler.text.take())
+    match demangler.text() {
+        Some(text) => Ok(Some(String::from_str(alloc, text)?)),
+        None => Ok(None),
+    }
 }
 
 impl Default for Demangler {

@@ -1,4 +1,6 @@
 //! What follows the prefix of a symbol (Itanium C++ ABI 5.1.2).
+ghost use Rattle.std.specs.Prelude.{OnOk};
+ghost use Rattle.demangle_text.specs.State.{IsRun};
 ghost use Rattle.itanium_reader.specs.Parser as spec;
 ghost use Rattle.itanium_reader.specs.Outcome.{state, Gives, HasRoom, Bounds, SavedBounds};
 ghost use Rattle.itanium_demangle.specs.Meaning.{ReadsAs};
@@ -18,6 +20,7 @@ pub(crate) fn read_mangled_name(
     ensures reads { Gives result reader.new (spec.parse_symbol depth context (state reader.old)) }
     // Of trees: a reading of the bytes, with which every other agrees, or none.
     ensures reading { ReadsAs result context depth reader.old reader.new }
+    ensures run { OnOk result (IsRun reader.old.buffer.value reader.new.buffer.value) }
     ensures bounds { Bounds 1 result (state reader.old) (state reader.new) }
     ensures saved { SavedBounds 1 result (state reader.old) (state reader.new) }
 {

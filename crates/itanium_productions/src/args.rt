@@ -6,8 +6,7 @@ ghost use Rattle.itanium_reader.specs.Outcome.{state, Gives, HasRoom, Bounds, Sa
 
 use crate::expressions::{read_expression, read_primary};
 use crate::types::read_type;
-use demangle_edit::{attach_template_args, close_arguments, list_next, separate};
-use demangle_text::Piece;
+use demangle_edit::{attach_template_args, close_arguments, list_next};
 use itanium_reader::{Reader, Stop};
 use itanium_syntax::args::{ArgsCase, ArgumentCase, args_case, argument_case};
 use itanium_syntax::context::Context;
@@ -24,7 +23,7 @@ pub(crate) fn read_args(
     requires room { HasRoom 1 (state reader.old) }
     requires some { 0 < length reader.old.rest.now }
     ensures reads { Gives result reader.new (spec.parse_args depth context of_name (state reader.old)) }
-    ensures run { OnOk result (IsRun reader.old.buffer reader.new.buffer) }
+    ensures run { OnOk result (IsRun reader.old.buffer.value reader.new.buffer.value) }
     ensures refused { depth ≡ 0 → reader.new.entered ≡ reader.old.entered }
     ensures bounds { Bounds 1 result (state reader.old) (state reader.new) }
     ensures saved { SavedBounds 2 result (state reader.old) (state reader.new) }
@@ -48,7 +47,7 @@ pub(crate) fn read_args(
                 return Ok(());
             }
             ArgsCase::NextArgument => {
-                list = separate(&mut reader.buffer, list, first)?;
+                list = reader.separate_list(list, first)?;
                 framed_argument(reader, depth - 1, context)?;
                 let argument = reader.found;
                 reader.put(opens, scopes, argument)?;
@@ -71,7 +70,7 @@ pub(crate) fn framed_args(
     requires room { HasRoom 1 (state reader.old) }
     requires some { 0 < length reader.old.rest.now }
     ensures reads { Gives result reader.new (spec.parse_args depth context of_name (state reader.old)) }
-    ensures kept { OnOk result (SameFrame reader.old.buffer reader.new.buffer) }
+    ensures kept { OnOk result (SameFrame reader.old.buffer.value reader.new.buffer.value) }
     ensures bounds { Bounds 1 result (state reader.old) (state reader.new) }
     ensures saved { SavedBounds 2 result (state reader.old) (state reader.new) }
 {
@@ -81,7 +80,7 @@ pub(crate) fn framed_args(
     Ok(())
 }
 
-/// `<template-args>` after what stands.
+/// `<template-args>` after what was found.
 #[tactic(auto, using(itanium_reader::proofs::Rules::buffers))]
 #[cycle(reader)]
 pub(crate) fn read_attached(
@@ -89,17 +88,18 @@ pub(crate) fn read_attached(
     depth: usize,
     context: Context,
     of_name: bool,
-    name: Piece,
 ) -> Result<(), Stop>
     requires room { HasRoom 1 (state reader.old) }
     requires some { 0 < length reader.old.rest.now }
-    requires living { IsLiving reader.old.buffer name }
+    requires living { IsLiving reader.old.buffer.value reader.old.found }
     ensures reads { Gives result reader.new
-        (spec.attached_by (spec.parse_args depth context of_name) (shape reader.old.buffer name) (state reader.old)) }
-    ensures run { OnOk result (IsRun reader.old.buffer reader.new.buffer) }
+        (spec.attached_by (spec.parse_args depth context of_name)
+        (shape reader.old.buffer.value reader.old.found) (state reader.old)) }
+    ensures run { OnOk result (IsRun reader.old.buffer.value reader.new.buffer.value) }
     ensures bounds { Bounds 1 result (state reader.old) (state reader.new) }
     ensures saved { SavedBounds 2 result (state reader.old) (state reader.new) }
 {
+    let name = reader.found;
     framed_args(reader, depth, context, of_name)?;
     reader.found = attach_template_args(&mut reader.buffer, name, reader.found)?;
     Ok(())
@@ -113,7 +113,7 @@ pub(crate) fn read_pack(reader: &mut Reader, depth: usize, context: Context) -> 
     requires room { HasRoom 1 (state reader.old) }
     requires some { 0 < length reader.old.rest.now }
     ensures reads { Gives result reader.new (spec.parse_pack depth context (state reader.old)) }
-    ensures run { OnOk result (IsRun reader.old.buffer reader.new.buffer) }
+    ensures run { OnOk result (IsRun reader.old.buffer.value reader.new.buffer.value) }
     ensures refused { depth ≡ 0 → reader.new.entered ≡ reader.old.entered }
     ensures bounds { Bounds 1 result (state reader.old) (state reader.new) }
     ensures saved { SavedBounds 1 result (state reader.old) (state reader.new) }
@@ -134,7 +134,7 @@ pub(crate) fn read_pack(reader: &mut Reader, depth: usize, context: Context) -> 
                 return Ok(());
             }
             ArgsCase::NextArgument => {
-                list = separate(&mut reader.buffer, list, first)?;
+                list = reader.separate_list(list, first)?;
                 framed_argument(reader, depth - 1, inside)?;
                 list = list_next(&mut reader.buffer, list, reader.found)?;
                 first = false;
@@ -155,7 +155,7 @@ pub(crate) fn read_expression_argument(
     requires some { 0 < length reader.old.rest.now }
     ensures reads { Gives result reader.new
         (spec.ended (spec.parse_expression depth context (spec.skip 1 (state reader.old)))) }
-    ensures run { OnOk result (IsRun reader.old.buffer reader.new.buffer) }
+    ensures run { OnOk result (IsRun reader.old.buffer.value reader.new.buffer.value) }
     ensures bounds { Bounds 0 result (state reader.old) (state reader.new) }
     ensures saved { SavedBounds 0 result (state reader.old) (state reader.new) }
 {
@@ -171,7 +171,7 @@ pub(crate) fn read_argument(reader: &mut Reader, depth: usize, context: Context)
     requires room { HasRoom 2 (state reader.old) }
     ensures reads { Gives result reader.new
         (spec.parse_argument depth context (state reader.old)) }
-    ensures run { OnOk result (IsRun reader.old.buffer reader.new.buffer) }
+    ensures run { OnOk result (IsRun reader.old.buffer.value reader.new.buffer.value) }
     ensures bounds { Bounds 0 result (state reader.old) (state reader.new) }
     ensures saved { SavedBounds 0 result (state reader.old) (state reader.new) }
 {
@@ -195,7 +195,7 @@ pub(crate) fn framed_argument(
     requires room { HasRoom 2 (state reader.old) }
     ensures reads { Gives result reader.new
         (spec.parse_argument depth context (state reader.old)) }
-    ensures kept { OnOk result (SameFrame reader.old.buffer reader.new.buffer) }
+    ensures kept { OnOk result (SameFrame reader.old.buffer.value reader.new.buffer.value) }
     ensures bounds { Bounds 0 result (state reader.old) (state reader.new) }
     ensures saved { SavedBounds 0 result (state reader.old) (state reader.new) }
 {

@@ -29,7 +29,7 @@ pub(crate) fn framed_bare_name(
 ) -> Result<Quals, Stop>
     requires room { HasRoom 1 (state reader.old) }
     ensures reads { GivesBareName result reader.new (spec.parse_bare_name depth context (state reader.old)) }
-    ensures kept { OnOk result (SameFrame reader.old.buffer reader.new.buffer) }
+    ensures kept { OnOk result (SameFrame reader.old.buffer.value reader.new.buffer.value) }
     ensures bounds { Bounds 1 result (state reader.old) (state reader.new) }
     ensures saved { SavedBounds 1 result (state reader.old) (state reader.new) }
 {
@@ -45,7 +45,7 @@ pub(crate) fn framed_bare_name(
 pub(crate) fn drop_name(reader: &mut Reader, depth: usize, context: Context) -> Result<(), Stop>
     requires room { HasRoom 1 (state reader.old) }
     ensures reads { Leaves result reader.new (spec.dropped (spec.parse_bare_name depth context (state reader.old))) }
-    ensures kept { OnOk result (SameFrame reader.old.buffer reader.new.buffer) }
+    ensures kept { OnOk result (SameFrame reader.old.buffer.value reader.new.buffer.value) }
     ensures bounds { Bounds 1 result (state reader.old) (state reader.new) }
     ensures saved { SavedBounds 1 result (state reader.old) (state reader.new) }
 {
@@ -62,7 +62,7 @@ pub(crate) fn drop_name(reader: &mut Reader, depth: usize, context: Context) -> 
 pub(crate) fn drop_type(reader: &mut Reader, depth: usize, context: Context) -> Result<(), Stop>
     requires room { HasRoom 2 (state reader.old) }
     ensures reads { Leaves result reader.new (spec.dropped (spec.parse_type depth context (state reader.old))) }
-    ensures kept { OnOk result (SameFrame reader.old.buffer reader.new.buffer) }
+    ensures kept { OnOk result (SameFrame reader.old.buffer.value reader.new.buffer.value) }
     ensures bounds { Bounds 0 result (state reader.old) (state reader.new) }
     ensures saved { SavedBounds 0 result (state reader.old) (state reader.new) }
 {
@@ -86,7 +86,7 @@ pub(crate) fn read_return(
     requires room { HasRoom 2 (state reader.old) }
     ensures reads { Leaves result reader.new (spec.return_as (return_case templ ctor reader.old.rest.now)
         (spec.parse_type depth context) (state reader.old)) }
-    ensures kept { OnOk result (SameFrame reader.old.buffer reader.new.buffer) }
+    ensures kept { OnOk result (SameFrame reader.old.buffer.value reader.new.buffer.value) }
     ensures bounds { ListBounds result (state reader.old) (state reader.new) }
     ensures saved { SavedBounds 0 result (state reader.old) (state reader.new) }
 {
@@ -107,10 +107,10 @@ pub(crate) fn end_encoding(
     quals: Quals,
 ) -> Result<(), Stop>
     requires room { HasRoom 2 (state reader.old) }
-    requires living { IsLiving reader.old.buffer name }
+    requires living { IsLiving reader.old.buffer.value name }
     ensures reads { Gives result reader.new (spec.encoding_end (spec.parse_type depth context)
-        (shape reader.old.buffer name, quals) (state reader.old)) }
-    ensures run { OnOk result (IsRun reader.old.buffer reader.new.buffer) }
+        (shape reader.old.buffer.value name, quals) (state reader.old)) }
+    ensures run { OnOk result (IsRun reader.old.buffer.value reader.new.buffer.value) }
     ensures bounds { ListBounds result (state reader.old) (state reader.new) }
     ensures saved { SavedBounds 0 result (state reader.old) (state reader.new) }
 {
@@ -137,7 +137,7 @@ pub(crate) fn end_encoding(
 pub(crate) fn read_encoding(reader: &mut Reader, depth: usize, context: Context) -> Result<(), Stop>
     requires room { HasRoom 1 (state reader.old) }
     ensures reads { Gives result reader.new (spec.parse_encoding depth context (state reader.old)) }
-    ensures run { OnOk result (IsRun reader.old.buffer reader.new.buffer) }
+    ensures run { OnOk result (IsRun reader.old.buffer.value reader.new.buffer.value) }
     ensures bounds { Bounds 1 result (state reader.old) (state reader.new) }
     ensures saved { SavedBounds 1 result (state reader.old) (state reader.new) }
 {
@@ -161,10 +161,10 @@ pub(crate) fn read_entity(
     encoding: Piece,
 ) -> Result<Quals, Stop>
     requires room { HasRoom 0 (state reader.old) }
-    requires living { IsLiving reader.old.buffer encoding }
+    requires living { IsLiving reader.old.buffer.value encoding }
     ensures reads { GivesBareName result reader.new (spec.entity_as (entity_case reader.old.rest.now)
-        (spec.parse_bare_name depth context) (shape reader.old.buffer encoding) (state reader.old)) }
-    ensures run { OnOk result (IsRun reader.old.buffer reader.new.buffer) }
+        (spec.parse_bare_name depth context) (shape reader.old.buffer.value encoding) (state reader.old)) }
+    ensures run { OnOk result (IsRun reader.old.buffer.value reader.new.buffer.value) }
     ensures bounds { Bounds 2 result (state reader.old) (state reader.new) }
     ensures saved { SavedBounds 1 result (state reader.old) (state reader.new) }
 {
@@ -203,7 +203,7 @@ pub(crate) fn read_local(reader: &mut Reader, depth: usize, context: Context) ->
     ensures reads { GivesBareName result reader.new (spec.parse_local
         (spec.parse_encoding depth (inside_encoding context))
         (spec.parse_bare_name depth (inside_local context)) (state reader.old)) }
-    ensures run { OnOk result (IsRun reader.old.buffer reader.new.buffer) }
+    ensures run { OnOk result (IsRun reader.old.buffer.value reader.new.buffer.value) }
     ensures bounds { Bounds 1 result (state reader.old) (state reader.new) }
     ensures saved { SavedBounds 1 result (state reader.old) (state reader.new) }
 {

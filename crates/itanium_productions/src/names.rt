@@ -1,5 +1,5 @@
 //! Names (Itanium C++ ABI 5.1.2).
-ghost use Rattle.std.specs.Prelude.{◌≡◌, ◌<◌, length, option_map, IfSome, OnOk, true};
+ghost use Rattle.std.specs.Prelude.{◌≡◌, ◌<◌, length, option_map, None, Some, IfSome, OnOk, true};
 ghost use Rattle.demangle_text.specs.State.{IsLiving, shape, IsRun, SameFrame, saved};
 ghost use Rattle.itanium_syntax.specs.Names.{free_case, first_case, unscoped_case, saves_first};
 ghost use Rattle.itanium_syntax.specs.Context.{inside_lambda};
@@ -10,16 +10,16 @@ ghost use Rattle.itanium_reader.specs.Outcome.{state, Gives, GivesBareName, HasR
 use crate::args::read_attached;
 use crate::encodings::read_local;
 use crate::types::{read_type, read_typed_params};
-use demangle_edit::{Quals, apply_name_qualifiers};
+use demangle_edit::Quals;
 use demangle_text::Piece;
 use itanium_reader::{Reader, Stop};
 use itanium_syntax::args::{AttachedCase, attached_case};
 use itanium_syntax::context::Context;
 use itanium_syntax::encodings::shows_words;
 use itanium_syntax::names::{
-    ComponentCase, FirstCase, FreeCase, NameCase, UnqualifiedCase, UnscopedCase, component_case,
-    first_case, free_case, name_case, name_quals, past_internal, saves_first, unqualified_case,
-    unscoped_case,
+    ComponentCase, FirstCase, FreeCase, NameCase, UnqualifiedCase, UnscopedCase, begins_source,
+    component_case, first_case, free_case, name_case, name_quals, past_internal, saves_first,
+    unqualified_case, unscoped_case,
 };
 
 /// `<closure-type-name> ::= Ul <lambda-sig> E [<nonnegative number>] _`, after its `Ul`.
@@ -28,7 +28,7 @@ use itanium_syntax::names::{
 pub(crate) fn read_lambda(reader: &mut Reader, depth: usize, context: Context) -> Result<(), Stop>
     requires room { HasRoom 2 (state reader.old) }
     ensures reads { Gives result reader.new (spec.parse_lambda (spec.parse_type depth context) (state reader.old)) }
-    ensures run { OnOk result (IsRun reader.old.buffer reader.new.buffer) }
+    ensures run { OnOk result (IsRun reader.old.buffer.value reader.new.buffer.value) }
     ensures bounds { Bounds 0 result (state reader.old) (state reader.new) }
     ensures saved { SavedBounds 1 result (state reader.old) (state reader.new) }
 {
@@ -48,7 +48,7 @@ pub(crate) fn read_free_name(
     requires room { HasRoom 0 (state reader.old) }
     ensures reads { Gives result reader.new (spec.free_as (free_case reader.old.rest.now)
         (spec.parse_type depth context) (spec.parse_type depth (inside_lambda context)) (state reader.old)) }
-    ensures run { OnOk result (IsRun reader.old.buffer reader.new.buffer) }
+    ensures run { OnOk result (IsRun reader.old.buffer.value reader.new.buffer.value) }
     ensures bounds { Bounds 2 result (state reader.old) (state reader.new) }
     ensures saved { SavedBounds 1 result (state reader.old) (state reader.new) }
 {
@@ -88,7 +88,7 @@ pub(crate) fn framed_free_name(
     requires room { HasRoom 0 (state reader.old) }
     ensures reads { Gives result reader.new (spec.parse_free (spec.parse_type depth context)
         (spec.parse_type depth (inside_lambda context)) (state reader.old)) }
-    ensures kept { OnOk result (SameFrame reader.old.buffer reader.new.buffer) }
+    ensures kept { OnOk result (SameFrame reader.old.buffer.value reader.new.buffer.value) }
     ensures bounds { Bounds 2 result (state reader.old) (state reader.new) }
     ensures saved { SavedBounds 1 result (state reader.old) (state reader.new) }
 {
@@ -109,11 +109,11 @@ pub(crate) fn read_unqualified(
     scope: Option<Piece>,
 ) -> Result<(), Stop>
     requires room { HasRoom 0 (state reader.old) }
-    requires scope { IfSome scope (IsLiving reader.old.buffer) }
+    requires scope { IfSome scope (IsLiving reader.old.buffer.value) }
     ensures reads { Gives result reader.new
         (spec.parse_unqualified (spec.parse_type depth context) (spec.parse_type depth (inside_lambda context))
-        (option_map (shape reader.old.buffer) scope) (state reader.old)) }
-    ensures run { OnOk result (IsRun reader.old.buffer reader.new.buffer) }
+        (option_map (shape reader.old.buffer.value) scope) (state reader.old)) }
+    ensures run { OnOk result (IsRun reader.old.buffer.value reader.new.buffer.value) }
     ensures bounds { Bounds 2 result (state reader.old) (state reader.new) }
     ensures saved { SavedBounds 1 result (state reader.old) (state reader.new) }
 {
@@ -129,6 +129,53 @@ pub(crate) fn read_unqualified(
     }
 }
 
+/// `<unqualified-name>` in no scope.
+#[tactic(auto, using(itanium_reader::proofs::Rules::components))]
+#[cycle(reader)]
+#[inline(always)]
+pub(crate) fn read_outer_name(
+    reader: &mut Reader,
+    depth: usize,
+    context: Context,
+) -> Result<(), Stop>
+    requires room { HasRoom 0 (state reader.old) }
+    ensures reads { Gives result reader.new
+        (spec.parse_unqualified (spec.parse_type depth context) (spec.parse_type depth (inside_lambda context))
+        None (state reader.old)) }
+    ensures run { OnOk result (IsRun reader.old.buffer.value reader.new.buffer.value) }
+    ensures bounds { Bounds 2 result (state reader.old) (state reader.new) }
+    ensures saved { SavedBounds 1 result (state reader.old) (state reader.new) }
+{
+    if begins_source(reader.rest) {
+        return reader.read_source_name();
+    }
+    read_unqualified(reader, depth, context, None)
+}
+
+/// `<unqualified-name>` in the scope that was found.
+#[tactic(auto, using(itanium_reader::proofs::Rules::components))]
+#[cycle(reader)]
+#[inline(always)]
+pub(crate) fn read_component(
+    reader: &mut Reader,
+    depth: usize,
+    context: Context,
+) -> Result<(), Stop>
+    requires room { HasRoom 0 (state reader.old) }
+    requires living { IsLiving reader.old.buffer.value reader.old.found }
+    ensures reads { Gives result reader.new
+        (spec.parse_unqualified (spec.parse_type depth context) (spec.parse_type depth (inside_lambda context))
+        (Some (shape reader.old.buffer.value reader.old.found)) (state reader.old)) }
+    ensures run { OnOk result (IsRun reader.old.buffer.value reader.new.buffer.value) }
+    ensures bounds { Bounds 2 result (state reader.old) (state reader.new) }
+    ensures saved { SavedBounds 1 result (state reader.old) (state reader.new) }
+{
+    if begins_source(reader.rest) {
+        return reader.read_source_component();
+    }
+    read_unqualified(reader, depth, context, Some(reader.found))
+}
+
 /// The first component of a `<nested-name>`.
 #[tactic(auto, using(itanium_reader::proofs::Rules::fronts))]
 #[cycle(reader)]
@@ -137,9 +184,9 @@ pub(crate) fn read_first(reader: &mut Reader, depth: usize, context: Context) ->
     ensures reads { Gives result reader.new (spec.first_as (first_case reader.old.rest.now)
         (spec.parse_unqualified (spec.parse_type depth context)
         (spec.parse_type depth (inside_lambda context))) context (state reader.old)) }
-    ensures run { OnOk result (IsRun reader.old.buffer reader.new.buffer) }
+    ensures run { OnOk result (IsRun reader.old.buffer.value reader.new.buffer.value) }
     ensures first_saved { OnOk result (saves_first (first_case reader.old.rest.now) ≡ true
-        → 0 < length (saved reader.new.buffer)) }
+        → 0 < length (saved reader.new.buffer.value)) }
     ensures bounds { Bounds 2 result (state reader.old) (state reader.new) }
     ensures saved { SavedBounds 0 result (state reader.old) (state reader.new) }
 {
@@ -152,7 +199,7 @@ pub(crate) fn read_first(reader: &mut Reader, depth: usize, context: Context) ->
         }
         FirstCase::SubstitutionFirst => reader.read_substitution(),
         FirstCase::NameFirst => {
-            read_unqualified(reader, depth, context, None)?;
+            read_outer_name(reader, depth, context)?;
             reader.save_found()?;
             Ok(())
         }
@@ -173,7 +220,7 @@ pub(crate) fn read_nested(
         (spec.parse_unqualified (spec.parse_type depth context)
         (spec.parse_type depth (inside_lambda context)))
         (spec.parse_args depth context true) context (state reader.old)) }
-    ensures run { OnOk result (IsRun reader.old.buffer reader.new.buffer) }
+    ensures run { OnOk result (IsRun reader.old.buffer.value reader.new.buffer.value) }
     ensures bounds { Bounds 1 result (state reader.old) (state reader.new) }
     ensures saved { SavedBounds 1 result (state reader.old) (state reader.new) }
 {
@@ -181,13 +228,12 @@ pub(crate) fn read_nested(
     reader.rest = rest;
     let takes = saves_first(first_case(reader.rest));
     read_first(reader, depth, context)?;
-    let first = reader.found;
     reader.skip_initializer();
-    read_components(reader, depth, context, takes, first)?;
+    read_components(reader, depth, context, takes)?;
     Ok(quals)
 }
 
-/// The later components of a `<nested-name>` after what stands, up to its `E`.
+/// The later components of a `<nested-name>` after what was found, up to its `E`.
 #[tactic(auto, using(itanium_reader::proofs::Rules::buffers))]
 #[cycle(reader)]
 pub(crate) fn read_components(
@@ -195,40 +241,36 @@ pub(crate) fn read_components(
     depth: usize,
     context: Context,
     takes: bool,
-    first: Piece,
 ) -> Result<(), Stop>
     requires room { HasRoom 1 (state reader.old) }
-    requires living { IsLiving reader.old.buffer first }
-    requires saved { takes ≡ true → 0 < length (saved reader.old.buffer) }
+    requires living { IsLiving reader.old.buffer.value reader.old.found }
+    requires saved { takes ≡ true → 0 < length (saved reader.old.buffer.value) }
     ensures reads { Gives result reader.new
         (spec.parse_components (spec.parse_unqualified (spec.parse_type depth context)
         (spec.parse_type depth (inside_lambda context)))
-        (spec.parse_args depth context true) takes (shape reader.old.buffer first) (state reader.old)) }
-    ensures run { OnOk result (IsRun reader.old.buffer reader.new.buffer) }
+        (spec.parse_args depth context true) takes
+        (shape reader.old.buffer.value reader.old.found) (state reader.old)) }
+    ensures run { OnOk result (IsRun reader.old.buffer.value reader.new.buffer.value) }
     ensures bounds { Bounds 1 result (state reader.old) (state reader.new) }
     ensures saved { SavedBounds 1 result (state reader.old) (state reader.new) }
 {
     let mut takes = takes;
-    let mut name = first;
     loop {
         match component_case(reader.rest) {
             ComponentCase::EndOfComponents => {
                 reader.skip(1);
                 reader.take_back(takes);
-                reader.found = name;
                 return Ok(());
             }
             ComponentCase::ArgsComponent => {
-                read_attached(reader, depth, context, true, name)?;
-                name = reader.found;
-                reader.save(name)?;
+                read_attached(reader, depth, context, true)?;
+                reader.save_found()?;
                 reader.skip_initializer();
                 takes = true;
             }
             ComponentCase::NameComponent => {
-                read_unqualified(reader, depth, context, Some(name))?;
-                name = reader.found;
-                reader.save(name)?;
+                read_component(reader, depth, context)?;
+                reader.save_found()?;
                 reader.skip_initializer();
                 takes = true;
             }
@@ -236,32 +278,28 @@ pub(crate) fn read_components(
     }
 }
 
-/// `<template-args>` after a name, which is saved in front of them, or none.
+/// `<template-args>` after the name that was found, which is saved in front of them, or none.
 #[tactic(auto, using(itanium_reader::proofs::Rules::fronts))]
 #[cycle(reader)]
 pub(crate) fn read_attached_args(
     reader: &mut Reader,
     depth: usize,
     context: Context,
-    name: Piece,
 ) -> Result<(), Stop>
     requires room { HasRoom 1 (state reader.old) }
-    requires living { IsLiving reader.old.buffer name }
+    requires living { IsLiving reader.old.buffer.value reader.old.found }
     ensures reads { Gives result reader.new (spec.attached_as (attached_case reader.old.rest.now)
         (spec.parse_args depth context true)
-        (shape reader.old.buffer name) (state reader.old)) }
-    ensures run { OnOk result (IsRun reader.old.buffer reader.new.buffer) }
+        (shape reader.old.buffer.value reader.old.found) (state reader.old)) }
+    ensures run { OnOk result (IsRun reader.old.buffer.value reader.new.buffer.value) }
     ensures bounds { OptionalBounds result (state reader.old) (state reader.new) }
     ensures saved { SavedBounds 0 result (state reader.old) (state reader.new) }
 {
     match attached_case(reader.rest) {
-        AttachedCase::NoneAttached => {
-            reader.found = name;
-            Ok(())
-        }
+        AttachedCase::NoneAttached => Ok(()),
         AttachedCase::ArgsAttached => {
-            reader.save(name)?;
-            read_attached(reader, depth, context, true, name)
+            reader.save_found()?;
+            read_attached(reader, depth, context, true)
         }
     }
 }
@@ -277,33 +315,27 @@ pub(crate) fn read_unscoped(reader: &mut Reader, depth: usize, context: Context)
         (spec.parse_unqualified (spec.parse_type depth context)
         (spec.parse_type depth (inside_lambda context)))
         (spec.parse_args depth context true) (state reader.old)) }
-    ensures run { OnOk result (IsRun reader.old.buffer reader.new.buffer) }
+    ensures run { OnOk result (IsRun reader.old.buffer.value reader.new.buffer.value) }
     ensures bounds { Bounds 2 result (state reader.old) (state reader.new) }
     ensures saved { SavedBounds 1 result (state reader.old) (state reader.new) }
 {
     match unscoped_case(reader.rest) {
         UnscopedCase::StdName => {
             reader.skip(2);
-            let scope = reader.buffer.push(b"std")?;
-            read_unqualified(reader, depth, context, Some(scope))?;
-            read_attached_args(reader, depth, context, reader.found)
+            reader.found = reader.buffer.push(b"std")?;
+            read_component(reader, depth, context)?;
+            read_attached_args(reader, depth, context)
         }
         UnscopedCase::SubstitutionName => {
             reader.read_substitution()?;
             match attached_case(reader.rest) {
                 AttachedCase::NoneAttached => Err(Stop::Unread),
-                AttachedCase::ArgsAttached => read_attached(
-                    reader,
-                    depth,
-                    context,
-                    true,
-                    reader.found,
-                ),
+                AttachedCase::ArgsAttached => read_attached(reader, depth, context, true),
             }
         }
         UnscopedCase::PlainName => {
-            read_unqualified(reader, depth, context, None)?;
-            read_attached_args(reader, depth, context, reader.found)
+            read_outer_name(reader, depth, context)?;
+            read_attached_args(reader, depth, context)
         }
     }
 }
@@ -319,7 +351,7 @@ pub(crate) fn read_bare_name(
 ) -> Result<Quals, Stop>
     requires room { HasRoom 1 (state reader.old) }
     ensures reads { GivesBareName result reader.new (spec.parse_bare_name depth context (state reader.old)) }
-    ensures run { OnOk result (IsRun reader.old.buffer reader.new.buffer) }
+    ensures run { OnOk result (IsRun reader.old.buffer.value reader.new.buffer.value) }
     ensures refused { depth ≡ 0 → reader.new.entered ≡ reader.old.entered }
     ensures bounds { Bounds 1 result (state reader.old) (state reader.new) }
     ensures saved { SavedBounds 1 result (state reader.old) (state reader.new) }
@@ -350,12 +382,28 @@ pub(crate) fn read_bare_name(
 pub(crate) fn read_name(reader: &mut Reader, depth: usize, context: Context) -> Result<(), Stop>
     requires room { HasRoom 1 (state reader.old) }
     ensures reads { Gives result reader.new (spec.parse_name depth context (state reader.old)) }
-    ensures run { OnOk result (IsRun reader.old.buffer reader.new.buffer) }
+    ensures run { OnOk result (IsRun reader.old.buffer.value reader.new.buffer.value) }
     ensures bounds { Bounds 1 result (state reader.old) (state reader.new) }
     ensures saved { SavedBounds 1 result (state reader.old) (state reader.new) }
 {
     let shown = shows_words(name_case(reader.rest), context.shown);
     let quals = read_bare_name(reader, depth, context)?;
-    reader.found = apply_name_qualifiers(&mut reader.buffer, reader.found, quals, shown)?;
+    reader.print_quals(quals, shown)?;
+    Ok(())
+}
+
+/// `<name>` with its own qualifiers, in a frame of its own: what lived keeps its shape.
+#[tactic(auto, using(itanium_reader::proofs::Rules::buffers))]
+#[cycle(reader)]
+pub(crate) fn framed_name(reader: &mut Reader, depth: usize, context: Context) -> Result<(), Stop>
+    requires room { HasRoom 1 (state reader.old) }
+    ensures reads { Gives result reader.new (spec.parse_name depth context (state reader.old)) }
+    ensures kept { OnOk result (SameFrame reader.old.buffer.value reader.new.buffer.value) }
+    ensures bounds { Bounds 1 result (state reader.old) (state reader.new) }
+    ensures saved { SavedBounds 1 result (state reader.old) (state reader.new) }
+{
+    let mark = reader.buffer.open();
+    read_name(reader, depth, context)?;
+    reader.found = reader.buffer.close(mark, reader.found)?;
     Ok(())
 }

@@ -5,7 +5,7 @@ ghost use Rattle.demangle_text.specs.State.{IsRun};
 ghost use Rattle.itanium_reader.specs.Parser as spec;
 ghost use Rattle.itanium_reader.specs.Outcome.{state, Gives, HasRoom, Bounds, SavedBounds};
 
-use crate::names::read_name;
+use crate::names::{framed_name, read_name};
 use crate::types::{framed_type, read_type};
 use itanium_reader::{Reader, Stop};
 use itanium_syntax::context::Context;
@@ -25,15 +25,16 @@ pub(crate) fn read_type_special(
     requires some { 0 < length reader.old.rest.now }
     ensures reads { Gives result reader.new
         (spec.parse_worded (spec.parse_type depth context) (state reader.old)) }
-    ensures run { OnOk result (IsRun reader.old.buffer reader.new.buffer) }
+    ensures run { OnOk result (IsRun reader.old.buffer.value reader.new.buffer.value) }
     ensures bounds { Bounds 2 result (state reader.old) (state reader.new) }
     ensures saved { SavedBounds 1 result (state reader.old) (state reader.new) }
 {
     let words = special_text(reader.rest);
     let close = special_close(reader.rest);
     reader.skip(2);
-    read_type(reader, depth, context)?;
-    reader.print_worded(words, close)?;
+    let begun = reader.buffer.push(words)?;
+    framed_type(reader, depth, context)?;
+    reader.print_worded(begun, close)?;
     Ok(())
 }
 
@@ -49,15 +50,16 @@ pub(crate) fn read_name_special(
     requires some { 0 < length reader.old.rest.now }
     ensures reads { Gives result reader.new
         (spec.parse_worded (spec.parse_name depth context) (state reader.old)) }
-    ensures run { OnOk result (IsRun reader.old.buffer reader.new.buffer) }
+    ensures run { OnOk result (IsRun reader.old.buffer.value reader.new.buffer.value) }
     ensures bounds { Bounds 2 result (state reader.old) (state reader.new) }
     ensures saved { SavedBounds 1 result (state reader.old) (state reader.new) }
 {
     let words = special_text(reader.rest);
     let close = special_close(reader.rest);
     reader.skip(2);
-    read_name(reader, depth, context)?;
-    reader.print_worded(words, close)?;
+    let begun = reader.buffer.push(words)?;
+    framed_name(reader, depth, context)?;
+    reader.print_worded(begun, close)?;
     Ok(())
 }
 
@@ -73,7 +75,7 @@ pub(crate) fn read_temporary(
     requires some { 0 < length reader.old.rest.now }
     ensures reads { Gives result reader.new
         (spec.parse_temporary (spec.parse_name depth context) (state reader.old)) }
-    ensures run { OnOk result (IsRun reader.old.buffer reader.new.buffer) }
+    ensures run { OnOk result (IsRun reader.old.buffer.value reader.new.buffer.value) }
     ensures bounds { Bounds 2 result (state reader.old) (state reader.new) }
     ensures saved { SavedBounds 1 result (state reader.old) (state reader.new) }
 {
@@ -94,7 +96,7 @@ pub(crate) fn read_construction(
     requires some { 0 < length reader.old.rest.now }
     ensures reads { Gives result reader.new
         (spec.parse_construction (spec.parse_type depth context) (state reader.old)) }
-    ensures run { OnOk result (IsRun reader.old.buffer reader.new.buffer) }
+    ensures run { OnOk result (IsRun reader.old.buffer.value reader.new.buffer.value) }
     ensures bounds { Bounds 2 result (state reader.old) (state reader.new) }
     ensures saved { SavedBounds 1 result (state reader.old) (state reader.new) }
 {
@@ -113,7 +115,7 @@ pub(crate) fn read_thunk(reader: &mut Reader, depth: usize, context: Context) ->
     requires room { HasRoom 1 (state reader.old) }
     requires some { 0 < length reader.old.rest.now }
     ensures reads { Gives result reader.new (spec.parse_thunk depth context (state reader.old)) }
-    ensures run { OnOk result (IsRun reader.old.buffer reader.new.buffer) }
+    ensures run { OnOk result (IsRun reader.old.buffer.value reader.new.buffer.value) }
     ensures refused { depth ≡ 0 → reader.new.entered ≡ reader.old.entered }
     ensures bounds { Bounds 1 result (state reader.old) (state reader.new) }
     ensures saved { SavedBounds 1 result (state reader.old) (state reader.new) }
@@ -138,7 +140,7 @@ pub(crate) fn read_thunk(reader: &mut Reader, depth: usize, context: Context) ->
 pub(crate) fn read_special(reader: &mut Reader, depth: usize, context: Context) -> Result<(), Stop>
     requires room { HasRoom 1 (state reader.old) }
     ensures reads { Gives result reader.new (spec.parse_special depth context (state reader.old)) }
-    ensures run { OnOk result (IsRun reader.old.buffer reader.new.buffer) }
+    ensures run { OnOk result (IsRun reader.old.buffer.value reader.new.buffer.value) }
     ensures bounds { Bounds 1 result (state reader.old) (state reader.new) }
     ensures saved { SavedBounds 1 result (state reader.old) (state reader.new) }
 {
@@ -159,7 +161,7 @@ pub(crate) fn read_special(reader: &mut Reader, depth: usize, context: Context) 
 pub fn read_symbol(reader: &mut Reader, depth: usize, context: Context) -> Result<(), Stop>
     requires room { HasRoom 1 (state reader.old) }
     ensures reads { Gives result reader.new (spec.parse_symbol depth context (state reader.old)) }
-    ensures run { OnOk result (IsRun reader.old.buffer reader.new.buffer) }
+    ensures run { OnOk result (IsRun reader.old.buffer.value reader.new.buffer.value) }
     ensures bounds { Bounds 1 result (state reader.old) (state reader.new) }
     ensures saved { SavedBounds 1 result (state reader.old) (state reader.new) }
 {

@@ -9,7 +9,7 @@ ghost use Rattle.itanium_reader.specs.Outcome.{state, Gives, HasRoom, Bounds, Op
 
 use crate::args::read_attached;
 use crate::names::read_name;
-use demangle_edit::{Pointer, Quals, list_next, separate};
+use demangle_edit::{Pointer, Quals, list_next};
 use demangle_text::Piece;
 use itanium_reader::{Reader, Stop};
 use itanium_syntax::args::{AttachedCase, attached_case};
@@ -20,30 +20,26 @@ use itanium_syntax::types::{
     function_case, params_case, type_case, types_case,
 };
 
-/// `<template-args>` after a type, which is saved with them, or none.
+/// `<template-args>` after the type that was found, which is saved with them, or none.
 #[tactic(auto, using(itanium_reader::proofs::Rules::fronts))]
 #[cycle(reader)]
 pub(crate) fn read_type_attached(
     reader: &mut Reader,
     depth: usize,
     context: Context,
-    name: Piece,
 ) -> Result<(), Stop>
     requires room { HasRoom 1 (state reader.old) }
-    requires living { IsLiving reader.old.buffer name }
+    requires living { IsLiving reader.old.buffer.value reader.old.found }
     ensures reads { Gives result reader.new (spec.type_attached_as (attached_case reader.old.rest.now)
-        (spec.parse_args depth context false) (shape reader.old.buffer name) (state reader.old)) }
-    ensures run { OnOk result (IsRun reader.old.buffer reader.new.buffer) }
+        (spec.parse_args depth context false) (shape reader.old.buffer.value reader.old.found) (state reader.old)) }
+    ensures run { OnOk result (IsRun reader.old.buffer.value reader.new.buffer.value) }
     ensures bounds { OptionalBounds result (state reader.old) (state reader.new) }
     ensures saved { SavedBounds 0 result (state reader.old) (state reader.new) }
 {
     match attached_case(reader.rest) {
-        AttachedCase::NoneAttached => {
-            reader.found = name;
-            Ok(())
-        }
+        AttachedCase::NoneAttached => Ok(()),
         AttachedCase::ArgsAttached => {
-            read_attached(reader, depth, context, false, name)?;
+            read_attached(reader, depth, context, false)?;
             reader.save_found()?;
             Ok(())
         }
@@ -56,7 +52,7 @@ pub(crate) fn read_type_attached(
 pub(crate) fn read_type(reader: &mut Reader, depth: usize, context: Context) -> Result<(), Stop>
     requires room { HasRoom 2 (state reader.old) }
     ensures reads { Gives result reader.new (spec.parse_type depth context (state reader.old)) }
-    ensures run { OnOk result (IsRun reader.old.buffer reader.new.buffer) }
+    ensures run { OnOk result (IsRun reader.old.buffer.value reader.new.buffer.value) }
     ensures refused { depth ≡ 0 → reader.new.entered ≡ reader.old.entered }
     ensures bounds { Bounds 0 result (state reader.old) (state reader.new) }
     ensures saved { SavedBounds 0 result (state reader.old) (state reader.new) }
@@ -98,7 +94,7 @@ pub(crate) fn read_expansion(
     requires some { 0 < length reader.old.rest.now }
     ensures reads { Gives result reader.new
         (spec.parse_expansion (spec.parse_type depth context) context.pack (state reader.old)) }
-    ensures run { OnOk result (IsRun reader.old.buffer reader.new.buffer) }
+    ensures run { OnOk result (IsRun reader.old.buffer.value reader.new.buffer.value) }
     ensures bounds { Bounds 2 result (state reader.old) (state reader.new) }
     ensures saved { SavedBounds 0 result (state reader.old) (state reader.new) }
 {
@@ -115,7 +111,7 @@ pub(crate) fn read_array(reader: &mut Reader, depth: usize, context: Context) ->
     requires room { HasRoom 1 (state reader.old) }
     requires some { 0 < length reader.old.rest.now }
     ensures reads { Gives result reader.new (spec.parse_array (spec.parse_type depth context) (state reader.old)) }
-    ensures run { OnOk result (IsRun reader.old.buffer reader.new.buffer) }
+    ensures run { OnOk result (IsRun reader.old.buffer.value reader.new.buffer.value) }
     ensures bounds { Bounds 2 result (state reader.old) (state reader.new) }
     ensures saved { SavedBounds 0 result (state reader.old) (state reader.new) }
 {
@@ -141,7 +137,7 @@ pub(crate) fn read_pointer(
     requires some { 0 < length reader.old.rest.now }
     ensures reads { Gives result reader.new (spec.parse_pointer
         (spec.parse_type depth context) kind (state reader.old)) }
-    ensures run { OnOk result (IsRun reader.old.buffer reader.new.buffer) }
+    ensures run { OnOk result (IsRun reader.old.buffer.value reader.new.buffer.value) }
     ensures bounds { Bounds 2 result (state reader.old) (state reader.new) }
     ensures saved { SavedBounds 0 result (state reader.old) (state reader.new) }
 {
@@ -163,7 +159,7 @@ pub(crate) fn read_function_type(
     requires some { 0 < length reader.old.rest.now }
     ensures reads { Gives result reader.new
         (spec.saved_by (spec.parse_function (spec.parse_type depth context) no_quals) (state reader.old)) }
-    ensures run { OnOk result (IsRun reader.old.buffer reader.new.buffer) }
+    ensures run { OnOk result (IsRun reader.old.buffer.value reader.new.buffer.value) }
     ensures bounds { Bounds 2 result (state reader.old) (state reader.new) }
     ensures saved { SavedBounds 0 result (state reader.old) (state reader.new) }
 {
@@ -180,7 +176,7 @@ pub(crate) fn read_cv_type(reader: &mut Reader, depth: usize, context: Context) 
     requires some { length (past_cv reader.old.rest.now) < length reader.old.rest.now }
     ensures reads { Gives result reader.new
         (spec.saved_by (spec.parse_cv (spec.parse_type depth context)) (state reader.old)) }
-    ensures run { OnOk result (IsRun reader.old.buffer reader.new.buffer) }
+    ensures run { OnOk result (IsRun reader.old.buffer.value reader.new.buffer.value) }
     ensures bounds { Bounds 2 result (state reader.old) (state reader.new) }
     ensures saved { SavedBounds 0 result (state reader.old) (state reader.new) }
 {
@@ -199,7 +195,7 @@ pub(crate) fn read_elaborated(
 ) -> Result<(), Stop>
     requires room { HasRoom 1 (state reader.old) }
     ensures reads { Gives result reader.new (spec.parse_elaborated (spec.parse_name depth context) (state reader.old)) }
-    ensures run { OnOk result (IsRun reader.old.buffer reader.new.buffer) }
+    ensures run { OnOk result (IsRun reader.old.buffer.value reader.new.buffer.value) }
     ensures bounds { Bounds 1 result (state reader.old) (state reader.new) }
     ensures saved { SavedBounds 0 result (state reader.old) (state reader.new) }
 {
@@ -221,12 +217,12 @@ pub(crate) fn read_parameter_type(
     requires room { HasRoom 1 (state reader.old) }
     ensures reads { Gives result reader.new
         (spec.parameter_type (spec.parse_args depth context false) context (state reader.old)) }
-    ensures run { OnOk result (IsRun reader.old.buffer reader.new.buffer) }
+    ensures run { OnOk result (IsRun reader.old.buffer.value reader.new.buffer.value) }
     ensures bounds { Bounds 1 result (state reader.old) (state reader.new) }
     ensures saved { SavedBounds 0 result (state reader.old) (state reader.new) }
 {
     reader.read_saved_parameter(context)?;
-    read_type_attached(reader, depth, context, reader.found)
+    read_type_attached(reader, depth, context)
 }
 
 /// `<substitution> [<template-args>]`: saved with its arguments alone.
@@ -240,12 +236,12 @@ pub(crate) fn read_substitution_type(
     requires room { HasRoom 1 (state reader.old) }
     ensures reads { Gives result reader.new
         (spec.substitution_type (spec.parse_args depth context false) (state reader.old)) }
-    ensures run { OnOk result (IsRun reader.old.buffer reader.new.buffer) }
+    ensures run { OnOk result (IsRun reader.old.buffer.value reader.new.buffer.value) }
     ensures bounds { Bounds 1 result (state reader.old) (state reader.new) }
     ensures saved { SavedBounds 0 result (state reader.old) (state reader.new) }
 {
     reader.read_substitution()?;
-    read_type_attached(reader, depth, context, reader.found)
+    read_type_attached(reader, depth, context)
 }
 
 /// `<class-enum-type> ::= <name>`, which is saved.
@@ -258,7 +254,7 @@ pub(crate) fn read_name_type(
 ) -> Result<(), Stop>
     requires room { HasRoom 1 (state reader.old) }
     ensures reads { Gives result reader.new (spec.saved_by (spec.parse_name depth context) (state reader.old)) }
-    ensures run { OnOk result (IsRun reader.old.buffer reader.new.buffer) }
+    ensures run { OnOk result (IsRun reader.old.buffer.value reader.new.buffer.value) }
     ensures bounds { Bounds 1 result (state reader.old) (state reader.new) }
     ensures saved { SavedBounds 0 result (state reader.old) (state reader.new) }
 {
@@ -273,7 +269,7 @@ pub(crate) fn read_name_type(
 pub(crate) fn framed_type(reader: &mut Reader, depth: usize, context: Context) -> Result<(), Stop>
     requires room { HasRoom 2 (state reader.old) }
     ensures reads { Gives result reader.new (spec.parse_type depth context (state reader.old)) }
-    ensures kept { OnOk result (SameFrame reader.old.buffer reader.new.buffer) }
+    ensures kept { OnOk result (SameFrame reader.old.buffer.value reader.new.buffer.value) }
     ensures bounds { Bounds 0 result (state reader.old) (state reader.new) }
     ensures saved { SavedBounds 0 result (state reader.old) (state reader.new) }
 {
@@ -290,7 +286,7 @@ pub(crate) fn read_member(reader: &mut Reader, depth: usize, context: Context) -
     requires room { HasRoom 1 (state reader.old) }
     requires some { 0 < length reader.old.rest.now }
     ensures reads { Gives result reader.new (spec.parse_member (spec.parse_type depth context) (state reader.old)) }
-    ensures run { OnOk result (IsRun reader.old.buffer reader.new.buffer) }
+    ensures run { OnOk result (IsRun reader.old.buffer.value reader.new.buffer.value) }
     ensures bounds { Bounds 2 result (state reader.old) (state reader.new) }
     ensures saved { SavedBounds 0 result (state reader.old) (state reader.new) }
 {
@@ -308,7 +304,7 @@ pub(crate) fn read_cv(reader: &mut Reader, depth: usize, context: Context) -> Re
     requires room { HasRoom 1 (state reader.old) }
     requires some { length (past_cv reader.old.rest.now) < length reader.old.rest.now }
     ensures reads { Gives result reader.new (spec.parse_cv (spec.parse_type depth context) (state reader.old)) }
-    ensures run { OnOk result (IsRun reader.old.buffer reader.new.buffer) }
+    ensures run { OnOk result (IsRun reader.old.buffer.value reader.new.buffer.value) }
     ensures bounds { Bounds 2 result (state reader.old) (state reader.new) }
     ensures saved { SavedBounds 1 result (state reader.old) (state reader.new) }
 {
@@ -337,7 +333,7 @@ pub(crate) fn read_function(
     requires some { 0 < length reader.old.rest.now }
     ensures reads { Gives result reader.new (spec.parse_function
         (spec.parse_type depth context) quals (state reader.old)) }
-    ensures run { OnOk result (IsRun reader.old.buffer reader.new.buffer) }
+    ensures run { OnOk result (IsRun reader.old.buffer.value reader.new.buffer.value) }
     ensures bounds { Bounds 2 result (state reader.old) (state reader.new) }
     ensures saved { SavedBounds 1 result (state reader.old) (state reader.new) }
 {
@@ -364,7 +360,7 @@ pub(crate) fn read_params(
     requires room { HasRoom 2 (state reader.old) }
     ensures reads { GivesList result reader.new
         (spec.params_as (params_case reader.old.rest.now) (spec.parse_type depth context) (state reader.old)) }
-    ensures kept { OnOk result (SameFrame reader.old.buffer reader.new.buffer) }
+    ensures kept { OnOk result (SameFrame reader.old.buffer.value reader.new.buffer.value) }
     ensures bounds { ListBounds result (state reader.old) (state reader.new) }
     ensures saved { SavedBounds 0 result (state reader.old) (state reader.new) }
 {
@@ -388,7 +384,7 @@ pub(crate) fn read_types(
 ) -> Result<Vec<Piece>, Stop>
     requires room { HasRoom 2 (state reader.old) }
     ensures reads { GivesList result reader.new (spec.parse_types (spec.parse_type depth context) (state reader.old)) }
-    ensures kept { OnOk result (SameFrame reader.old.buffer reader.new.buffer) }
+    ensures kept { OnOk result (SameFrame reader.old.buffer.value reader.new.buffer.value) }
     ensures bounds { ListBounds result (state reader.old) (state reader.new) }
     ensures saved { SavedBounds 0 result (state reader.old) (state reader.new) }
 {
@@ -414,10 +410,10 @@ pub(crate) fn read_typed(
     list: Piece,
 ) -> Result<(), Stop>
     requires room { HasRoom 2 (state reader.old) }
-    requires living { IsLiving reader.old.buffer list }
+    requires living { IsLiving reader.old.buffer.value list }
     ensures reads { Gives result reader.new
-        (spec.parse_typed (spec.parse_type depth context) (shape reader.old.buffer list) (state reader.old)) }
-    ensures run { OnOk result (IsRun reader.old.buffer reader.new.buffer) }
+        (spec.parse_typed (spec.parse_type depth context) (shape reader.old.buffer.value list) (state reader.old)) }
+    ensures run { OnOk result (IsRun reader.old.buffer.value reader.new.buffer.value) }
     ensures bounds { ListBounds result (state reader.old) (state reader.new) }
     ensures saved { SavedBounds 0 result (state reader.old) (state reader.new) }
 {
@@ -430,7 +426,7 @@ pub(crate) fn read_typed(
                 return Ok(());
             }
             TypesCase::NextType => {
-                list = separate(&mut reader.buffer, list, first)?;
+                list = reader.separate_list(list, first)?;
                 framed_type(reader, depth, context)?;
                 list = list_next(&mut reader.buffer, list, reader.found)?;
                 first = false;
@@ -449,10 +445,10 @@ pub(crate) fn read_typed_params(
     list: Piece,
 ) -> Result<(), Stop>
     requires room { HasRoom 2 (state reader.old) }
-    requires living { IsLiving reader.old.buffer list }
+    requires living { IsLiving reader.old.buffer.value list }
     ensures reads { Gives result reader.new (spec.typed_params_as (params_case reader.old.rest.now)
-        (spec.parse_type depth context) (shape reader.old.buffer list) (state reader.old)) }
-    ensures run { OnOk result (IsRun reader.old.buffer reader.new.buffer) }
+        (spec.parse_type depth context) (shape reader.old.buffer.value list) (state reader.old)) }
+    ensures run { OnOk result (IsRun reader.old.buffer.value reader.new.buffer.value) }
     ensures bounds { ListBounds result (state reader.old) (state reader.new) }
     ensures saved { SavedBounds 0 result (state reader.old) (state reader.new) }
 {

@@ -1,17 +1,19 @@
 -- One level of the parser's functions, and the turns of its loops.
-use Rattle.std.proofs.Common.{◌≡◌, ◌<◌, ◌≤◌, ℕ, zero, suc, ◌+◌, ◌-◌, max, Bool, true, false, List, [], ◌∷◌, ◌++◌, length, drop, map, All, refl, sym, ap, ap₂, arith, Option, Some, None, Result, Ok, Err}
-use Rattle.std.specs.Prelude.{IfSome, option_map, is_some, codes}
+use Rattle.std.proofs.Common.{◌≡◌, ◌<◌, ◌≤◌, ℕ, zero, suc, ◌+◌, ◌-◌, max, Bool, true, false, List, [], ◌∷◌, ◌++◌, length, drop, map, All, refl, sym, ◌∙◌, ap, ap₂, append_assoc, arith, Option, Some, None, Result, Ok, Err}
+use Rattle.std.specs.Prelude.{IfSome, option_map, is_some, codes, nat_le, ◌&&◌, ◌==◌, if◌then◌else◌}
+use Rattle.std.proofs.lemmas.Bool.Decides.{nat_tests}
+use Rattle.std.proofs.lemmas.List.{append-nil}
 use Rattle.demangle_text.specs.declared.shape.Piece.{Piece}
 use Rattle.demangle_text.specs.declared.buffer.Buffer.{Buffer}
 use Rattle.demangle_text.specs.State.{IsLiving, shape, SameFrame}
-use Rattle.demangle_text.specs.Shape.{Shape, plain_shape, whole_shape}
+use Rattle.demangle_text.specs.Shape.{Shape, Plain, plain_shape, whole_shape, text, flattened, moved}
 use Rattle.demangle_edit.specs.Names.{tagged}
-use Rattle.demangle_edit.specs.Built.{listed_more, arguments_closed}
+use Rattle.demangle_edit.specs.Built.{separated, listed_more, arguments_closed}
 use Rattle.itanium_syntax.specs.declared.context.Context.{Context}
 use Rattle.itanium_syntax.specs.declared.numerals.Radix.TheVariants.{Decimal}
 use Rattle.itanium_syntax.specs.Scalars.{index_of, source_name}
 use Rattle.itanium_syntax.specs.Context.{opens_scope, inside_type, inside_pack, inside_lambda, inside_local, inside_encoding}
-use Rattle.itanium_syntax.specs.Names.{symbol_case, name_case, component_case, unqualified_case, tag_case, source_text, first_case, substitution_case, past_internal, past_name_quals, name_quals, saves_first}
+use Rattle.itanium_syntax.specs.Names.{symbol_case, name_case, component_case, unqualified_case, tag_case, source_text, free_case, begins_source, first_case, substitution_case, past_internal, past_name_quals, name_quals, saves_first}
 use Rattle.itanium_syntax.specs.Expressions.{expression_case}
 use Rattle.itanium_syntax.specs.Encodings.{entity_case}
 use Rattle.itanium_syntax.specs.Args.{args_case}
@@ -20,9 +22,9 @@ use Rattle.itanium_reader.specs.declared.reader.Reader.{Reader}
 use Rattle.itanium_reader.specs.declared.stop.Stop.{Stop}
 use Rattle.itanium_reader.specs.declared.stop.Stop.TheVariants.{Unread, Memory}
 use Rattle.itanium_reader.specs.Outcome.{Gives, GivesList, SavedBounds}
-use Rattle.itanium_reader.proofs.Loops.{LoopSoFar, loop_end, loop_more, loop_fail, ListSoFar, list_start, list_end, list_more, list_fail}
-use Rattle.itanium_reader.specs.Cases.{FreeName, NoTag, NextTag, EndOfComponents, ArgsComponent, NameComponent, EndOfArguments, NextArgument, EndOfTypes, NextType}
-use Rattle.itanium_reader.specs.Parser.{ParserState, Parses, ParsesName, ParsesBareName, ◌>>=◌, enter, at, save, skip, begin, put, put_nowhere, taken_back, past_initializer, substitution_as, parse_substitution, parameter_as, parse_parameter, tag_turn, unqualified_as, parse_unqualified, parse_free, in_scope, first_as, attached_by, component_turn, parse_components, parse_nested, name_as, qualified_by, parse_bare_name, parse_name, encoding_as, parse_encoding, entity_as, parse_local, primary_by, parse_primary, special_by, parse_special, thunk_by, parse_thunk, expression_as, parse_expression, parse_argument, argument_by, list_turn, typed_turn, parse_list, parse_packed, parse_args, parse_pack, types_turn, type_as, parse_type, symbol_as, parse_symbol}
+use Rattle.itanium_reader.proofs.Loops.{LoopSoFar, loop_start, loop_end, loop_more, loop_fail, ListSoFar, list_start, list_end, list_more, list_fail}
+use Rattle.itanium_reader.specs.Cases.{FreeName, ConstructorName, DestructorName, SourceName, NoTag, NextTag, EndOfComponents, ArgsComponent, NameComponent, EndOfArguments, NextArgument, EndOfTypes, NextType}
+use Rattle.itanium_reader.specs.Parser.{ParserState, Parses, ParsesName, ParsesBareName, ◌>>=◌, enter, at, save, skip, begin, put, put_nowhere, taken_back, past_initializer, substitution_as, parse_substitution, parameter_as, parse_parameter, tag_turn, unqualified_as, parse_unqualified, parse_free, in_scope, parse_tags, parse_source_in, first_as, attached_by, component_turn, parse_components, parse_nested, name_as, qualified_by, parse_bare_name, parse_name, encoding_as, parse_encoding, entity_as, parse_local, primary_by, parse_primary, special_by, parse_special, thunk_by, parse_thunk, expression_as, parse_expression, parse_argument, argument_by, list_turn, typed_turn, parse_list, parse_packed, parse_args, parse_pack, types_turn, type_as, parse_type, symbol_as, parse_symbol}
 
 pub bare_name_opens : (d : ℕ) (x : Context) (s : ParserState) → 0 < d → parse_bare_name d x s
     ≡ name_as (name_case s.rest) (parse_unqualified (parse_type (d - 1) x) (parse_type (d - 1) (inside_lambda x))) (parse_args (d - 1) x true)
@@ -125,6 +127,31 @@ pub unqualified_opens : (type param : Parses Shape) (scope : Option Shape) (s : 
 unfolding parse_unqualified
 unqualified_opens type param scope s = refl
 
+-- a digit from 1 to 9 is no letter
+no_letter : (b letter : ℕ) → (nat_le 49 b && nat_le b 57) ≡ true → 57 < letter → (b == letter) ≡ false
+no_letter b letter digit past = grind (arith, nat_tests)
+
+-- where a source name is next, no letter stands in front of it, and it is no constructor or destructor
+source_case : (in_scope : Bool) (bytes : List ℕ) → begins_source bytes ≡ true
+    → (past_internal bytes ≡ bytes) × (unqualified_case in_scope bytes ≡ FreeName) × (free_case bytes ≡ SourceName)
+source_case in_scope [] h = cc
+source_case in_scope (b ∷ bytes) h = (
+  rw (no_letter b 76 h (omega arith)) refl,
+  rw (no_letter b 67 h (omega arith), no_letter b 68 h (omega arith)) (no_constructor in_scope),
+  rw h refl,
+)
+  where
+    no_constructor : (in_scope : Bool) → (if in_scope && false then ConstructorName else if in_scope && false then DestructorName else FreeName) ≡ FreeName
+    no_constructor true = refl
+    no_constructor false = refl
+
+pub source_opens : (type param : Parses Shape) (scope : Option Shape) (s : ParserState) → begins_source s.rest ≡ true
+    → parse_unqualified type param scope s ≡ parse_source_in scope s
+unfolding parse_unqualified
+source_opens type param scope s h =
+    let case = source_case (is_some scope) s.rest h in
+    rw (case.0, case.1, case.2) refl
+
 -- a name that asks for no scope is found, and put into its scope
 pub free_found : (type param : Parses Shape) (scope : Option Shape) (s : ParserState) {name found : Shape} {mid after : ParserState} → unqualified_case (is_some scope) (past_internal s.rest) ≡ FreeName
     → parse_free type param (at (past_internal s.rest) s) ≡ Some (name, mid) → found ≡ in_scope scope name → after ≡ mid → parse_unqualified type param scope s ≡ Some (found, after)
@@ -200,6 +227,27 @@ module _ {whole : Option (Shape × ParserState)} {name : Shape} {s : ParserState
   tags_more {text} {rest} {next} {after} case found built left lists opened count most shorter =
       let same : record { rest = after.rest; saved = after.saved; scopes = after.scopes; entered = after.entered; most_saved = after.most_saved } ≡ at rest s = rw (left, lists, opened, count, most) refl in
       loop_more so_far (rw (case, found, built, sym same) refl) (rw left shorter)
+
+-- no tag follows
+pub no_tags : (name : Shape) (s : ParserState) → tag_case s.rest ≡ NoTag → parse_tags name s ≡ Some (name, s)
+no_tags name s case = tags_end (loop_start refl) case
+
+-- a source name is found that no tag follows, and put into its scope
+pub source_found : (scope : Option Shape) (s : ParserState) {text rest : List ℕ} {found : Shape} {after : ParserState} → source_name s.rest ≡ Some (text, rest) → tag_case rest ≡ NoTag
+    → found ≡ in_scope scope (plain_shape (source_text text)) → after ≡ at rest s → parse_source_in scope s ≡ Some (found, after)
+source_found scope s {text} {rest} read case built same = rw (read, no_tags (plain_shape (source_text text)) (at rest s) case, built, same) refl
+
+-- a range stays where nothing is put
+nothing_moved : (at : ℕ) (own : ℕ × ℕ) → moved at 0 own ≡ own
+nothing_moved at (from, to) = grind (arith, nat_tests)
+
+-- in front of the first text of a list nothing is put
+pub nothing_in_front : (list : Shape) → separated true list ≡ flattened list
+nothing_in_front list = λ j. record { form = Plain (append-nil (text list) j); own = nothing_moved (length (text list)) list.own j; templ = list.templ; ctor = list.ctor }
+
+-- words, a text after them, and the words that close it
+pub words_joined : (words t close : List ℕ) → plain_shape ((words ++ t) ++ close) ≡ plain_shape (words ++ (t ++ (close ++ [])))
+words_joined words t close = ap plain_shape (append_assoc words t close ∙ ap (λ (c : List ℕ). words ++ (t ++ c)) (sym (append-nil close)))
 
 -- a list begins
 pub args_start : (d : ℕ) (x : Context) (of_name : Bool) (s : ParserState) {opens : Bool} {n : ℕ} {list : Shape} {after : ParserState} → 0 < d → opens ≡ opens_scope of_name x

@@ -14,8 +14,8 @@ use Rattle.itanium_reader.specs.declared.stop.Stop.TheVariants.{Unread, Memory}
 abbrev pub state : Reader → ParserState
 state r = record {
   rest = r.rest.now;
-  saved = saved r.buffer;
-  scopes = scopes r.buffer;
+  saved = saved r.buffer.value;
+  scopes = scopes r.buffer.value;
   entered = r.entered;
   most_saved = r.most_saved;
 }
@@ -24,16 +24,16 @@ state r = record {
 -- ran out
 abbrev pub Gives : Result (Unit {0}) Stop → Reader → Option (Shape × ParserState) → Type 0
 Gives (Ok u) after parsed =
-    IsLiving after.buffer after.found
-    × (parsed ≡ Some (shape after.buffer after.found, state after))
+    IsLiving after.buffer.value after.found
+    × (parsed ≡ Some (shape after.buffer.value after.found, state after))
 Gives (Err Unread) after parsed = parsed ≡ None
 Gives (Err Memory) after parsed = Unit {0}
 
 -- the same of a name without its own qualifiers, which the call answers
 abbrev pub GivesBareName : Result Quals Stop → Reader → Option ((Shape × Quals) × ParserState) → Type 0
 GivesBareName (Ok quals) after parsed =
-    IsLiving after.buffer after.found
-    × (parsed ≡ Some ((shape after.buffer after.found, quals), state after))
+    IsLiving after.buffer.value after.found
+    × (parsed ≡ Some ((shape after.buffer.value after.found, quals), state after))
 GivesBareName (Err Unread) after parsed = parsed ≡ None
 GivesBareName (Err Memory) after parsed = Unit {0}
 
@@ -46,8 +46,8 @@ Leaves (Err Memory) after parsed = Unit {0}
 -- the same of a call that answers several pieces
 abbrev pub GivesList : Result (Vec Piece Global) Stop → Reader → Option (List Shape × ParserState) → Type 0
 GivesList (Ok ps) after parsed =
-    All (IsLiving after.buffer) ps.items
-    × (parsed ≡ Some (map (shape after.buffer) ps.items, state after))
+    All (IsLiving after.buffer.value) ps.items
+    × (parsed ≡ Some (map (shape after.buffer.value) ps.items, state after))
 GivesList (Err Unread) after parsed = parsed ≡ None
 GivesList (Err Memory) after parsed = Unit {0}
 

@@ -225,6 +225,14 @@ free_as NoName type param s = None
 abbrev pub parse_free : Parses Shape → Parses Shape → Parses Shape
 parse_free type param s = free_as (free_case s.rest) type param s >>= λ name. parse_tags name.0 name.1
 
+-- a source name with its tags
+abbrev pub parse_tagged_source : Parses Shape
+parse_tagged_source s = parse_source s >>= λ name. parse_tags name.0 name.1
+
+-- the same, in the scope that stands in front of it
+abbrev pub parse_source_in : Option Shape → Parses Shape
+parse_source_in scope s = parse_tagged_source s >>= λ name. Some (in_scope scope name.0, name.1)
+
 -- a constructor or a destructor of the scope, and its tags
 abbrev pub ctor_dtor_as : Bool → Option Shape → Parses Shape
 ctor_dtor_as destructor None s = None

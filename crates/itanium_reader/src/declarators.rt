@@ -22,12 +22,12 @@ use std::alloc::AllocError;
 impl<'a> Reader<'a> {
     /// A pointer or a reference to what was found.
     pub fn save_pointer(&mut self, kind: Pointer) -> Result<(), AllocError>
-        requires living { IsLiving self.old.buffer self.old.found }
-        ensures shape { OnOk result (Lives self.new.buffer self.new.found (pointer_shape kind
-            (shape self.old.buffer self.old.found))) }
+        requires living { IsLiving self.old.buffer.value self.old.found }
+        ensures shape { OnOk result (Lives self.new.buffer.value self.new.found (pointer_shape kind
+            (shape self.old.buffer.value self.old.found))) }
         ensures state { OnOk result (state self.new ≡ spec.save (pointer_shape kind
-            (shape self.old.buffer self.old.found)) (state self.old)) }
-        ensures run { OnOk result (IsRun self.old.buffer self.new.buffer) }
+            (shape self.old.buffer.value self.old.found)) (state self.old)) }
+        ensures run { OnOk result (IsRun self.old.buffer.value self.new.buffer.value) }
     {
         self.found = wrap_pointer(&mut self.buffer, self.found, kind)?;
         self.save_found()
@@ -35,11 +35,11 @@ impl<'a> Reader<'a> {
 
     /// What was found with the words of its qualifiers.
     pub fn wrap_found(&mut self, quals: Quals) -> Result<(), AllocError>
-        requires living { IsLiving self.old.buffer self.old.found }
-        ensures shape { OnOk result (Lives self.new.buffer self.new.found (cv_shape quals
-            (shape self.old.buffer self.old.found))) }
+        requires living { IsLiving self.old.buffer.value self.old.found }
+        ensures shape { OnOk result (Lives self.new.buffer.value self.new.found (cv_shape quals
+            (shape self.old.buffer.value self.old.found))) }
         ensures state { OnOk result (state self.new ≡ state self.old) }
-        ensures run { OnOk result (IsRun self.old.buffer self.new.buffer) }
+        ensures run { OnOk result (IsRun self.old.buffer.value self.new.buffer.value) }
     {
         self.found = wrap_cv(&mut self.buffer, self.found, quals)?;
         Ok(())
@@ -47,12 +47,12 @@ impl<'a> Reader<'a> {
 
     /// The expansion of what was found, which prints its dots where it isn't in a pack.
     pub fn save_expansion(&mut self, in_pack: bool) -> Result<(), AllocError>
-        requires living { IsLiving self.old.buffer self.old.found }
-        ensures shape { OnOk result (Lives self.new.buffer self.new.found
-            (spec.expansion_in in_pack (shape self.old.buffer self.old.found))) }
+        requires living { IsLiving self.old.buffer.value self.old.found }
+        ensures shape { OnOk result (Lives self.new.buffer.value self.new.found
+            (spec.expansion_in in_pack (shape self.old.buffer.value self.old.found))) }
         ensures state { OnOk result (state self.new ≡ spec.save
-            (spec.expansion_in in_pack (shape self.old.buffer self.old.found)) (state self.old)) }
-        ensures run { OnOk result (IsRun self.old.buffer self.new.buffer) }
+            (spec.expansion_in in_pack (shape self.old.buffer.value self.old.found)) (state self.old)) }
+        ensures run { OnOk result (IsRun self.old.buffer.value self.new.buffer.value) }
     {
         if !in_pack {
             self.found = expand(&mut self.buffer, self.found)?;
@@ -62,10 +62,10 @@ impl<'a> Reader<'a> {
 
     /// The array of what was found, where there is one.
     pub fn save_array(&mut self, dimension: Option<u64>) -> Result<(), Stop>
-        requires living { IsLiving self.old.buffer self.old.found }
+        requires living { IsLiving self.old.buffer.value self.old.found }
         ensures reads { Gives result self.new (spec.saved_array dimension
-            (shape self.old.buffer self.old.found) (state self.old)) }
-        ensures run { OnOk result (IsRun self.old.buffer self.new.buffer) }
+            (shape self.old.buffer.value self.old.found) (state self.old)) }
+        ensures run { OnOk result (IsRun self.old.buffer.value self.new.buffer.value) }
         ensures bounds { OptionalBounds result (state self.old) (state self.new) }
         ensures one { SavesOne result (state self.old) (state self.new) }
     {
@@ -79,11 +79,12 @@ impl<'a> Reader<'a> {
 
     /// The pointer to what was found as a member of the class, where there is one.
     pub fn save_member(&mut self, class: Piece) -> Result<(), Stop>
-        requires class { IsLiving self.old.buffer class }
-        requires living { IsLiving self.old.buffer self.old.found }
+        requires class { IsLiving self.old.buffer.value class }
+        requires living { IsLiving self.old.buffer.value self.old.found }
         ensures reads { Gives result self.new
-            (spec.saved_member (shape self.old.buffer class) (shape self.old.buffer self.old.found) (state self.old)) }
-        ensures run { OnOk result (IsRun self.old.buffer self.new.buffer) }
+            (spec.saved_member (shape self.old.buffer.value class)
+            (shape self.old.buffer.value self.old.found) (state self.old)) }
+        ensures run { OnOk result (IsRun self.old.buffer.value self.new.buffer.value) }
         ensures bounds { OptionalBounds result (state self.old) (state self.new) }
         ensures one { SavesOne result (state self.old) (state self.new) }
     {
@@ -97,12 +98,12 @@ impl<'a> Reader<'a> {
 
     /// The function type, where there is one, and what is after its parameters: `[<ref-qualifier>] E`.
     pub fn end_function(&mut self, quals: Quals, ret: Piece, params: &[Piece]) -> Result<(), Stop>
-        requires ret { IsLiving self.old.buffer ret }
-        requires params { All (IsLiving self.old.buffer) params.now }
+        requires ret { IsLiving self.old.buffer.value ret }
+        requires params { All (IsLiving self.old.buffer.value) params.now }
         ensures reads { Gives result self.new
-            (spec.function_end quals (shape self.old.buffer ret) (map (shape self.old.buffer) params.now)
+            (spec.function_end quals (shape self.old.buffer.value ret) (map (shape self.old.buffer.value) params.now)
             (state self.old)) }
-        ensures run { OnOk result (IsRun self.old.buffer self.new.buffer) }
+        ensures run { OnOk result (IsRun self.old.buffer.value self.new.buffer.value) }
         ensures bounds { OptionalBounds result (state self.old) (state self.new) }
         ensures saved { SavedBounds 0 result (state self.old) (state self.new) }
     {
@@ -119,12 +120,12 @@ impl<'a> Reader<'a> {
 
     /// The word of an elaborated type in front of the name that was found.
     pub fn save_elaborated(&mut self, word: &[u8]) -> Result<(), AllocError>
-        requires living { IsLiving self.old.buffer self.old.found }
-        ensures shape { OnOk result (Lives self.new.buffer self.new.found (elaborated_shape word.now
-            (shape self.old.buffer self.old.found))) }
+        requires living { IsLiving self.old.buffer.value self.old.found }
+        ensures shape { OnOk result (Lives self.new.buffer.value self.new.found (elaborated_shape word.now
+            (shape self.old.buffer.value self.old.found))) }
         ensures state { OnOk result (state self.new ≡ spec.save (elaborated_shape word.now
-            (shape self.old.buffer self.old.found)) (state self.old)) }
-        ensures run { OnOk result (IsRun self.old.buffer self.new.buffer) }
+            (shape self.old.buffer.value self.old.found)) (state self.old)) }
+        ensures run { OnOk result (IsRun self.old.buffer.value self.new.buffer.value) }
     {
         let parts = [Glue::Text(word), Glue::Piece(self.found)];
         self.found = glue(&mut self.buffer, &parts)?;
@@ -134,7 +135,7 @@ impl<'a> Reader<'a> {
     /// `u <source-name>`, which no `<template-args>` follow.
     pub fn read_vendor(&mut self) -> Result<(), Stop>
         ensures reads { Gives result self.new (spec.parse_vendor (state self.old)) }
-        ensures run { OnOk result (IsRun self.old.buffer self.new.buffer) }
+        ensures run { OnOk result (IsRun self.old.buffer.value self.new.buffer.value) }
         ensures bounds { Bounds 2 result (state self.old) (state self.new) }
         ensures saved { SavedBounds 0 result (state self.old) (state self.new) }
     {

@@ -17,10 +17,10 @@ impl<'a> Reader<'a> {
     /// The `E` after what was found.
     #[tactic(auto, using(crate::proofs::Rules::buffers))]
     pub fn read_end(&mut self) -> Result<(), Stop>
-        requires living { IsLiving self.old.buffer self.old.found }
+        requires living { IsLiving self.old.buffer.value self.old.found }
         ensures reads { Gives result self.new
-            (spec.ended (Some (shape self.old.buffer self.old.found, state self.old))) }
-        ensures kept { OnOk result (SameFrame self.old.buffer self.new.buffer) }
+            (spec.ended (Some (shape self.old.buffer.value self.old.found, state self.old))) }
+        ensures kept { OnOk result (SameFrame self.old.buffer.value self.new.buffer.value) }
         ensures bounds { Bounds 2 result (state self.old) (state self.new) }
         ensures saved { SavedBounds 1 result (state self.old) (state self.new) }
     {
@@ -35,10 +35,10 @@ impl<'a> Reader<'a> {
 
     /// The value of a literal of the type that was found, up to the `E` after it.
     pub fn end_literal(&mut self) -> Result<(), Stop>
-        requires living { IsLiving self.old.buffer self.old.found }
+        requires living { IsLiving self.old.buffer.value self.old.found }
         ensures reads { Gives result self.new
-            (spec.literal_end (shape self.old.buffer self.old.found) (state self.old)) }
-        ensures run { OnOk result (IsRun self.old.buffer self.new.buffer) }
+            (spec.literal_end (shape self.old.buffer.value self.old.found) (state self.old)) }
+        ensures run { OnOk result (IsRun self.old.buffer.value self.new.buffer.value) }
         ensures bounds { Bounds 2 result (state self.old) (state self.new) }
         ensures saved { SavedBounds 1 result (state self.old) (state self.new) }
     {
@@ -55,11 +55,11 @@ impl<'a> Reader<'a> {
 
     /// An operator's text in front of what was found.
     pub fn print_pre(&mut self, text: &str) -> Result<(), AllocError>
-        requires living { IsLiving self.old.buffer self.old.found }
-        ensures shape { OnOk result (Lives self.new.buffer self.new.found
-            (pre_shape text.now (shape self.old.buffer self.old.found))) }
+        requires living { IsLiving self.old.buffer.value self.old.found }
+        ensures shape { OnOk result (Lives self.new.buffer.value self.new.found
+            (pre_shape text.now (shape self.old.buffer.value self.old.found))) }
         ensures state { OnOk result (state self.new ≡ state self.old) }
-        ensures run { OnOk result (IsRun self.old.buffer self.new.buffer) }
+        ensures run { OnOk result (IsRun self.old.buffer.value self.new.buffer.value) }
     {
         let parts = [Glue::Text(text.as_bytes()), Glue::Piece(self.found)];
         self.found = glue(&mut self.buffer, &parts)?;
@@ -68,11 +68,11 @@ impl<'a> Reader<'a> {
 
     /// An operator's text after what was found.
     pub fn print_post(&mut self, text: &str) -> Result<(), AllocError>
-        requires living { IsLiving self.old.buffer self.old.found }
-        ensures shape { OnOk result (Lives self.new.buffer self.new.found
-            (post_shape (shape self.old.buffer self.old.found) text.now)) }
+        requires living { IsLiving self.old.buffer.value self.old.found }
+        ensures shape { OnOk result (Lives self.new.buffer.value self.new.found
+            (post_shape (shape self.old.buffer.value self.old.found) text.now)) }
         ensures state { OnOk result (state self.new ≡ state self.old) }
-        ensures run { OnOk result (IsRun self.old.buffer self.new.buffer) }
+        ensures run { OnOk result (IsRun self.old.buffer.value self.new.buffer.value) }
     {
         let parts = [Glue::Piece(self.found), Glue::Text(text.as_bytes())];
         self.found = glue(&mut self.buffer, &parts)?;
@@ -81,12 +81,12 @@ impl<'a> Reader<'a> {
 
     /// An operator's text between the left operand and the right one, which was found.
     pub fn print_binary(&mut self, left: Piece, text: &str) -> Result<(), AllocError>
-        requires left { IsLiving self.old.buffer left }
-        requires living { IsLiving self.old.buffer self.old.found }
-        ensures shape { OnOk result (Lives self.new.buffer self.new.found
-            (binary_shape (shape self.old.buffer left) text.now (shape self.old.buffer self.old.found))) }
+        requires left { IsLiving self.old.buffer.value left }
+        requires living { IsLiving self.old.buffer.value self.old.found }
+        ensures shape { OnOk result (Lives self.new.buffer.value self.new.found
+            (binary_shape (shape self.old.buffer.value left) text.now (shape self.old.buffer.value self.old.found))) }
         ensures state { OnOk result (state self.new ≡ state self.old) }
-        ensures run { OnOk result (IsRun self.old.buffer self.new.buffer) }
+        ensures run { OnOk result (IsRun self.old.buffer.value self.new.buffer.value) }
     {
         let parts = [
             Glue::Piece(left),
@@ -99,12 +99,12 @@ impl<'a> Reader<'a> {
 
     /// `>` between the left expression and the right one, which was found, in parentheses.
     pub fn print_greater(&mut self, left: Piece) -> Result<(), AllocError>
-        requires left { IsLiving self.old.buffer left }
-        requires living { IsLiving self.old.buffer self.old.found }
-        ensures shape { OnOk result (Lives self.new.buffer self.new.found
-            (greater_shape (shape self.old.buffer left) (shape self.old.buffer self.old.found))) }
+        requires left { IsLiving self.old.buffer.value left }
+        requires living { IsLiving self.old.buffer.value self.old.found }
+        ensures shape { OnOk result (Lives self.new.buffer.value self.new.found
+            (greater_shape (shape self.old.buffer.value left) (shape self.old.buffer.value self.old.found))) }
         ensures state { OnOk result (state self.new ≡ state self.old) }
-        ensures run { OnOk result (IsRun self.old.buffer self.new.buffer) }
+        ensures run { OnOk result (IsRun self.old.buffer.value self.new.buffer.value) }
     {
         let parts = [
             Glue::Text(b"(("),
@@ -119,13 +119,14 @@ impl<'a> Reader<'a> {
 
     /// `?` and `:` between a condition and two operands, of which the last was found.
     pub fn print_conditional(&mut self, condition: Piece, then: Piece) -> Result<(), AllocError>
-        requires condition { IsLiving self.old.buffer condition }
-        requires then { IsLiving self.old.buffer then }
-        requires living { IsLiving self.old.buffer self.old.found }
-        ensures shape { OnOk result (Lives self.new.buffer self.new.found (conditional_shape
-            (shape self.old.buffer condition) (shape self.old.buffer then) (shape self.old.buffer self.old.found))) }
+        requires condition { IsLiving self.old.buffer.value condition }
+        requires then { IsLiving self.old.buffer.value then }
+        requires living { IsLiving self.old.buffer.value self.old.found }
+        ensures shape { OnOk result (Lives self.new.buffer.value self.new.found (conditional_shape
+            (shape self.old.buffer.value condition) (shape self.old.buffer.value then)
+            (shape self.old.buffer.value self.old.found))) }
         ensures state { OnOk result (state self.new ≡ state self.old) }
-        ensures run { OnOk result (IsRun self.old.buffer self.new.buffer) }
+        ensures run { OnOk result (IsRun self.old.buffer.value self.new.buffer.value) }
     {
         let parts = [
             Glue::Piece(condition),

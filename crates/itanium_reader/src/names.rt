@@ -1,14 +1,18 @@
 //! Names (Itanium C++ ABI 5.1.2).
-ghost use Rattle.std.specs.Prelude.{◌≡◌, ◌<◌, codes, option_map, IfSome, OnOk, true};
+ghost use Rattle.std.specs.Prelude.{◌≡◌, ◌<◌, codes, option_map, None, Some, IfSome, OnOk, true};
 ghost use Rattle.demangle_text.specs.Shape.{appended};
-ghost use Rattle.demangle_text.specs.State.{IsLiving, shape, Lives, IsEdit, IsRun, saved};
+ghost use Rattle.demangle_text.specs.State.{IsLiving, shape, Lives, IsEdit, IsRun, SameFrame, saved};
+ghost use Rattle.demangle_edit.specs.Names.{with_name_qualifiers};
 ghost use Rattle.itanium_grammar.specs.Tree.{conversion_shape};
 ghost use Rattle.itanium_reader.specs.Parser as spec;
 ghost use Rattle.itanium_reader.specs.Outcome.{state, Gives, Bounds, OptionalBounds, SavedBounds};
 
 use crate::reader::Reader;
 use crate::stop::Stop;
-use demangle_edit::{append_number, close_lambda, qualify, qualify_ctor, tag};
+use demangle_edit::{
+    Quals, append_number, apply_name_qualifiers, close_lambda, qualify, qualify_ctor, qualify_text,
+    tag,
+};
 use demangle_text::{Piece, Place};
 use itanium_syntax::names::{TagCase, source_text, tag_case};
 use itanium_syntax::numerals::{lambda_number, unnamed_type_number};
@@ -20,11 +24,11 @@ use std::alloc::AllocError;
 impl<'a> Reader<'a> {
     /// The string literal of an encoding.
     pub fn print_string_literal(&mut self, encoding: Piece) -> Result<(), AllocError>
-        requires living { IsLiving self.old.buffer encoding }
-        ensures shape { OnOk result (Lives self.new.buffer self.new.found
-            (appended (codes "::string literal") (shape self.old.buffer encoding))) }
+        requires living { IsLiving self.old.buffer.value encoding }
+        ensures shape { OnOk result (Lives self.new.buffer.value self.new.found
+            (appended (codes "::string literal") (shape self.old.buffer.value encoding))) }
         ensures state { OnOk result (state self.new ≡ state self.old) }
-        ensures edit { OnOk result (IsEdit self.old.buffer self.new.buffer) }
+        ensures edit { OnOk result (IsEdit self.old.buffer.value self.new.buffer.value) }
     {
         self.found = self.buffer.append(encoding, b"::string literal")?;
         Ok(())
@@ -32,12 +36,12 @@ impl<'a> Reader<'a> {
 
     /// The name in its scope, where there is one.
     pub fn enclose(&mut self, scope: Option<Piece>, name: Piece) -> Result<(), AllocError>
-        requires scope { IfSome scope (IsLiving self.old.buffer) }
-        requires name { IsLiving self.old.buffer name }
-        ensures shape { OnOk result (Lives self.new.buffer self.new.found
-            (spec.in_scope (option_map (shape self.old.buffer) scope) (shape self.old.buffer name))) }
+        requires scope { IfSome scope (IsLiving self.old.buffer.value) }
+        requires name { IsLiving self.old.buffer.value name }
+        ensures shape { OnOk result (Lives self.new.buffer.value self.new.found
+            (spec.in_scope (option_map (shape self.old.buffer.value) scope) (shape self.old.buffer.value name))) }
         ensures state { OnOk result (state self.new ≡ state self.old) }
-        ensures edit { OnOk result (IsEdit self.old.buffer self.new.buffer) }
+        ensures edit { OnOk result (IsEdit self.old.buffer.value self.new.buffer.value) }
     {
         self.found = match scope {
             None => name,
@@ -49,9 +53,9 @@ impl<'a> Reader<'a> {
     /// `<abi-tags> ::= (B <source-name>)*` after a name.
     #[tactic(auto, using(crate::proofs::Rules::tags))]
     pub fn read_tags(&mut self, name: Piece) -> Result<(), Stop>
-        requires living { IsLiving self.old.buffer name }
-        ensures reads { Gives result self.new (spec.parse_tags (shape self.old.buffer name) (state self.old)) }
-        ensures run { OnOk result (IsRun self.old.buffer self.new.buffer) }
+        requires living { IsLiving self.old.buffer.value name }
+        ensures reads { Gives result self.new (spec.parse_tags (shape self.old.buffer.value name) (state self.old)) }
+        ensures run { OnOk result (IsRun self.old.buffer.value self.new.buffer.value) }
         ensures bounds { OptionalBounds result (state self.old) (state self.new) }
         ensures saved { SavedBounds 0 result (state self.old) (state self.new) }
     {
@@ -75,12 +79,94 @@ impl<'a> Reader<'a> {
         }
     }
 
+    /// A `<source-name>` in no scope, and `<abi-tags>` after it.
+    #[tactic(auto, using(crate::proofs::Rules::source_names))]
+    #[inline(always)]
+    pub fn read_source_name(&mut self) -> Result<(), Stop>
+        ensures reads { Gives result self.new (spec.parse_source_in None (state self.old)) }
+        ensures kept { OnOk result (SameFrame self.old.buffer.value self.new.buffer.value) }
+        ensures bounds { Bounds 2 result (state self.old) (state self.new) }
+        ensures saved { SavedBounds 1 result (state self.old) (state self.new) }
+    {
+        let Some((from, to)) = source_name(self.rest, 0) else {
+            return Err(Stop::Unread);
+        };
+        let rest = &self.rest[to..];
+        match tag_case(rest) {
+            TagCase::NoTag => {
+                self.found = self.buffer.push(source_text(&self.rest[from..to]))?;
+                self.rest = rest;
+                Ok(())
+            }
+            TagCase::NextTag => self.framed_tagged_source(),
+        }
+    }
+
+    /// A `<source-name>` in the scope that was found, and `<abi-tags>` after it.
+    #[tactic(auto, using(crate::proofs::Rules::source_names))]
+    #[inline(always)]
+    pub fn read_source_component(&mut self) -> Result<(), Stop>
+        requires living { IsLiving self.old.buffer.value self.old.found }
+        ensures reads { Gives result self.new
+            (spec.parse_source_in (Some (shape self.old.buffer.value self.old.found)) (state self.old)) }
+        ensures run { OnOk result (IsRun self.old.buffer.value self.new.buffer.value) }
+        ensures bounds { Bounds 2 result (state self.old) (state self.new) }
+        ensures saved { SavedBounds 1 result (state self.old) (state self.new) }
+    {
+        let Some((from, to)) = source_name(self.rest, 0) else {
+            return Err(Stop::Unread);
+        };
+        let rest = &self.rest[to..];
+        match tag_case(rest) {
+            TagCase::NoTag => {
+                let text = source_text(&self.rest[from..to]);
+                self.found = qualify_text(&mut self.buffer, self.found, text)?;
+                self.rest = rest;
+                Ok(())
+            }
+            TagCase::NextTag => self.read_tagged_component(),
+        }
+    }
+
+    /// A `<source-name>` and `<abi-tags>` after it, in a frame of their own: what lived keeps its shape.
+    #[cold]
+    #[inline(never)]
+    fn framed_tagged_source(&mut self) -> Result<(), Stop>
+        ensures reads { Gives result self.new (spec.parse_tagged_source (state self.old)) }
+        ensures kept { OnOk result (SameFrame self.old.buffer.value self.new.buffer.value) }
+        ensures bounds { Bounds 2 result (state self.old) (state self.new) }
+        ensures saved { SavedBounds 1 result (state self.old) (state self.new) }
+    {
+        let mark = self.buffer.open();
+        self.read_source()?;
+        self.read_tags(self.found)?;
+        self.found = self.buffer.close(mark, self.found)?;
+        Ok(())
+    }
+
+    /// The same in the scope that was found.
+    #[cold]
+    #[inline(never)]
+    fn read_tagged_component(&mut self) -> Result<(), Stop>
+        requires living { IsLiving self.old.buffer.value self.old.found }
+        ensures reads { Gives result self.new
+            (spec.parse_source_in (Some (shape self.old.buffer.value self.old.found)) (state self.old)) }
+        ensures run { OnOk result (IsRun self.old.buffer.value self.new.buffer.value) }
+        ensures bounds { Bounds 2 result (state self.old) (state self.new) }
+        ensures saved { SavedBounds 1 result (state self.old) (state self.new) }
+    {
+        let scope = self.found;
+        self.framed_tagged_source()?;
+        self.found = qualify(&mut self.buffer, scope, self.found)?;
+        Ok(())
+    }
+
     /// A constructor or a destructor of the scope, and `<abi-tags>` after it.
     pub fn read_ctor_dtor(&mut self, destructor: bool, scope: Option<Piece>) -> Result<(), Stop>
-        requires scope { IfSome scope (IsLiving self.old.buffer) }
+        requires scope { IfSome scope (IsLiving self.old.buffer.value) }
         ensures reads { Gives result self.new
-            (spec.ctor_dtor_as destructor (option_map (shape self.old.buffer) scope) (state self.old)) }
-        ensures run { OnOk result (IsRun self.old.buffer self.new.buffer) }
+            (spec.ctor_dtor_as destructor (option_map (shape self.old.buffer.value) scope) (state self.old)) }
+        ensures run { OnOk result (IsRun self.old.buffer.value self.new.buffer.value) }
         ensures bounds { OptionalBounds result (spec.skip 2 (state self.old)) (state self.new) }
         ensures saved { SavedBounds 0 result (spec.skip 2 (state self.old)) (state self.new) }
     {
@@ -95,7 +181,7 @@ impl<'a> Reader<'a> {
     /// `<unnamed-type-name> ::= Ut [<nonnegative number>] _`, after its `Ut`.
     pub fn read_unnamed_type(&mut self) -> Result<(), Stop>
         ensures reads { Gives result self.new (spec.parse_unnamed_type (state self.old)) }
-        ensures run { OnOk result (IsRun self.old.buffer self.new.buffer) }
+        ensures run { OnOk result (IsRun self.old.buffer.value self.new.buffer.value) }
         ensures bounds { Bounds 2 result (state self.old) (state self.new) }
         ensures saved { SavedBounds 1 result (state self.old) (state self.new) }
     {
@@ -113,7 +199,7 @@ impl<'a> Reader<'a> {
     /// `<operator-name> ::= li <source-name>`, after its `li`.
     pub fn read_literal_operator(&mut self) -> Result<(), Stop>
         ensures reads { Gives result self.new (spec.parse_literal_operator (state self.old)) }
-        ensures run { OnOk result (IsRun self.old.buffer self.new.buffer) }
+        ensures run { OnOk result (IsRun self.old.buffer.value self.new.buffer.value) }
         ensures bounds { Bounds 2 result (state self.old) (state self.new) }
         ensures saved { SavedBounds 2 result (state self.old) (state self.new) }
     {
@@ -131,7 +217,7 @@ impl<'a> Reader<'a> {
     /// `<operator-name>`, a code of two letters.
     pub fn read_operator(&mut self) -> Result<(), Stop>
         ensures reads { Gives result self.new (spec.parse_operator (state self.old)) }
-        ensures run { OnOk result (IsRun self.old.buffer self.new.buffer) }
+        ensures run { OnOk result (IsRun self.old.buffer.value self.new.buffer.value) }
         ensures bounds { Bounds 2 result (state self.old) (state self.new) }
         ensures saved { SavedBounds 2 result (state self.old) (state self.new) }
     {
@@ -147,9 +233,9 @@ impl<'a> Reader<'a> {
 
     /// The end of a lambda's parameters, `E [<nonnegative number>] _`.
     pub fn end_lambda(&mut self, list: Piece) -> Result<(), Stop>
-        requires living { IsLiving self.old.buffer list }
-        ensures reads { Gives result self.new (spec.lambda_end (shape self.old.buffer list) (state self.old)) }
-        ensures run { OnOk result (IsRun self.old.buffer self.new.buffer) }
+        requires living { IsLiving self.old.buffer.value list }
+        ensures reads { Gives result self.new (spec.lambda_end (shape self.old.buffer.value list) (state self.old)) }
+        ensures run { OnOk result (IsRun self.old.buffer.value self.new.buffer.value) }
         ensures bounds { Bounds 2 result (state self.old) (state self.new) }
         ensures saved { SavedBounds 1 result (state self.old) (state self.new) }
     {
@@ -162,13 +248,28 @@ impl<'a> Reader<'a> {
         Ok(())
     }
 
+    /// The own qualifiers of the name that was found, after it.
+    #[inline(always)]
+    pub fn print_quals(&mut self, quals: Quals, shown: bool) -> Result<(), AllocError>
+        requires living { IsLiving self.old.buffer.value self.old.found }
+        ensures shape { OnOk result (Lives self.new.buffer.value self.new.found
+            (with_name_qualifiers (shape self.old.buffer.value self.old.found) quals shown)) }
+        ensures state { OnOk result (state self.new ≡ state self.old) }
+        ensures run { OnOk result (IsRun self.old.buffer.value self.new.buffer.value) }
+    {
+        if quals.is_set() {
+            self.found = apply_name_qualifiers(&mut self.buffer, self.found, quals, shown)?;
+        }
+        Ok(())
+    }
+
     /// The conversion to the type that was found.
     pub fn convert_found(&mut self) -> Result<(), AllocError>
-        requires living { IsLiving self.old.buffer self.old.found }
-        ensures shape { OnOk result (Lives self.new.buffer self.new.found
-            (conversion_shape (shape self.old.buffer self.old.found))) }
+        requires living { IsLiving self.old.buffer.value self.old.found }
+        ensures shape { OnOk result (Lives self.new.buffer.value self.new.found
+            (conversion_shape (shape self.old.buffer.value self.old.found))) }
         ensures state { OnOk result (state self.new ≡ state self.old) }
-        ensures run { OnOk result (IsRun self.old.buffer self.new.buffer) }
+        ensures run { OnOk result (IsRun self.old.buffer.value self.new.buffer.value) }
     {
         let plain = self.buffer.plain(self.found);
         let named = self.buffer.insert(plain, Place::Start, b"operator ")?;

@@ -1,13 +1,15 @@
 //! What the readers share: the bytes that are left, the buffer with what was saved, and the piece that was found.
-ghost use Rattle.std.specs.Prelude.{◌≡◌, ◌<◌, ◌≤◌, ◌+◌, IfOk, OnOk, length, max, true};
+ghost use Rattle.std.specs.Prelude.{◌≡◌, ◌<◌, ◌≤◌, ◌+◌, IfOk, OnOk, [], length, max, true};
 ghost use Rattle.demangle_text.specs.Shape.{plain_shape};
-ghost use Rattle.demangle_text.specs.State.{IsLiving, Lives, shape, SameFrame, saved, scopes};
+ghost use Rattle.demangle_text.specs.State.{IsLiving, Lives, shape, IsRun, SameFrame, saved, scopes, main_bytes};
+ghost use Rattle.demangle_edit.specs.Built.{separated};
 ghost use Rattle.itanium_syntax.specs.Types.{builtin_text, past_builtin};
 ghost use Rattle.itanium_grammar.specs.Tree.{abbreviation_shape};
 ghost use Rattle.itanium_reader.specs.Parser as spec;
 ghost use Rattle.itanium_reader.specs.Outcome.{state, Gives, Bounds, SavedBounds};
 
 use crate::stop::Stop;
+use demangle_edit::separate;
 use demangle_text::{Buffer, Piece};
 use itanium_syntax::abbreviations::{
     Abbreviation, abbreviation_of, abbreviation_own_len, abbreviation_text,
@@ -26,7 +28,7 @@ use std::alloc::{AllocError, Global};
 #[derive(Drop)]
 pub struct Reader<'a> {
     pub rest: &'a [u8],
-    pub buffer: Buffer,
+    pub buffer: Box<Buffer>,
     pub found: Piece,
     pub entered: usize,
     pub most_saved: usize,
@@ -36,8 +38,9 @@ pub struct Reader<'a> {
 #[tactic(auto, using(crate::proofs::Rules::buffers))]
 impl<'a> Reader<'a> {
     /// A reader at the front of the bytes, over a buffer that is cleared.
-    pub fn new(alloc: Global, buffer: Buffer, bytes: &'a [u8]) -> Result<Self, AllocError>
+    pub fn new(alloc: Global, buffer: Box<Buffer>, bytes: &'a [u8]) -> Result<Self, AllocError>
         ensures state { IfOk result (λ reader. state reader ≡ spec.begun bytes.entry.now) }
+        ensures main { IfOk result (λ reader. main_bytes reader.buffer.value ≡ []) }
     {
         let mut buffer = buffer;
         buffer.clear();
@@ -56,7 +59,7 @@ impl<'a> Reader<'a> {
     pub fn skip(&mut self, n: usize)
         ensures state { state self.new ≡ spec.skip n (state self.old) }
         ensures found { self.new.found ≡ self.old.found }
-        ensures buffer { self.new.buffer ≡ self.old.buffer }
+        ensures buffer { self.new.buffer.value ≡ self.old.buffer.value }
     {
         self.rest = if n <= self.rest.len() {
             &self.rest[n..]
@@ -69,21 +72,22 @@ impl<'a> Reader<'a> {
     pub fn skip_initializer(&mut self)
         ensures state { state self.new ≡ spec.past_initializer (state self.old) }
         ensures within { length self.new.rest.now ≤ length self.old.rest.now }
-        ensures saved { saved self.new.buffer ≡ saved self.old.buffer }
-        ensures buffer { self.new.buffer ≡ self.old.buffer }
+        ensures saved { saved self.new.buffer.value ≡ saved self.old.buffer.value }
+        ensures found { self.new.found ≡ self.old.found }
+        ensures buffer { self.new.buffer.value ≡ self.old.buffer.value }
     {
         self.rest = past_initializer_letter(self.rest);
     }
 
     /// Saves a component for substitutions.
     pub fn save(&mut self, piece: Piece) -> Result<(), AllocError>
-        requires living { IsLiving self.old.buffer piece }
-        ensures state { OnOk result (state self.new ≡ spec.save (shape self.old.buffer piece) (state self.old)) }
+        requires living { IsLiving self.old.buffer.value piece }
+        ensures state { OnOk result (state self.new ≡ spec.save (shape self.old.buffer.value piece) (state self.old)) }
         ensures found { OnOk result (self.new.found ≡ self.old.found) }
-        ensures longer { OnOk result (length (saved self.new.buffer) ≡ length (saved self.old.buffer) + 1) }
+        ensures longer { OnOk result (length (saved self.new.buffer.value) ≡ length (saved self.old.buffer.value) + 1) }
         ensures most { OnOk result (self.new.most_saved
-            ≡ max self.old.most_saved (length (saved self.old.buffer) + 1)) }
-        ensures kept { OnOk result (SameFrame self.old.buffer self.new.buffer) }
+            ≡ max self.old.most_saved (length (saved self.old.buffer.value) + 1)) }
+        ensures kept { OnOk result (SameFrame self.old.buffer.value self.new.buffer.value) }
     {
         self.buffer.save(piece)?;
         self.most_saved = self.most_saved.max(self.buffer.saved_len());
@@ -92,24 +96,26 @@ impl<'a> Reader<'a> {
 
     /// Saves what was found.
     pub fn save_found(&mut self) -> Result<(), AllocError>
-        requires living { IsLiving self.old.buffer self.old.found }
-        ensures shape { OnOk result (Lives self.new.buffer self.new.found (shape self.old.buffer self.old.found)) }
+        requires living { IsLiving self.old.buffer.value self.old.found }
+        ensures shape { OnOk result (Lives self.new.buffer.value self.new.found
+            (shape self.old.buffer.value self.old.found)) }
         ensures state { OnOk result (state self.new ≡ spec.save
-            (shape self.old.buffer self.old.found) (state self.old)) }
-        ensures longer { OnOk result (length (saved self.new.buffer) ≡ length (saved self.old.buffer) + 1) }
+            (shape self.old.buffer.value self.old.found) (state self.old)) }
+        ensures longer { OnOk result (length (saved self.new.buffer.value) ≡ length (saved self.old.buffer.value) + 1) }
         ensures most { OnOk result (self.new.most_saved
-            ≡ max self.old.most_saved (length (saved self.old.buffer) + 1)) }
-        ensures kept { OnOk result (SameFrame self.old.buffer self.new.buffer) }
+            ≡ max self.old.most_saved (length (saved self.old.buffer.value) + 1)) }
+        ensures kept { OnOk result (SameFrame self.old.buffer.value self.new.buffer.value) }
     {
         self.save(self.found)
     }
 
     /// Takes the last saved component back, where it is to be.
     pub fn take_back(&mut self, takes: bool)
-        requires saved { takes ≡ true → 0 < length (saved self.old.buffer) }
+        requires saved { takes ≡ true → 0 < length (saved self.old.buffer.value) }
         ensures state { state self.new ≡ spec.taken_back takes (state self.old) }
-        ensures fewer { length (saved self.new.buffer) ≤ length (saved self.old.buffer) }
-        ensures kept { SameFrame self.old.buffer self.new.buffer }
+        ensures fewer { length (saved self.new.buffer.value) ≤ length (saved self.old.buffer.value) }
+        ensures found { self.new.found ≡ self.old.found }
+        ensures kept { SameFrame self.old.buffer.value self.new.buffer.value }
     {
         if takes {
             self.buffer.unsave();
@@ -119,7 +125,7 @@ impl<'a> Reader<'a> {
     /// `<source-name> ::= <positive length number> <identifier>`
     pub fn read_source(&mut self) -> Result<(), Stop>
         ensures reads { Gives result self.new (spec.parse_source (state self.old)) }
-        ensures kept { OnOk result (SameFrame self.old.buffer self.new.buffer) }
+        ensures kept { OnOk result (SameFrame self.old.buffer.value self.new.buffer.value) }
         ensures bounds { Bounds 2 result (state self.old) (state self.new) }
         ensures saved { SavedBounds 2 result (state self.old) (state self.new) }
     {
@@ -134,9 +140,9 @@ impl<'a> Reader<'a> {
 
     /// The name of std that a `<substitution>` stands for.
     fn push_abbreviation(&mut self, known: Abbreviation) -> Result<(), AllocError>
-        ensures shape { OnOk result (Lives self.new.buffer self.new.found (abbreviation_shape known)) }
+        ensures shape { OnOk result (Lives self.new.buffer.value self.new.found (abbreviation_shape known)) }
         ensures state { OnOk result (state self.new ≡ state self.old) }
-        ensures kept { OnOk result (SameFrame self.old.buffer self.new.buffer) }
+        ensures kept { OnOk result (SameFrame self.old.buffer.value self.new.buffer.value) }
     {
         let piece = self.buffer.push(abbreviation_text(known))?;
         let end = 5 + abbreviation_own_len(known);
@@ -148,7 +154,7 @@ impl<'a> Reader<'a> {
     #[tactic(auto, using(crate::proofs::Rules::substitutions))]
     pub fn read_substitution(&mut self) -> Result<(), Stop>
         ensures reads { Gives result self.new (spec.parse_substitution (state self.old)) }
-        ensures kept { OnOk result (SameFrame self.old.buffer self.new.buffer) }
+        ensures kept { OnOk result (SameFrame self.old.buffer.value self.new.buffer.value) }
         ensures bounds { Bounds 2 result (state self.old) (state self.new) }
         ensures saved { SavedBounds 2 result (state self.old) (state self.new) }
     {
@@ -180,7 +186,7 @@ impl<'a> Reader<'a> {
     #[tactic(auto, using(crate::proofs::Rules::parameters))]
     pub fn read_parameter(&mut self, context: Context) -> Result<(), Stop>
         ensures reads { Gives result self.new (spec.parse_parameter context (state self.old)) }
-        ensures kept { OnOk result (SameFrame self.old.buffer self.new.buffer) }
+        ensures kept { OnOk result (SameFrame self.old.buffer.value self.new.buffer.value) }
         ensures bounds { Bounds 2 result (state self.old) (state self.new) }
         ensures saved { SavedBounds 2 result (state self.old) (state self.new) }
     {
@@ -203,8 +209,8 @@ impl<'a> Reader<'a> {
     /// A `<template-param>` that is saved.
     pub fn read_saved_parameter(&mut self, context: Context) -> Result<(), Stop>
         ensures reads { Gives result self.new (spec.saved_parameter context (state self.old)) }
-        ensures some { OnOk result (0 < length (saved self.new.buffer)) }
-        ensures kept { OnOk result (SameFrame self.old.buffer self.new.buffer) }
+        ensures some { OnOk result (0 < length (saved self.new.buffer.value)) }
+        ensures kept { OnOk result (SameFrame self.old.buffer.value self.new.buffer.value) }
         ensures bounds { Bounds 2 result (state self.old) (state self.new) }
         ensures saved { SavedBounds 1 result (state self.old) (state self.new) }
     {
@@ -216,21 +222,37 @@ impl<'a> Reader<'a> {
     /// `<builtin-type>`, which stands there.
     pub fn read_builtin(&mut self) -> Result<(), AllocError>
         ensures shape { OnOk result
-            (Lives self.new.buffer self.new.found (plain_shape (builtin_text self.old.rest.now))) }
+            (Lives self.new.buffer.value self.new.found (plain_shape (builtin_text self.old.rest.now))) }
         ensures state { OnOk result (state self.new ≡ spec.at (past_builtin self.old.rest.now) (state self.old)) }
-        ensures kept { OnOk result (SameFrame self.old.buffer self.new.buffer) }
+        ensures kept { OnOk result (SameFrame self.old.buffer.value self.new.buffer.value) }
     {
         self.found = self.buffer.push(builtin_text(self.rest))?;
         self.rest = past_builtin(self.rest);
         Ok(())
     }
 
+    /// What stands in front of a list's next text: nothing in front of the first.
+    #[tactic(auto, using(crate::proofs::Rules::lists))]
+    #[inline(always)]
+    pub fn separate_list(&mut self, list: Piece, first: bool) -> Result<Piece, AllocError>
+        requires living { IsLiving self.old.buffer.value list }
+        ensures shape { IfOk result (λ p. Lives self.new.buffer.value p
+            (separated first (shape self.old.buffer.value list))) }
+        ensures state { OnOk result (state self.new ≡ state self.old) }
+        ensures run { OnOk result (IsRun self.old.buffer.value self.new.buffer.value) }
+    {
+        if first {
+            return Ok(self.buffer.plain(list));
+        }
+        separate(&mut self.buffer, list, false)
+    }
+
     /// A list begins, and opens a scope where it is to.
     pub fn begin(&mut self, opens: bool) -> Result<(), AllocError>
         ensures state { OnOk result (state self.new ≡ spec.begin opens (state self.old)) }
-        ensures more { OnOk result (length (scopes self.old.buffer) ≤ length (scopes self.new.buffer)) }
-        ensures opened { OnOk result (opens ≡ true → 0 < length (scopes self.new.buffer)) }
-        ensures kept { OnOk result (SameFrame self.old.buffer self.new.buffer) }
+        ensures more { OnOk result (length (scopes self.old.buffer.value) ≤ length (scopes self.new.buffer.value)) }
+        ensures opened { OnOk result (opens ≡ true → 0 < length (scopes self.new.buffer.value)) }
+        ensures kept { OnOk result (SameFrame self.old.buffer.value self.new.buffer.value) }
     {
         if opens {
             self.buffer.open_scope()?;
@@ -240,13 +262,13 @@ impl<'a> Reader<'a> {
 
     /// Drops the scopes past the first n, which an argument opened, and puts it into the scope that its list opened.
     pub fn put(&mut self, opens: bool, n: usize, piece: Piece) -> Result<(), AllocError>
-        requires living { IsLiving self.old.buffer piece }
-        requires scopes { n ≤ length (scopes self.old.buffer) }
+        requires living { IsLiving self.old.buffer.value piece }
+        requires scopes { n ≤ length (scopes self.old.buffer.value) }
         requires opened { opens ≡ true → 0 < n }
         ensures state { OnOk result (state self.new ≡ spec.put opens n
-            (shape self.old.buffer piece) (state self.old)) }
-        ensures stand { OnOk result (length (scopes self.new.buffer) ≡ n) }
-        ensures kept { OnOk result (SameFrame self.old.buffer self.new.buffer) }
+            (shape self.old.buffer.value piece) (state self.old)) }
+        ensures stand { OnOk result (length (scopes self.new.buffer.value) ≡ n) }
+        ensures kept { OnOk result (SameFrame self.old.buffer.value self.new.buffer.value) }
     {
         self.buffer.keep_scopes(n);
         if opens {

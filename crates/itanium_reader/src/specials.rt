@@ -95,30 +95,31 @@ fn framed_offset(buf: &mut Buffer, offset: CallOffset) -> Result<Piece, AllocErr
 
 #[tactic(auto, using(crate::proofs::Rules::buffers))]
 impl<'a> Reader<'a> {
-    /// Words around what was found.
-    pub fn print_worded<'t>(&mut self, words: &'t [u8], close: &'t [u8]) -> Result<(), AllocError>
-        requires living { IsLiving self.old.buffer self.old.found }
-        ensures shape { OnOk result (Lives self.new.buffer self.new.found
-            (worded_shape words.now (shape self.old.buffer self.old.found) close.now)) }
+    /// The words with what was found after them, and the words that close it. Nothing moves where the first words were
+    /// pushed right before what was found.
+    #[tactic(auto, using(crate::proofs::Rules::words))]
+    pub fn print_worded(&mut self, words: Piece, close: &[u8]) -> Result<(), AllocError>
+        requires words { IsLiving self.old.buffer.value words }
+        requires living { IsLiving self.old.buffer.value self.old.found }
+        ensures shape { OnOk result (Lives self.new.buffer.value self.new.found
+            (worded_shape (text (shape self.old.buffer.value words))
+            (shape self.old.buffer.value self.old.found) close.now)) }
         ensures state { OnOk result (state self.new ≡ state self.old) }
-        ensures run { OnOk result (IsRun self.old.buffer self.new.buffer) }
+        ensures run { OnOk result (IsRun self.old.buffer.value self.new.buffer.value) }
     {
-        let worded = [
-            Glue::Text(words),
-            Glue::Piece(self.found),
-            Glue::Text(close),
-        ];
-        self.found = glue(&mut self.buffer, &worded)?;
+        let worded = self.buffer.join(words, b"", self.found)?;
+        let closed = self.buffer.append(worded, close)?;
+        self.found = self.buffer.whole(closed);
         Ok(())
     }
 
     /// The number of a reference temporary in front of its name, which was found.
     pub fn print_temporary(&mut self, number: u64) -> Result<(), AllocError>
-        requires living { IsLiving self.old.buffer self.old.found }
-        ensures shape { OnOk result (Lives self.new.buffer self.new.found
-            (temporary_shape number (shape self.old.buffer self.old.found))) }
+        requires living { IsLiving self.old.buffer.value self.old.found }
+        ensures shape { OnOk result (Lives self.new.buffer.value self.new.found
+            (temporary_shape number (shape self.old.buffer.value self.old.found))) }
         ensures state { OnOk result (state self.new ≡ state self.old) }
-        ensures run { OnOk result (IsRun self.old.buffer self.new.buffer) }
+        ensures run { OnOk result (IsRun self.old.buffer.value self.new.buffer.value) }
     {
         let digits = push_number(&mut self.buffer, number)?;
         let parts = [
@@ -133,12 +134,12 @@ impl<'a> Reader<'a> {
 
     /// The construction vtable of a type in the type that was found.
     pub fn print_construction(&mut self, base: Piece) -> Result<(), AllocError>
-        requires base { IsLiving self.old.buffer base }
-        requires living { IsLiving self.old.buffer self.old.found }
-        ensures shape { OnOk result (Lives self.new.buffer self.new.found
-            (construction_shape (shape self.old.buffer base) (shape self.old.buffer self.old.found))) }
+        requires base { IsLiving self.old.buffer.value base }
+        requires living { IsLiving self.old.buffer.value self.old.found }
+        ensures shape { OnOk result (Lives self.new.buffer.value self.new.found
+            (construction_shape (shape self.old.buffer.value base) (shape self.old.buffer.value self.old.found))) }
         ensures state { OnOk result (state self.new ≡ state self.old) }
-        ensures run { OnOk result (IsRun self.old.buffer self.new.buffer) }
+        ensures run { OnOk result (IsRun self.old.buffer.value self.new.buffer.value) }
     {
         let class = self.found;
         let parts = [
@@ -153,11 +154,11 @@ impl<'a> Reader<'a> {
 
     /// The thunk with this offset of what was found.
     pub fn print_single_thunk(&mut self, offset: CallOffset) -> Result<(), AllocError>
-        requires living { IsLiving self.old.buffer self.old.found }
-        ensures shape { OnOk result (Lives self.new.buffer self.new.found
-            (single_thunk_shape offset (shape self.old.buffer self.old.found))) }
+        requires living { IsLiving self.old.buffer.value self.old.found }
+        ensures shape { OnOk result (Lives self.new.buffer.value self.new.found
+            (single_thunk_shape offset (shape self.old.buffer.value self.old.found))) }
         ensures state { OnOk result (state self.new ≡ state self.old) }
-        ensures run { OnOk result (IsRun self.old.buffer self.new.buffer) }
+        ensures run { OnOk result (IsRun self.old.buffer.value self.new.buffer.value) }
     {
         let printed = framed_offset(&mut self.buffer, offset)?;
         let parts = [
@@ -177,11 +178,11 @@ impl<'a> Reader<'a> {
         first: CallOffset,
         second: CallOffset,
     ) -> Result<(), AllocError>
-        requires living { IsLiving self.old.buffer self.old.found }
-        ensures shape { OnOk result (Lives self.new.buffer self.new.found
-            (covariant_thunk_shape first second (shape self.old.buffer self.old.found))) }
+        requires living { IsLiving self.old.buffer.value self.old.found }
+        ensures shape { OnOk result (Lives self.new.buffer.value self.new.found
+            (covariant_thunk_shape first second (shape self.old.buffer.value self.old.found))) }
         ensures state { OnOk result (state self.new ≡ state self.old) }
-        ensures run { OnOk result (IsRun self.old.buffer self.new.buffer) }
+        ensures run { OnOk result (IsRun self.old.buffer.value self.new.buffer.value) }
     {
         let one = framed_offset(&mut self.buffer, first)?;
         let other = framed_offset(&mut self.buffer, second)?;
@@ -200,11 +201,11 @@ impl<'a> Reader<'a> {
 
     /// The thunk with these offsets of what was found.
     pub fn print_thunk(&mut self, offsets: ThunkOffsets) -> Result<(), AllocError>
-        requires living { IsLiving self.old.buffer self.old.found }
-        ensures shape { OnOk result (Lives self.new.buffer self.new.found
-            (thunk_shape offsets (shape self.old.buffer self.old.found))) }
+        requires living { IsLiving self.old.buffer.value self.old.found }
+        ensures shape { OnOk result (Lives self.new.buffer.value self.new.found
+            (thunk_shape offsets (shape self.old.buffer.value self.old.found))) }
         ensures state { OnOk result (state self.new ≡ state self.old) }
-        ensures run { OnOk result (IsRun self.old.buffer self.new.buffer) }
+        ensures run { OnOk result (IsRun self.old.buffer.value self.new.buffer.value) }
     {
         match offsets {
             ThunkOffsets::Single(offset) => self.print_single_thunk(offset),
@@ -214,10 +215,10 @@ impl<'a> Reader<'a> {
 
     /// `[<seq-id>] _` of a reference temporary, after its name, which was found.
     pub fn end_temporary(&mut self) -> Result<(), Stop>
-        requires living { IsLiving self.old.buffer self.old.found }
+        requires living { IsLiving self.old.buffer.value self.old.found }
         ensures reads { Gives result self.new
-            (spec.temporary_end (shape self.old.buffer self.old.found) (state self.old)) }
-        ensures run { OnOk result (IsRun self.old.buffer self.new.buffer) }
+            (spec.temporary_end (shape self.old.buffer.value self.old.found) (state self.old)) }
+        ensures run { OnOk result (IsRun self.old.buffer.value self.new.buffer.value) }
         ensures bounds { Bounds 2 result (state self.old) (state self.new) }
         ensures saved { SavedBounds 1 result (state self.old) (state self.new) }
     {

@@ -73,6 +73,10 @@ unqualified_case in_scope bytes =
     if in_scope && begins_destructor bytes then DestructorName else
     FreeName
 
+-- a <source-name> is next
+abbrev pub begins_source : List ℕ → Bool
+begins_source bytes = begins_between 49 57 bytes
+
 -- an <abi-tag> or none
 abbrev pub tag_case : List ℕ → TagCase
 tag_case bytes = if begins (codes "B") bytes && begins_digit (drop 1 bytes) then NextTag else NoTag

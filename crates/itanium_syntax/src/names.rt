@@ -1,5 +1,6 @@
 //! The cases of names: which one the next bytes begin. Of several cases the first one that fits holds.
-ghost use Rattle.std.specs.Prelude.{◌≡◌, ◌≤◌, length};
+ghost use Rattle.std.specs.Prelude.{◌≡◌, ◌≤◌, length, codes, false};
+ghost use Rattle.itanium_syntax.specs.Bytes.{begins};
 ghost use Rattle.itanium_syntax.specs.Names as spec;
 
 use crate::operators::operator_here;
@@ -177,6 +178,14 @@ fn operator_case(bytes: &[u8]) -> FreeCase
     }
 }
 
+/// Whether a `<source-name>` stands there: a digit from `1` to `9`.
+#[inline(always)]
+pub fn begins_source(bytes: &[u8]) -> bool
+    ensures value { result ≡ spec.begins_source bytes.now }
+{
+    matches!(bytes, [b'1'..=b'9', ..])
+}
+
 /// Whether an `<abi-tag>` stands there: `B`, which a digit follows.
 pub fn tag_case(bytes: &[u8]) -> TagCase
     ensures case { result ≡ spec.tag_case bytes.now }
@@ -251,9 +260,21 @@ pub fn name_quals(bytes: &[u8]) -> (Quals, &[u8])
     ensures rest { result.1.now ≡ spec.past_name_quals bytes.now }
     ensures within { length result.1.now ≤ length bytes.now }
 {
-    if let [b'H', rest @ ..] = bytes {
-        return (Quals::none(), rest);
+    match bytes {
+        [b'H', rest @ ..] => (Quals::none(), rest),
+        [b'r' | b'V' | b'K' | b'R' | b'O', ..] => written_quals(bytes),
+        _ => (Quals::none(), bytes),
     }
+}
+
+/// The qualifiers that stand in front, where no `H` does, and what is after them.
+#[inline(never)]
+fn written_quals(bytes: &[u8]) -> (Quals, &[u8])
+    requires written { begins (codes "H") bytes.now ≡ false }
+    ensures quals { result.0 ≡ spec.name_quals bytes.now }
+    ensures rest { result.1.now ≡ spec.past_name_quals bytes.now }
+    ensures within { length result.1.now ≤ length bytes.now }
+{
     let (words, rest) = cv_quals(bytes);
     let (reference, rest) = ref_qualifier(rest);
     (Quals { reference, ..words }, rest)

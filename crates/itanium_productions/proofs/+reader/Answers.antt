@@ -36,7 +36,7 @@ args::read_args-returns-in_err-framed_argument-in-NextArgument-clause-reads t c 
 pub args::read_args-loop-reader-preserved : goal.args::read_args-loop-reader-preserved
 args::read_args-loop-reader-preserved t c = record {
   positive = search rules;
-  reads = items_more _ _ _ c.loop-reader.invariant.reads {next = shape c.framed_argument.new.reader.buffer c.framed_argument.new.reader.found} {mid = state c.framed_argument.new.reader}
+  reads = items_more _ _ _ c.loop-reader.invariant.reads {next = shape c.framed_argument.new.reader.buffer.value c.framed_argument.new.reader.found} {mid = state c.framed_argument.new.reader}
       (sym c.in-NextArgument.ensures.case) (search rules) (search rules) (search rules) (search rules) (search rules);
   living = search rules;
   run = search rules;
@@ -59,16 +59,16 @@ names::read_components-returns-in_err-read_attached-in-ArgsComponent-clause-read
     rw (e.1, e.2) (stops _ _ (c.in_err-read_attached-in-ArgsComponent.ensures {u = tt}).reads
     (components_no_args _ _ c.loop-reader.invariant.reads (sym c.in-ArgsComponent.ensures.case)))
 
-pub names::read_components-returns-in_err-read_unqualified-in-NameComponent-clause-reads : goal.names::read_components-returns-in_err-read_unqualified-in-NameComponent-clause-reads
-names::read_components-returns-in_err-read_unqualified-in-NameComponent-clause-reads t c =
-    let r = c.from_residual-in_err-read_unqualified-in-NameComponent in
+pub names::read_components-returns-in_err-read_component-in-NameComponent-clause-reads : goal.names::read_components-returns-in_err-read_component-in-NameComponent-clause-reads
+names::read_components-returns-in_err-read_component-in-NameComponent-clause-reads t c =
+    let r = c.from_residual-in_err-read_component-in-NameComponent in
     let e = err_from_is_err_and r.result r.ensures.1 in
-    rw (e.1, e.2) (stops _ _ (c.in_err-read_unqualified-in-NameComponent.ensures {u = tt}).reads
+    rw (e.1, e.2) (stops _ _ (c.in_err-read_component-in-NameComponent.ensures {u = tt}).reads
     (components_no_name _ _ c.loop-reader.invariant.reads (sym c.in-NameComponent.ensures.case)))
 
 pub names::read_components-loop-reader-preserved : goal.names::read_components-loop-reader-preserved
 names::read_components-loop-reader-preserved t c = record {
-  reads = components_name _ _ c.loop-reader.invariant.reads {mid = state c.read_unqualified.new.reader} (sym c.in-NameComponent.ensures.case) (search rules) (search rules) (search rules) (search rules);
+  reads = components_name _ _ c.loop-reader.invariant.reads {mid = state c.read_component.new.reader} (sym c.in-NameComponent.ensures.case) (search rules) (search rules) (search rules) (search rules);
   living = search rules;
   run = search rules;
   some_saved = search rules;
@@ -106,8 +106,8 @@ pub types::read_types-loop-list-preserved : goal.types::read_types-loop-list-pre
 types::read_types-loop-list-preserved t c =
     let l = c.loop-list in
     let items = (c.in_ok-push-in-NextType.ensures {u = tt}).items in
-    let kept : SameFrame l.reader.buffer c.framed_type.new.reader.buffer = search rules in
-    let shapes = kept_shapes l.reader.buffer c.framed_type.new.reader.buffer l.list.items kept l.invariant.living in
+    let kept : SameFrame l.reader.buffer.value c.framed_type.new.reader.buffer.value = search rules in
+    let shapes = kept_shapes l.reader.buffer.value c.framed_type.new.reader.buffer.value l.list.items kept l.invariant.living in
     record {
       reads = rw (items, map-append, shapes) (types_more _ l.invariant.reads (sym c.in-NextType.ensures.case) (search rules) (search rules));
       living = rw items (one_more_lives _ _ _ _ kept l.invariant.living (search rules));
@@ -119,10 +119,10 @@ types::read_types-loop-list-preserved t c =
       most = search rules;
     }
 
-pub names::read_attached_args-returns-in_ok-save-in-ArgsAttached-clause-saved : goal.names::read_attached_args-returns-in_ok-save-in-ArgsAttached-clause-saved
-names::read_attached_args-returns-in_ok-save-in-ArgsAttached-clause-saved t c =
-    let save = c.in_ok-save-in-ArgsAttached.ensures {u = tt} in
-    saved_first c.read_attached.result (state c.args.reader.now) (state c.save.new.self) (state c.read_attached.new.reader) c.read_attached.ensures.saved
+pub names::read_attached_args-returns-in_ok-save_found-in-ArgsAttached-clause-saved : goal.names::read_attached_args-returns-in_ok-save_found-in-ArgsAttached-clause-saved
+names::read_attached_args-returns-in_ok-save_found-in-ArgsAttached-clause-saved t c =
+    let save = c.in_ok-save_found-in-ArgsAttached.ensures {u = tt} in
+    saved_first c.read_attached.result (state c.args.reader.now) (state c.save_found.new.self) (state c.read_attached.new.reader) c.read_attached.ensures.saved
     save.longer (search rules) (search (rules, attached_some)) save.most
 
 pub args::read_pack-loop-reader-init : goal.args::read_pack-loop-reader-init
@@ -152,7 +152,7 @@ args::read_pack-returns-in_err-framed_argument-in-NextArgument-clause-reads t c 
 pub args::read_pack-loop-reader-preserved : goal.args::read_pack-loop-reader-preserved
 args::read_pack-loop-reader-preserved t c = record {
   positive = search rules;
-  reads = items_more _ _ _ c.loop-reader.invariant.reads {next = shape c.framed_argument.new.reader.buffer c.framed_argument.new.reader.found} {mid = state c.framed_argument.new.reader}
+  reads = items_more _ _ _ c.loop-reader.invariant.reads {next = shape c.framed_argument.new.reader.buffer.value c.framed_argument.new.reader.found} {mid = state c.framed_argument.new.reader}
       (sym c.in-NextArgument.ensures.case) (search rules) (search rules) (search rules) (search rules) (search rules);
   living = search rules;
   run = search rules;
@@ -176,7 +176,7 @@ types::read_typed-returns-in_err-framed_type-in-NextType-clause-reads t c =
 
 pub types::read_typed-loop-list-preserved : goal.types::read_typed-loop-list-preserved
 types::read_typed-loop-list-preserved t c = record {
-  reads = typed_more _ c.loop-list.invariant.reads {next = shape c.framed_type.new.reader.buffer c.framed_type.new.reader.found} (sym c.in-NextType.ensures.case) (search rules) (search rules) (search rules);
+  reads = typed_more _ c.loop-list.invariant.reads {next = shape c.framed_type.new.reader.buffer.value c.framed_type.new.reader.found} (sym c.in-NextType.ensures.case) (search rules) (search rules) (search rules);
   living = search rules;
   run = search rules;
   scopes_stand = search rules;
@@ -189,8 +189,8 @@ types::read_typed-loop-list-preserved t c = record {
 pub names::read_unqualified-returns-in_ok-enclose-in-FreeName-clause-reads : goal.names::read_unqualified-returns-in_ok-enclose-in-FreeName-clause-reads
 names::read_unqualified-returns-in_ok-enclose-in-FreeName-clause-reads t c =
     let free = c.framed_free_name.new.reader in
-    let kept = kept_scope c.args.reader.now.buffer free.buffer c.args.scope (search rules) c.requires.scope in (
+    let kept = kept_scope c.args.reader.now.buffer.value free.buffer.value c.args.scope (search rules) c.requires.scope in (
       search rules,
-      free_found _ _ _ _ {name = shape free.buffer free.found} {mid = state free}
-          (rw (some_scope c.args.reader.now.buffer c.args.scope) (search rules)) (search rules) (search rules) (search rules),
+      free_found _ _ _ _ {name = shape free.buffer.value free.found} {mid = state free}
+          (rw (some_scope c.args.reader.now.buffer.value c.args.scope) (search rules)) (search rules) (search rules) (search rules),
     )

@@ -30,13 +30,13 @@ abbrev pub decreases-encodings::end_encoding : goal.decreases-encodings::end_enc
 decreases-encodings::end_encoding l = 16 * l.depth + 4
 
 abbrev pub decreases-encodings::read_encoding : goal.decreases-encodings::read_encoding
-decreases-encodings::read_encoding l = 16 * l.depth + 5
+decreases-encodings::read_encoding l = 16 * l.depth + 6
 
 abbrev pub decreases-encodings::read_entity : goal.decreases-encodings::read_entity
 decreases-encodings::read_entity l = 16 * l.depth + 2
 
 abbrev pub decreases-encodings::read_local : goal.decreases-encodings::read_local
-decreases-encodings::read_local l = 16 * l.depth + 6
+decreases-encodings::read_local l = 16 * l.depth + 7
 
 abbrev pub decreases-args::read_args : goal.decreases-args::read_args
 decreases-args::read_args l = 16 * l.depth
@@ -48,10 +48,10 @@ abbrev pub decreases-args::framed_args : goal.decreases-args::framed_args
 decreases-args::framed_args l = 16 * l.depth + 1
 
 abbrev pub decreases-args::read_argument : goal.decreases-args::read_argument
-decreases-args::read_argument l = 16 * l.depth + 7
+decreases-args::read_argument l = 16 * l.depth + 8
 
 abbrev pub decreases-args::framed_argument : goal.decreases-args::framed_argument
-decreases-args::framed_argument l = 16 * l.depth + 8
+decreases-args::framed_argument l = 16 * l.depth + 9
 
 abbrev pub decreases-args::read_attached : goal.decreases-args::read_attached
 decreases-args::read_attached l = 16 * l.depth + 2
@@ -63,28 +63,28 @@ abbrev pub decreases-types::read_type_attached : goal.decreases-types::read_type
 decreases-types::read_type_attached l = 16 * l.depth + 3
 
 abbrev pub decreases-names::read_components : goal.decreases-names::read_components
-decreases-names::read_components l = 16 * l.depth + 8
+decreases-names::read_components l = 16 * l.depth + 9
 
 abbrev pub decreases-names::read_unscoped : goal.decreases-names::read_unscoped
-decreases-names::read_unscoped l = 16 * l.depth + 8
+decreases-names::read_unscoped l = 16 * l.depth + 9
 
 abbrev pub decreases-names::read_nested : goal.decreases-names::read_nested
-decreases-names::read_nested l = 16 * l.depth + 9
+decreases-names::read_nested l = 16 * l.depth + 10
 
 abbrev pub invariant-names::read_components-loop-reader : goal.invariant-names::read_components-loop-reader
 invariant-names::read_components-loop-reader l = record {
   reads : LoopSoFar (spec.parse_components (spec.parse_unqualified (spec.parse_type l.depth l.context) (spec.parse_type l.depth (inside_lambda l.context)))
-      (spec.parse_args l.depth l.context true) l.fn.takes (shape l.fn.reader.buffer l.fn.first) (state l.fn.reader))
+      (spec.parse_args l.depth l.context true) l.fn.takes (shape l.fn.reader.buffer.value l.fn.reader.found) (state l.fn.reader))
       (spec.component_turn (spec.parse_unqualified (spec.parse_type l.depth l.context) (spec.parse_type l.depth (inside_lambda l.context))) (spec.parse_args l.depth l.context true))
-      (l.takes, shape l.reader.buffer l.name) (state l.reader);
-  living : IsLiving l.reader.buffer l.name;
-  run : IsRun l.fn.reader.buffer l.reader.buffer;
-  some_saved : l.takes ≡ true → 0 < length (saved l.reader.buffer);
+      (l.takes, shape l.reader.buffer.value l.reader.found) (state l.reader);
+  living : IsLiving l.reader.buffer.value l.reader.found;
+  run : IsRun l.fn.reader.buffer.value l.reader.buffer.value;
+  some_saved : l.takes ≡ true → 0 < length (saved l.reader.buffer.value);
   taken : length l.reader.rest.now ≤ length l.fn.reader.rest.now;
   counted : l.reader.entered + 2 * length l.reader.rest.now ≤ l.fn.reader.entered + 2 * length l.fn.reader.rest.now;
-  scopes_stand : length (scopes l.fn.reader.buffer) ≤ length (scopes l.reader.buffer);
-  list : length (saved l.reader.buffer) + length l.reader.rest.now ≤ length (saved l.fn.reader.buffer) + length l.fn.reader.rest.now;
-  most : l.reader.most_saved ≤ max l.fn.reader.most_saved (length (saved l.fn.reader.buffer) + length l.fn.reader.rest.now);
+  scopes_stand : length (scopes l.fn.reader.buffer.value) ≤ length (scopes l.reader.buffer.value);
+  list : length (saved l.reader.buffer.value) + length l.reader.rest.now ≤ length (saved l.fn.reader.buffer.value) + length l.fn.reader.rest.now;
+  most : l.reader.most_saved ≤ max l.fn.reader.most_saved (length (saved l.fn.reader.buffer.value) + length l.fn.reader.rest.now);
 }
 
 abbrev pub decreases-names::read_components-loop-reader : goal.decreases-names::read_components-loop-reader
@@ -95,16 +95,16 @@ invariant-args::read_args-loop-reader l = record {
   positive : 0 < l.depth;
   reads : ListSoFar (spec.parse_args l.depth l.context l.of_name (state l.fn.reader))
       (spec.list_turn (spec.put l.opens l.scopes) (spec.parse_argument (l.depth - 1) l.context))
-      (λ list. whole_shape (arguments_closed list)) (l.first, shape l.reader.buffer l.list) (state l.reader);
-  living : IsLiving l.reader.buffer l.list;
-  run : IsRun l.fn.reader.buffer l.reader.buffer;
-  scopes_stand : length (scopes l.fn.reader.buffer) ≤ l.scopes;
-  scopes_kept : l.scopes ≤ length (scopes l.reader.buffer);
+      (λ list. whole_shape (arguments_closed list)) (l.first, shape l.reader.buffer.value l.list) (state l.reader);
+  living : IsLiving l.reader.buffer.value l.list;
+  run : IsRun l.fn.reader.buffer.value l.reader.buffer.value;
+  scopes_stand : length (scopes l.fn.reader.buffer.value) ≤ l.scopes;
+  scopes_kept : l.scopes ≤ length (scopes l.reader.buffer.value);
   opened : l.opens ≡ true → 0 < l.scopes;
   taken : length l.reader.rest.now < length l.fn.reader.rest.now;
   counted : l.reader.entered + 2 * length l.reader.rest.now + 1 ≤ l.fn.reader.entered + 2 * length l.fn.reader.rest.now;
-  list : length (saved l.reader.buffer) + length l.reader.rest.now + 1 ≤ length (saved l.fn.reader.buffer) + length l.fn.reader.rest.now;
-  most : l.reader.most_saved + 1 ≤ max (l.fn.reader.most_saved + 1) (length (saved l.fn.reader.buffer) + length l.fn.reader.rest.now);
+  list : length (saved l.reader.buffer.value) + length l.reader.rest.now + 1 ≤ length (saved l.fn.reader.buffer.value) + length l.fn.reader.rest.now;
+  most : l.reader.most_saved + 1 ≤ max (l.fn.reader.most_saved + 1) (length (saved l.fn.reader.buffer.value) + length l.fn.reader.rest.now);
 }
 
 abbrev pub decreases-args::read_args-loop-reader : goal.decreases-args::read_args-loop-reader
@@ -127,14 +127,14 @@ decreases-types::read_cv l = 16 * l.depth + 5
 
 abbrev pub invariant-types::read_types-loop-list : goal.invariant-types::read_types-loop-list
 invariant-types::read_types-loop-list l = record {
-  reads : LoopSoFar (spec.parse_types (spec.parse_type l.depth l.context) (state l.fn.reader)) (spec.types_turn (spec.parse_type l.depth l.context)) (map (shape l.reader.buffer) l.list.items) (state l.reader);
-  living : All (IsLiving l.reader.buffer) l.list.items;
-  kept : SameFrame l.fn.reader.buffer l.reader.buffer;
-  scopes_stand : length (scopes l.fn.reader.buffer) ≤ length (scopes l.reader.buffer);
+  reads : LoopSoFar (spec.parse_types (spec.parse_type l.depth l.context) (state l.fn.reader)) (spec.types_turn (spec.parse_type l.depth l.context)) (map (shape l.reader.buffer.value) l.list.items) (state l.reader);
+  living : All (IsLiving l.reader.buffer.value) l.list.items;
+  kept : SameFrame l.fn.reader.buffer.value l.reader.buffer.value;
+  scopes_stand : length (scopes l.fn.reader.buffer.value) ≤ length (scopes l.reader.buffer.value);
   taken : length l.reader.rest.now ≤ length l.fn.reader.rest.now;
   counted : l.reader.entered + 2 * length l.reader.rest.now ≤ l.fn.reader.entered + 2 * length l.fn.reader.rest.now;
-  list : length (saved l.reader.buffer) + length l.reader.rest.now ≤ length (saved l.fn.reader.buffer) + length l.fn.reader.rest.now;
-  most : l.reader.most_saved ≤ max l.fn.reader.most_saved (length (saved l.fn.reader.buffer) + length l.fn.reader.rest.now);
+  list : length (saved l.reader.buffer.value) + length l.reader.rest.now ≤ length (saved l.fn.reader.buffer.value) + length l.fn.reader.rest.now;
+  most : l.reader.most_saved ≤ max l.fn.reader.most_saved (length (saved l.fn.reader.buffer.value) + length l.fn.reader.rest.now);
 }
 
 abbrev pub decreases-types::read_types-loop-list : goal.decreases-types::read_types-loop-list
@@ -186,7 +186,16 @@ abbrev pub decreases-names::read_unqualified : goal.decreases-names::read_unqual
 decreases-names::read_unqualified l = 16 * l.depth + 7
 
 abbrev pub decreases-names::read_first : goal.decreases-names::read_first
-decreases-names::read_first l = 16 * l.depth + 8
+decreases-names::read_first l = 16 * l.depth + 9
+
+abbrev pub decreases-names::read_outer_name : goal.decreases-names::read_outer_name
+decreases-names::read_outer_name l = 16 * l.depth + 8
+
+abbrev pub decreases-names::read_component : goal.decreases-names::read_component
+decreases-names::read_component l = 16 * l.depth + 8
+
+abbrev pub decreases-names::framed_name : goal.decreases-names::framed_name
+decreases-names::framed_name l = 16 * l.depth + 2
 
 abbrev pub decreases-types::read_expansion : goal.decreases-types::read_expansion
 decreases-types::read_expansion l = 16 * l.depth + 1
@@ -199,14 +208,14 @@ invariant-args::read_pack-loop-reader l = record {
   positive : 0 < l.depth;
   reads : ListSoFar (spec.parse_pack l.depth l.fn.context (state l.fn.reader))
       (spec.list_turn spec.put_nowhere (spec.parse_argument (l.depth - 1) l.inside))
-      whole_shape (l.first, shape l.reader.buffer l.list) (state l.reader);
-  living : IsLiving l.reader.buffer l.list;
-  run : IsRun l.fn.reader.buffer l.reader.buffer;
-  scopes_stand : length (scopes l.fn.reader.buffer) ≤ length (scopes l.reader.buffer);
+      whole_shape (l.first, shape l.reader.buffer.value l.list) (state l.reader);
+  living : IsLiving l.reader.buffer.value l.list;
+  run : IsRun l.fn.reader.buffer.value l.reader.buffer.value;
+  scopes_stand : length (scopes l.fn.reader.buffer.value) ≤ length (scopes l.reader.buffer.value);
   taken : length l.reader.rest.now < length l.fn.reader.rest.now;
   counted : l.reader.entered + 2 * length l.reader.rest.now + 1 ≤ l.fn.reader.entered + 2 * length l.fn.reader.rest.now;
-  list : length (saved l.reader.buffer) + length l.reader.rest.now + 1 ≤ length (saved l.fn.reader.buffer) + length l.fn.reader.rest.now;
-  most : l.reader.most_saved ≤ max l.fn.reader.most_saved (length (saved l.fn.reader.buffer) + length l.fn.reader.rest.now);
+  list : length (saved l.reader.buffer.value) + length l.reader.rest.now + 1 ≤ length (saved l.fn.reader.buffer.value) + length l.fn.reader.rest.now;
+  most : l.reader.most_saved ≤ max l.fn.reader.most_saved (length (saved l.fn.reader.buffer.value) + length l.fn.reader.rest.now);
 }
 
 abbrev pub decreases-args::read_pack-loop-reader : goal.decreases-args::read_pack-loop-reader
@@ -214,15 +223,15 @@ decreases-args::read_pack-loop-reader l = length l.reader.rest.now
 
 abbrev pub invariant-types::read_typed-loop-list : goal.invariant-types::read_typed-loop-list
 invariant-types::read_typed-loop-list l = record {
-  reads : LoopSoFar (spec.parse_typed (spec.parse_type l.depth l.context) (shape l.fn.reader.buffer l.fn.list) (state l.fn.reader))
-      (spec.typed_turn (spec.parse_type l.depth l.context)) (l.first, shape l.reader.buffer l.list) (state l.reader);
-  living : IsLiving l.reader.buffer l.list;
-  run : IsRun l.fn.reader.buffer l.reader.buffer;
-  scopes_stand : length (scopes l.fn.reader.buffer) ≤ length (scopes l.reader.buffer);
+  reads : LoopSoFar (spec.parse_typed (spec.parse_type l.depth l.context) (shape l.fn.reader.buffer.value l.fn.list) (state l.fn.reader))
+      (spec.typed_turn (spec.parse_type l.depth l.context)) (l.first, shape l.reader.buffer.value l.list) (state l.reader);
+  living : IsLiving l.reader.buffer.value l.list;
+  run : IsRun l.fn.reader.buffer.value l.reader.buffer.value;
+  scopes_stand : length (scopes l.fn.reader.buffer.value) ≤ length (scopes l.reader.buffer.value);
   taken : length l.reader.rest.now ≤ length l.fn.reader.rest.now;
   counted : l.reader.entered + 2 * length l.reader.rest.now ≤ l.fn.reader.entered + 2 * length l.fn.reader.rest.now;
-  list : length (saved l.reader.buffer) + length l.reader.rest.now ≤ length (saved l.fn.reader.buffer) + length l.fn.reader.rest.now;
-  most : l.reader.most_saved ≤ max l.fn.reader.most_saved (length (saved l.fn.reader.buffer) + length l.fn.reader.rest.now);
+  list : length (saved l.reader.buffer.value) + length l.reader.rest.now ≤ length (saved l.fn.reader.buffer.value) + length l.fn.reader.rest.now;
+  most : l.reader.most_saved ≤ max l.fn.reader.most_saved (length (saved l.fn.reader.buffer.value) + length l.fn.reader.rest.now);
 }
 
 abbrev pub decreases-types::read_typed-loop-list : goal.decreases-types::read_typed-loop-list
@@ -262,7 +271,7 @@ abbrev pub decreases-expressions::read_conditional : goal.decreases-expressions:
 decreases-expressions::read_conditional l = 16 * l.depth + 4
 
 abbrev pub decreases-expressions::read_primary : goal.decreases-expressions::read_primary
-decreases-expressions::read_primary l = 16 * l.depth + 6
+decreases-expressions::read_primary l = 16 * l.depth + 7
 
 abbrev pub decreases-args::read_expression_argument : goal.decreases-args::read_expression_argument
 decreases-args::read_expression_argument l = 16 * l.depth + 1
@@ -271,10 +280,10 @@ abbrev pub decreases-expressions::read_alternatives : goal.decreases-expressions
 decreases-expressions::read_alternatives l = 16 * l.depth + 3
 
 abbrev pub decreases-specials::read_type_special : goal.decreases-specials::read_type_special
-decreases-specials::read_type_special l = 16 * l.depth + 1
+decreases-specials::read_type_special l = 16 * l.depth + 2
 
 abbrev pub decreases-specials::read_name_special : goal.decreases-specials::read_name_special
-decreases-specials::read_name_special l = 16 * l.depth + 2
+decreases-specials::read_name_special l = 16 * l.depth + 3
 
 abbrev pub decreases-specials::read_temporary : goal.decreases-specials::read_temporary
 decreases-specials::read_temporary l = 16 * l.depth + 2
@@ -286,7 +295,7 @@ abbrev pub decreases-specials::read_thunk : goal.decreases-specials::read_thunk
 decreases-specials::read_thunk l = 16 * l.depth
 
 abbrev pub decreases-specials::read_special : goal.decreases-specials::read_special
-decreases-specials::read_special l = 16 * l.depth + 3
+decreases-specials::read_special l = 16 * l.depth + 4
 
 abbrev pub decreases-specials::read_symbol : goal.decreases-specials::read_symbol
-decreases-specials::read_symbol l = 16 * l.depth + 4
+decreases-specials::read_symbol l = 16 * l.depth + 5

@@ -1,8 +1,17 @@
 use Rattle.std.proofs.Common.{◌++◌, ◌-◌, ℕ, List, codes, ap, ◌∙◌, refl}
 use Rattle.demangle_text.specs.Shape.{text, text_len, plain_shape, front_text, gap_after}
 use Rattle.demangle_text.specs.State.{shape}
-use Rattle.demangle_edit.proofs.Members.{member_pointer_shape_is}
+use Rattle.demangle_edit.proofs.Members.{member_pointer_shape_is, closes_at}
 use Rattle.demangle_edit.proofs.types.open_member.Goals as goal
+
+-- the class stands in a group
+pub declare_group-declared-requires-clause-closes : goal.declare_group-declared-requires-clause-closes
+declare_group-declared-requires-clause-closes c =
+    let buf = c.args.buf.now in
+    let front = text (shape buf c.cut_declarator.result.0) in
+    let after = text (shape buf c.cut_declarator.result.1) in
+    closes_at (front ++ (gap_after front ++ codes "(")) (text (shape buf c.args.class)) after _ c.len.result c.len-after_len.result
+    (ap text c.in_ok-whole.ensures.shape.shape_is) c.len.ensures.value c.len-after_len.ensures.value
 
 pub returns-clause-shape : goal.returns-clause-shape
 returns-clause-shape c =

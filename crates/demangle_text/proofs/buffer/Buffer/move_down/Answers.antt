@@ -7,8 +7,8 @@ use Rattle.demangle_text.proofs.buffer.Buffer.move_down.Goals as goal
 pub keep_block-requires-clause-before : goal.keep_block-requires-clause-before
 keep_block-requires-clause-before c = omega (arith, c.requires.mark, c.copy_text.ensures.inner, c.in_ok-from.ensures.from)
 
-pub returns-then-piece-clause-main : goal.returns-then-piece-clause-main
-returns-then-piece-clause-main c =
+pub returns-then-is_aside-clause-main : goal.returns-then-is_aside-clause-main
+returns-then-is_aside-clause-main c =
     let old = c.args.self.now in
     let mid = c.copy_text.new.self in
     let low : c.args.at ≤ length old.main_text = omega (arith, c.requires.mark, c.copy_text.ensures.inner) in

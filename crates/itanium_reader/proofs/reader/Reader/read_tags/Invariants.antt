@@ -7,12 +7,12 @@ use Rattle.itanium_reader.proofs.reader.Reader.read_tags.Given as goal
 
 abbrev pub invariant-loop-name : goal.invariant-loop-name
 invariant-loop-name l = record {
-  reads : LoopSoFar (spec.parse_tags (shape l.fn.self.buffer l.fn.name) (state l.fn.self)) spec.tag_turn (shape l.self.buffer l.name) (state l.self);
-  living : IsLiving l.self.buffer l.name;
-  run : IsRun l.fn.self.buffer l.self.buffer;
+  reads : LoopSoFar (spec.parse_tags (shape l.fn.self.buffer.value l.fn.name) (state l.fn.self)) spec.tag_turn (shape l.self.buffer.value l.name) (state l.self);
+  living : IsLiving l.self.buffer.value l.name;
+  run : IsRun l.fn.self.buffer.value l.self.buffer.value;
   taken : length l.self.rest.now ≤ length l.fn.self.rest.now;
-  lists : saved l.self.buffer ≡ saved l.fn.self.buffer;
-  scopes_same : scopes l.self.buffer ≡ scopes l.fn.self.buffer;
+  lists : saved l.self.buffer.value ≡ saved l.fn.self.buffer.value;
+  scopes_same : scopes l.self.buffer.value ≡ scopes l.fn.self.buffer.value;
   entered : l.self.entered ≡ l.fn.self.entered;
   most : l.self.most_saved ≡ l.fn.self.most_saved;
 }

@@ -1,0 +1,18 @@
+use Rattle.std.proofs.Common.{◌≡◌, ◌-◌, length, rules, sym, Some}
+use Rattle.std.specs.Prelude.{take, drop, slice_range}
+use Rattle.std.proofs.Math.Seq.{take-length}
+use Rattle.std.proofs.lemmas.List.{length-drop}
+use Rattle.demangle_text.specs.State.{shape}
+use Rattle.itanium_reader.specs.Outcome.{state}
+use Rattle.itanium_reader.proofs.Unfold.{source_found}
+use Rattle.itanium_reader.proofs.reader.Reader.read_source_component.Goals as goal
+
+pub returns-in_ok-self-in-NoTag-clause-reads : goal.returns-in_ok-self-in-NoTag-clause-reads
+returns-in_ok-self-in-NoTag-clause-reads c =
+    let old = c.args.self.now in
+    let bytes = old.rest.now in
+    let to = c.in-Some.to in
+    let all : take (length bytes - to) (drop to bytes) ≡ drop to bytes = rw (sym (length-drop to bytes)) (take-length (drop to bytes)) in (
+      search rules,
+      source_found (Some (shape old.buffer.value old.found)) (state old) {text = slice_range bytes c.in-Some.from to} {rest = drop to bytes} (search rules) (search rules) (search rules) (search rules),
+    )
