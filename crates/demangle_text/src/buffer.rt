@@ -640,7 +640,12 @@ impl Buffer {
 
     // The same of texts that aren't adjacent at the end.
     #[inline(never)]
-    fn join_elsewhere(&mut self, first: Piece, bytes: &[u8], second: Piece) -> Result<usize, AllocError>
+    fn join_elsewhere(
+        &mut self,
+        first: Piece,
+        bytes: &[u8],
+        second: Piece,
+    ) -> Result<usize, AllocError>
         requires first_living { IsLiving self.old first }
         requires second_living { IsLiving self.old second }
         requires apart { IsAdjacent self.old first second → ⊥ }
