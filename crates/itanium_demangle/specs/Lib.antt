@@ -1,4 +1,3 @@
-pub mod Ascii
 pub mod Cases
 pub mod Meaning
 pub mod Demangler

@@ -49,8 +49,9 @@ pub(crate) fn read_args(
             ArgsCase::NextArgument => {
                 list = reader.separate_list(list, first)?;
                 framed_argument(reader, depth - 1, context)?;
-                reader.put_found(opens, scopes)?;
-                list = list_next(&mut reader.buffer, list, reader.found)?;
+                let argument = reader.found;
+                reader.put(opens, scopes, argument)?;
+                list = list_next(&mut reader.buffer, list, argument)?;
                 first = false;
             }
         }
@@ -75,7 +76,7 @@ pub(crate) fn framed_args(
 {
     let mark = reader.buffer.open();
     read_args(reader, depth, context, of_name)?;
-    reader.buffer.close_in_place(mark, &mut reader.found)?;
+    reader.found = reader.buffer.close(mark, reader.found)?;
     Ok(())
 }
 
@@ -200,6 +201,6 @@ pub(crate) fn framed_argument(
 {
     let mark = reader.buffer.open();
     read_argument(reader, depth, context)?;
-    reader.buffer.close_in_place(mark, &mut reader.found)?;
+    reader.found = reader.buffer.close(mark, reader.found)?;
     Ok(())
 }
