@@ -561,3 +561,46 @@ fn text_before_a_mark_is_what_closes_it(rt: HostRuntime) {
     assert_main(&rt, &buf, b"AA");
     drop(buf);
 }
+
+#[test]
+#[tactic(auto, using(demangle_text::proofs::Laws::laws, demangle_text::proofs::Laws::runs))]
+fn piece_at_its_mark_is_closed_where_it_is_kept(rt: HostRuntime) {
+    let mut buf = Buffer::new(rt.alloc());
+    let older = buf.push(b"A").expect(&rt, "no memory");
+    let mark = buf.open();
+    let mut kept = buf.push(b"BC").expect(&rt, "no memory");
+    buf.close_in_place(mark, &mut kept).expect(&rt, "no memory");
+    assert_text(&rt, &buf, kept, b"BC");
+    assert_main(&rt, &buf, b"ABC");
+    assert_text(&rt, &buf, older, b"A");
+    drop(buf);
+}
+
+#[test]
+#[tactic(auto, using(demangle_text::proofs::Laws::laws, demangle_text::proofs::Laws::runs))]
+fn older_piece_is_closed_where_it_is_kept(rt: HostRuntime) {
+    let mut buf = Buffer::new(rt.alloc());
+    let older = buf.push(b"A").expect(&rt, "no memory");
+    let mark = buf.open();
+    let name = buf.push(b"BC").expect(&rt, "no memory");
+    buf.save(name).expect(&rt, "no memory");
+    let mut kept = older;
+    buf.close_in_place(mark, &mut kept).expect(&rt, "no memory");
+    assert_text(&rt, &buf, kept, b"A");
+    assert_main(&rt, &buf, b"AA");
+    assert_saved(&rt, &buf, 0, b"BC");
+    drop(buf);
+}
+
+#[test]
+#[tactic(auto, using(demangle_text::proofs::Laws::laws, demangle_text::proofs::Laws::runs))]
+fn texts_of_one_to_three_bytes(rt: HostRuntime) {
+    let mut buf = Buffer::new(rt.alloc());
+    let one = buf.push(b"a").expect(&rt, "no memory");
+    let two = buf.append(one, b"bc").expect(&rt, "no memory");
+    let three = buf.append(two, b"def").expect(&rt, "no memory");
+    let none = buf.append(three, b"").expect(&rt, "no memory");
+    assert_text(&rt, &buf, none, b"abcdef");
+    assert_main(&rt, &buf, b"abcdef");
+    drop(buf);
+}

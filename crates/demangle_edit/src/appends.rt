@@ -7,6 +7,7 @@ use demangle_text::{Buffer, Piece};
 use std::alloc::AllocError;
 
 // A range of a text of this length, when n bytes are put after the text.
+#[inline(always)]
 fn range_before(own: (usize, usize), len: usize, n: usize) -> (usize, usize)
     requires ordered { own.0 ≤ own.1 }
     requires within { own.1 ≤ len }
@@ -22,6 +23,7 @@ fn range_before(own: (usize, usize), len: usize, n: usize) -> (usize, usize)
 
 /// A plain piece: the text of the first piece, the bytes, and the text of the second. The last own
 /// name and the flags are those of the first.
+#[inline(always)]
 #[tactic(auto, using(demangle_text::proofs::Laws::laws))]
 pub fn append_piece(
     buf: &mut Buffer,

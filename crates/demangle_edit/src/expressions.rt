@@ -1,7 +1,7 @@
 //! Edits that make literals and operands of expressions (Itanium C++ ABI 5.1, "Expressions").
 ghost use Rattle.std.specs.Prelude.{◌≡◌, IfOk, OnOk};
 ghost use Rattle.demangle_text.specs.Shape.{text, plain_shape, appended, whole_shape};
-ghost use Rattle.demangle_text.specs.State.{IsLiving, shape, Lives, IsEdit, KeepsAll};
+ghost use Rattle.demangle_text.specs.State.{IsLiving, shape, Lives, IsEdit, KeepsAll, main_bytes};
 ghost use Rattle.demangle_edit.specs.Answers.{Answers, OnNone};
 ghost use Rattle.demangle_edit.specs.Expressions as spec;
 
@@ -171,6 +171,7 @@ pub fn write_literal(buf: &mut Buffer, ty: Piece, value: &str) -> Result<Option<
     ensures shape { Answers result buf.new (spec.literal_step (shape buf.old ty) value.now) }
     ensures edit { OnOk result (IsEdit buf.old buf.new) }
     ensures none { OnNone result (KeepsAll buf.old buf.new) }
+    ensures none_main { OnNone result (main_bytes buf.new ≡ main_bytes buf.old) }
 {
     let bytes = value.as_bytes();
     let form = literal_form(buf.bytes(ty), is_minus(bytes));

@@ -102,6 +102,7 @@ pub(crate) fn list_more(
 /// `list_next` after it. A pack needs no end but `whole` of the buffer.
 ///
 /// An error comes where memory is refused, and then only `clear` of the buffer is promised.
+#[inline(always)]
 #[tactic(auto, using(demangle_text::proofs::Laws::laws))]
 pub fn separate(buf: &mut Buffer, list: Piece, first: bool) -> Result<Piece, AllocError>
     requires list { IsLiving buf.old list }
@@ -116,6 +117,7 @@ pub fn separate(buf: &mut Buffer, list: Piece, first: bool) -> Result<Piece, All
 /// last own name and the flags that the list had.
 ///
 /// An error comes where memory is refused, and then only `clear` of the buffer is promised.
+#[inline(always)]
 #[tactic(auto, using(demangle_text::proofs::Laws::laws))]
 pub fn list_next(buf: &mut Buffer, list: Piece, next: Piece) -> Result<Piece, AllocError>
     requires list { IsLiving buf.old list }
@@ -133,6 +135,7 @@ pub fn list_next(buf: &mut Buffer, list: Piece, next: Piece) -> Result<Piece, Al
 /// With each argument by `separate` and `list_next` and then `close_arguments` it is what `attach_template_args`
 /// makes of the name and the list. An error comes where memory is refused, and then only `clear` of
 /// the buffer is promised.
+#[inline(always)]
 #[tactic(auto, using(demangle_text::proofs::Laws::laws, crate::proofs::Insertions::insertions))]
 pub fn open_arguments(buf: &mut Buffer, name: Piece) -> Result<Piece, AllocError>
     requires name { IsLiving buf.old name }
@@ -140,16 +143,19 @@ pub fn open_arguments(buf: &mut Buffer, name: Piece) -> Result<Piece, AllocError
     ensures edit { OnOk result (IsEdit buf.old buf.new) }
 {
     let ctor = buf.ctor(name);
-    let gap = gap_before_args(buf.bytes(name));
     let plain = buf.plain(name);
-    let apart = buf.append(plain, gap)?;
-    let opened = buf.append(apart, b"<")?;
+    let opened = if buf.bytes(name).ends_with(b"<") {
+        buf.append(plain, b" <")?
+    } else {
+        buf.append(plain, b"<")?
+    };
     Ok(buf.with_flags(opened, true, ctor))
 }
 
 /// The list of template arguments with its `>`, after a space where its text ends in `>`.
 ///
 /// An error comes where memory is refused, and then only `clear` of the buffer is promised.
+#[inline(always)]
 #[tactic(auto, using(demangle_text::proofs::Laws::laws))]
 pub fn close_arguments(buf: &mut Buffer, list: Piece) -> Result<Piece, AllocError>
     requires list { IsLiving buf.old list }

@@ -75,6 +75,7 @@ pub fn qualify_ctor(buf: &mut Buffer, scope: Piece, destructor: bool) -> Result<
 }
 
 // What stands between a name's text and its template arguments.
+#[inline(always)]
 pub(crate) fn gap_before_args(name: &[u8]) -> &'static [u8]
     ensures value { result.now ≡ angle_gap name.now }
 {
@@ -86,6 +87,7 @@ pub(crate) fn gap_before_args(name: &[u8]) -> &'static [u8]
 /// holds.
 ///
 /// An error comes where memory is refused, and then only `clear` of the buffer is promised.
+#[inline(always)]
 #[tactic(auto, using(demangle_text::proofs::Laws::laws))]
 pub fn attach_template_args(buf: &mut Buffer, name: Piece, args: Piece) -> Result<Piece, AllocError>
     requires name { IsLiving buf.old name }

@@ -3,7 +3,7 @@
 ghost use Rattle.std.specs.Prelude.{◌≡◌, ◌≢◌, ◌++◌, All, map, codes, is_some, false, IfOk, OnOk};
 ghost use Rattle.demangle_text.specs.Shape.{CanInsert, IsPlain, IsDeclared, text, plain_shape, inserted};
 ghost use Rattle.demangle_text.specs.Shape.{kind_of, group_of, gap_after, front_text};
-ghost use Rattle.demangle_text.specs.State.{IsLiving, shape, Lives, IsEdit, KeepsAll};
+ghost use Rattle.demangle_text.specs.State.{IsLiving, shape, Lives, IsEdit, KeepsAll, main_bytes};
 ghost use Rattle.demangle_edit.specs.Answers.{Answers, OnNone};
 ghost use Rattle.demangle_edit.specs.Types.{pointed, collapse_step, pointer_shape, cv_place, cv_shape};
 ghost use Rattle.demangle_edit.specs.Types.{function_step, expansion_shape};
@@ -73,6 +73,7 @@ pub fn collapse_ref(
     ensures shape { Answers result buf.new (collapse_step rvalue (shape buf.old inner)) }
     ensures edit { OnOk result (IsEdit buf.old buf.new) }
     ensures none { OnNone result (KeepsAll buf.old buf.new) }
+    ensures none_main { OnNone result (main_bytes buf.new ≡ main_bytes buf.old) }
 {
     if buf.kind(inner).is_some() || !buf.bytes(inner).ends_with(b"&") {
         return Ok(None);
@@ -200,6 +201,7 @@ pub fn wrap_array(
     ensures shape { Answers result buf.new (array_step dimension (shape buf.old elem)) }
     ensures edit { OnOk result (IsEdit buf.old buf.new) }
     ensures none { OnNone result (KeepsAll buf.old buf.new) }
+    ensures none_main { OnNone result (main_bytes buf.new ≡ main_bytes buf.old) }
 {
     let Some(kind) = buf.kind(elem) else {
         let array = first_dimension(buf, elem, dimension)?;
@@ -339,6 +341,7 @@ pub fn wrap_member_pointer(
         (member_pointer_step (shape buf.old class) (shape buf.old member)) }
     ensures edit { OnOk result (IsEdit buf.old buf.new) }
     ensures none { OnNone result (KeepsAll buf.old buf.new) }
+    ensures none_main { OnNone result (main_bytes buf.new ≡ main_bytes buf.old) }
 {
     match buf.kind(member) {
         None => {
@@ -372,6 +375,7 @@ pub fn function_type(
         (function_step (shape buf.old ret) (map (shape buf.old) params.now) quals) }
     ensures edit { OnOk result (IsEdit buf.old buf.new) }
     ensures none { OnNone result (KeepsAll buf.old buf.new) }
+    ensures none_main { OnNone result (main_bytes buf.new ≡ main_bytes buf.old) }
 {
     if buf.kind(ret).is_some() {
         return Ok(None);

@@ -4,10 +4,10 @@ use Rattle.std.proofs.Common.{◌≡◌, ℕ, ◌+◌, ◌-◌, ◌≤◌, Bool,
 use Rattle.std.proofs.lemmas.List.{length-append, length-drop, length-take-le, drop_at, take-append-drop, drop-append-le, drop-drop, drop-take, take_all, drop_all, append-nil, take-append-le, take-take}
 use Rattle.std.proofs.lemmas.List.Edits.{length-between}
 use Rattle.demangle_text.specs.declared.shape.Piece.{Piece}
-use Rattle.demangle_text.specs.Pieces.{Store, IsTail, IsAdjacent, IsSplice, IsJoint, piece_text, own_text, home_bytes}
+use Rattle.demangle_text.specs.Pieces.{Store, IsTail, IsAdjacent, IsSplice, IsJoint, EndsBy, piece_text, own_text, home_bytes}
 use Rattle.demangle_text.specs.Shape.{text, text_len, plain_shape, joined, inserted, own_shape, opened_group, CanInsert, IsDeclared, moved}
 use Rattle.demangle_text.specs.Pieces.{Layout, Flat, Cut, IsLayout, IsAt, IsMarked, marks_of, whole_marks, shape_of, place_at, layout_with, layout_opened, layout_end, own_at}
-use Rattle.demangle_text.specs.State.{IsLiving, shape, Lives, IsEditOf, main_bytes, frame, frame_start, Frame, Stands}
+use Rattle.demangle_text.specs.State.{IsLiving, shape, Lives, IsEditOf, IsJoinOf, main_bytes, frame, frame_start, Frame, Stands}
 use Rattle.demangle_text.specs.declared.shape.Place.{Place}
 use Rattle.demangle_text.specs.declared.shape.Place.TheVariants.{Suffix}
 use Rattle.demangle_text.proofs.Inserts.{Inserts, length-inserted, shape-inserted, IsMarked-inserted}
@@ -47,13 +47,13 @@ pub IsSplice-inserted : (s t : Store) (p : Piece) (at : ℕ) (bytes : List ℕ) 
 IsSplice-inserted s t p at bytes h ordered within is =
     let main = s.main_text in
     let there : p.from_byte + at ≤ length main = omega (arith, h.ends) in
-    let low : s.frame_main ≤ p.from_byte + at = omega (arith, h.inner) in
     let n = ap length is ∙ length-inserted main bytes (p.from_byte + at) in
     record {
       within = omega (arith, n);
       text = ap (drop p.from_byte) is ∙ tail_inserted main bytes p.from_byte at there
           ∙ ap (λ (v : List ℕ). take at v ++ (bytes ++ drop at v)) (sym (tail_text s p h));
-      front = ap (take s.frame_main) is ∙ front_inserted main bytes s.frame_main (p.from_byte + at) low there;
+      inner = h.inner;
+      front = ap (take p.from_byte) is ∙ front_inserted main bytes p.from_byte (p.from_byte + at) (omega arith) there;
       in_place = λ _. (refl, n);
     }
 
@@ -68,12 +68,16 @@ IsSplice-added s t p bytes h ordered is =
     IsSplice-inserted s t p (p.to_byte - p.from_byte) bytes h ordered (omega arith)
     (is ∙ ap (λ (v : List ℕ). main ++ v) (sym (append-nil bytes)) ∙ ap (λ (v : List ℕ). main ++ (bytes ++ v)) (sym none) ∙ ap (λ (v : List ℕ). v ++ (bytes ++ drop k main)) (sym front))
 
+-- no byte before a place changes, nor one before an earlier place
+front_below : (old new : List ℕ) (low from : ℕ) → low ≤ from → take from new ≡ take from old → take low new ≡ take low old
+front_below old new low from below same = sym (take-take low from new below) ∙ ap (take low) same ∙ take-take low from old below
+
 -- an edit that spliced bytes into the text of a piece
 pub IsEditOf-spliced : (b n : Store) (p q : Piece) (at from : ℕ) (bytes : List ℕ) → IsSplice b n p at bytes from → IsAt q from (length n.main_text) → IsEditOf b n p q (length bytes)
 unfolding main_bytes frame frame_start Frame Stands
 IsEditOf-spliced b n p q at from bytes s stands = record {
-  front = s.front;
-  ends = (from, stands);
+  front = front_below b.main_text n.main_text b.frame_main from s.inner s.front;
+  ends = record { from = from; inner = s.inner; front = s.front; stands = stands };
   in_place = λ i inner there.
       let tail : IsTail b p = record { in_main = there.in_main; inner = omega (arith, inner, there.begins); ends = there.ends } in
       let stays = s.in_place tail in
@@ -89,7 +93,8 @@ IsSplice-copied s t p at bytes from apart inner starts is =
     record {
       within = omega (arith, ap length is ∙ length-append s.main_text more);
       text = ap (drop from) is ∙ drop_at s.main_text more from (sym starts);
-      front = ap (take s.frame_main) is ∙ front_longer s.main_text more s.frame_main inner;
+      inner = omega (arith, inner, starts);
+      front = ap (take from) is ∙ front_longer s.main_text more from (omega (arith, starts));
       in_place = λ h. absurd (apart h);
     }
 
@@ -130,7 +135,6 @@ IsJoint-inserted s t first bytes second h ordered after is =
     let k = second.from_byte - first.from_byte in
     let split : second.from_byte ≡ first.from_byte + k = omega (arith, h.meets) in
     let there : first.from_byte + k ≤ length main = omega (arith, h.ends, h.meets) in
-    let low : s.frame_main ≤ second.from_byte = omega (arith, h.inner, h.meets) in
     let n = ap length is ∙ length-inserted main bytes second.from_byte in
     let texts = adjacent_text s first second h ordered after in
     record {
@@ -141,20 +145,25 @@ IsJoint-inserted s t first bytes second h ordered after is =
           ∙ ap (λ (v : List ℕ). v ++ (bytes ++ drop k (drop first.from_byte main))) (sym texts.0)
           ∙ ap (λ (v : List ℕ). piece_text main s.side_text first ++ (bytes ++ v)) (sym texts.1)
           ∙ sym (append_assoc (piece_text main s.side_text first) bytes (piece_text main s.side_text second));
-      front = ap (take s.frame_main) is ∙ front_inserted main bytes s.frame_main second.from_byte low (omega (arith, split));
+      inner = h.inner;
+      front = ap (take first.from_byte) is ∙ front_inserted main bytes first.from_byte second.from_byte (omega (arith, h.meets)) (omega (arith, split));
       in_place = λ _. (refl, n);
+      in_front = λ _ _ apart. absurd (apart h);
     }
 
--- a copy of both, where they don't meet at the end
-pub IsJoint-copied : (s t : Store) (first : Piece) (bytes : List ℕ) (second : Piece) (from : ℕ) → (IsAdjacent s first second → ⊥) → s.frame_main ≤ length s.main_text → from ≡ length s.main_text
+-- a copy of both, where they don't meet at the end, and the second isn't there with the first before it
+pub IsJoint-copied : (s t : Store) (first : Piece) (bytes : List ℕ) (second : Piece) (from : ℕ) → (IsAdjacent s first second → ⊥) → (IsTail s second → EndsBy second.from_byte first → ⊥)
+    → s.frame_main ≤ length s.main_text → from ≡ length s.main_text
     → t.main_text ≡ s.main_text ++ (piece_text s.main_text s.side_text first ++ bytes ++ piece_text s.main_text s.side_text second) → IsJoint s t first bytes second from
-IsJoint-copied s t first bytes second from apart inner starts is =
+IsJoint-copied s t first bytes second from apart behind inner starts is =
     let more = piece_text s.main_text s.side_text first ++ bytes ++ piece_text s.main_text s.side_text second in
     record {
       within = omega (arith, ap length is ∙ length-append s.main_text more);
       text = ap (drop from) is ∙ drop_at s.main_text more from (sym starts);
-      front = ap (take s.frame_main) is ∙ front_longer s.main_text more s.frame_main inner;
+      inner = omega (arith, inner, starts);
+      front = ap (take from) is ∙ front_longer s.main_text more from (omega (arith, starts));
       in_place = λ h. absurd (apart h);
+      in_front = λ tail before _. absurd (behind tail before);
     }
 
 -- the first text and the bytes in front of a second one that ends the main text
@@ -170,9 +179,36 @@ IsJoint-moved s t first bytes second apart h ordered is =
     record {
       within = omega (arith, ap length is ∙ length-inserted main more at);
       text = ap (drop at) is ∙ drop_at (take at main) (more ++ drop at main) at low ∙ ap (λ (v : List ℕ). more ++ v) (sym (tail_text s second h));
-      front = ap (take s.frame_main) is ∙ front_inserted main more s.frame_main at h.inner there;
+      inner = h.inner;
+      front = ap (take at) is ∙ front_inserted main more at at (omega arith) there;
       in_place = λ k. absurd (apart k);
+      in_front = λ _ _ _. (refl, ap length is ∙ length-inserted main more at ∙ ap (λ (k : ℕ). length main + k) (length-append (piece_text main s.side_text first) bytes));
     }
+
+-- a join of two texts
+pub IsJoinOf-joint : (b n : Store) (first second q : Piece) (bytes : List ℕ) (from : ℕ) → IsLiving b first → IsJoint b n first bytes second from → IsAt q from (length n.main_text)
+    → IsJoinOf b n first second q (length bytes)
+unfolding main_bytes frame frame_start Frame Stands
+IsJoinOf-joint b n first second q bytes from lies s stands = record {
+  front = front_below b.main_text n.main_text b.frame_main from s.inner s.front;
+  ends = record { from = from; inner = s.inner; front = s.front; stands = stands };
+  in_place = λ i middle inner one two.
+      let meet : IsAdjacent b first second =
+      record { first_in_main = one.in_main; second_in_main = two.in_main; inner = omega (arith, inner, one.begins); meets = one.ends ∙ sym two.begins; ends = two.ends } in
+      let stays = s.in_place meet in
+      (subst (λ (k : ℕ). IsAt q k (length n.main_text)) (stays.0 ∙ one.begins) stands, stays.1);
+  in_front = λ at inner two before.
+      let tail : IsTail b second = record { in_main = two.in_main; inner = omega (arith, inner, two.begins); ends = two.ends } in
+      let ends : EndsBy second.from_byte first = λ home. omega (arith, (before first.from_byte first.to_byte (record { in_main = home; begins = refl; ends = refl })).0, two.begins) in
+      let apart : IsAdjacent b first second → ⊥ = λ h.
+      let less = (before first.from_byte first.to_byte (record { in_main = h.first_in_main; begins = refl; ends = refl })).1 h.inner in
+      let k : ⊥ = omega (arith, less, h.meets, two.begins) in k in
+      let stays = s.in_front tail ends apart in
+      let long : length (piece_text b.main_text b.side_text first) ≡ text_len (shape b first) = ap length (sym (text_is b first lies)) in (
+        subst (λ (k : ℕ). IsAt q k (length n.main_text)) (stays.0 ∙ two.begins) stands,
+        stays.1 ∙ ap (λ (k : ℕ). length b.main_text + (k + length bytes)) long,
+      );
+}
 
 -- where `after` begins in a text
 pub suffix_within : (t : List ℕ) (l : Layout) → IsLayout t l → place_at Suffix l (length t) ≤ length t

@@ -238,14 +238,20 @@ pub record IsSplice (old new : Store) (p : Piece) (at : ℕ) (bytes : List ℕ) 
   pub text : drop from new.main_text
       ≡ take at (piece_text old.main_text old.side_text p)
       ++ (bytes ++ drop at (piece_text old.main_text old.side_text p))
-  pub front : take old.frame_main new.main_text ≡ take old.frame_main old.main_text
+  pub inner : old.frame_main ≤ from
+  pub front : take from new.main_text ≡ take from old.main_text
   pub in_place : IsTail old p → (from ≡ p.from_byte) × (length new.main_text ≡ length old.main_text + length bytes)
 
--- the main text ends in both texts with bytes between them, from a byte on: adjacent pieces at the end stayed
+-- the main text ends in both texts with bytes between them, from a byte on: adjacent pieces at the end stayed, and so did
+-- a second one at the end with the first before it
 pub record IsJoint (old new : Store) (first : Piece) (bytes : List ℕ) (second : Piece) (from : ℕ) : Type 0 where
   pub within : from ≤ length new.main_text
   pub text : drop from new.main_text
       ≡ piece_text old.main_text old.side_text first ++ bytes ++ piece_text old.main_text old.side_text second
-  pub front : take old.frame_main new.main_text ≡ take old.frame_main old.main_text
+  pub inner : old.frame_main ≤ from
+  pub front : take from new.main_text ≡ take from old.main_text
   pub in_place : IsAdjacent old first second
       → (from ≡ first.from_byte) × (length new.main_text ≡ length old.main_text + length bytes)
+  pub in_front : IsTail old second → EndsBy second.from_byte first → (IsAdjacent old first second → ⊥)
+      → (from ≡ second.from_byte) × (length new.main_text
+      ≡ length old.main_text + (length (piece_text old.main_text old.side_text first) + length bytes))

@@ -1,7 +1,7 @@
 -- What a buffer is to its callers: the shapes of its pieces, its frames, its saved shapes and its scopes.
-use Rattle.std.specs.Prelude.{◌≡◌, ℕ, ◌≤◌, Bool, true, false, List, [], ◌∷◌, ◌++◌, ◌+◌, ◌-◌, length, take, drop}
+use Rattle.std.specs.Prelude.{◌≡◌, ℕ, ◌≤◌, ◌<◌, Bool, true, false, List, [], ◌∷◌, ◌++◌, ◌+◌, ◌-◌, length, take, drop}
 use Rattle.std.specs.Prelude.{slice_range, slice_index_or, slice_set, map}
-use Rattle.demangle_text.specs.Shape.{Shape}
+use Rattle.demangle_text.specs.Shape.{Shape, text_len}
 use Rattle.demangle_text.specs.Flags.{lies_aside}
 use Rattle.demangle_text.specs.Pieces.{Store, IsPiece, IsAt, shape_in}
 use Rattle.demangle_text.specs.declared.shape.Piece.{Piece}
@@ -102,7 +102,7 @@ pub record SameFrame (old new : Store) : Type 0 where
   pub pieces : KeepsPieces old new
   pub frame_same : frame new ≡ frame old
 
--- all stays
+-- pieces, innermost mark and both lists stay
 pub record KeepsAll (old new : Store) : Type 0 where
   pub pieces : KeepsPieces old new
   pub frame_same : frame new ≡ frame old
@@ -144,23 +144,40 @@ pub record Closes (old new : Store) (m : Mark) : Type 0 where
 abbrev pub KeepsFront : Store → Store → Type 0
 KeepsFront old new = take (frame_start (frame old)) (main_bytes new) ≡ take (frame_start (frame old)) (main_bytes old)
 
+-- the piece stands up to the end of the main text, from the innermost mark or later, and no byte before it changes
+pub record EndsMain (old new : Store) (p : Piece) : Type 0 where
+  pub from : ℕ
+  pub inner : frame_start (frame old) ≤ from
+  pub front : take from (main_bytes new) ≡ take from (main_bytes old)
+  pub stands : Stands p from (length (main_bytes new))
+
 -- an edit of a piece, which puts n bytes into its text: the answer stands up to the end of the main text; a piece
 -- that stands there, from the innermost mark or later, keeps its start, and the main text grows as its text does
 pub record IsEditOf (old new : Store) (piece answer : Piece) (n : ℕ) : Type 0 where
   pub front : KeepsFront old new
-  pub ends : (at : ℕ) × Stands answer at (length (main_bytes new))
+  pub ends : EndsMain old new answer
   pub in_place : (at : ℕ) → frame_start (frame old) ≤ at → Stands piece at (length (main_bytes old))
       → Stands answer at (length (main_bytes new)) × (length (main_bytes new) ≡ length (main_bytes old) + n)
 
--- both pieces in one, with n bytes between them: the answer stands up to the end of the main text; where the second
+-- where the piece stands in the main text, it ends by this byte, and before it unless it begins before the innermost
+-- mark
+abbrev pub StandsBefore : Store → Piece → ℕ → Type 0
+StandsBefore b p at = (from to : ℕ) → Stands p from to → (to ≤ at) × (frame_start (frame b) ≤ from → to < at)
+
+-- both pieces in one, with n bytes between them: the answer stands up to the end of the main text. Where the second
 -- begins at the end of the first and stands up to that end, and the first stands from the innermost mark or later, the
--- start of the first stays, and the main text grows by n bytes
+-- start of the first stays, and the main text grows by n bytes. Where the second stands up to that end, from the
+-- innermost mark or later, and the first stands before it or nowhere in the main text, the start of the second stays,
+-- and the main text grows by the first text and n bytes
 pub record IsJoinOf (old new : Store) (first second answer : Piece) (n : ℕ) : Type 0 where
   pub front : KeepsFront old new
-  pub ends : (at : ℕ) × Stands answer at (length (main_bytes new))
+  pub ends : EndsMain old new answer
   pub in_place : (from middle : ℕ) → frame_start (frame old) ≤ from → Stands first from middle
       → Stands second middle (length (main_bytes old))
       → Stands answer from (length (main_bytes new)) × (length (main_bytes new) ≡ length (main_bytes old) + n)
+  pub in_front : (at : ℕ) → frame_start (frame old) ≤ at → Stands second at (length (main_bytes old))
+      → StandsBefore old first at → Stands answer at (length (main_bytes new))
+      × (length (main_bytes new) ≡ length (main_bytes old) + (text_len (shape old first) + n))
 
 -- what is answered for a piece stands where the piece does
 abbrev pub StandsAs : Piece → Piece → Type 0

@@ -6,7 +6,7 @@ ghost use Rattle.demangle_text.specs.Shape.{gap_after, grouped};
 
 use crate::flags::{flagged, is_ctor, is_grouped, is_templ, plain};
 use crate::moves::{carry, set_apart};
-use crate::parts::{add_joined, add_part, add_spliced, insert_joined};
+use crate::parts::{add_extended, add_joined, add_part, add_spliced, insert_joined};
 use crate::ranges::Ranges;
 use crate::shape::{Kind, Mark, Piece, Place};
 use crate::text::Text;
@@ -57,12 +57,12 @@ impl Buffer {
     ghost use Rattle.demangle_text.specs.State.{IsLiving, shape, saved, scopes, frame, inside, outside, outermost};
     ghost use Rattle.demangle_text.specs.State.{Lives, KeepsAll, SameFrame, SameLists, IsEdit, Opens, Closes};
     ghost use Rattle.demangle_text.specs.State.{last_args, with_arg, IsAsOld, main_bytes, Stands, StandsAs};
-    ghost use Rattle.demangle_text.specs.State.{frame_start, KeepsFront, IsEditOf, IsJoinOf};
+    ghost use Rattle.demangle_text.specs.State.{frame_start, Frame, IsOlder, KeepsFront, IsEditOf, IsJoinOf};
     ghost use Rattle.demangle_text.specs.Shape.{text, text_len, form_text, plain_shape, inserted, appended};
     ghost use Rattle.demangle_text.specs.Shape.{opened_group, joined, shortened, CanInsert, IsPlain, IsDeclared};
     ghost use Rattle.demangle_text.specs.Shape.{flagged, with_own, flattened, whole_shape, own_shape, IsNotFunction};
     ghost use Rattle.demangle_text.specs.Shape.{kind_of, group_of, after_of, declared_at, declared_group};
-    ghost use Rattle.demangle_text.specs.Pieces.{IsTail, IsSplice, IsAdjacent, IsJoint, EndsBy, piece_text, own_text};
+    ghost use Rattle.demangle_text.specs.Pieces.{IsTail, IsSplice, IsAdjacent, IsJoint, IsAt, EndsBy, marks_of, piece_text, own_text};
 
     /// An empty buffer, with no mark open. It takes no memory.
     pub fn new(alloc: Global) -> Self
@@ -70,6 +70,7 @@ impl Buffer {
         ensures no_scopes { scopes result ≡ [] }
         ensures no_mark { frame result ≡ outermost }
         ensures no_bytes { main_bytes result ≡ [] }
+        ensures from_start { frame_start (frame result) ≡ 0 }
     {
         Buffer {
             main: Text::new(alloc),
@@ -89,6 +90,7 @@ impl Buffer {
         ensures no_scopes { scopes self.new ≡ [] }
         ensures no_mark { frame self.new ≡ outermost }
         ensures no_bytes { main_bytes self.new ≡ [] }
+        ensures from_start { frame_start (frame self.new) ≡ 0 }
     {
         self.saved.clear();
         self.args.clear();
@@ -131,31 +133,50 @@ impl Buffer {
             ≡ take (frame_start (inside mark)) (main_bytes self.old) ++ text (shape self.old piece)) }
         ensures stands { IfOk result (λ p. Stands p (frame_start (inside mark)) (length (main_bytes self.new))) }
     {
-        let at = mark.inside_main;
-        self.settle(at, piece)?;
+        let mut piece = piece;
+        self.close_in_place(mark, &mut piece)?;
+        Ok(piece)
+    }
+
+    /// As `close`, of a piece that is changed where it is kept.
+    #[inline(always)]
+    pub fn close_in_place(&mut self, mark: Mark, piece: &mut Piece) -> Result<(), AllocError>
+        requires innermost { frame self.old ≡ inside mark }
+        requires living { IsLiving self.old piece.old }
+        ensures shape { OnOk result (Lives self.new piece.new (shape self.old piece.old)) }
+        ensures closed { OnOk result (Closes self.old self.new mark) }
+        ensures main { OnOk result (main_bytes self.new
+            ≡ take (frame_start (inside mark)) (main_bytes self.old) ++ text (shape self.old piece.old)) }
+        ensures stands { OnOk result (Stands piece.new (frame_start (inside mark)) (length (main_bytes self.new))) }
+    {
+        self.settle(mark.inside_main, piece)?;
         self.frame_main = mark.outside_main;
         self.frame_side = mark.outside_side;
-        Ok(piece.moved_to(at, self.main.len()))
+        Ok(())
     }
 
     // The text of a piece becomes all of the main text since the innermost mark.
     #[inline(always)]
-    fn settle(&mut self, at: usize, piece: Piece) -> Result<(), AllocError>
+    fn settle(&mut self, at: usize, piece: &mut Piece) -> Result<(), AllocError>
         requires mark { self.old.frame_main ≡ at }
-        requires living { IsLiving self.old piece }
+        requires living { IsLiving self.old piece.old }
         ensures edit { OnOk result (IsEdit self.old self.new) }
         ensures main { OnOk result (self.new.main_text ≡ take at self.old.main_text
-            ++ piece_text self.old.main_text self.old.side_text piece) }
+            ++ piece_text self.old.main_text self.old.side_text piece.old) }
+        ensures stands { OnOk result (IsAt piece.new at (length self.new.main_text)) }
+        ensures marks { OnOk result (marks_of piece.new ≡ marks_of piece.old) }
         ensures within { at ≤ length self.old.main_text }
     {
         let len = self.main.len();
         if !piece.is_aside() && piece.from_byte == at && piece.to_byte == len {
             return Ok(());
         }
-        self.move_down(at, piece)
+        self.move_down(at, piece.bare())?;
+        *piece = piece.moved_to(at, self.main.len());
+        Ok(())
     }
 
-    // The same where the piece stands elsewhere.
+    // The text of a piece that stands elsewhere becomes all of the main text since the innermost mark.
     #[cold]
     #[inline(never)]
     fn move_down(&mut self, at: usize, piece: Piece) -> Result<(), AllocError>
@@ -226,7 +247,7 @@ impl Buffer {
         ensures main_err { OnErr result (main_bytes self.new ≡ main_bytes self.old) }
         ensures stands { IfOk result (λ p. Stands p (length (main_bytes self.old)) (length (main_bytes self.new))) }
     {
-        let from = self.copy_text(piece)?;
+        let from = self.copy_text(piece.bare())?;
         Ok(piece.moved_to(from, self.main.len()))
     }
 
@@ -333,7 +354,31 @@ impl Buffer {
             self.insert_at(piece.from_byte + at, bytes)?;
             return Ok(piece.from_byte);
         }
-        self.splice_copy(piece, at, b"", bytes, b"")
+        if at == piece.text_len() {
+            return self.extend_copy(piece.bare(), bytes, b"");
+        }
+        self.splice_copy(piece.bare(), at, b"", bytes, b"")
+    }
+
+    // The text of a piece that doesn't stand at the end, with both texts after it, at the end of the main text: where
+    // it begins.
+    #[inline(never)]
+    fn extend_copy(
+        &mut self,
+        piece: Piece,
+        first: &[u8],
+        second: &[u8],
+    ) -> Result<usize, AllocError>
+        requires living { IsLiving self.old piece }
+        requires apart { IsTail self.old piece → ⊥ }
+        ensures splice { IfOk result (IsSplice self.old self.new piece (piece.to_byte - piece.from_byte)
+            (first.now ++ second.now)) }
+        ensures kept { KeepsAll self.old self.new }
+        ensures main_err { OnErr result (self.new.main_text ≡ self.old.main_text) }
+    {
+        let from = self.main.len();
+        add_extended(&mut self.main, &self.side, piece, first, second)?;
+        Ok(from)
     }
 
     // The text of a piece that doesn't stand at the end, with three texts at a place of it, at the end of the main
@@ -419,7 +464,7 @@ impl Buffer {
             self.add_pair(first, second)?;
             return Ok(piece.from_byte);
         }
-        self.splice_copy(piece, piece.place(Place::End), first, second, b"")
+        self.extend_copy(piece.bare(), first, second)
     }
 
     // Two texts at the end of the main text.
@@ -547,7 +592,7 @@ impl Buffer {
             self.insert_three(piece.from_byte + at, front, bytes, back)?;
             return Ok(piece.from_byte);
         }
-        self.splice_copy(piece, at, front, bytes, back)
+        self.splice_copy(piece.bare(), at, front, bytes, back)
     }
 
     // Three texts at a place of the main text since the innermost mark: what lies after it moves on.
@@ -635,7 +680,7 @@ impl Buffer {
             self.insert_at(second.from_byte, bytes)?;
             return Ok(first.from_byte);
         }
-        self.join_elsewhere(first, bytes, second)
+        self.join_elsewhere(first.bare(), bytes, second.bare())
     }
 
     // The same of texts that aren't adjacent at the end.
@@ -712,6 +757,7 @@ impl Buffer {
     #[inline(always)]
     pub fn main_bytes(&self) -> &[u8]
         ensures value { result.now ≡ main_bytes self.now }
+        ensures mark { frame_start (frame self.now) ≤ length (main_bytes self.now) }
     {
         self.main.as_slice()
     }
@@ -722,6 +768,8 @@ impl Buffer {
         requires living { IsLiving self.now piece }
         ensures value { result.now ≡ text (shape self.now piece) }
         ensures stands { (from to : ℕ) → Stands piece from to → result.now ≡ slice_range (main_bytes self.now) from to }
+        ensures range { (from to : ℕ) → Stands piece from to → (from ≤ to) × (to ≤ length (main_bytes self.now)) }
+        ensures older { (f : Frame) (from to : ℕ) → IsOlder piece f → Stands piece from to → to ≤ frame_start f }
     {
         if piece.is_aside() {
             self.side.part(piece.from_byte, piece.to_byte)
@@ -854,6 +902,8 @@ impl Buffer {
         ensures stands { StandsAs piece result }
     {
         Piece {
+            group_start: 0,
+            after_start: 0,
             flags: plain(piece.flags),
             ..piece
         }

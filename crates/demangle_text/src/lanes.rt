@@ -16,8 +16,28 @@ pub(crate) fn copy_text(room: &mut [u8], text: &[u8])
         by_four(room, text);
     } else if 16 < n && n <= 32 {
         by_sixteen(room, text);
+    } else if n < 4 {
+        by_one(room, text);
     } else {
         room.copy_from_slice(text);
+    }
+}
+
+#[inline(always)]
+fn by_one(room: &mut [u8], text: &[u8])
+    requires same { length room.old ≡ length text.now }
+    requires most { length text.now < 4 }
+    ensures value { room.new ≡ text.now }
+{
+    let n = text.len();
+    if 0 < n {
+        room[0] = text[0];
+    }
+    if 1 < n {
+        room[1] = text[1];
+    }
+    if 2 < n {
+        room[2] = text[2];
     }
 }
 

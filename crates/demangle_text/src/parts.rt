@@ -82,6 +82,31 @@ pub(crate) fn add_spliced(
     }
 }
 
+// The text of a piece and two texts after it. After an error the main text is as it was.
+pub(crate) fn add_extended(
+    main: &mut Text,
+    side: &Text,
+    piece: Piece,
+    first: &[u8],
+    second: &[u8],
+) -> Result<(), AllocError>
+    requires ordered { piece.from_byte ≤ piece.to_byte }
+    requires within { piece.to_byte ≤ length (home_bytes main.old side.now (lies_aside piece.flags)) }
+    ensures ok { OnOk result (main.new ≡ main.old
+        ++ (piece_text main.old side.now piece ++ (first.now ++ second.now))) }
+    ensures err { OnErr result (main.new ≡ main.old) }
+{
+    let end = main.len();
+    add_part(main, side, piece.is_aside(), piece.from_byte, piece.to_byte)?;
+    match main.add_pair(first, second) {
+        Ok(()) => Ok(()),
+        Err(error) => {
+            main.truncate(end);
+            Err(error)
+        }
+    }
+}
+
 // Two texts with bytes between them, or a part of that where memory is refused.
 fn join_parts(
     main: &mut Text,

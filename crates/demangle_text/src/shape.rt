@@ -76,6 +76,22 @@ impl Piece {
         }
     }
 
+    // Its text as a plain piece, all of which is its last own name. A call that isn't inlined is given this one, so that
+    // the piece itself needn't be kept in memory.
+    #[inline(always)]
+    pub(crate) fn bare(self) -> Piece
+        requires ordered { self.from_byte ≤ self.to_byte }
+        ensures home { lies_aside result.flags ≡ lies_aside self.flags }
+        ensures begins { result.from_byte ≡ self.from_byte }
+        ensures ends { result.to_byte ≡ self.to_byte }
+        ensures marks { marks_of result ≡ whole_marks (self.to_byte - self.from_byte) }
+    {
+        Piece {
+            flags: bare(self.flags),
+            ..Piece::whole_at(self.from_byte, self.to_byte)
+        }
+    }
+
     // A plain piece of its last own name, in the same text.
     #[inline(always)]
     pub(crate) fn own_name(self) -> Piece
@@ -138,6 +154,7 @@ impl Piece {
     #[inline(always)]
     pub(crate) fn ends_by(self, at: usize) -> bool
         ensures ends { result ≡ true → EndsBy at self }
+        ensures other { EndsBy at self → result ≡ true }
     {
         self.is_aside() || self.to_byte <= at
     }

@@ -131,10 +131,9 @@ impl Text {
         ensures ok { OnOk result (self.new ≡ self.old ++ slice_range self.old from to) }
         ensures err { OnErr result (self.new ≡ self.old) }
     {
-        let n = to - from;
-        make_room(&mut self.bytes, self.len, n)?;
-        self.bytes.copy_within(from..to, self.len);
-        self.len += n;
+        let end = self.len();
+        self.add_room(to - from)?;
+        self.put_part(end, from, to);
         Ok(())
     }
 
@@ -177,7 +176,7 @@ impl Text {
 
     // Room of n bytes at the end.
     #[inline(always)]
-    fn add_room(&mut self, n: usize) -> Result<(), AllocError>
+    pub(crate) fn add_room(&mut self, n: usize) -> Result<(), AllocError>
         ensures ok { OnOk result (HasRoom self.old [] self.new n) }
         ensures err { OnErr result (self.new ≡ self.old) }
     {

@@ -1,3 +1,4 @@
+pub mod Ascii
 pub mod Shapes
 pub mod Waiting
 pub mod Readings

@@ -1,3 +1,4 @@
+pub mod Ascii
 pub mod Cases
 pub mod Meaning
 pub mod Demangler

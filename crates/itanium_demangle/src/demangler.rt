@@ -11,6 +11,7 @@ ghost use Rattle.itanium_reader.specs.Outcome.{state};
 ghost use Rattle.itanium_demangle.specs.Demangler.{IsPrinted, IsPrepared, IsText, answer_text, component_texts, no_run};
 
 use crate::mangled_name::read_mangled_name;
+use crate::utf8::is_utf8;
 use demangle_text::{Buffer, Mark};
 use itanium_grammar::symbol::{after_prefix, suffix};
 use itanium_reader::{Reader, Stop};
@@ -18,12 +19,12 @@ use itanium_syntax::context::OUTSIDE;
 use std::alloc::{AllocError, Global};
 use std::fmt::{self, Debug, Formatter, Write};
 use std::marker::Model;
-use std::str::{from_utf8, from_utf8_unchecked};
+use std::str::from_utf8_unchecked;
 
 /// Most counted productions that may nest in a symbol: names, types, argument lists, packs, thunks and expressions.
 pub const MAX_DEPTH: usize = 128;
 
-/// Answers symbol after symbol from the same buffers, and keeps the last answer.
+/// Answers symbol after symbol from the same buffer, and keeps the last answer.
 #[derive(Drop)]
 pub struct Demangler {
     // Where there is an answer, it is all of the buffer's main text.
@@ -65,7 +66,7 @@ fn end_answer(reader: &mut Reader, mark: Mark) -> Result<bool, AllocError>
     ensures entered { reader.new.entered ≡ reader.old.entered }
     ensures most_saved { reader.new.most_saved ≡ reader.old.most_saved }
 {
-    if from_utf8(reader.buffer.bytes(reader.found)).is_err() {
+    if !is_utf8(reader.buffer.bytes(reader.found)) {
         return Ok(false);
     }
     let printed = reader.buffer.plain(reader.found);

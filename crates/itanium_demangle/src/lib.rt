@@ -24,13 +24,14 @@
 //! }
 //! ```
 //!
-//! The answer is lent until the next call. Keep one value for symbol after symbol: it keeps its buffers. What an answer
+//! The answer is lent until the next call. Keep one value for symbol after symbol: it keeps its buffer. What an answer
 //! is, `itanium_grammar` defines.
 #![tactic(auto)]
 
 mod demangler;
 pub mod laws;
 mod mangled_name;
+mod utf8;
 
 pub use crate::demangler::{Demangler, MAX_DEPTH, demangle_owned};
 pub use itanium_syntax::scalar;

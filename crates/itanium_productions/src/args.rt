@@ -49,9 +49,8 @@ pub(crate) fn read_args(
             ArgsCase::NextArgument => {
                 list = reader.separate_list(list, first)?;
                 framed_argument(reader, depth - 1, context)?;
-                let argument = reader.found;
-                reader.put(opens, scopes, argument)?;
-                list = list_next(&mut reader.buffer, list, argument)?;
+                reader.put_found(opens, scopes)?;
+                list = list_next(&mut reader.buffer, list, reader.found)?;
                 first = false;
             }
         }
@@ -76,7 +75,7 @@ pub(crate) fn framed_args(
 {
     let mark = reader.buffer.open();
     read_args(reader, depth, context, of_name)?;
-    reader.found = reader.buffer.close(mark, reader.found)?;
+    reader.buffer.close_in_place(mark, &mut reader.found)?;
     Ok(())
 }
 
@@ -201,6 +200,6 @@ pub(crate) fn framed_argument(
 {
     let mark = reader.buffer.open();
     read_argument(reader, depth, context)?;
-    reader.found = reader.buffer.close(mark, reader.found)?;
+    reader.buffer.close_in_place(mark, &mut reader.found)?;
     Ok(())
 }

@@ -35,7 +35,7 @@ pub(crate) fn framed_bare_name(
 {
     let mark = reader.buffer.open();
     let quals = read_bare_name(reader, depth, context)?;
-    reader.found = reader.buffer.close(mark, reader.found)?;
+    reader.buffer.close_in_place(mark, &mut reader.found)?;
     Ok(quals)
 }
 

@@ -268,7 +268,7 @@ pub(crate) fn framed_operand(
 {
     let mark = reader.buffer.open();
     read_operand(reader, depth, context)?;
-    reader.found = reader.buffer.close(mark, reader.found)?;
+    reader.buffer.close_in_place(mark, &mut reader.found)?;
     Ok(())
 }
 
@@ -288,6 +288,6 @@ pub(crate) fn framed_expression(
 {
     let mark = reader.buffer.open();
     read_expression(reader, depth, context)?;
-    reader.found = reader.buffer.close(mark, reader.found)?;
+    reader.buffer.close_in_place(mark, &mut reader.found)?;
     Ok(())
 }

@@ -95,7 +95,7 @@ pub(crate) fn framed_free_name(
     let mark = reader.buffer.open();
     read_free_name(reader, depth, context)?;
     reader.read_tags(reader.found)?;
-    reader.found = reader.buffer.close(mark, reader.found)?;
+    reader.buffer.close_in_place(mark, &mut reader.found)?;
     Ok(())
 }
 
@@ -404,6 +404,6 @@ pub(crate) fn framed_name(reader: &mut Reader, depth: usize, context: Context) -
 {
     let mark = reader.buffer.open();
     read_name(reader, depth, context)?;
-    reader.found = reader.buffer.close(mark, reader.found)?;
+    reader.buffer.close_in_place(mark, &mut reader.found)?;
     Ok(())
 }

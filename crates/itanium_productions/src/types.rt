@@ -275,7 +275,7 @@ pub(crate) fn framed_type(reader: &mut Reader, depth: usize, context: Context) -
 {
     let mark = reader.buffer.open();
     read_type(reader, depth, context)?;
-    reader.found = reader.buffer.close(mark, reader.found)?;
+    reader.buffer.close_in_place(mark, &mut reader.found)?;
     Ok(())
 }
 

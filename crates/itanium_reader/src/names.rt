@@ -140,7 +140,7 @@ impl<'a> Reader<'a> {
         let mark = self.buffer.open();
         self.read_source()?;
         self.read_tags(self.found)?;
-        self.found = self.buffer.close(mark, self.found)?;
+        self.buffer.close_in_place(mark, &mut self.found)?;
         Ok(())
     }
 
@@ -257,9 +257,14 @@ impl<'a> Reader<'a> {
         ensures state { OnOk result (state self.new ≡ state self.old) }
         ensures run { OnOk result (IsRun self.old.buffer.value self.new.buffer.value) }
     {
-        if quals.is_set() {
-            self.found = apply_name_qualifiers(&mut self.buffer, self.found, quals, shown)?;
+        if !quals.is_set() {
+            return Ok(());
         }
+        if !shown && quals.reference.is_none() {
+            self.found = self.buffer.plain(self.found);
+            return Ok(());
+        }
+        self.found = apply_name_qualifiers(&mut self.buffer, self.found, quals, shown)?;
         Ok(())
     }
 

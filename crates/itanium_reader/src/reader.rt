@@ -56,6 +56,7 @@ impl<'a> Reader<'a> {
     }
 
     /// Goes past n bytes, or to the end.
+    #[inline(always)]
     pub fn skip(&mut self, n: usize)
         ensures state { state self.new ≡ spec.skip n (state self.old) }
         ensures found { self.new.found ≡ self.old.found }
@@ -260,19 +261,22 @@ impl<'a> Reader<'a> {
         Ok(())
     }
 
-    /// Drops the scopes past the first n, which an argument opened, and puts it into the scope that its list opened.
-    pub fn put(&mut self, opens: bool, n: usize, piece: Piece) -> Result<(), AllocError>
-        requires living { IsLiving self.old.buffer.value piece }
+    /// Drops the scopes past the first n, which an argument opened, and puts what was found into the scope that its
+    /// list opened.
+    #[inline(always)]
+    pub fn put_found(&mut self, opens: bool, n: usize) -> Result<(), AllocError>
+        requires living { IsLiving self.old.buffer.value self.old.found }
         requires scopes { n ≤ length (scopes self.old.buffer.value) }
         requires opened { opens ≡ true → 0 < n }
         ensures state { OnOk result (state self.new ≡ spec.put opens n
-            (shape self.old.buffer.value piece) (state self.old)) }
+            (shape self.old.buffer.value self.old.found) (state self.old)) }
         ensures stand { OnOk result (length (scopes self.new.buffer.value) ≡ n) }
+        ensures found { OnOk result (self.new.found ≡ self.old.found) }
         ensures kept { OnOk result (SameFrame self.old.buffer.value self.new.buffer.value) }
     {
         self.buffer.keep_scopes(n);
         if opens {
-            self.buffer.push_arg(piece)?;
+            self.buffer.push_arg(self.found)?;
         }
         Ok(())
     }

@@ -253,6 +253,14 @@ pub fn source_text(name: &[u8]) -> &[u8]
     }
 }
 
+/// `const` alone.
+const CONSTANT: Quals = Quals {
+    constant: true,
+    volatile: false,
+    restrict: false,
+    reference: None,
+};
+
 /// The qualifiers of a `<nested-name>`, and what follows them: `H`, which says none, or `<CV-qualifiers>` and a
 /// `<ref-qualifier>`.
 pub fn name_quals(bytes: &[u8]) -> (Quals, &[u8])
@@ -262,7 +270,11 @@ pub fn name_quals(bytes: &[u8]) -> (Quals, &[u8])
 {
     match bytes {
         [b'H', rest @ ..] => (Quals::none(), rest),
-        [b'r' | b'V' | b'K' | b'R' | b'O', ..] => written_quals(bytes),
+        [b'K', rest @ ..] => match rest {
+            [b'R' | b'O', ..] => written_quals(bytes),
+            _ => (CONSTANT, rest),
+        },
+        [b'r' | b'V' | b'R' | b'O', ..] => written_quals(bytes),
         _ => (Quals::none(), bytes),
     }
 }

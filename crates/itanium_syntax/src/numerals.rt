@@ -1,5 +1,6 @@
 //! Digits, and the numbers and indices that are written with them (Itanium C++ ABI 5.1.2).
-ghost use Rattle.std.specs.Prelude.{◌≡◌, ◌<◌, ◌≤◌, ◌+◌, ◌*◌, ◌^◌, SomeIff, IfSome, option_map, length, drop};
+ghost use Rattle.std.specs.Prelude.{◌≡◌, ◌<◌, ◌≤◌, ◌+◌, ◌*◌, ◌^◌, SomeIff, IfSome, option_map, length, drop, codes, false};
+ghost use Rattle.itanium_syntax.specs.Bytes.{begins};
 ghost use Rattle.itanium_syntax.specs.Scalars as spec;
 
 /// The digits that a numeral is written in.
@@ -10,6 +11,7 @@ pub enum Radix {
 }
 
 /// What a byte is worth as a digit.
+#[inline(always)]
 fn digit(radix: Radix, byte: u8) -> Option<u64>
     ensures value { result ≡ spec.digit_of radix byte }
 {
@@ -38,6 +40,7 @@ fn with_digit(value: u64, base: u64, worth: u64) -> Option<u64>
 }
 
 /// The number that the digits in front write, and how many digits there are.
+#[inline(never)]
 pub fn numeral(radix: Radix, bytes: &[u8]) -> Option<(u64, usize)>
     ensures value { option_map (λ found. (found.0, drop found.1 bytes.now)) result ≡ spec.numeral radix bytes.now }
     ensures taken { IfSome result (λ found. 0 < found.1) }
@@ -59,15 +62,60 @@ pub fn numeral(radix: Radix, bytes: &[u8]) -> Option<(u64, usize)>
     Some((value, count))
 }
 
+/// The number that the decimal digits in front write, and how many digits there are: one digit or two, or more by the
+/// general way.
+#[tactic(auto, unfolding(crate::specs::Scalars::front_digits, crate::specs::Scalars::weighted))]
+#[inline(always)]
+pub fn short_numeral(bytes: &[u8]) -> Option<(u64, usize)>
+    ensures value { option_map (λ found. (found.0, drop found.1 bytes.now)) result
+        ≡ spec.numeral Radix.Decimal bytes.now }
+    ensures taken { IfSome result (λ found. 0 < found.1) }
+    ensures within { IfSome result (λ found. found.1 ≤ length bytes.now) }
+{
+    let [first, rest @ ..] = bytes else {
+        return None;
+    };
+    let Some(tens) = digit(Radix::Decimal, *first) else {
+        return None;
+    };
+    let [second, rest @ ..] = rest else {
+        return Some((tens, 1));
+    };
+    let Some(ones) = digit(Radix::Decimal, *second) else {
+        return Some((tens, 1));
+    };
+    if let [b'0'..=b'9', ..] = rest {
+        return numeral(Radix::Decimal, bytes);
+    }
+    Some((tens * 10 + ones, 2))
+}
+
 /// `[<numeral>] _`: 0 where the numeral is left out, else the number that follows it, and what is after the `_`.
-#[tactic(auto, unfolding(crate::specs::Scalars::index_of))]
+#[tactic(auto, unfolding(
+// The index, and the digits that write it.
+crate::specs::Scalars::index_of, crate::specs::Scalars::front_digits, crate::specs::Scalars::weighted))]
 pub fn index_of(radix: Radix, bytes: &[u8]) -> Option<(usize, &[u8])>
     ensures value { option_map (λ found. (found.0, found.1.now)) result ≡ spec.index_of radix bytes.now }
     ensures shorter { IfSome result (λ found. length found.1.now < length bytes.now) }
 {
-    if let [b'_', rest @ ..] = bytes {
-        return Some((0, rest));
+    match bytes {
+        [b'_', rest @ ..] => Some((0, rest)),
+        [byte, b'_', rest @ ..] => match digit(radix, *byte) {
+            Some(worth) => Some((worth as usize + 1, rest)),
+            None => None,
+        },
+        _ => long_index(radix, bytes),
     }
+}
+
+/// The same of any number of digits.
+#[inline(never)]
+#[tactic(auto, unfolding(crate::specs::Scalars::index_of))]
+fn long_index(radix: Radix, bytes: &[u8]) -> Option<(usize, &[u8])>
+    requires written { begins (codes "_") bytes.now ≡ false }
+    ensures value { option_map (λ found. (found.0, found.1.now)) result ≡ spec.index_of radix bytes.now }
+    ensures shorter { IfSome result (λ found. length found.1.now < length bytes.now) }
+{
     let Some((value, count)) = numeral(radix, bytes) else {
         return None;
     };

@@ -5,7 +5,7 @@ ghost use Rattle.itanium_syntax.specs.Scalars as spec;
 ghost use Rattle.itanium_syntax.specs.Offsets as offset_spec;
 
 pub use crate::expressions::expression_refused;
-use crate::numerals::{Radix, numeral};
+use crate::numerals::{Radix, numeral, short_numeral};
 use crate::offsets::offset_here;
 pub use crate::offsets::{CallOffset, Signed};
 pub use crate::operators::{operator_arity, operator_text};
@@ -13,6 +13,7 @@ pub use crate::operators::{operator_arity, operator_text};
 /// `<number>` without a sign: as many decimal digits as stand at `pos`, at least one. The value, and the place after
 /// the digits, in bytes; `None` where no digit stands there or the value is past 2^64 - 1. (Itanium C++ ABI 5.1.2,
 /// "General Structure")
+#[inline(always)]
 #[tactic(auto, using(crate::proofs::Digits::dropped), unfolding(crate::specs::Scalars::number))]
 pub fn number(input: &[u8], pos: usize) -> Option<(u64, usize)>
     requires place { pos ≤ length input.now }
@@ -21,7 +22,7 @@ pub fn number(input: &[u8], pos: usize) -> Option<(u64, usize)>
     ensures after { IfSome result (λ found. pos < found.1) }
     ensures within { IfSome result (λ found. found.1 ≤ length input.now) }
 {
-    match numeral(Radix::Decimal, &input[pos..]) {
+    match short_numeral(&input[pos..]) {
         Some((value, count)) => Some((value, pos + count)),
         None => None,
     }
@@ -47,6 +48,7 @@ pub fn sequence_id(input: &[u8], pos: usize) -> Option<(u64, usize)>
 /// `<source-name> ::= <positive length number> <identifier>`: the place of the identifier's first byte, and the place
 /// after its last, in bytes. `None` where no number stands at `pos`, it is 0 or past 2^64 - 1, or fewer bytes follow
 /// it. (Itanium C++ ABI 5.1.2, "General Structure")
+#[inline(always)]
 #[tactic(auto, using(crate::proofs::Digits::dropped), unfolding(crate::specs::Scalars::source_name))]
 pub fn source_name(input: &[u8], pos: usize) -> Option<(usize, usize)>
     requires place { pos ≤ length input.now }

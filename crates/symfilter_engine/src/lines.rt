@@ -70,6 +70,7 @@ fn as_text(bytes: &[u8], known_utf8: bool) -> Option<&str>
 
 /// What is written for a line without its line feed: its answer, or the line itself where it has none or isn't UTF-8.
 /// `known_utf8` says that it is UTF-8.
+#[inline(always)]
 fn line_answer<'a>(
     alloc: Global,
     demangler: &'a mut Demangler,

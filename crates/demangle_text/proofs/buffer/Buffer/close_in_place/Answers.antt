@@ -1,0 +1,21 @@
+use Rattle.std.proofs.Common.{ℕ, List, ◌++◌, take, ap, sym, ◌∙◌, subst, length}
+use Rattle.demangle_text.specs.Pieces.{Store, IsAt}
+use Rattle.demangle_text.specs.State.{main_bytes, frame_start, inside, Frame}
+use Rattle.demangle_text.proofs.States.{text_is}
+use Rattle.demangle_text.proofs.Tails.{Lives-settled}
+use Rattle.demangle_text.proofs.buffer.Buffer.close_in_place.Goals as goal
+
+pub returns-clause-main : goal.returns-clause-main
+unfolding main_bytes frame_start inside Frame
+returns-clause-main c =
+    ap (λ (b : Store). b.main_text) c.self.view_is ∙ c.in_ok-settle.ensures.main
+    ∙ ap (λ (v : List ℕ). take c.args.mark.inside_main c.args.self.now.main_text ++ v) (sym (text_is c.args.self.now c.args.piece.now c.requires.living))
+
+pub returns-clause-shape : goal.returns-clause-shape
+returns-clause-shape c =
+    let at = c.args.mark.inside_main in
+    let main = ap (λ (b : Store). b.main_text) c.self.view_is in
+    let q = c.settle.new.piece in
+    Lives-settled c.args.self.now _ c.args.piece.now q at c.requires.living c.in_ok-settle.ensures.within
+    (main ∙ c.in_ok-settle.ensures.main)
+    (subst (IsAt q at) (sym (ap length main)) c.in_ok-settle.ensures.stands) c.in_ok-settle.ensures.marks

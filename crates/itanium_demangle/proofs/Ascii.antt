@@ -1,0 +1,36 @@
+-- Bytes that are ASCII, place by place.
+use Rattle.std.proofs.Common.{ℕ, ◌≡◌, ◌+◌, ◌-◌, ◌%◌, ◌^◌, ◌<◌, ◌≤◌, List, length, get_or, map, inl, inr, arith, ap, ◌∙◌, false, ltb, cond, w8}
+use lib.ListN.{replicate}
+use lib.Lanes.{zip2, mask_l, top}
+use mir.Val.{bits, hbits}
+use Rattle.std.proofs.lemmas.Simd.{tops_compared, zip2_splat_left, mask_l-mod}
+use Rattle.std.proofs.lemmas.Bool.{cases_lt, ltb-false}
+use Rattle.std.proofs.lemmas.List.{get_or_past, length-map}
+use Rattle.std.proofs.lemmas.Str.{IsUtf8-from_ascii}
+use Rattle.std.specs.Str.{IsUtf8}
+use Rattle.itanium_demangle.specs.Ascii.{AreAscii}
+
+-- which lanes are greater than the last one
+pub mask_of : (lanes : List ℕ) → length lanes ≡ 16
+    → mask_l (map (top (hbits w8)) (zip2 (λ a b. cond (ltb a b) (2 ^ bits w8 - 1) 0) (replicate 16 127) lanes)) % 2 ^ 64 ≡ mask_l (map (λ byte. ltb 127 byte) lanes)
+mask_of lanes long =
+    ap (λ ms. mask_l ms % 2 ^ 64) (tops_compared w8 ltb (replicate 16 127) lanes ∙ zip2_splat_left ltb 127 16 lanes long)
+    ∙ mask_l-mod (map (λ byte. ltb 127 byte) lanes) 64 (omega (arith, length-map lanes (λ byte. ltb 127 byte)))
+
+-- none is greater than the last one
+pub low_from : (bytes : List ℕ) (from to : ℕ) → ((i : ℕ) → from ≤ i → i < to → ltb 127 (get_or bytes i 0) ≡ false) → AreAscii bytes from to
+low_from bytes from to each i above below = omega (arith, ltb-false 127 (get_or bytes i 0) (each i above below))
+
+-- those of two stretches that meet or overlap
+pub both_ascii : (bytes : List ℕ) (from middle to : ℕ) → from ≤ middle → AreAscii bytes 0 middle → AreAscii bytes from to → AreAscii bytes 0 to
+both_ascii bytes from middle to meet low high i above below = elim (cases_lt i middle) [
+  | inl one ↦ low i above one
+  | inr two ↦ high i (omega (arith, meet, two)) below
+]
+
+-- they are UTF-8
+pub ascii_utf8 : (bytes : List ℕ) → AreAscii bytes 0 (length bytes) → IsUtf8 bytes
+ascii_utf8 bytes all = IsUtf8-from_ascii bytes (λ i. elim (cases_lt i (length bytes)) [
+  | inl one ↦ all i (omega arith) one
+  | inr two ↦ omega (arith, get_or_past bytes i 0 two)
+])

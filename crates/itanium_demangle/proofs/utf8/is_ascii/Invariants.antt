@@ -1,0 +1,14 @@
+use Rattle.std.proofs.Common.{◌-◌, ◌<◌, ◌≤◌, length}
+use Rattle.itanium_demangle.specs.Ascii.{AreAscii}
+use Rattle.itanium_demangle.proofs.utf8.is_ascii.Given as goal
+
+abbrev pub invariant-loop-at : goal.invariant-loop-at
+invariant-loop-at l =
+    record {
+      inside : l.at ≤ length l.bytes;
+      some : 0 < l.at → 16 ≤ l.at;
+      low : AreAscii l.bytes 0 l.at;
+    }
+
+abbrev pub decreases-loop-at : goal.decreases-loop-at
+decreases-loop-at l = length l.bytes - l.at
