@@ -171,6 +171,20 @@ impl Buffer {
         if !piece.is_aside() && piece.from_byte == at && piece.to_byte == len {
             return Ok(());
         }
+        self.settle_elsewhere(at, piece)
+    }
+
+    // The same of a piece that stands elsewhere.
+    #[inline(always)]
+    fn settle_elsewhere(&mut self, at: usize, piece: &mut Piece) -> Result<(), AllocError>
+        requires mark { self.old.frame_main ≡ at }
+        requires living { IsLiving self.old piece.old }
+        ensures edit { OnOk result (IsEdit self.old self.new) }
+        ensures main { OnOk result (self.new.main_text ≡ take at self.old.main_text
+            ++ piece_text self.old.main_text self.old.side_text piece.old) }
+        ensures stands { OnOk result (IsAt piece.new at (length self.new.main_text)) }
+        ensures marks { OnOk result (marks_of piece.new ≡ marks_of piece.old) }
+    {
         self.move_down(at, piece.bare())?;
         *piece = piece.moved_to(at, self.main.len());
         Ok(())
@@ -355,9 +369,48 @@ impl Buffer {
             return Ok(piece.from_byte);
         }
         if at == piece.text_len() {
-            return self.extend_copy(piece.bare(), bytes, b"");
+            return self.extend_elsewhere(piece, bytes, b"");
         }
-        self.splice_copy(piece.bare(), at, b"", bytes, b"")
+        self.splice_elsewhere(piece, at, b"", bytes, b"")
+    }
+
+    // `extend_copy` of a bare piece. It is inlined, so that the bare piece is made on this way alone.
+    #[inline(always)]
+    fn extend_elsewhere(
+        &mut self,
+        piece: Piece,
+        first: &[u8],
+        second: &[u8],
+    ) -> Result<usize, AllocError>
+        requires living { IsLiving self.old piece }
+        requires apart { IsTail self.old piece → ⊥ }
+        ensures splice { IfOk result (IsSplice self.old self.new piece (piece.to_byte - piece.from_byte)
+            (first.now ++ second.now)) }
+        ensures kept { KeepsAll self.old self.new }
+        ensures main_err { OnErr result (self.new.main_text ≡ self.old.main_text) }
+    {
+        self.extend_copy(piece.bare(), first, second)
+    }
+
+    // `splice_copy` of a bare piece, inlined as well.
+    #[inline(always)]
+    fn splice_elsewhere(
+        &mut self,
+        piece: Piece,
+        at: usize,
+        front: &[u8],
+        bytes: &[u8],
+        back: &[u8],
+    ) -> Result<usize, AllocError>
+        requires living { IsLiving self.old piece }
+        requires within { at ≤ piece.to_byte - piece.from_byte }
+        requires apart { IsTail self.old piece → ⊥ }
+        ensures splice { IfOk result (IsSplice self.old self.new piece at
+            (front.now ++ (bytes.now ++ back.now))) }
+        ensures kept { KeepsAll self.old self.new }
+        ensures main_err { OnErr result (self.new.main_text ≡ self.old.main_text) }
+    {
+        self.splice_copy(piece.bare(), at, front, bytes, back)
     }
 
     // The text of a piece that doesn't stand at the end, with both texts after it, at the end of the main text: where
@@ -464,7 +517,7 @@ impl Buffer {
             self.add_pair(first, second)?;
             return Ok(piece.from_byte);
         }
-        self.extend_copy(piece.bare(), first, second)
+        self.extend_elsewhere(piece, first, second)
     }
 
     // Two texts at the end of the main text.
@@ -592,7 +645,7 @@ impl Buffer {
             self.insert_three(piece.from_byte + at, front, bytes, back)?;
             return Ok(piece.from_byte);
         }
-        self.splice_copy(piece.bare(), at, front, bytes, back)
+        self.splice_elsewhere(piece, at, front, bytes, back)
     }
 
     // Three texts at a place of the main text since the innermost mark: what lies after it moves on.
@@ -680,6 +733,20 @@ impl Buffer {
             self.insert_at(second.from_byte, bytes)?;
             return Ok(first.from_byte);
         }
+        self.join_apart(first, bytes, second)
+    }
+
+    // `join_elsewhere` of bare pieces, inlined as well.
+    #[inline(always)]
+    fn join_apart(&mut self, first: Piece, bytes: &[u8], second: Piece) -> Result<usize, AllocError>
+        requires first_living { IsLiving self.old first }
+        requires second_living { IsLiving self.old second }
+        requires apart { IsAdjacent self.old first second → ⊥ }
+        ensures joint { IfOk result (IsJoint self.old self.new first bytes.now second) }
+        ensures edit { OnOk result (IsEdit self.old self.new) }
+        ensures err { OnErr result (KeepsAll self.old self.new) }
+        ensures main_err { OnErr result (self.new.main_text ≡ self.old.main_text) }
+    {
         self.join_elsewhere(first.bare(), bytes, second.bare())
     }
 

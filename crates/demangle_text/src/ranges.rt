@@ -133,7 +133,7 @@ impl Ranges {
         ensures err { OnErr result (self.new ≡ self.old) }
     {
         if self.count == self.pieces.len() {
-            more(&mut self.pieces, piece)?;
+            more(&mut self.pieces)?;
         }
         self.pieces[self.count] = piece;
         self.count += 1;
@@ -155,10 +155,10 @@ fn reached(end: usize, piece: Piece) -> usize
     }
 }
 
-// More room, filled up with a piece.
+// More room, filled up with pieces of no bytes.
 #[cold]
 #[inline(never)]
-fn more(pieces: &mut Vec<Piece>, piece: Piece) -> Result<(), AllocError>
+fn more(pieces: &mut Vec<Piece>) -> Result<(), AllocError>
     ensures front { take (length pieces.old.items) pieces.new.items ≡ pieces.old.items }
     ensures within { length pieces.old.items ≤ length pieces.new.items }
     ensures room { OnOk result (length pieces.old.items < length pieces.new.items) }
@@ -166,5 +166,5 @@ fn more(pieces: &mut Vec<Piece>, piece: Piece) -> Result<(), AllocError>
     let Some(want) = pieces.len().checked_mul(2) else {
         return Err(AllocError);
     };
-    pieces.resize(want.max(FIRST_ROOM), piece)
+    pieces.resize(want.max(FIRST_ROOM), Piece::whole_at(0, 0))
 }

@@ -18,8 +18,8 @@ use itanium_syntax::context::Context;
 use itanium_syntax::encodings::shows_words;
 use itanium_syntax::names::{
     ComponentCase, FirstCase, FreeCase, NameCase, UnqualifiedCase, UnscopedCase, begins_source,
-    component_case, first_case, free_case, name_case, name_quals, past_internal, saves_first,
-    unqualified_case, unscoped_case,
+    component_case, first_case, free_case, name_case, name_quals, past_internal,
+    past_name_quals, saves_first, unqualified_case, unscoped_case,
 };
 
 /// `<closure-type-name> ::= Ul <lambda-sig> E [<nonnegative number>] _`, after its `Ul`.
@@ -173,6 +173,26 @@ pub(crate) fn read_component(
     if begins_source(reader.rest) {
         return reader.read_source_component();
     }
+    read_other_component(reader, depth, context)
+}
+
+/// The same where no `<source-name>` is next.
+#[tactic(auto, using(itanium_reader::proofs::Rules::components))]
+#[cycle(reader)]
+pub(crate) fn read_other_component(
+    reader: &mut Reader,
+    depth: usize,
+    context: Context,
+) -> Result<(), Stop>
+    requires room { HasRoom 0 (state reader.old) }
+    requires living { IsLiving reader.old.buffer.value reader.old.found }
+    ensures reads { Gives result reader.new
+        (spec.parse_unqualified (spec.parse_type depth context) (spec.parse_type depth (inside_lambda context))
+        (Some (shape reader.old.buffer.value reader.old.found)) (state reader.old)) }
+    ensures run { OnOk result (IsRun reader.old.buffer.value reader.new.buffer.value) }
+    ensures bounds { Bounds 2 result (state reader.old) (state reader.new) }
+    ensures saved { SavedBounds 1 result (state reader.old) (state reader.new) }
+{
     read_unqualified(reader, depth, context, Some(reader.found))
 }
 
@@ -224,8 +244,8 @@ pub(crate) fn read_nested(
     ensures bounds { Bounds 1 result (state reader.old) (state reader.new) }
     ensures saved { SavedBounds 1 result (state reader.old) (state reader.new) }
 {
-    let (quals, rest) = name_quals(reader.rest);
-    reader.rest = rest;
+    let quals = name_quals(reader.rest);
+    reader.rest = past_name_quals(reader.rest);
     let takes = saves_first(first_case(reader.rest));
     read_first(reader, depth, context)?;
     reader.skip_initializer();

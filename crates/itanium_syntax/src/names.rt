@@ -261,33 +261,58 @@ const CONSTANT: Quals = Quals {
     reference: None,
 };
 
-/// The qualifiers of a `<nested-name>`, and what follows them: `H`, which says none, or `<CV-qualifiers>` and a
-/// `<ref-qualifier>`.
-pub fn name_quals(bytes: &[u8]) -> (Quals, &[u8])
-    ensures quals { result.0 ≡ spec.name_quals bytes.now }
-    ensures rest { result.1.now ≡ spec.past_name_quals bytes.now }
-    ensures within { length result.1.now ≤ length bytes.now }
+/// The qualifiers of a `<nested-name>`: `H`, which says none, or `<CV-qualifiers>` and a `<ref-qualifier>`.
+#[inline(always)]
+pub fn name_quals(bytes: &[u8]) -> Quals
+    ensures value { result ≡ spec.name_quals bytes.now }
 {
     match bytes {
-        [b'H', rest @ ..] => (Quals::none(), rest),
+        [b'H', ..] => Quals::none(),
         [b'K', rest @ ..] => match rest {
             [b'R' | b'O', ..] => written_quals(bytes),
-            _ => (CONSTANT, rest),
+            _ => CONSTANT,
         },
         [b'r' | b'V' | b'R' | b'O', ..] => written_quals(bytes),
-        _ => (Quals::none(), bytes),
+        _ => Quals::none(),
     }
 }
 
-/// The qualifiers that stand in front, where no `H` does, and what is after them.
+/// What follows the qualifiers of a `<nested-name>`.
+#[inline(always)]
+pub fn past_name_quals(bytes: &[u8]) -> &[u8]
+    ensures value { result.now ≡ spec.past_name_quals bytes.now }
+    ensures within { length result.now ≤ length bytes.now }
+{
+    match bytes {
+        [b'H', rest @ ..] => rest,
+        [b'K', rest @ ..] => match rest {
+            [b'R' | b'O', ..] => past_written_quals(bytes),
+            _ => rest,
+        },
+        [b'r' | b'V' | b'R' | b'O', ..] => past_written_quals(bytes),
+        _ => bytes,
+    }
+}
+
+/// The qualifiers that stand in front, where no `H` does.
 #[inline(never)]
-fn written_quals(bytes: &[u8]) -> (Quals, &[u8])
+fn written_quals(bytes: &[u8]) -> Quals
     requires written { begins (codes "H") bytes.now ≡ false }
-    ensures quals { result.0 ≡ spec.name_quals bytes.now }
-    ensures rest { result.1.now ≡ spec.past_name_quals bytes.now }
-    ensures within { length result.1.now ≤ length bytes.now }
+    ensures value { result ≡ spec.name_quals bytes.now }
 {
     let (words, rest) = cv_quals(bytes);
     let (reference, rest) = ref_qualifier(rest);
-    (Quals { reference, ..words }, rest)
+    Quals { reference, ..words }
+}
+
+/// What follows the qualifiers that stand in front, where no `H` does.
+#[inline(never)]
+fn past_written_quals(bytes: &[u8]) -> &[u8]
+    requires written { begins (codes "H") bytes.now ≡ false }
+    ensures value { result.now ≡ spec.past_name_quals bytes.now }
+    ensures within { length result.now ≤ length bytes.now }
+{
+    let (words, rest) = cv_quals(bytes);
+    let (reference, rest) = ref_qualifier(rest);
+    rest
 }

@@ -85,9 +85,23 @@ pub fn short_numeral(bytes: &[u8]) -> Option<(u64, usize)>
         return Some((tens, 1));
     };
     if let [b'0'..=b'9', ..] = rest {
-        return numeral(Radix::Decimal, bytes);
+        return long_numeral(bytes);
     }
     Some((tens * 10 + ones, 2))
+}
+
+/// `numeral` of decimal digits. It is inlined, so that the answer goes through memory on this way alone.
+#[inline(always)]
+fn long_numeral(bytes: &[u8]) -> Option<(u64, usize)>
+    ensures value { option_map (λ found. (found.0, drop found.1 bytes.now)) result
+        ≡ spec.numeral Radix.Decimal bytes.now }
+    ensures taken { IfSome result (λ found. 0 < found.1) }
+    ensures within { IfSome result (λ found. found.1 ≤ length bytes.now) }
+{
+    match numeral(Radix::Decimal, bytes) {
+        Some((value, count)) => Some((value, count)),
+        None => None,
+    }
 }
 
 /// `[<numeral>] _`: 0 where the numeral is left out, else the number that follows it, and what is after the `_`.

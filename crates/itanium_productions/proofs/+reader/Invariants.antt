@@ -63,13 +63,13 @@ abbrev pub decreases-types::read_type_attached : goal.decreases-types::read_type
 decreases-types::read_type_attached l = 16 * l.depth + 3
 
 abbrev pub decreases-names::read_components : goal.decreases-names::read_components
-decreases-names::read_components l = 16 * l.depth + 9
+decreases-names::read_components l = 16 * l.depth + 10
 
 abbrev pub decreases-names::read_unscoped : goal.decreases-names::read_unscoped
-decreases-names::read_unscoped l = 16 * l.depth + 9
+decreases-names::read_unscoped l = 16 * l.depth + 10
 
 abbrev pub decreases-names::read_nested : goal.decreases-names::read_nested
-decreases-names::read_nested l = 16 * l.depth + 10
+decreases-names::read_nested l = 16 * l.depth + 11
 
 abbrev pub invariant-names::read_components-loop-reader : goal.invariant-names::read_components-loop-reader
 invariant-names::read_components-loop-reader l = record {
@@ -192,7 +192,10 @@ abbrev pub decreases-names::read_outer_name : goal.decreases-names::read_outer_n
 decreases-names::read_outer_name l = 16 * l.depth + 8
 
 abbrev pub decreases-names::read_component : goal.decreases-names::read_component
-decreases-names::read_component l = 16 * l.depth + 8
+decreases-names::read_component l = 16 * l.depth + 9
+
+abbrev pub decreases-names::read_other_component : goal.decreases-names::read_other_component
+decreases-names::read_other_component l = 16 * l.depth + 8
 
 abbrev pub decreases-names::framed_name : goal.decreases-names::framed_name
 decreases-names::framed_name l = 16 * l.depth + 2
