@@ -123,19 +123,19 @@ impl Ranges {
         ensures value { self.new ≡ slice_set self.old i piece }
     {
         self.pieces[i] = piece;
-        self.end = reached(self.end, piece);
+        self.end = reached(self.end, &piece);
     }
 
-    // A piece at the end.
+    // A piece at the end. It is read where it is kept, once there is room.
     #[inline(always)]
-    pub(crate) fn push(&mut self, piece: Piece) -> Result<(), AllocError>
-        ensures ok { OnOk result (self.new ≡ self.old ++ piece ∷ []) }
+    pub(crate) fn push(&mut self, piece: &Piece) -> Result<(), AllocError>
+        ensures ok { OnOk result (self.new ≡ self.old ++ piece.now ∷ []) }
         ensures err { OnErr result (self.new ≡ self.old) }
     {
         if self.count == self.pieces.len() {
             more(&mut self.pieces)?;
         }
-        self.pieces[self.count] = piece;
+        self.pieces[self.count] = *piece;
         self.count += 1;
         self.end = reached(self.end, piece);
         Ok(())
@@ -144,9 +144,9 @@ impl Ranges {
 
 // An end for all that ends by a byte, and for a piece.
 #[inline(always)]
-fn reached(end: usize, piece: Piece) -> usize
+fn reached(end: usize, piece: &Piece) -> usize
     ensures more { end ≤ result }
-    ensures ends { EndsBy result piece }
+    ensures ends { EndsBy result piece.now }
 {
     if !piece.is_aside() && end < piece.to_byte {
         piece.to_byte

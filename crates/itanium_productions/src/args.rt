@@ -186,6 +186,7 @@ pub(crate) fn read_argument(reader: &mut Reader, depth: usize, context: Context)
 /// A `<template-arg>` in a frame of its own: what lived keeps its shape.
 #[tactic(auto, using(itanium_reader::proofs::Rules::buffers))]
 #[cycle(reader)]
+#[inline(always)]
 pub(crate) fn framed_argument(
     reader: &mut Reader,
     depth: usize,

@@ -364,6 +364,7 @@ pub(crate) fn read_unscoped(reader: &mut Reader, depth: usize, context: Context)
 /// `depth` open productions, without its own qualifiers: they are answered.
 #[tactic(auto, using(itanium_reader::proofs::Rules::bare_names))]
 #[cycle(reader)]
+#[inline(always)]
 pub(crate) fn read_bare_name(
     reader: &mut Reader,
     depth: usize,

@@ -80,22 +80,7 @@ impl<'a> Reader<'a> {
         self.rest = past_initializer_letter(self.rest);
     }
 
-    /// Saves a component for substitutions.
-    pub fn save(&mut self, piece: Piece) -> Result<(), AllocError>
-        requires living { IsLiving self.old.buffer.value piece }
-        ensures state { OnOk result (state self.new ≡ spec.save (shape self.old.buffer.value piece) (state self.old)) }
-        ensures found { OnOk result (self.new.found ≡ self.old.found) }
-        ensures longer { OnOk result (length (saved self.new.buffer.value) ≡ length (saved self.old.buffer.value) + 1) }
-        ensures most { OnOk result (self.new.most_saved
-            ≡ max self.old.most_saved (length (saved self.old.buffer.value) + 1)) }
-        ensures kept { OnOk result (SameFrame self.old.buffer.value self.new.buffer.value) }
-    {
-        self.buffer.save(piece)?;
-        self.most_saved = self.most_saved.max(self.buffer.saved_len());
-        Ok(())
-    }
-
-    /// Saves what was found.
+    /// Saves what was found for substitutions.
     pub fn save_found(&mut self) -> Result<(), AllocError>
         requires living { IsLiving self.old.buffer.value self.old.found }
         ensures shape { OnOk result (Lives self.new.buffer.value self.new.found
@@ -107,7 +92,9 @@ impl<'a> Reader<'a> {
             ≡ max self.old.most_saved (length (saved self.old.buffer.value) + 1)) }
         ensures kept { OnOk result (SameFrame self.old.buffer.value self.new.buffer.value) }
     {
-        self.save(self.found)
+        self.buffer.save_in_place(&self.found)?;
+        self.most_saved = self.most_saved.max(self.buffer.saved_len());
+        Ok(())
     }
 
     /// Takes the last saved component back, where it is to be.
@@ -176,8 +163,8 @@ impl<'a> Reader<'a> {
                 let Some(component) = self.buffer.saved(index) else {
                     return Err(Stop::Unread);
                 };
-                self.rest = rest;
                 self.found = component;
+                self.rest = rest;
                 Ok(())
             }
         }
@@ -276,7 +263,7 @@ impl<'a> Reader<'a> {
     {
         self.buffer.keep_scopes(n);
         if opens {
-            self.buffer.push_arg(self.found)?;
+            self.buffer.push_arg_in_place(&self.found)?;
         }
         Ok(())
     }
