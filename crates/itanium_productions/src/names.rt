@@ -254,7 +254,7 @@ pub(crate) fn read_nested(
 }
 
 /// The later components of a `<nested-name>` after what was found, up to its `E`.
-#[tactic(auto, using(itanium_reader::proofs::Rules::buffers))]
+#[tactic(auto, using(itanium_reader::proofs::Rules::components))]
 #[cycle(reader)]
 pub(crate) fn read_components(
     reader: &mut Reader,
@@ -284,14 +284,20 @@ pub(crate) fn read_components(
             }
             ComponentCase::ArgsComponent => {
                 read_attached(reader, depth, context, true)?;
-                reader.save_found()?;
-                reader.skip_initializer();
+                reader.end_component()?;
                 takes = true;
             }
             ComponentCase::NameComponent => {
-                read_component(reader, depth, context)?;
-                reader.save_found()?;
-                reader.skip_initializer();
+                // The two ways don't meet before the next component.
+                if begins_source(reader.rest) {
+                    reader.read_source_component()?;
+                    reader.save_found()?;
+                    reader.skip_initializer();
+                    takes = true;
+                    continue;
+                }
+                read_other_component(reader, depth, context)?;
+                reader.end_component()?;
                 takes = true;
             }
         }

@@ -97,6 +97,26 @@ impl<'a> Reader<'a> {
         Ok(())
     }
 
+    /// Ends a component of a `<nested-name>`: saves what was found, and goes past the `M` of a data member's
+    /// initializer, where one stands.
+    #[inline(never)]
+    pub fn end_component(&mut self) -> Result<(), AllocError>
+        requires living { IsLiving self.old.buffer.value self.old.found }
+        ensures shape { OnOk result (Lives self.new.buffer.value self.new.found
+            (shape self.old.buffer.value self.old.found)) }
+        ensures state { OnOk result (state self.new ≡ spec.past_initializer (spec.save
+            (shape self.old.buffer.value self.old.found) (state self.old))) }
+        ensures within { OnOk result (length self.new.rest.now ≤ length self.old.rest.now) }
+        ensures longer { OnOk result (length (saved self.new.buffer.value) ≡ length (saved self.old.buffer.value) + 1) }
+        ensures most { OnOk result (self.new.most_saved
+            ≡ max self.old.most_saved (length (saved self.old.buffer.value) + 1)) }
+        ensures kept { OnOk result (SameFrame self.old.buffer.value self.new.buffer.value) }
+    {
+        self.save_found()?;
+        self.skip_initializer();
+        Ok(())
+    }
+
     /// Takes the last saved component back, where it is to be.
     pub fn take_back(&mut self, takes: bool)
         requires saved { takes ≡ true → 0 < length (saved self.old.buffer.value) }
