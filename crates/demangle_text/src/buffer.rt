@@ -1042,7 +1042,7 @@ impl Buffer {
         ensures main { main_bytes self.new ≡ main_bytes self.old }
         ensures err { OnErr result (KeepsAll self.old self.new) }
     {
-        self.saved.push(piece)?;
+        self.saved.push(piece, self.main.len())?;
         Ok(())
     }
 
@@ -1115,7 +1115,7 @@ impl Buffer {
         ensures main { main_bytes self.new ≡ main_bytes self.old }
         ensures err { OnErr result (KeepsAll self.old self.new) }
     {
-        self.args.push(piece)?;
+        self.args.push(piece, self.main.len())?;
         Ok(())
     }
 

@@ -126,9 +126,11 @@ impl Ranges {
         self.end = reached(self.end, &piece);
     }
 
-    // A piece at the end. It is read where it is kept, once there is room.
+    // A piece at the end. It is read where it is kept, once there is room. All end by a byte of the main text.
     #[inline(always)]
-    pub(crate) fn push(&mut self, piece: &Piece) -> Result<(), AllocError>
+    pub(crate) fn push(&mut self, piece: &Piece, end: usize) -> Result<(), AllocError>
+        requires ends { All (EndsBy end) self.old }
+        requires last { EndsBy end piece.now }
         ensures ok { OnOk result (self.new ≡ self.old ++ piece.now ∷ []) }
         ensures err { OnErr result (self.new ≡ self.old) }
     {
@@ -137,7 +139,7 @@ impl Ranges {
         }
         self.pieces[self.count] = *piece;
         self.count += 1;
-        self.end = reached(self.end, piece);
+        self.end = end;
         Ok(())
     }
 }
