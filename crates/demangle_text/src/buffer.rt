@@ -251,6 +251,14 @@ impl Buffer {
         Ok(Piece::whole_at(from, self.main.len()))
     }
 
+    /// A plain piece of no bytes, at the start of the main text.
+    #[inline(always)]
+    pub fn empty(&self) -> Piece
+        ensures shape { Lives self.now result (plain_shape []) }
+    {
+        Piece::whole_at(0, 0)
+    }
+
     /// A new piece of the same shape, whose text goes to the end of the main text.
     #[inline(always)]
     pub fn copy(&mut self, piece: Piece) -> Result<Piece, AllocError>

@@ -140,7 +140,7 @@ impl Demangler {
             Some(buffer) => buffer,
             None => Box::new(alloc, Buffer::new(alloc))?,
         };
-        let mut reader = Reader::new(alloc, buffer, inside)?;
+        let mut reader = Reader::new(alloc, buffer, inside);
         let mark = open_mark(&mut reader);
         match read_mangled_name(&mut reader, MAX_DEPTH, OUTSIDE) {
             Ok(()) => {}

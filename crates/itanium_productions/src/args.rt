@@ -108,6 +108,7 @@ pub(crate) fn read_attached(
 /// arguments.
 #[tactic(auto, using(itanium_reader::proofs::Rules::packs))]
 #[cycle(reader)]
+#[inline(never)]
 pub(crate) fn read_pack(reader: &mut Reader, depth: usize, context: Context) -> Result<(), Stop>
     requires room { HasRoom 1 (state reader.old) }
     requires some { 0 < length reader.old.rest.now }
@@ -145,6 +146,7 @@ pub(crate) fn read_pack(reader: &mut Reader, depth: usize, context: Context) -> 
 /// `X <expression> E`
 #[tactic(auto, using(itanium_reader::proofs::Rules::buffers))]
 #[cycle(reader)]
+#[inline(never)]
 pub(crate) fn read_expression_argument(
     reader: &mut Reader,
     depth: usize,
@@ -166,6 +168,7 @@ pub(crate) fn read_expression_argument(
 /// `<template-arg> ::= <type> | X <expression> E | <expr-primary> | J <template-arg>* E`
 #[tactic(auto, using(itanium_reader::proofs::Rules::arguments))]
 #[cycle(reader)]
+#[inline(always)]
 pub(crate) fn read_argument(reader: &mut Reader, depth: usize, context: Context) -> Result<(), Stop>
     requires room { HasRoom 2 (state reader.old) }
     ensures reads { Gives result reader.new

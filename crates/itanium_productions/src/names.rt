@@ -199,6 +199,7 @@ pub(crate) fn read_other_component(
 /// The first component of a `<nested-name>`.
 #[tactic(auto, using(itanium_reader::proofs::Rules::fronts))]
 #[cycle(reader)]
+#[inline(always)]
 pub(crate) fn read_first(reader: &mut Reader, depth: usize, context: Context) -> Result<(), Stop>
     requires room { HasRoom 2 (state reader.old) }
     ensures reads { Gives result reader.new (spec.first_as (first_case reader.old.rest.now)
@@ -230,6 +231,7 @@ pub(crate) fn read_first(reader: &mut Reader, depth: usize, context: Context) ->
 /// qualifiers are answered.
 #[tactic(auto, using(itanium_reader::proofs::Rules::nested_names))]
 #[cycle(reader)]
+#[inline(always)]
 pub(crate) fn read_nested(
     reader: &mut Reader,
     depth: usize,
@@ -256,6 +258,7 @@ pub(crate) fn read_nested(
 /// The later components of a `<nested-name>` after what was found, up to its `E`.
 #[tactic(auto, using(itanium_reader::proofs::Rules::components))]
 #[cycle(reader)]
+#[inline(always)]
 pub(crate) fn read_components(
     reader: &mut Reader,
     depth: usize,

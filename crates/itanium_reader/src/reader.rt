@@ -38,21 +38,22 @@ pub struct Reader<'a> {
 #[tactic(auto, using(crate::proofs::Rules::buffers))]
 impl<'a> Reader<'a> {
     /// A reader at the front of the bytes, over a buffer that is cleared.
-    pub fn new(alloc: Global, buffer: Box<Buffer>, bytes: &'a [u8]) -> Result<Self, AllocError>
-        ensures state { IfOk result (λ reader. state reader ≡ spec.begun bytes.entry.now) }
-        ensures main { IfOk result (λ reader. main_bytes reader.buffer.value ≡ []) }
+    #[inline(always)]
+    pub fn new(alloc: Global, buffer: Box<Buffer>, bytes: &'a [u8]) -> Self
+        ensures state { state result ≡ spec.begun bytes.entry.now }
+        ensures main { main_bytes result.buffer.value ≡ [] }
     {
         let mut buffer = buffer;
         buffer.clear();
-        let found = buffer.push(b"")?;
-        Ok(Reader {
+        let found = buffer.empty();
+        Reader {
             rest: bytes,
             buffer,
             found,
             entered: 0,
             most_saved: 0,
             alloc,
-        })
+        }
     }
 
     /// Goes past n bytes, or to the end.
@@ -147,6 +148,7 @@ impl<'a> Reader<'a> {
     }
 
     /// The name of std that a `<substitution>` stands for.
+    #[inline(never)]
     fn push_abbreviation(&mut self, known: Abbreviation) -> Result<(), AllocError>
         ensures shape { OnOk result (Lives self.new.buffer.value self.new.found (abbreviation_shape known)) }
         ensures state { OnOk result (state self.new ≡ state self.old) }

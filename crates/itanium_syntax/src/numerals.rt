@@ -118,7 +118,20 @@ pub fn index_of(radix: Radix, bytes: &[u8]) -> Option<(usize, &[u8])>
             Some(worth) => Some((worth as usize + 1, rest)),
             None => None,
         },
-        _ => long_index(radix, bytes),
+        _ => wide_index(radix, bytes),
+    }
+}
+
+/// `long_index`. It is inlined, so that the answer goes through memory on this way alone.
+#[inline(always)]
+fn wide_index(radix: Radix, bytes: &[u8]) -> Option<(usize, &[u8])>
+    requires written { begins (codes "_") bytes.now ≡ false }
+    ensures value { option_map (λ found. (found.0, found.1.now)) result ≡ spec.index_of radix bytes.now }
+    ensures shorter { IfSome result (λ found. length found.1.now < length bytes.now) }
+{
+    match long_index(radix, bytes) {
+        Some((index, rest)) => Some((index, rest)),
+        None => None,
     }
 }
 

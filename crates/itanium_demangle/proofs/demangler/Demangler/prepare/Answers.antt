@@ -13,7 +13,7 @@ returns-in-Err-Unread-clause-bounds c =
     let inside = c.in-Some.inside.now in
     let prefix : after_prefix c.args.symbol.now ≡ Some inside = search rules in
     let reader : Reader = c.open_mark-mark.new.reader in
-    let starts : state reader ≡ begun inside = c.open_mark-mark.ensures.state ∙ (c.in_ok-reader.ensures {u = tt}).state in
+    let starts : state reader ≡ begun inside = c.open_mark-mark.ensures.state ∙ c.new-reader.ensures.state in
     let read = c.in-Err-Unread.ensures {u = tt} in
     let kept = c.keep.ensures in
     let is : c.in-Err-Unread.field-0 ≡ Unread = search rules in
@@ -24,7 +24,7 @@ keep-requires-2 c =
     let inside = c.in-Some.inside.now in
     let prefix : after_prefix c.args.symbol.now ≡ Some inside = search rules in
     let reader : Reader = c.open_mark-mark.new.reader in
-    let starts : state reader ≡ begun inside = c.open_mark-mark.ensures.state ∙ (c.in_ok-reader.ensures {u = tt}).state in
+    let starts : state reader ≡ begun inside = c.open_mark-mark.ensures.state ∙ c.new-reader.ensures.state in
     let stands : StandsFor reader (start inside) = stands_at_start reader inside starts in
     let good = suffix_utf8 c.args.symbol.now inside _ _ _ _ c.utf8.symbol prefix ((c.in-Ok.ensures {u = tt}).reading.1 (start inside) stands) in
     record { text = kept_text _ _ c.end_answer.new.reader.buffer c.in_ok-answered.answered (c.in_ok-answered.ensures {u = tt}).answer good }
@@ -34,7 +34,7 @@ returns-clause-answer c =
     let inside = c.in-Some.inside.now in
     let prefix : after_prefix c.args.symbol.now ≡ Some inside = search rules in
     let reader : Reader = c.open_mark-mark.new.reader in
-    let starts : state reader ≡ begun inside = c.open_mark-mark.ensures.state ∙ (c.in_ok-reader.ensures {u = tt}).state in
+    let starts : state reader ≡ begun inside = c.open_mark-mark.ensures.state ∙ c.new-reader.ensures.state in
     let stands : StandsFor reader (start inside) = stands_at_start reader inside starts in
     let kept = c.keep-2.ensures in
     rw kept.text (printed c.args.symbol.now inside _ _ _ _ _ prefix ((c.in-Ok.ensures {u = tt}).reading.1 (start inside) stands) (c.in_ok-answered.ensures {u = tt}).answer)
@@ -45,7 +45,7 @@ returns-clause-counts c =
     let inside = c.in-Some.inside.now in
     let prefix : after_prefix c.args.symbol.now ≡ Some inside = search rules in
     let reader : Reader = c.open_mark-mark.new.reader in
-    let starts : state reader ≡ begun inside = c.open_mark-mark.ensures.state ∙ (c.in_ok-reader.ensures {u = tt}).state in
+    let starts : state reader ≡ begun inside = c.open_mark-mark.ensures.state ∙ c.new-reader.ensures.state in
     let stands : StandsFor reader (start inside) = stands_at_start reader inside starts in
     let kept = c.keep-2.ensures in
     let ended = c.in_ok-answered.ensures {u = tt} in
@@ -57,7 +57,7 @@ returns-clause-components c =
     let inside = c.in-Some.inside.now in
     let prefix : after_prefix c.args.symbol.now ≡ Some inside = search rules in
     let reader : Reader = c.open_mark-mark.new.reader in
-    let starts : state reader ≡ begun inside = c.open_mark-mark.ensures.state ∙ (c.in_ok-reader.ensures {u = tt}).state in
+    let starts : state reader ≡ begun inside = c.open_mark-mark.ensures.state ∙ c.new-reader.ensures.state in
     let stands : StandsFor reader (start inside) = stands_at_start reader inside starts in
     let kept = c.keep-2.ensures in
     let ended = c.in_ok-answered.ensures {u = tt} in
@@ -68,7 +68,7 @@ returns-clause-bounds c =
     let inside = c.in-Some.inside.now in
     let prefix : after_prefix c.args.symbol.now ≡ Some inside = search rules in
     let reader : Reader = c.open_mark-mark.new.reader in
-    let starts : state reader ≡ begun inside = c.open_mark-mark.ensures.state ∙ (c.in_ok-reader.ensures {u = tt}).state in
+    let starts : state reader ≡ begun inside = c.open_mark-mark.ensures.state ∙ c.new-reader.ensures.state in
     let read = c.in-Ok.ensures {u = tt} in
     let kept = c.keep-2.ensures in
     let ended = c.in_ok-answered.ensures {u = tt} in
