@@ -11,6 +11,7 @@ use itanium_syntax::context::Context;
 
 /// `<mangled-name>` after its prefix, within `depth` open productions.
 #[tactic(auto, using(crate::proofs::Rules::readings))]
+#[inline(always)]
 pub(crate) fn read_mangled_name(
     reader: &mut Reader,
     depth: usize,

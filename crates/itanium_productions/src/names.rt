@@ -409,6 +409,7 @@ pub(crate) fn read_bare_name(
 /// `<name>` with its own qualifiers, within `depth` open productions.
 #[tactic(auto, using(itanium_reader::proofs::Rules::names))]
 #[cycle(reader)]
+#[inline(always)]
 pub(crate) fn read_name(reader: &mut Reader, depth: usize, context: Context) -> Result<(), Stop>
     requires room { HasRoom 1 (state reader.old) }
     ensures reads { Gives result reader.new (spec.parse_name depth context (state reader.old)) }

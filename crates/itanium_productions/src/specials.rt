@@ -137,6 +137,7 @@ pub(crate) fn read_thunk(reader: &mut Reader, depth: usize, context: Context) ->
 /// `<special-name>`
 #[tactic(auto, using(itanium_reader::proofs::Rules::specials))]
 #[cycle(reader)]
+#[inline(never)]
 pub(crate) fn read_special(reader: &mut Reader, depth: usize, context: Context) -> Result<(), Stop>
     requires room { HasRoom 1 (state reader.old) }
     ensures reads { Gives result reader.new (spec.parse_special depth context (state reader.old)) }
@@ -158,6 +159,7 @@ pub(crate) fn read_special(reader: &mut Reader, depth: usize, context: Context) 
 /// parameters.
 #[tactic(auto, using(itanium_reader::proofs::Rules::symbols))]
 #[cycle(reader)]
+#[inline(always)]
 pub fn read_symbol(reader: &mut Reader, depth: usize, context: Context) -> Result<(), Stop>
     requires room { HasRoom 1 (state reader.old) }
     ensures reads { Gives result reader.new (spec.parse_symbol depth context (state reader.old)) }
