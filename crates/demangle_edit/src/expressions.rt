@@ -1,5 +1,5 @@
 //! Edits that make literals and operands of expressions (Itanium C++ ABI 5.1, "Expressions").
-ghost use Rattle.std.specs.Prelude.{◌≡◌, IfOk, OnOk};
+ghost use Rattle.std.specs.Prelude.{◌≡◌, codes, IfOk, OnOk};
 ghost use Rattle.demangle_text.specs.Shape.{text, plain_shape, appended, whole_shape};
 ghost use Rattle.demangle_text.specs.State.{IsLiving, shape, Lives, IsEdit, KeepsAll, main_bytes};
 ghost use Rattle.demangle_edit.specs.Answers.{Answers, OnNone};
@@ -128,6 +128,26 @@ fn push_float(buf: &mut Buffer, value: &[u8]) -> Result<Piece, AllocError>
     Ok(buf.whole(closed))
 }
 
+// A literal with its type in parentheses, the first of which is there.
+#[tactic(auto, using(demangle_text::proofs::Laws::laws))]
+fn print_cast(
+    buf: &mut Buffer,
+    paren: Piece,
+    ty: Piece,
+    value: &[u8],
+) -> Result<Piece, AllocError>
+    requires paren { Lives buf.old paren (plain_shape (codes "(")) }
+    requires ty { IsLiving buf.old ty }
+    ensures shape { IfOk result (λ p. Lives buf.new p
+        (plain_shape (spec.literal_text LiteralForm.Cast (text (shape buf.old ty)) value.now))) }
+    ensures edit { OnOk result (IsEdit buf.old buf.new) }
+{
+    let opened = buf.join(paren, b"", ty)?;
+    let closed = buf.append(opened, b")")?;
+    let cast = buf.whole(closed);
+    append_value(buf, cast, value)
+}
+
 // A literal of this form.
 #[tactic(auto, using(demangle_text::proofs::Laws::laws))]
 fn print_literal(
@@ -180,6 +200,32 @@ pub fn write_literal(buf: &mut Buffer, ty: Piece, value: &str) -> Result<Option<
     }
     let literal = print_literal(buf, ty, form, bytes)?;
     Ok(Some(literal))
+}
+
+/// As `write_literal`, where a piece of the text `(` lives: a literal with its type in parentheses begins with it, so
+/// that nothing moves where the text of the type is right after it.
+#[tactic(auto, using(demangle_text::proofs::Laws::laws))]
+pub fn write_opened_literal(
+    buf: &mut Buffer,
+    paren: Piece,
+    ty: Piece,
+    value: &str,
+) -> Result<Option<Piece>, AllocError>
+    requires paren { Lives buf.old paren (plain_shape (codes "(")) }
+    requires ty { IsLiving buf.old ty }
+    ensures shape { Answers result buf.new (spec.literal_step (shape buf.old ty) value.now) }
+    ensures edit { OnOk result (IsEdit buf.old buf.new) }
+    ensures none { OnNone result (KeepsAll buf.old buf.new) }
+    ensures none_main { OnNone result (main_bytes buf.new ≡ main_bytes buf.old) }
+{
+    let bytes = value.as_bytes();
+    match literal_form(buf.bytes(ty), is_minus(bytes)) {
+        LiteralForm::Cast => {
+            let cast = print_cast(buf, paren, ty, bytes)?;
+            Ok(Some(cast))
+        }
+        _ => write_literal(buf, ty, value),
+    }
 }
 
 /// An operand of an expression: where `paren` holds its text in parentheses, as a plain piece whose

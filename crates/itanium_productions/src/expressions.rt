@@ -5,7 +5,7 @@ ghost use Rattle.itanium_reader.specs.Parser as spec;
 ghost use Rattle.itanium_reader.specs.Outcome.{state, Gives, HasRoom, Bounds, SavedBounds};
 
 use crate::encodings::read_encoding;
-use crate::types::read_type;
+use crate::types::{framed_type, read_type};
 use demangle_edit::{address, subexpr};
 use demangle_text::Piece;
 use itanium_reader::{Reader, Stop};
@@ -33,6 +33,12 @@ pub(crate) fn read_primary(reader: &mut Reader, depth: usize, context: Context) 
         }
         LiteralCase::ValueLiteral => {
             reader.skip(1);
+            if let [b'N', ..] = reader.rest {
+                // The enumerators of a class or a namespace have their type in parentheses.
+                let paren = reader.buffer.push(b"(")?;
+                framed_type(reader, depth, context)?;
+                return reader.end_opened_literal(paren);
+            }
             read_type(reader, depth, context)?;
             reader.end_literal()
         }

@@ -1,5 +1,6 @@
 //! Literals, external names and expressions (Itanium C++ ABI 5.1, "Expressions").
-ghost use Rattle.std.specs.Prelude.{◌≡◌, ◌<◌, OnOk};
+ghost use Rattle.std.specs.Prelude.{◌≡◌, ◌<◌, codes, OnOk};
+ghost use Rattle.demangle_text.specs.Shape.{plain_shape};
 ghost use Rattle.demangle_text.specs.State.{IsLiving, Lives, shape, IsRun, SameFrame};
 ghost use Rattle.itanium_grammar.specs.Tree.{pre_shape, post_shape, binary_shape, greater_shape, conditional_shape};
 ghost use Rattle.itanium_reader.specs.Parser as spec;
@@ -7,7 +8,7 @@ ghost use Rattle.itanium_reader.specs.Outcome.{state, Gives, Bounds, SavedBounds
 
 use crate::reader::Reader;
 use crate::stop::Stop;
-use demangle_edit::{Glue, glue, write_literal};
+use demangle_edit::{Glue, glue, write_literal, write_opened_literal};
 use demangle_text::Piece;
 use itanium_syntax::expressions::literal_value;
 use std::alloc::AllocError;
@@ -49,6 +50,27 @@ impl<'a> Reader<'a> {
             return Err(Stop::Unread);
         };
         self.found = literal;
+        self.rest = rest;
+        Ok(())
+    }
+
+    /// The same after a `(` that stands in front of the type, for a literal with its type in parentheses.
+    pub fn end_opened_literal(&mut self, paren: Piece) -> Result<(), Stop>
+        requires paren { Lives self.old.buffer.value paren (plain_shape (codes "(")) }
+        requires living { IsLiving self.old.buffer.value self.old.found }
+        ensures reads { Gives result self.new
+            (spec.literal_end (shape self.old.buffer.value self.old.found) (state self.old)) }
+        ensures run { OnOk result (IsRun self.old.buffer.value self.new.buffer.value) }
+        ensures bounds { Bounds 2 result (state self.old) (state self.new) }
+        ensures saved { SavedBounds 1 result (state self.old) (state self.new) }
+    {
+        let Some((value, rest)) = literal_value(self.rest) else {
+            return Err(Stop::Unread);
+        };
+        let Some(printed) = write_opened_literal(&mut self.buffer, paren, self.found, value)? else {
+            return Err(Stop::Unread);
+        };
+        self.found = printed;
         self.rest = rest;
         Ok(())
     }
