@@ -31,22 +31,22 @@ none_before bytes at inside each =
     subst is_other (sym (get_or-take at bytes k 0 low)) (each k low))
 
 -- lanes that were passed have no line feed
-pub lanes_passed : (bytes : List ℕ) (at count n : ℕ) → at + 16 ≤ length bytes → HasNoLineFeed (take at bytes)
-    → count ≡ prefix_len (λ byte. not (eqb byte line_feed)) (chunk at 16 bytes) → n ≤ count → n ≤ 16 → HasNoLineFeed (take (at + n) bytes)
+pub lanes_passed : (bytes : List ℕ) (at count n : ℕ) → at + 32 ≤ length bytes → HasNoLineFeed (take at bytes)
+    → count ≡ prefix_len (λ byte. not (eqb byte line_feed)) (chunk at 32 bytes) → n ≤ count → n ≤ 32 → HasNoLineFeed (take (at + n) bytes)
 lanes_passed bytes at count n room before counted passed small =
     none_before bytes (at + n) (omega arith) (λ k below.
     elim (cases_lt k at) [
       | inl low ↦ none_at bytes at k (omega arith) before low
-      | inr high ↦ eqb-false (get_or bytes k 0) line_feed (run_in_chunk_fails (λ byte. eqb byte line_feed) bytes at 16 count 0 room counted k high (omega arith))
+      | inr high ↦ eqb-false (get_or bytes k 0) line_feed (run_in_chunk_fails (λ byte. eqb byte line_feed) bytes at 32 count 0 room counted k high (omega arith))
     ])
 
 -- the lanes with the first line feed
-pub lanes_end : (bytes : List ℕ) (at count : ℕ) → at + 16 ≤ length bytes → HasNoLineFeed (take at bytes)
-    → count ≡ prefix_len (λ byte. not (eqb byte line_feed)) (chunk at 16 bytes) → count < 16 → EndsAt bytes (at + count)
+pub lanes_end : (bytes : List ℕ) (at count : ℕ) → at + 32 ≤ length bytes → HasNoLineFeed (take at bytes)
+    → count ≡ prefix_len (λ byte. not (eqb byte line_feed)) (chunk at 32 bytes) → count < 32 → EndsAt bytes (at + count)
 lanes_end bytes at count room before counted small =
     record {
       inside = omega arith;
-      feed = eqb-true (get_or bytes (at + count) 0) line_feed (run_in_chunk_stops (λ byte. eqb byte line_feed) bytes at 16 count 0 room counted small);
+      feed = eqb-true (get_or bytes (at + count) 0) line_feed (run_in_chunk_stops (λ byte. eqb byte line_feed) bytes at 32 count 0 room counted small);
       before = lanes_passed bytes at count count room before counted (omega arith) (omega arith);
     }
 

@@ -83,7 +83,8 @@ fn line_answer<'a>(
     let Some(symbol) = as_text(line, known_utf8) else {
         return Ok(line);
     };
-    match demangler.demangle(alloc, symbol)? {
+    demangler.prepare(alloc, symbol)?;
+    match demangler.text() {
         Some(answer) => Ok(answer.as_bytes()),
         None => Ok(line),
     }
