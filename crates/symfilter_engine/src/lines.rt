@@ -9,6 +9,7 @@ ghost use Rattle.symfilter_engine.specs.Progress.{EndsInLineFeed, AppendsLine, A
 
 use super::ends::Sink;
 use super::fault::FilterFault;
+use super::gathered::Gathered;
 use super::line_feeds::line_end;
 use super::output::put_all;
 use itanium_demangle::Demangler;
@@ -41,7 +42,20 @@ fn ordinary_line_len(lines: &[u8]) -> Option<usize>
 }
 
 /// How many bytes the first whole lines have, as far as they are ordinary.
+#[inline(always)]
 fn ordinary_len(lines: &[u8]) -> usize
+    ensures bound { result ≤ length lines.now }
+    ensures ordinary { AreLinesFiltered (take result lines.now) (take result lines.now) }
+{
+    if lines.is_empty() || lines[0] == UNDERSCORE {
+        return 0;
+    }
+    ordinary_run_len(lines)
+}
+
+/// The same, apart from the lines that aren't ordinary.
+#[inline(never)]
+fn ordinary_run_len(lines: &[u8]) -> usize
     ensures bound { result ≤ length lines.now }
     ensures ordinary { AreLinesFiltered (take result lines.now) (take result lines.now) }
 {
@@ -91,47 +105,43 @@ fn line_answer<'a>(
 }
 
 /// Appends what is written for a line, and a line feed. After an error nothing is appended.
+#[inline(always)]
 fn append_line(
     alloc: Global,
     demangler: &mut Demangler,
     line: &[u8],
     known_utf8: bool,
-    output: &mut Vec<u8>,
+    output: &mut Gathered,
 ) -> Result<(), AllocError>
     requires { IsTrue known_utf8 → IsUtf8 line.now }
-    ensures ok { OnOk result (AppendsLine line.now output.old.items output.new.items) }
-    ensures err { OnErr result (output.new.items ≡ output.old.items) }
+    ensures ok { OnOk result (AppendsLine line.now output.old output.new) }
+    ensures err { OnErr result (output.new ≡ output.old) }
 {
-    let len = output.len();
     let answer = line_answer(alloc, demangler, line, known_utf8)?;
-    output.extend_from_slice(answer)?;
-    if output.extend_from_slice(b"\n").is_err() {
-        output.truncate(len);
-        return Err(AllocError);
-    }
-    Ok(())
+    output.append_line(answer)
 }
 
 /// Appends what is written for the first of these lines, a run of ordinary ones or one that isn't, and answers how many
 /// bytes they have. After an error nothing is appended.
+#[inline(always)]
 fn append_next(
     alloc: Global,
     demangler: &mut Demangler,
     lines: &[u8],
     known_utf8: bool,
-    output: &mut Vec<u8>,
+    output: &mut Gathered,
 ) -> Result<usize, AllocError>
     requires some { 0 < length lines.now }
     requires ended { EndsInLineFeed lines.now }
     requires known { IsTrue known_utf8 → IsUtf8 lines.now }
     ensures some { IfOk result (λ len. 0 < len) }
     ensures bound { IfOk result (λ len. len ≤ length lines.now) }
-    ensures ok { IfOk result (λ len. AppendsLines (take len lines.now) output.old.items output.new.items) }
-    ensures err { OnErr result (output.new.items ≡ output.old.items) }
+    ensures ok { IfOk result (λ len. AppendsLines (take len lines.now) output.old output.new) }
+    ensures err { OnErr result (output.new ≡ output.old) }
 {
     let ordinary = ordinary_len(lines);
     if ordinary > 0 {
-        output.extend_from_slice(&lines[..ordinary])?;
+        output.append(&lines[..ordinary])?;
         return Ok(ordinary);
     }
     let Some(end) = line_end(lines) else {
@@ -143,21 +153,22 @@ fn append_next(
 
 /// Appends what is written for more of these lines, until the output is long or memory is refused, and answers how many
 /// bytes all have whose text is in the output. It was so for the first `gathered` bytes, and they are kept.
+#[inline(never)]
 fn gather_lines(
     alloc: Global,
     demangler: &mut Demangler,
     lines: &[u8],
     known_utf8: bool,
     gathered: usize,
-    output: &mut Vec<u8>,
+    output: &mut Gathered,
 ) -> usize
     requires inside { gathered ≤ length lines.now }
-    requires so_far { AreLinesFiltered (take gathered lines.now) output.old.items }
+    requires so_far { AreLinesFiltered (take gathered lines.now) output.old }
     requires ended { EndsInLineFeed lines.now }
     requires known { IsTrue known_utf8 → IsUtf8 lines.now }
     ensures kept { gathered ≤ result }
     ensures bound { result ≤ length lines.now }
-    ensures filtered { AreLinesFiltered (take result lines.now) output.new.items }
+    ensures filtered { AreLinesFiltered (take result lines.now) output.new }
 {
     let mut taken = gathered;
     while taken < lines.len() && output.len() < OUTPUT_LEN {
@@ -176,7 +187,7 @@ fn write_next<W: Sink>(
     demangler: &mut Demangler,
     lines: &[u8],
     known_utf8: bool,
-    output: &mut Vec<u8>,
+    output: &mut Gathered,
     writer: &mut W,
 ) -> Result<usize, FilterFault>
     requires not_failed { W.failed writer.old ≡ false }
@@ -200,7 +211,7 @@ fn write_next<W: Sink>(
     output.clear();
     let first = append_next(alloc, demangler, lines, known_utf8, output)?;
     let len = gather_lines(alloc, demangler, lines, known_utf8, first, output);
-    put_all(writer, output)?;
+    put_all(writer, output.as_slice())?;
     Ok(len)
 }
 
@@ -209,7 +220,7 @@ pub(crate) fn write_lines<W: Sink>(
     alloc: Global,
     demangler: &mut Demangler,
     lines: &[u8],
-    output: &mut Vec<u8>,
+    output: &mut Gathered,
     writer: &mut W,
 ) -> Result<(), FilterFault>
     requires not_failed { W.failed writer.old ≡ false }

@@ -1,9 +1,8 @@
-use Rattle.std.proofs.Common.{◌≡◌, ◌+◌, ◌<◌, ℕ, eqb, not, sym, ap, ◌∙◌, arith, w8, w32, ◌^◌, map, length, subst}
+use Rattle.std.proofs.Common.{◌≡◌, ◌<◌, ℕ, eqb, sym, ap, ◌∙◌, arith, w8, w32, ◌^◌, map, length, subst}
 use lib.Count.{count_trailing_zeros}
 use Rattle.std.specs.Simd.Lanes.{chunk, mask_l}
 use Rattle.std.proofs.lemmas.Nat.Bits.{bit_at-trailing_zeros}
 use Rattle.std.proofs.lemmas.List.{length-map}
-use Rattle.std.specs.List.{prefix_len}
 use Rattle.std.proofs.lemmas.Simd.{length-chunk, bitmask_splat, mask_l-lt, leading_from_mask_l, trailing_mask_l}
 use Rattle.symfilter_engine.specs.Filtered.{line_feed}
 use Rattle.symfilter_engine.proofs.LineEnds.{lanes_passed, lanes_end}

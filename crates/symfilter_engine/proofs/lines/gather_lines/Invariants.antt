@@ -7,7 +7,7 @@ invariant-loop-taken l =
     record {
       kept : l.gathered ≤ l.taken;
       inside : l.taken ≤ length l.lines;
-      so_far : AreLinesFiltered (take l.taken l.lines) l.output.items;
+      so_far : AreLinesFiltered (take l.taken l.lines) l.output;
     }
 
 abbrev pub decreases-loop-taken : goal.decreases-loop-taken

@@ -1,0 +1,126 @@
+//! The text that is gathered before it is put.
+ghost use Rattle.std.specs.Prelude.{◌≡◌, ℕ, ◌+◌, ◌≤◌, List, [], ◌∷◌, ◌++◌, length, take, OnOk, OnErr};
+ghost use Rattle.symfilter_engine.specs.Filtered.{line_feed};
+
+use std::alloc::{AllocError, Global};
+use std::marker::Model;
+
+/// The least that is reserved, in bytes.
+const FIRST_ROOM: usize = 4096;
+
+/// A text that grows: the front of a vector that is as long as what is reserved.
+#[derive(Drop)]
+pub(crate) struct Gathered {
+    bytes: Vec<u8>,
+    len: usize,
+}
+
+impl Model for Gathered {
+    ghost Value = { List ℕ };
+
+    ghost view = { λ t. take t.len t.bytes.items };
+
+    ghost invariant = { λ t. t.len ≤ length t.bytes.items };
+}
+
+impl Gathered {
+    /// No text. It takes no memory.
+    pub(crate) fn new(alloc: Global) -> Self
+        ensures empty { result ≡ [] }
+    {
+        Gathered {
+            bytes: Vec::new(alloc),
+            len: 0,
+        }
+    }
+
+    /// How many bytes it has.
+    #[inline(always)]
+    pub(crate) fn len(&self) -> usize
+        ensures value { result ≡ length self.now }
+    {
+        self.len
+    }
+
+    /// Its bytes.
+    pub(crate) fn as_slice(&self) -> &[u8]
+        ensures value { result.now ≡ self.now }
+    {
+        &self.bytes[..self.len]
+    }
+
+    /// Takes all bytes away. What was reserved stays.
+    pub(crate) fn clear(&mut self)
+        ensures empty { self.new ≡ [] }
+    {
+        self.len = 0;
+    }
+
+    /// Appends bytes. After an error nothing is appended.
+    pub(crate) fn append(&mut self, bytes: &[u8]) -> Result<(), AllocError>
+        ensures ok { OnOk result (self.new ≡ self.old ++ bytes.now) }
+        ensures err { OnErr result (self.new ≡ self.old) }
+    {
+        let n = bytes.len();
+        make_room(&mut self.bytes, self.len, n)?;
+        let end = self.len + n;
+        self.bytes[self.len..end].copy_from_slice(bytes);
+        self.len = end;
+        Ok(())
+    }
+
+    /// Appends bytes and a line feed. After an error nothing is appended.
+    #[inline(always)]
+    pub(crate) fn append_line(&mut self, bytes: &[u8]) -> Result<(), AllocError>
+        ensures ok { OnOk result (self.new ≡ self.old ++ (bytes.now ++ line_feed ∷ [])) }
+        ensures err { OnErr result (self.new ≡ self.old) }
+    {
+        let n = bytes.len() + 1;
+        make_room(&mut self.bytes, self.len, n)?;
+        let end = self.len + n;
+        put_line(&mut self.bytes[self.len..end], bytes);
+        self.len = end;
+        Ok(())
+    }
+}
+
+/// Puts bytes and a line feed into room for them.
+#[inline(always)]
+fn put_line(room: &mut [u8], bytes: &[u8])
+    requires same { length room.old ≡ length bytes.now + 1 }
+    ensures value { room.new ≡ bytes.now ++ line_feed ∷ [] }
+{
+    let n = bytes.len();
+    room[..n].copy_from_slice(bytes);
+    room[n] = b'\n';
+}
+
+/// Makes room for n more bytes after the first ones.
+#[inline(always)]
+fn make_room(bytes: &mut Vec<u8>, len: usize, n: usize) -> Result<(), AllocError>
+    requires within { len ≤ length bytes.old.items }
+    ensures front { take len bytes.new.items ≡ take len bytes.old.items }
+    ensures within { len ≤ length bytes.new.items }
+    ensures room { OnOk result (len + n ≤ length bytes.new.items) }
+{
+    if bytes.len() - len < n {
+        return grow(bytes, len, n);
+    }
+    Ok(())
+}
+
+/// The same where there is too little.
+#[cold]
+#[inline(never)]
+fn grow(bytes: &mut Vec<u8>, len: usize, n: usize) -> Result<(), AllocError>
+    requires within { len ≤ length bytes.old.items }
+    ensures front { take len bytes.new.items ≡ take len bytes.old.items }
+    ensures within { len ≤ length bytes.new.items }
+    ensures room { OnOk result (len + n ≤ length bytes.new.items) }
+{
+    let Some(want) = len.checked_add(n) else {
+        return Err(AllocError);
+    };
+    let twice = bytes.len().saturating_mul(2);
+    bytes.resize(want.max(twice).max(FIRST_ROOM), 0)
+}
