@@ -4,9 +4,13 @@ ghost use Rattle.symfilter_engine.specs.Filtered.{line_feed};
 
 use std::alloc::{AllocError, Global};
 use std::marker::Model;
+use std::simd::prelude::*;
 
 /// The least that is reserved, in bytes.
-const FIRST_ROOM: usize = 4096;
+const FIRST_ROOM: usize = 36864;
+
+/// How many bytes are copied at once.
+const LANES: usize = 16;
 
 /// A text that grows: the front of a vector that is as long as what is reserved.
 #[derive(Drop)]
@@ -57,6 +61,7 @@ impl Gathered {
     }
 
     /// Appends bytes. After an error nothing is appended.
+    #[inline(never)]
     pub(crate) fn append(&mut self, bytes: &[u8]) -> Result<(), AllocError>
         ensures ok { OnOk result (self.new ≡ self.old ++ bytes.now) }
         ensures err { OnErr result (self.new ≡ self.old) }
@@ -84,6 +89,35 @@ impl Gathered {
     }
 }
 
+/// Puts bytes into room of their length. The last lanes may overlap those before them.
+#[inline(always)]
+fn put_by_lanes(room: &mut [u8], bytes: &[u8])
+    requires same { length room.old ≡ length bytes.now }
+    requires least { 16 ≤ length bytes.now }
+    ensures value { room.new ≡ bytes.now }
+{
+    let last = bytes.len() - LANES;
+    let mut at = 0;
+    while at < last {
+        u8x16::from_slice(&bytes[at..]).copy_to_slice(&mut room[at..]);
+        at += LANES;
+    }
+    u8x16::from_slice(&bytes[last..]).copy_to_slice(&mut room[last..]);
+}
+
+/// Puts bytes into room of their length.
+#[inline(always)]
+fn put(room: &mut [u8], bytes: &[u8])
+    requires same { length room.old ≡ length bytes.now }
+    ensures value { room.new ≡ bytes.now }
+{
+    if bytes.len() >= LANES {
+        put_by_lanes(room, bytes);
+    } else {
+        room.copy_from_slice(bytes);
+    }
+}
+
 /// Puts bytes and a line feed into room for them.
 #[inline(always)]
 fn put_line(room: &mut [u8], bytes: &[u8])
@@ -91,7 +125,7 @@ fn put_line(room: &mut [u8], bytes: &[u8])
     ensures value { room.new ≡ bytes.now ++ line_feed ∷ [] }
 {
     let n = bytes.len();
-    room[..n].copy_from_slice(bytes);
+    put(&mut room[..n], bytes);
     room[n] = b'\n';
 }
 

@@ -49,11 +49,13 @@ pub(crate) fn line_end(bytes: &[u8]) -> Option<usize>
     ensures none { IfNone result (HasNoLineFeed bytes.now) }
 {
     let mut at = 0;
-    while at + LANES <= bytes.len() {
-        if let Some(end) = line_end_among(bytes, at) {
-            return Some(end);
+    if let Some(last) = bytes.len().checked_sub(LANES) {
+        while at <= last {
+            if let Some(end) = line_end_among(bytes, at) {
+                return Some(end);
+            }
+            at += LANES;
         }
-        at += LANES;
     }
     line_end_from(bytes, at)
 }

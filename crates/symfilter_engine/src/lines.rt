@@ -1,7 +1,7 @@
 //! Lines of a chunk, and what is written for them.
 //!
 //! A line is ordinary where it doesn't begin with an underscore: then it is no symbol, and stands for itself.
-ghost use Rattle.std.specs.Prelude.{◌≡◌, ◌<◌, ◌≤◌, [], false, length, take, IsTrue, IsErrOf, IsUtf8, IfOk, IfSome, IfNone, OnOk, OnErr};
+ghost use Rattle.std.specs.Prelude.{◌≡◌, ◌<◌, ◌≤◌, ◌↔◌, [], false, length, take, IsTrue, IsErrOf, IsUtf8, IfOk, IfSome, IfNone, OnOk, OnErr};
 ghost use Rattle.std.specs.Io.KnownBytes.{Keeps};
 ghost use Rattle.symfilter_engine.specs.Fault.{IsWriteOutcome};
 ghost use Rattle.symfilter_engine.specs.Filtered.{HasNoLineFeed, IsLineAnswer, AreLinesFiltered, WritesFiltered, WritesBeginning};
@@ -17,7 +17,7 @@ use std::alloc::{AllocError, Global};
 use std::str;
 
 /// So many bytes of output are put without waiting for more.
-const OUTPUT_LEN: usize = 131072;
+const OUTPUT_LEN: usize = 32768;
 
 /// So many bytes of ordinary lines are put without a copy.
 const LONG_LEN: usize = 16384;
@@ -66,6 +66,14 @@ fn ordinary_run_len(lines: &[u8]) -> usize
     len
 }
 
+/// Whether the bytes are UTF-8.
+#[inline(never)]
+fn is_utf8(bytes: &[u8]) -> bool
+    ensures { IsTrue result ↔ IsUtf8 bytes.now }
+{
+    str::from_utf8(bytes).is_ok()
+}
+
 /// The bytes as a text, or `None` where they aren't UTF-8. `known_utf8` says that they are, and then they aren't asked.
 #[inline(always)]
 fn as_text(bytes: &[u8], known_utf8: bool) -> Option<&str>
@@ -73,13 +81,10 @@ fn as_text(bytes: &[u8], known_utf8: bool) -> Option<&str>
     ensures some { IfSome result (λ text. (text.now ≡ bytes.now) × IsUtf8 bytes.now) }
     ensures none { IfNone result (¬ (IsUtf8 bytes.now)) }
 {
-    if known_utf8 {
+    if known_utf8 || is_utf8(bytes) {
         return Some(unsafe { str::from_utf8_unchecked(bytes) });
     }
-    match str::from_utf8(bytes) {
-        Ok(text) => Some(text),
-        Err(_) => None,
-    }
+    None
 }
 
 /// What is written for a line without its line feed: its answer, or the line itself where it has none or isn't UTF-8.
