@@ -9,9 +9,6 @@ use std::simd::prelude::*;
 /// The least that is reserved, in bytes.
 const FIRST_ROOM: usize = 36864;
 
-/// How many bytes are copied at once.
-const LANES: usize = 16;
-
 /// A text that grows: the front of a vector that is as long as what is reserved.
 #[derive(Drop)]
 pub(crate) struct Gathered {
@@ -89,30 +86,64 @@ impl Gathered {
     }
 }
 
-/// Puts bytes into room of their length. The last lanes may overlap those before them.
+/// Puts 16 to 32 bytes into room of their length: the first 16 and the last 16, which may overlap.
 #[inline(always)]
-fn put_by_lanes(room: &mut [u8], bytes: &[u8])
+fn by_sixteen(room: &mut [u8], bytes: &[u8])
     requires same { length room.old ≡ length bytes.now }
     requires least { 16 ≤ length bytes.now }
+    requires most { length bytes.now ≤ 32 }
     ensures value { room.new ≡ bytes.now }
 {
-    let last = bytes.len() - LANES;
-    let mut at = 0;
-    while at < last {
-        u8x16::from_slice(&bytes[at..]).copy_to_slice(&mut room[at..]);
-        at += LANES;
-    }
-    u8x16::from_slice(&bytes[last..]).copy_to_slice(&mut room[last..]);
+    let last = bytes.len() - 16;
+    let head = u8x16::from_slice(bytes);
+    let tail = u8x16::from_slice(&bytes[last..]);
+    head.copy_to_slice(room);
+    tail.copy_to_slice(&mut room[last..]);
 }
 
-/// Puts bytes into room of their length.
+/// Puts 32 to 64 bytes into room of their length: the first 32 and the last 32, which may overlap.
+#[inline(always)]
+fn by_thirty_two(room: &mut [u8], bytes: &[u8])
+    requires same { length room.old ≡ length bytes.now }
+    requires least { 32 ≤ length bytes.now }
+    requires most { length bytes.now ≤ 64 }
+    ensures value { room.new ≡ bytes.now }
+{
+    let last = bytes.len() - 32;
+    let head = u8x32::from_slice(bytes);
+    let tail = u8x32::from_slice(&bytes[last..]);
+    head.copy_to_slice(room);
+    tail.copy_to_slice(&mut room[last..]);
+}
+
+/// Puts 64 to 128 bytes into room of their length: the first 64 and the last 64, which may overlap.
+#[inline(always)]
+fn by_sixty_four(room: &mut [u8], bytes: &[u8])
+    requires same { length room.old ≡ length bytes.now }
+    requires least { 64 ≤ length bytes.now }
+    requires most { length bytes.now ≤ 128 }
+    ensures value { room.new ≡ bytes.now }
+{
+    let last = bytes.len() - 64;
+    let head = u8x64::from_slice(bytes);
+    let tail = u8x64::from_slice(&bytes[last..]);
+    head.copy_to_slice(room);
+    tail.copy_to_slice(&mut room[last..]);
+}
+
+/// Puts bytes into room of their length. Most lines have 32 to 64.
 #[inline(always)]
 fn put(room: &mut [u8], bytes: &[u8])
     requires same { length room.old ≡ length bytes.now }
     ensures value { room.new ≡ bytes.now }
 {
-    if bytes.len() >= LANES {
-        put_by_lanes(room, bytes);
+    let n = bytes.len();
+    if 32 < n && n <= 64 {
+        by_thirty_two(room, bytes);
+    } else if 16 <= n && n <= 32 {
+        by_sixteen(room, bytes);
+    } else if 64 < n && n <= 128 {
+        by_sixty_four(room, bytes);
     } else {
         room.copy_from_slice(bytes);
     }

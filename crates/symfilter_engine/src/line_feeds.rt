@@ -49,7 +49,8 @@ pub(crate) fn line_end(bytes: &[u8]) -> Option<usize>
     ensures none { IfNone result (HasNoLineFeed bytes.now) }
 {
     let mut at = 0;
-    if let Some(last) = bytes.len().checked_sub(LANES) {
+    if bytes.len() >= LANES {
+        let last = bytes.len() - LANES;
         while at <= last {
             if let Some(end) = line_end_among(bytes, at) {
                 return Some(end);
