@@ -1,7 +1,7 @@
 -- Where lines end.
 use Rattle.std.proofs.Common.{◌≡◌, ◌≢◌, inl, inr, ℕ, zero, suc, ◌+◌, ◌-◌, ◌<◌, ◌≤◌, List, [], ◌∷◌, ◌++◌, not, eqb, length, take, drop, get_or, refl, sym, ap, subst, ◌∙◌, arith, append_assoc}
 use Rattle.std.proofs.lemmas.Bool.{eqb-true, eqb-false, cases_lt}
-use Rattle.std.proofs.lemmas.List.{get_or-take, get_or-drop, length-take-le, length-drop, length-append, take_more, length_push, get_or_push, get_or_append_left, drop_at, take-append-drop}
+use Rattle.std.proofs.lemmas.List.{get_or-take, get_or-drop, length-take-le, length-drop, length-append, take_more, length_push, get_or_push, get_or_append_left, drop_at, drop-drop, take-append-drop}
 use Rattle.std.proofs.lemmas.List.Elements.{All-from_get_or, All-get_or}
 use Rattle.std.proofs.lemmas.Simd.{run_in_chunk_fails, run_in_chunk_stops}
 use Rattle.std.proofs.Math.Seq.{take-add}
@@ -95,6 +95,20 @@ lines_appended lines rest before after n m first rest_is (text, filtered, after_
     subst (λ l. AreLinesFiltered l after) (sym (take-add n m lines))
     (subst (AreLinesFiltered (take n lines ++ take m (drop n lines))) (sym after_is)
     (AreLinesFiltered-append first (subst (λ l. AreLinesFiltered (take m l) text) rest_is filtered)))
+
+-- lines of the rest were appended, and this is left of it
+pub rest_appended : (lines rest left before after : List ℕ) (gathered m : ℕ)
+    → gathered + length rest ≤ length lines → rest ≡ drop (length lines - length rest) lines → AreLinesFiltered (take (length lines - length rest) lines) before
+    → m ≤ length rest → AppendsLines (take m rest) before after → left ≡ drop m rest
+    → (gathered + length left ≤ length lines) × (left ≡ drop (length lines - length left) lines) × AreLinesFiltered (take (length lines - length left) lines) after
+rest_appended lines rest left before after gathered m kept rest_is first bound appended left_is =
+    let n : ℕ = length lines - length rest in
+    let long : length left ≡ length rest - m = ap length left_is ∙ length-drop m rest in
+    let more : n + m ≡ length lines - length left = omega arith in (
+      omega arith,
+      left_is ∙ ap (drop m) rest_is ∙ drop-drop m n lines ∙ ap (λ k. drop k lines) more,
+      subst (λ k. AreLinesFiltered (take k lines) after) more (lines_appended lines rest before after n m first rest_is appended),
+    )
 
 -- a line feed is no part of a longer character
 pub line_utf8 : (bytes : List ℕ) (end : ℕ) → EndsAt bytes end → IsUtf8 bytes → IsUtf8 (take end bytes)

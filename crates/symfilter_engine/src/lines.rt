@@ -175,14 +175,14 @@ fn gather_lines(
     ensures bound { result ≤ length lines.now }
     ensures filtered { AreLinesFiltered (take result lines.now) output.new }
 {
-    let mut taken = gathered;
-    while taken < lines.len() && output.len() < OUTPUT_LEN {
-        let Ok(more) = append_next(alloc, demangler, &lines[taken..], known_utf8, output) else {
+    let mut rest = &lines[gathered..];
+    while !rest.is_empty() && output.len() < OUTPUT_LEN {
+        let Ok(more) = append_next(alloc, demangler, rest, known_utf8, output) else {
             break;
         };
-        taken += more;
+        rest = &rest[more..];
     }
-    taken
+    lines.len() - rest.len()
 }
 
 /// Writes what is written for the first of these lines, and answers how many bytes they have: a long run of ordinary
