@@ -1,5 +1,5 @@
 //! The text that is gathered before it is put.
-ghost use Rattle.std.specs.Prelude.{◌≡◌, ℕ, ◌+◌, ◌≤◌, List, [], ◌∷◌, ◌++◌, length, take, OnOk, OnErr};
+ghost use Rattle.std.specs.Prelude.{◌≡◌, ℕ, ◌+◌, ◌≤◌, List, [], ◌∷◌, ◌++◌, false, length, take, IsTrue, OnOk, OnErr};
 ghost use Rattle.symfilter_engine.specs.Filtered.{line_feed};
 
 use std::alloc::{AllocError, Global};
@@ -77,10 +77,40 @@ impl Gathered {
         ensures ok { OnOk result (self.new ≡ self.old ++ (bytes.now ++ line_feed ∷ [])) }
         ensures err { OnErr result (self.new ≡ self.old) }
     {
+        if self.put_line_by_lanes(bytes) {
+            return Ok(());
+        }
+        self.append_other_line(bytes)
+    }
+
+    /// The same, where there is room and the bytes are as many as lanes can put. Elsewhere nothing is appended.
+    #[inline(always)]
+    fn put_line_by_lanes(&mut self, bytes: &[u8]) -> bool
+        ensures put { IsTrue result → self.new ≡ self.old ++ (bytes.now ++ line_feed ∷ []) }
+        ensures not_put { result ≡ false → self.new ≡ self.old }
+    {
+        let n = bytes.len() + 1;
+        if self.bytes.len() - self.len < n {
+            return false;
+        }
+        let end = self.len + n;
+        if !put_line(&mut self.bytes[self.len..end], bytes) {
+            return false;
+        }
+        self.len = end;
+        true
+    }
+
+    /// The same for any bytes, wherever there is room or not.
+    #[inline(never)]
+    fn append_other_line(&mut self, bytes: &[u8]) -> Result<(), AllocError>
+        ensures ok { OnOk result (self.new ≡ self.old ++ (bytes.now ++ line_feed ∷ [])) }
+        ensures err { OnErr result (self.new ≡ self.old) }
+    {
         let n = bytes.len() + 1;
         make_room(&mut self.bytes, self.len, n)?;
         let end = self.len + n;
-        put_line(&mut self.bytes[self.len..end], bytes);
+        put_other_line(&mut self.bytes[self.len..end], bytes);
         self.len = end;
         Ok(())
     }
@@ -131,32 +161,34 @@ fn by_sixty_four(room: &mut [u8], bytes: &[u8])
     tail.copy_to_slice(&mut room[last..]);
 }
 
-/// Puts bytes into room of their length. Most lines have 32 to 64.
+/// Puts 16 to 128 bytes and a line feed into room for them. Elsewhere the room stays as it is. Most lines have 33 to 64.
 #[inline(always)]
-fn put(room: &mut [u8], bytes: &[u8])
-    requires same { length room.old ≡ length bytes.now }
-    ensures value { room.new ≡ bytes.now }
+fn put_line(room: &mut [u8], bytes: &[u8]) -> bool
+    requires same { length room.old ≡ length bytes.now + 1 }
+    ensures put { IsTrue result → room.new ≡ bytes.now ++ line_feed ∷ [] }
+    ensures not_put { result ≡ false → room.new ≡ room.old }
 {
     let n = bytes.len();
     if 32 < n && n <= 64 {
-        by_thirty_two(room, bytes);
+        by_thirty_two(&mut room[..n], bytes);
     } else if 16 <= n && n <= 32 {
-        by_sixteen(room, bytes);
+        by_sixteen(&mut room[..n], bytes);
     } else if 64 < n && n <= 128 {
-        by_sixty_four(room, bytes);
+        by_sixty_four(&mut room[..n], bytes);
     } else {
-        room.copy_from_slice(bytes);
+        return false;
     }
+    room[n] = b'\n';
+    true
 }
 
-/// Puts bytes and a line feed into room for them.
-#[inline(always)]
-fn put_line(room: &mut [u8], bytes: &[u8])
+/// Puts any bytes and a line feed into room for them.
+fn put_other_line(room: &mut [u8], bytes: &[u8])
     requires same { length room.old ≡ length bytes.now + 1 }
     ensures value { room.new ≡ bytes.now ++ line_feed ∷ [] }
 {
     let n = bytes.len();
-    put(&mut room[..n], bytes);
+    room[..n].copy_from_slice(bytes);
     room[n] = b'\n';
 }
 
