@@ -6,7 +6,7 @@ use std::alloc::{AllocError, Global};
 use std::marker::Model;
 use std::simd::prelude::*;
 
-/// The least that is reserved, in bytes.
+/// The least that is reserved, in bytes: more than the output that is waited for.
 const FIRST_ROOM: usize = 36864;
 
 /// A text that grows: the front of a vector that is as long as what is reserved.
@@ -83,7 +83,7 @@ impl Gathered {
         self.append_other_line(bytes)
     }
 
-    /// The same, where there is room and the bytes are as many as lanes can put. Elsewhere nothing is appended.
+    /// The same where there is room, and where lanes can put so many bytes. Elsewhere nothing is appended.
     #[inline(always)]
     fn put_line_by_lanes(&mut self, bytes: &[u8]) -> bool
         ensures put { IsTrue result → self.new ≡ self.old ++ (bytes.now ++ line_feed ∷ []) }
@@ -101,7 +101,7 @@ impl Gathered {
         true
     }
 
-    /// The same for any bytes, wherever there is room or not.
+    /// The same for any bytes, out of line, and with room made where there is too little.
     #[inline(never)]
     fn append_other_line(&mut self, bytes: &[u8]) -> Result<(), AllocError>
         ensures ok { OnOk result (self.new ≡ self.old ++ (bytes.now ++ line_feed ∷ [])) }
@@ -161,7 +161,8 @@ fn by_sixty_four(room: &mut [u8], bytes: &[u8])
     tail.copy_to_slice(&mut room[last..]);
 }
 
-/// Puts 16 to 128 bytes and a line feed into room for them. Elsewhere the room stays as it is. Most lines have 33 to 64.
+/// Puts 16 to 128 bytes and a line feed into room for them. Where there are fewer or more, the room stays as it is.
+/// Most answers have 33 to 64.
 #[inline(always)]
 fn put_line(room: &mut [u8], bytes: &[u8]) -> bool
     requires same { length room.old ≡ length bytes.now + 1 }
