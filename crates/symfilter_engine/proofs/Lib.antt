@@ -4,3 +4,4 @@ pub mod LineAnswers
 pub mod LineEnds
 pub mod Chunks
 pub mod Copying
+pub mod Gathering

@@ -1,7 +1,7 @@
 -- Where lines end.
 use Rattle.std.proofs.Common.{◌≡◌, ◌≢◌, inl, inr, ℕ, zero, suc, ◌+◌, ◌-◌, ◌<◌, ◌≤◌, List, [], ◌∷◌, ◌++◌, not, eqb, length, take, drop, get_or, refl, sym, ap, subst, ◌∙◌, arith, append_assoc}
 use Rattle.std.proofs.lemmas.Bool.{eqb-true, eqb-false, cases_lt}
-use Rattle.std.proofs.lemmas.List.{get_or-take, get_or-drop, length-take-le, length-drop, length-append, take_more, length_push, get_or_push, get_or_append_left, drop_at, take-append-drop}
+use Rattle.std.proofs.lemmas.List.{get_or-take, get_or-drop, length-take-le, length-drop, length-append, take_more, length_push, get_or_push, get_or_append_left, drop_at, drop-drop, take-append-drop}
 use Rattle.std.proofs.lemmas.List.Elements.{All-from_get_or, All-get_or}
 use Rattle.std.proofs.lemmas.Simd.{run_in_chunk_fails, run_in_chunk_stops}
 use Rattle.std.proofs.Math.Seq.{take-add}
@@ -31,22 +31,22 @@ none_before bytes at inside each =
     subst is_other (sym (get_or-take at bytes k 0 low)) (each k low))
 
 -- lanes that were passed have no line feed
-pub lanes_passed : (bytes : List ℕ) (at count n : ℕ) → at + 16 ≤ length bytes → HasNoLineFeed (take at bytes)
-    → count ≡ prefix_len (λ byte. not (eqb byte line_feed)) (chunk at 16 bytes) → n ≤ count → n ≤ 16 → HasNoLineFeed (take (at + n) bytes)
+pub lanes_passed : (bytes : List ℕ) (at count n : ℕ) → at + 32 ≤ length bytes → HasNoLineFeed (take at bytes)
+    → count ≡ prefix_len (λ byte. not (eqb byte line_feed)) (chunk at 32 bytes) → n ≤ count → n ≤ 32 → HasNoLineFeed (take (at + n) bytes)
 lanes_passed bytes at count n room before counted passed small =
     none_before bytes (at + n) (omega arith) (λ k below.
     elim (cases_lt k at) [
       | inl low ↦ none_at bytes at k (omega arith) before low
-      | inr high ↦ eqb-false (get_or bytes k 0) line_feed (run_in_chunk_fails (λ byte. eqb byte line_feed) bytes at 16 count 0 room counted k high (omega arith))
+      | inr high ↦ eqb-false (get_or bytes k 0) line_feed (run_in_chunk_fails (λ byte. eqb byte line_feed) bytes at 32 count 0 room counted k high (omega arith))
     ])
 
 -- the lanes with the first line feed
-pub lanes_end : (bytes : List ℕ) (at count : ℕ) → at + 16 ≤ length bytes → HasNoLineFeed (take at bytes)
-    → count ≡ prefix_len (λ byte. not (eqb byte line_feed)) (chunk at 16 bytes) → count < 16 → EndsAt bytes (at + count)
+pub lanes_end : (bytes : List ℕ) (at count : ℕ) → at + 32 ≤ length bytes → HasNoLineFeed (take at bytes)
+    → count ≡ prefix_len (λ byte. not (eqb byte line_feed)) (chunk at 32 bytes) → count < 32 → EndsAt bytes (at + count)
 lanes_end bytes at count room before counted small =
     record {
       inside = omega arith;
-      feed = eqb-true (get_or bytes (at + count) 0) line_feed (run_in_chunk_stops (λ byte. eqb byte line_feed) bytes at 16 count 0 room counted small);
+      feed = eqb-true (get_or bytes (at + count) 0) line_feed (run_in_chunk_stops (λ byte. eqb byte line_feed) bytes at 32 count 0 room counted small);
       before = lanes_passed bytes at count count room before counted (omega arith) (omega arith);
     }
 
@@ -95,6 +95,20 @@ lines_appended lines rest before after n m first rest_is (text, filtered, after_
     subst (λ l. AreLinesFiltered l after) (sym (take-add n m lines))
     (subst (AreLinesFiltered (take n lines ++ take m (drop n lines))) (sym after_is)
     (AreLinesFiltered-append first (subst (λ l. AreLinesFiltered (take m l) text) rest_is filtered)))
+
+-- lines of the rest were appended, and this is left of it
+pub rest_appended : (lines rest left before after : List ℕ) (gathered m : ℕ)
+    → gathered + length rest ≤ length lines → rest ≡ drop (length lines - length rest) lines → AreLinesFiltered (take (length lines - length rest) lines) before
+    → m ≤ length rest → AppendsLines (take m rest) before after → left ≡ drop m rest
+    → (gathered + length left ≤ length lines) × (left ≡ drop (length lines - length left) lines) × AreLinesFiltered (take (length lines - length left) lines) after
+rest_appended lines rest left before after gathered m kept rest_is first bound appended left_is =
+    let n : ℕ = length lines - length rest in
+    let long : length left ≡ length rest - m = ap length left_is ∙ length-drop m rest in
+    let more : n + m ≡ length lines - length left = omega arith in (
+      omega arith,
+      left_is ∙ ap (drop m) rest_is ∙ drop-drop m n lines ∙ ap (λ k. drop k lines) more,
+      subst (λ k. AreLinesFiltered (take k lines) after) more (lines_appended lines rest before after n m first rest_is appended),
+    )
 
 -- a line feed is no part of a longer character
 pub line_utf8 : (bytes : List ℕ) (end : ℕ) → EndsAt bytes end → IsUtf8 bytes → IsUtf8 (take end bytes)

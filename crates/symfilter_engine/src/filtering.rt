@@ -7,6 +7,7 @@ ghost use Rattle.symfilter_engine.specs.Progress.{HasCopied, ReadsMore};
 
 use super::ends::{Failed, Sink, Source};
 use super::fault::FilterFault;
+use super::gathered::Gathered;
 use super::line_feeds::ended_len;
 use super::lines::{write_last, write_lines};
 use itanium_demangle::Demangler;
@@ -113,7 +114,7 @@ fn copy_lines<R: Source, W: Sink>(
         (R.remaining reader.old) (R.remaining reader.new)
         (W.taken writer.old) (W.taken writer.new) }
 {
-    let mut output = Vec::new(alloc);
+    let mut output = Gathered::new(alloc);
     let mut kept = 0;
     'turns: loop {
         let end = read_more(reader, chunk, kept)?;

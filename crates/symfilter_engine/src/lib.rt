@@ -5,6 +5,7 @@
 mod ends;
 mod fault;
 mod filtering;
+mod gathered;
 mod line_feeds;
 mod lines;
 mod output;

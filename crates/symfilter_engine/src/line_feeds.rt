@@ -1,8 +1,6 @@
 //! Line feeds in a chunk.
-ghost use Rattle.std.specs.Prelude.{◌+◌, ◌≤◌, ◌≡◌, not, ◌==◌, length, take, drop, IfSome, IfNone};
-ghost use Rattle.std.specs.Simd.Lanes.{chunk};
-ghost use Rattle.std.specs.List.{prefix_len};
-ghost use Rattle.symfilter_engine.specs.Filtered.{line_feed, HasNoLineFeed};
+ghost use Rattle.std.specs.Prelude.{◌+◌, ◌≤◌, length, take, drop, IfSome, IfNone};
+ghost use Rattle.symfilter_engine.specs.Filtered.{HasNoLineFeed};
 ghost use Rattle.symfilter_engine.specs.Progress.{EndsAt, EndsInLineFeed};
 
 use std::simd::prelude::*;
@@ -10,22 +8,23 @@ use std::simd::prelude::*;
 const LINE_FEED: u8 = b'\n';
 
 /// How many bytes are compared at once.
-const LANES: usize = 16;
+const LANES: usize = 32;
 
-/// How many of the 16 bytes from `at` on come before the first line feed: 16 where there is none.
+/// The place of the first line feed, where it is among the 32 bytes from `at` on; none is before them.
 #[inline(always)]
-fn before_line_feed(bytes: &[u8], at: usize) -> usize
-    requires { at + 16 ≤ length bytes.now }
-    ensures { result ≡ prefix_len (λ byte. not (byte == line_feed)) (chunk at 16 bytes.now) }
+fn line_end_among(bytes: &[u8], at: usize) -> Option<usize>
+    requires inside { at + 32 ≤ length bytes.now }
+    requires before { HasNoLineFeed (take at bytes.now) }
+    ensures found { IfSome result (EndsAt bytes.now) }
+    ensures none { IfNone result (HasNoLineFeed (take (at + 32) bytes.now)) }
 {
-    let found = u8x16::from_slice(&bytes[at..])
-        .simd_eq(u8x16::splat(LINE_FEED))
+    let found = u8x32::from_slice(&bytes[at..])
+        .simd_eq(u8x32::splat(LINE_FEED))
         .to_bitmask();
     if found == 0 {
-        LANES
-    } else {
-        found.trailing_zeros() as usize
+        return None;
     }
+    Some(at + found.trailing_zeros() as usize)
 }
 
 /// The place of the first line feed from `start` on, byte by byte; none is before it.
@@ -50,12 +49,14 @@ pub(crate) fn line_end(bytes: &[u8]) -> Option<usize>
     ensures none { IfNone result (HasNoLineFeed bytes.now) }
 {
     let mut at = 0;
-    while bytes.len() - at >= LANES {
-        let count = before_line_feed(bytes, at);
-        if count < LANES {
-            return Some(at + count);
+    if bytes.len() >= LANES {
+        let last = bytes.len() - LANES;
+        while at <= last {
+            if let Some(end) = line_end_among(bytes, at) {
+                return Some(end);
+            }
+            at += LANES;
         }
-        at += LANES;
     }
     line_end_from(bytes, at)
 }

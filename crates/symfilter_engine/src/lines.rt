@@ -1,7 +1,7 @@
 //! Lines of a chunk, and what is written for them.
 //!
 //! A line is ordinary where it doesn't begin with an underscore: then it is no symbol, and stands for itself.
-ghost use Rattle.std.specs.Prelude.{◌≡◌, ◌<◌, ◌≤◌, [], false, length, take, IsTrue, IsErrOf, IsUtf8, IfOk, IfSome, IfNone, OnOk, OnErr};
+ghost use Rattle.std.specs.Prelude.{◌≡◌, ◌<◌, ◌≤◌, ◌↔◌, [], false, length, take, IsTrue, IsErrOf, IsUtf8, IfOk, IfSome, IfNone, OnOk, OnErr};
 ghost use Rattle.std.specs.Io.KnownBytes.{Keeps};
 ghost use Rattle.symfilter_engine.specs.Fault.{IsWriteOutcome};
 ghost use Rattle.symfilter_engine.specs.Filtered.{HasNoLineFeed, IsLineAnswer, AreLinesFiltered, WritesFiltered, WritesBeginning};
@@ -9,6 +9,7 @@ ghost use Rattle.symfilter_engine.specs.Progress.{EndsInLineFeed, AppendsLine, A
 
 use super::ends::Sink;
 use super::fault::FilterFault;
+use super::gathered::Gathered;
 use super::line_feeds::line_end;
 use super::output::put_all;
 use itanium_demangle::Demangler;
@@ -16,7 +17,7 @@ use std::alloc::{AllocError, Global};
 use std::str;
 
 /// So many bytes of output are put without waiting for more.
-const OUTPUT_LEN: usize = 131072;
+const OUTPUT_LEN: usize = 32768;
 
 /// So many bytes of ordinary lines are put without a copy.
 const LONG_LEN: usize = 16384;
@@ -41,7 +42,20 @@ fn ordinary_line_len(lines: &[u8]) -> Option<usize>
 }
 
 /// How many bytes the first whole lines have, as far as they are ordinary.
+#[inline(always)]
 fn ordinary_len(lines: &[u8]) -> usize
+    ensures bound { result ≤ length lines.now }
+    ensures ordinary { AreLinesFiltered (take result lines.now) (take result lines.now) }
+{
+    if lines.is_empty() || lines[0] == UNDERSCORE {
+        return 0;
+    }
+    ordinary_run_len(lines)
+}
+
+/// The same, apart from the lines that aren't ordinary.
+#[inline(never)]
+fn ordinary_run_len(lines: &[u8]) -> usize
     ensures bound { result ≤ length lines.now }
     ensures ordinary { AreLinesFiltered (take result lines.now) (take result lines.now) }
 {
@@ -52,6 +66,14 @@ fn ordinary_len(lines: &[u8]) -> usize
     len
 }
 
+/// Whether the bytes are UTF-8.
+#[inline(never)]
+fn is_utf8(bytes: &[u8]) -> bool
+    ensures { IsTrue result ↔ IsUtf8 bytes.now }
+{
+    str::from_utf8(bytes).is_ok()
+}
+
 /// The bytes as a text, or `None` where they aren't UTF-8. `known_utf8` says that they are, and then they aren't asked.
 #[inline(always)]
 fn as_text(bytes: &[u8], known_utf8: bool) -> Option<&str>
@@ -59,13 +81,10 @@ fn as_text(bytes: &[u8], known_utf8: bool) -> Option<&str>
     ensures some { IfSome result (λ text. (text.now ≡ bytes.now) × IsUtf8 bytes.now) }
     ensures none { IfNone result (¬ (IsUtf8 bytes.now)) }
 {
-    if known_utf8 {
+    if known_utf8 || is_utf8(bytes) {
         return Some(unsafe { str::from_utf8_unchecked(bytes) });
     }
-    match str::from_utf8(bytes) {
-        Ok(text) => Some(text),
-        Err(_) => None,
-    }
+    None
 }
 
 /// What is written for a line without its line feed: its answer, or the line itself where it has none or isn't UTF-8.
@@ -83,54 +102,51 @@ fn line_answer<'a>(
     let Some(symbol) = as_text(line, known_utf8) else {
         return Ok(line);
     };
-    match demangler.demangle(alloc, symbol)? {
+    demangler.prepare(alloc, symbol)?;
+    match demangler.text() {
         Some(answer) => Ok(answer.as_bytes()),
         None => Ok(line),
     }
 }
 
 /// Appends what is written for a line, and a line feed. After an error nothing is appended.
+#[inline(always)]
 fn append_line(
     alloc: Global,
     demangler: &mut Demangler,
     line: &[u8],
     known_utf8: bool,
-    output: &mut Vec<u8>,
+    output: &mut Gathered,
 ) -> Result<(), AllocError>
     requires { IsTrue known_utf8 → IsUtf8 line.now }
-    ensures ok { OnOk result (AppendsLine line.now output.old.items output.new.items) }
-    ensures err { OnErr result (output.new.items ≡ output.old.items) }
+    ensures ok { OnOk result (AppendsLine line.now output.old output.new) }
+    ensures err { OnErr result (output.new ≡ output.old) }
 {
-    let len = output.len();
     let answer = line_answer(alloc, demangler, line, known_utf8)?;
-    output.extend_from_slice(answer)?;
-    if output.extend_from_slice(b"\n").is_err() {
-        output.truncate(len);
-        return Err(AllocError);
-    }
-    Ok(())
+    output.append_line(answer)
 }
 
 /// Appends what is written for the first of these lines, a run of ordinary ones or one that isn't, and answers how many
 /// bytes they have. After an error nothing is appended.
+#[inline(always)]
 fn append_next(
     alloc: Global,
     demangler: &mut Demangler,
     lines: &[u8],
     known_utf8: bool,
-    output: &mut Vec<u8>,
+    output: &mut Gathered,
 ) -> Result<usize, AllocError>
     requires some { 0 < length lines.now }
     requires ended { EndsInLineFeed lines.now }
     requires known { IsTrue known_utf8 → IsUtf8 lines.now }
     ensures some { IfOk result (λ len. 0 < len) }
     ensures bound { IfOk result (λ len. len ≤ length lines.now) }
-    ensures ok { IfOk result (λ len. AppendsLines (take len lines.now) output.old.items output.new.items) }
-    ensures err { OnErr result (output.new.items ≡ output.old.items) }
+    ensures ok { IfOk result (λ len. AppendsLines (take len lines.now) output.old output.new) }
+    ensures err { OnErr result (output.new ≡ output.old) }
 {
     let ordinary = ordinary_len(lines);
     if ordinary > 0 {
-        output.extend_from_slice(&lines[..ordinary])?;
+        output.append(&lines[..ordinary])?;
         return Ok(ordinary);
     }
     let Some(end) = line_end(lines) else {
@@ -142,30 +158,31 @@ fn append_next(
 
 /// Appends what is written for more of these lines, until the output is long or memory is refused, and answers how many
 /// bytes all have whose text is in the output. It was so for the first `gathered` bytes, and they are kept.
+#[inline(never)]
 fn gather_lines(
     alloc: Global,
     demangler: &mut Demangler,
     lines: &[u8],
     known_utf8: bool,
     gathered: usize,
-    output: &mut Vec<u8>,
+    output: &mut Gathered,
 ) -> usize
     requires inside { gathered ≤ length lines.now }
-    requires so_far { AreLinesFiltered (take gathered lines.now) output.old.items }
+    requires so_far { AreLinesFiltered (take gathered lines.now) output.old }
     requires ended { EndsInLineFeed lines.now }
     requires known { IsTrue known_utf8 → IsUtf8 lines.now }
     ensures kept { gathered ≤ result }
     ensures bound { result ≤ length lines.now }
-    ensures filtered { AreLinesFiltered (take result lines.now) output.new.items }
+    ensures filtered { AreLinesFiltered (take result lines.now) output.new }
 {
-    let mut taken = gathered;
-    while taken < lines.len() && output.len() < OUTPUT_LEN {
-        let Ok(more) = append_next(alloc, demangler, &lines[taken..], known_utf8, output) else {
+    let mut rest = &lines[gathered..];
+    while !rest.is_empty() && output.len() < OUTPUT_LEN {
+        let Ok(more) = append_next(alloc, demangler, rest, known_utf8, output) else {
             break;
         };
-        taken += more;
+        rest = &rest[more..];
     }
-    taken
+    lines.len() - rest.len()
 }
 
 /// Writes what is written for the first of these lines, and answers how many bytes they have: a long run of ordinary
@@ -175,7 +192,7 @@ fn write_next<W: Sink>(
     demangler: &mut Demangler,
     lines: &[u8],
     known_utf8: bool,
-    output: &mut Vec<u8>,
+    output: &mut Gathered,
     writer: &mut W,
 ) -> Result<usize, FilterFault>
     requires not_failed { W.failed writer.old ≡ false }
@@ -199,7 +216,7 @@ fn write_next<W: Sink>(
     output.clear();
     let first = append_next(alloc, demangler, lines, known_utf8, output)?;
     let len = gather_lines(alloc, demangler, lines, known_utf8, first, output);
-    put_all(writer, output)?;
+    put_all(writer, output.as_slice())?;
     Ok(len)
 }
 
@@ -208,7 +225,7 @@ pub(crate) fn write_lines<W: Sink>(
     alloc: Global,
     demangler: &mut Demangler,
     lines: &[u8],
-    output: &mut Vec<u8>,
+    output: &mut Gathered,
     writer: &mut W,
 ) -> Result<(), FilterFault>
     requires not_failed { W.failed writer.old ≡ false }

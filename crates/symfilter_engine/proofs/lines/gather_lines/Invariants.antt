@@ -1,14 +1,14 @@
-use Rattle.std.proofs.Common.{◌-◌, ◌≤◌, length, take}
+use Rattle.std.proofs.Common.{◌≡◌, ◌+◌, ◌-◌, ◌≤◌, length, take, drop}
 use Rattle.symfilter_engine.specs.Filtered.{AreLinesFiltered}
 use Rattle.symfilter_engine.proofs.lines.gather_lines.Given as goal
 
-abbrev pub invariant-loop-taken : goal.invariant-loop-taken
-invariant-loop-taken l =
+abbrev pub invariant-loop-output : goal.invariant-loop-output
+invariant-loop-output l =
     record {
-      kept : l.gathered ≤ l.taken;
-      inside : l.taken ≤ length l.lines;
-      so_far : AreLinesFiltered (take l.taken l.lines) l.output.items;
+      kept : l.gathered + length l.rest ≤ length l.lines;
+      left : l.rest ≡ drop (length l.lines - length l.rest) l.lines;
+      so_far : AreLinesFiltered (take (length l.lines - length l.rest) l.lines) l.output;
     }
 
-abbrev pub decreases-loop-taken : goal.decreases-loop-taken
-decreases-loop-taken l = length l.lines - l.taken
+abbrev pub decreases-loop-output : goal.decreases-loop-output
+decreases-loop-output l = length l.rest

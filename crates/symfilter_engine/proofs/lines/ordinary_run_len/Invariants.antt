@@ -1,6 +1,6 @@
 use Rattle.std.proofs.Common.{◌-◌, ◌≤◌, length, take}
 use Rattle.symfilter_engine.specs.Filtered.{AreLinesFiltered}
-use Rattle.symfilter_engine.proofs.lines.ordinary_len.Given as goal
+use Rattle.symfilter_engine.proofs.lines.ordinary_run_len.Given as goal
 
 abbrev pub invariant-loop-more : goal.invariant-loop-more
 invariant-loop-more l =
