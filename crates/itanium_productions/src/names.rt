@@ -290,9 +290,7 @@ pub(crate) fn read_components(
             ComponentCase::NameComponent => {
                 // The two ways don't meet before the next component.
                 if begins_source(reader.rest) {
-                    reader.read_source_component()?;
-                    reader.save_found()?;
-                    reader.skip_initializer();
+                    reader.read_next_source()?;
                     takes = true;
                     continue;
                 }
