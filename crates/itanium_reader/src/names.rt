@@ -148,9 +148,12 @@ impl<'a> Reader<'a> {
         match tag_case(rest) {
             TagCase::NoTag => {
                 let text = source_text(&self.rest[from..to]);
-                let whole = qualify_text(&mut self.buffer, self.found, text)?;
-                self.buffer.save(whole)?;
-                self.most_saved = self.most_saved.max(self.buffer.saved_len());
+                // The text that is put could be the reader's own, for all that the compiler knows: so the buffer is
+                // asked for once.
+                let buffer = &mut *self.buffer;
+                let whole = qualify_text(buffer, self.found, text)?;
+                buffer.save(whole)?;
+                self.most_saved = self.most_saved.max(buffer.saved_len());
                 self.found = whole;
                 self.rest = past_initializer_letter(rest);
                 Ok(())
