@@ -1,7 +1,7 @@
 -- What the check may use for the readers: the laws of the buffer, and what unfolds each.
 use Rattle.demangle_text.proofs.Laws.{laws, runs}
 use Rattle.itanium_syntax.proofs.Fronts.{cases, names_some, entities_some, expressions_some, arguments_some, specials_some}
-use Rattle.itanium_reader.proofs.Unfold.{bare_name_opens, no_bare_name, name_opens, encoding_opens, local_opens, expression_opens, no_expression, primary_opens, argument_opens, thunk_opens, no_thunk, special_opens, args_opens, no_args, pack_opens, no_pack, type_opens, no_type, substitution_opens, parameter_opens, unqualified_opens, symbol_opens, nested_opens, kept_scope, some_scope, source_opens, no_tags, next_source_found, nothing_in_front, words_joined}
+use Rattle.itanium_reader.proofs.Unfold.{bare_name_opens, no_bare_name, name_opens, encoding_opens, local_opens, expression_opens, no_expression, primary_opens, argument_opens, thunk_opens, no_thunk, special_opens, args_opens, no_args, pack_opens, no_pack, type_opens, no_type, substitution_opens, parameter_opens, unqualified_opens, symbol_opens, nested_opens, kept_scope, some_scope, source_opens, no_tags, nothing_in_front, words_joined}
 use Rattle.itanium_reader.proofs.Loops.{loop_start}
 
 pub ruleset buffers = (laws, runs)
@@ -14,9 +14,11 @@ pub ruleset parameters = (buffers, parameter_opens)
 
 pub ruleset tags = (buffers, loop_start)
 
-pub ruleset source_names = (buffers, no_tags, next_source_found)
+pub ruleset source_names = (buffers, no_tags)
 
 pub ruleset components = (buffers, source_opens)
+
+pub ruleset first_components = (fronts, source_opens)
 
 pub ruleset lists = (buffers, nothing_in_front)
 

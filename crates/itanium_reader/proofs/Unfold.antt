@@ -24,7 +24,7 @@ use Rattle.itanium_reader.specs.declared.stop.Stop.TheVariants.{Unread, Memory}
 use Rattle.itanium_reader.specs.Outcome.{Gives, GivesList, SavedBounds}
 use Rattle.itanium_reader.proofs.Loops.{LoopSoFar, loop_start, loop_end, loop_more, loop_fail, ListSoFar, list_start, list_end, list_more, list_fail}
 use Rattle.itanium_reader.specs.Cases.{FreeName, ConstructorName, DestructorName, SourceName, NoTag, NextTag, EndOfComponents, ArgsComponent, NameComponent, EndOfArguments, NextArgument, EndOfTypes, NextType}
-use Rattle.itanium_reader.specs.Parser.{ParserState, Parses, ParsesName, ParsesBareName, ◌>>=◌, enter, at, save, skip, begin, put, put_nowhere, taken_back, past_initializer, substitution_as, parse_substitution, parameter_as, parse_parameter, tag_turn, unqualified_as, parse_unqualified, parse_free, in_scope, parse_tags, parse_source_in, parse_next_source, end_component, next_component, goes_on, first_as, attached_by, component_turn, parse_components, parse_nested, name_as, qualified_by, parse_bare_name, parse_name, encoding_as, parse_encoding, entity_as, parse_local, primary_by, parse_primary, special_by, parse_special, thunk_by, parse_thunk, expression_as, parse_expression, parse_argument, argument_by, list_turn, typed_turn, parse_list, parse_packed, parse_args, parse_pack, types_turn, type_as, parse_type, symbol_as, parse_symbol}
+use Rattle.itanium_reader.specs.Parser.{ParserState, Parses, ParsesName, ParsesBareName, ◌>>=◌, enter, at, save, skip, begin, put, put_nowhere, taken_back, past_initializer, substitution_as, parse_substitution, parameter_as, parse_parameter, tag_turn, unqualified_as, parse_unqualified, parse_free, in_scope, parse_tags, parse_source_in, parse_first_source, parse_next_source, end_component, next_component, goes_on, first_as, attached_by, component_turn, parse_components, parse_nested, name_as, qualified_by, parse_bare_name, parse_name, encoding_as, parse_encoding, entity_as, parse_local, primary_by, parse_primary, special_by, parse_special, thunk_by, parse_thunk, expression_as, parse_expression, parse_argument, argument_by, list_turn, typed_turn, parse_list, parse_packed, parse_args, parse_pack, types_turn, type_as, parse_type, symbol_as, parse_symbol}
 
 pub bare_name_opens : (d : ℕ) (x : Context) (s : ParserState) → 0 < d → parse_bare_name d x s
     ≡ name_as (name_case s.rest) (parse_unqualified (parse_type (d - 1) x) (parse_type (d - 1) (inside_lambda x))) (parse_args (d - 1) x true)
@@ -251,14 +251,27 @@ pub source_found : (scope : Option Shape) (s : ParserState) {text rest : List �
     → found ≡ in_scope scope (plain_shape (source_text text)) → after ≡ at rest s → parse_source_in scope s ≡ Some (found, after)
 source_found scope s {text} {rest} read case built same = rw (read, no_tags (plain_shape (source_text text)) (at rest s) case, built, same) refl
 
--- the same as the next component of a nested name
+-- the state after a shape was saved
+saved_there : (s : ParserState) (rest : List ℕ) (found : Shape) (after : ParserState) → after.rest ≡ rest → after.saved ≡ s.saved ++ found ∷ [] → after.scopes ≡ s.scopes
+    → after.entered ≡ s.entered → after.most_saved ≡ max s.most_saved (length after.saved) → after ≡ save found (at rest s)
+saved_there s rest found after left list opened count most =
+    let same : record { rest = after.rest; saved = after.saved; scopes = after.scopes; entered = after.entered; most_saved = after.most_saved } ≡ save found (at rest s) = rw (left, opened, count, most, list, length-append s.saved (found ∷ [])) refl in
+    same
+
+-- the same as the first component of a nested name, and as the next
+pub first_source_found : (s : ParserState) {text rest : List ℕ} {found : Shape} {after : ParserState} → source_name s.rest ≡ Some (text, rest) → tag_case rest ≡ NoTag
+    → found ≡ plain_shape (source_text text) → after.rest ≡ rest → after.saved ≡ s.saved ++ found ∷ [] → after.scopes ≡ s.scopes
+    → after.entered ≡ s.entered → after.most_saved ≡ max s.most_saved (length after.saved) → parse_first_source s ≡ Some (found, after)
+first_source_found s {text} {rest} {found} {after} read case built left list opened count most =
+    let parsed : parse_source_in None s ≡ Some (found, at rest s) = source_found None s read case built refl in
+    rw parsed (ap (λ (t : ParserState). Some (found, t)) (sym (saved_there s rest found after left list opened count most)))
+
 pub next_source_found : (scope : Shape) (s : ParserState) {text rest : List ℕ} {found : Shape} {after : ParserState} → source_name s.rest ≡ Some (text, rest) → tag_case rest ≡ NoTag
     → found ≡ qualified scope (plain_shape (source_text text)) → after.rest ≡ past_initializer_letter rest → after.saved ≡ s.saved ++ found ∷ [] → after.scopes ≡ s.scopes
     → after.entered ≡ s.entered → after.most_saved ≡ max s.most_saved (length after.saved) → parse_next_source (Some scope) s ≡ Some (found, after)
 next_source_found scope s {text} {rest} {found} {after} read case built left list opened count most =
     let parsed : parse_source_in (Some scope) s ≡ Some (found, at rest s) = source_found (Some scope) s read case built refl in
-    let same : record { rest = after.rest; saved = after.saved; scopes = after.scopes; entered = after.entered; most_saved = after.most_saved } ≡ past_initializer (save found (at rest s)) = rw (left, opened, count, most, list, length-append s.saved (found ∷ [])) refl in
-    rw parsed (ap (λ (t : ParserState). Some (found, t)) (sym same))
+    rw parsed (ap (λ (t : ParserState). Some (found, t)) (sym (saved_there s (past_initializer_letter rest) found after left list opened count most)))
 
 -- a range stays where nothing is put
 nothing_moved : (at : ℕ) (own : ℕ × ℕ) → moved at 0 own ≡ own

@@ -128,6 +128,40 @@ impl<'a> Reader<'a> {
         }
     }
 
+    /// A `<source-name>` in no scope, and `<abi-tags>` after it, as the first component of a `<nested-name>`: it is
+    /// saved.
+    #[tactic(auto, using(crate::proofs::Rules::source_names))]
+    #[inline(always)]
+    pub fn read_first_source(&mut self) -> Result<(), Stop>
+        ensures reads { Gives result self.new (spec.parse_first_source (state self.old)) }
+        ensures some { OnOk result (0 < length (saved self.new.buffer.value)) }
+        ensures kept { OnOk result (SameFrame self.old.buffer.value self.new.buffer.value) }
+        ensures bounds { Bounds 2 result (state self.old) (state self.new) }
+        ensures saved { SavedBounds 0 result (state self.old) (state self.new) }
+    {
+        let Some((from, to)) = source_name(self.rest, 0) else {
+            return Err(Stop::Unread);
+        };
+        let rest = &self.rest[to..];
+        match tag_case(rest) {
+            TagCase::NoTag => {
+                let text = source_text(&self.rest[from..to]);
+                let buffer = &mut *self.buffer;
+                let whole = buffer.push(text)?;
+                buffer.save(whole)?;
+                self.most_saved = self.most_saved.max(buffer.saved_len());
+                self.found = whole;
+                self.rest = rest;
+                Ok(())
+            }
+            TagCase::NextTag => {
+                self.framed_tagged_source()?;
+                self.save_found()?;
+                Ok(())
+            }
+        }
+    }
+
     /// A `<source-name>` in the scope that was found, and `<abi-tags>` after it, as the next component of a
     /// `<nested-name>`: it is saved, and the `M` of a data member's initializer is passed over.
     #[tactic(auto, using(crate::proofs::Rules::source_names))]
@@ -148,8 +182,6 @@ impl<'a> Reader<'a> {
         match tag_case(rest) {
             TagCase::NoTag => {
                 let text = source_text(&self.rest[from..to]);
-                // The text that is put could be the reader's own, for all that the compiler knows: so the buffer is
-                // asked for once.
                 let buffer = &mut *self.buffer;
                 let whole = qualify_text(buffer, self.found, text)?;
                 buffer.save(whole)?;
