@@ -4,6 +4,7 @@ ghost use Rattle.demangle_text.specs.State.{IsLiving, shape, IsRun, SameFrame, s
 ghost use Rattle.itanium_syntax.specs.Names.{free_case, first_case, unscoped_case, saves_first};
 ghost use Rattle.itanium_syntax.specs.Context.{inside_lambda};
 ghost use Rattle.itanium_syntax.specs.Args.{attached_case};
+ghost use Rattle.itanium_reader.specs.Cases.{NameFirst};
 ghost use Rattle.itanium_reader.specs.Parser as spec;
 ghost use Rattle.itanium_reader.specs.Outcome.{state, Gives, GivesBareName, HasRoom, Bounds, OptionalBounds, SavedBounds};
 
@@ -197,7 +198,7 @@ pub(crate) fn read_other_component(
 }
 
 /// The first component of a `<nested-name>`.
-#[tactic(auto, using(itanium_reader::proofs::Rules::fronts))]
+#[tactic(auto, using(itanium_reader::proofs::Rules::first_components))]
 #[cycle(reader)]
 #[inline(always)]
 pub(crate) fn read_first(reader: &mut Reader, depth: usize, context: Context) -> Result<(), Stop>
@@ -220,11 +221,35 @@ pub(crate) fn read_first(reader: &mut Reader, depth: usize, context: Context) ->
         }
         FirstCase::SubstitutionFirst => reader.read_substitution(),
         FirstCase::NameFirst => {
-            read_outer_name(reader, depth, context)?;
-            reader.save_found()?;
-            Ok(())
+            if begins_source(reader.rest) {
+                return reader.read_first_source();
+            }
+            read_other_first(reader, depth, context)
         }
     }
+}
+
+/// A name that is the first component of a `<nested-name>`, where no `<source-name>` is next.
+#[tactic(auto, using(itanium_reader::proofs::Rules::buffers))]
+#[cycle(reader)]
+#[inline(never)]
+pub(crate) fn read_other_first(
+    reader: &mut Reader,
+    depth: usize,
+    context: Context,
+) -> Result<(), Stop>
+    requires room { HasRoom 0 (state reader.old) }
+    ensures reads { Gives result reader.new (spec.first_as NameFirst
+        (spec.parse_unqualified (spec.parse_type depth context)
+        (spec.parse_type depth (inside_lambda context))) context (state reader.old)) }
+    ensures run { OnOk result (IsRun reader.old.buffer.value reader.new.buffer.value) }
+    ensures some { OnOk result (0 < length (saved reader.new.buffer.value)) }
+    ensures bounds { Bounds 2 result (state reader.old) (state reader.new) }
+    ensures saved { SavedBounds 0 result (state reader.old) (state reader.new) }
+{
+    read_unqualified(reader, depth, context, None)?;
+    reader.save_found()?;
+    Ok(())
 }
 
 /// `<nested-name> ::= N [<CV-qualifiers>] [<ref-qualifier>] <prefix> <unqualified-name> E`, after its `N`: its own
@@ -293,9 +318,7 @@ pub(crate) fn read_components(
             ComponentCase::NameComponent => {
                 // The two ways don't meet before the next component.
                 if begins_source(reader.rest) {
-                    reader.read_source_component()?;
-                    reader.save_found()?;
-                    reader.skip_initializer();
+                    reader.read_next_source()?;
                     takes = true;
                     continue;
                 }

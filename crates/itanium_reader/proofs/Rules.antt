@@ -18,6 +18,8 @@ pub ruleset source_names = (buffers, no_tags)
 
 pub ruleset components = (buffers, source_opens)
 
+pub ruleset first_components = (fronts, source_opens)
+
 pub ruleset lists = (buffers, nothing_in_front)
 
 pub ruleset words = (buffers, words_joined)

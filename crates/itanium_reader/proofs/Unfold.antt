@@ -2,18 +2,18 @@
 use Rattle.std.proofs.Common.{◌≡◌, ◌<◌, ◌≤◌, ℕ, zero, suc, ◌+◌, ◌-◌, max, Bool, true, false, List, [], ◌∷◌, ◌++◌, length, drop, map, All, refl, sym, ◌∙◌, ap, ap₂, append_assoc, arith, Option, Some, None, Result, Ok, Err}
 use Rattle.std.specs.Prelude.{IfSome, option_map, is_some, codes, nat_le, ◌&&◌, ◌==◌, if◌then◌else◌}
 use Rattle.std.proofs.lemmas.Bool.Decides.{nat_tests}
-use Rattle.std.proofs.lemmas.List.{append-nil}
+use Rattle.std.proofs.lemmas.List.{append-nil, length-append}
 use Rattle.demangle_text.specs.declared.shape.Piece.{Piece}
 use Rattle.demangle_text.specs.declared.buffer.Buffer.{Buffer}
 use Rattle.demangle_text.specs.State.{IsLiving, shape, SameFrame}
 use Rattle.demangle_text.specs.Shape.{Shape, Plain, plain_shape, whole_shape, text, flattened, moved}
-use Rattle.demangle_edit.specs.Names.{tagged}
+use Rattle.demangle_edit.specs.Names.{qualified, tagged}
 use Rattle.demangle_edit.specs.Built.{separated, listed_more, arguments_closed}
 use Rattle.itanium_syntax.specs.declared.context.Context.{Context}
 use Rattle.itanium_syntax.specs.declared.numerals.Radix.TheVariants.{Decimal}
 use Rattle.itanium_syntax.specs.Scalars.{index_of, source_name}
 use Rattle.itanium_syntax.specs.Context.{opens_scope, inside_type, inside_pack, inside_lambda, inside_local, inside_encoding}
-use Rattle.itanium_syntax.specs.Names.{symbol_case, name_case, component_case, unqualified_case, tag_case, source_text, free_case, begins_source, first_case, substitution_case, past_internal, past_name_quals, name_quals, saves_first}
+use Rattle.itanium_syntax.specs.Names.{symbol_case, name_case, component_case, unqualified_case, tag_case, source_text, past_initializer_letter, free_case, begins_source, first_case, substitution_case, past_internal, past_name_quals, name_quals, saves_first}
 use Rattle.itanium_syntax.specs.Expressions.{expression_case}
 use Rattle.itanium_syntax.specs.Encodings.{entity_case}
 use Rattle.itanium_syntax.specs.Args.{args_case}
@@ -24,7 +24,7 @@ use Rattle.itanium_reader.specs.declared.stop.Stop.TheVariants.{Unread, Memory}
 use Rattle.itanium_reader.specs.Outcome.{Gives, GivesList, SavedBounds}
 use Rattle.itanium_reader.proofs.Loops.{LoopSoFar, loop_start, loop_end, loop_more, loop_fail, ListSoFar, list_start, list_end, list_more, list_fail}
 use Rattle.itanium_reader.specs.Cases.{FreeName, ConstructorName, DestructorName, SourceName, NoTag, NextTag, EndOfComponents, ArgsComponent, NameComponent, EndOfArguments, NextArgument, EndOfTypes, NextType}
-use Rattle.itanium_reader.specs.Parser.{ParserState, Parses, ParsesName, ParsesBareName, ◌>>=◌, enter, at, save, skip, begin, put, put_nowhere, taken_back, past_initializer, substitution_as, parse_substitution, parameter_as, parse_parameter, tag_turn, unqualified_as, parse_unqualified, parse_free, in_scope, parse_tags, parse_source_in, first_as, attached_by, component_turn, parse_components, parse_nested, name_as, qualified_by, parse_bare_name, parse_name, encoding_as, parse_encoding, entity_as, parse_local, primary_by, parse_primary, special_by, parse_special, thunk_by, parse_thunk, expression_as, parse_expression, parse_argument, argument_by, list_turn, typed_turn, parse_list, parse_packed, parse_args, parse_pack, types_turn, type_as, parse_type, symbol_as, parse_symbol}
+use Rattle.itanium_reader.specs.Parser.{ParserState, Parses, ParsesName, ParsesBareName, ◌>>=◌, enter, at, save, skip, begin, put, put_nowhere, taken_back, past_initializer, substitution_as, parse_substitution, parameter_as, parse_parameter, tag_turn, unqualified_as, parse_unqualified, parse_free, in_scope, parse_tags, parse_source_in, parse_first_source, parse_next_source, end_component, next_component, goes_on, first_as, attached_by, component_turn, parse_components, parse_nested, name_as, qualified_by, parse_bare_name, parse_name, encoding_as, parse_encoding, entity_as, parse_local, primary_by, parse_primary, special_by, parse_special, thunk_by, parse_thunk, expression_as, parse_expression, parse_argument, argument_by, list_turn, typed_turn, parse_list, parse_packed, parse_args, parse_pack, types_turn, type_as, parse_type, symbol_as, parse_symbol}
 
 pub bare_name_opens : (d : ℕ) (x : Context) (s : ParserState) → 0 < d → parse_bare_name d x s
     ≡ name_as (name_case s.rest) (parse_unqualified (parse_type (d - 1) x) (parse_type (d - 1) (inside_lambda x))) (parse_args (d - 1) x true)
@@ -185,6 +185,11 @@ saved_first (Ok u) before mid after bounds longer same some most = (omega (arith
 saved_first (Err Unread) before mid after bounds longer same some most = omega (arith, bounds)
 saved_first (Err Memory) before mid after bounds longer same some most = tt
 
+-- a component that is ended is what a turn goes on with
+ended_goes_on : (read : Option (Shape × ParserState)) → (read >>= next_component) ≡ ((read >>= end_component) >>= λ next. Some (goes_on (true, next.0), next.1))
+ended_goes_on None = refl
+ended_goes_on (Some found) = refl
+
 -- the turns of the components of a nested name
 module _ {whole : Option (Shape × ParserState)} (unqualified : ParsesName) (args : Parses Shape) {takes : Bool} {name : Shape} {s : ParserState}
     (so_far : LoopSoFar whole (component_turn unqualified args) (takes, name) s) where
@@ -205,6 +210,15 @@ module _ {whole : Option (Shape × ParserState)} (unqualified : ParsesName) (arg
       → after ≡ past_initializer (save next mid) → length after.rest ≤ length mid.rest → LoopSoFar whole (component_turn unqualified args) (true, next) after
   unfolding component_turn
   components_name case found shorter left short = loop_more so_far (rw (case, found, left) refl) (omega arith)
+
+  pub components_source : {next : Shape} {after : ParserState} → component_case s.rest ≡ NameComponent → unqualified (Some name) s ≡ parse_source_in (Some name) s
+      → parse_next_source (Some name) s ≡ Some (next, after) → length after.rest < length s.rest → LoopSoFar whole (component_turn unqualified args) (true, next) after
+  unfolding component_turn
+  components_source case source read shorter = loop_more so_far (rw (case, source) (ended_goes_on (parse_source_in (Some name) s) ∙ rw read refl)) shorter
+
+  pub components_no_source : component_case s.rest ≡ NameComponent → unqualified (Some name) s ≡ parse_source_in (Some name) s → parse_next_source (Some name) s ≡ None → whole ≡ None
+  unfolding component_turn
+  components_no_source case source none = loop_fail so_far (rw (case, source) (ended_goes_on (parse_source_in (Some name) s) ∙ rw none refl))
 
   pub components_no_name : component_case s.rest ≡ NameComponent → unqualified (Some name) s ≡ None → whole ≡ None
   unfolding component_turn
@@ -236,6 +250,28 @@ no_tags name s case = tags_end (loop_start refl) case
 pub source_found : (scope : Option Shape) (s : ParserState) {text rest : List ℕ} {found : Shape} {after : ParserState} → source_name s.rest ≡ Some (text, rest) → tag_case rest ≡ NoTag
     → found ≡ in_scope scope (plain_shape (source_text text)) → after ≡ at rest s → parse_source_in scope s ≡ Some (found, after)
 source_found scope s {text} {rest} read case built same = rw (read, no_tags (plain_shape (source_text text)) (at rest s) case, built, same) refl
+
+-- the state after a shape was saved
+saved_there : (s : ParserState) (rest : List ℕ) (found : Shape) (after : ParserState) → after.rest ≡ rest → after.saved ≡ s.saved ++ found ∷ [] → after.scopes ≡ s.scopes
+    → after.entered ≡ s.entered → after.most_saved ≡ max s.most_saved (length after.saved) → after ≡ save found (at rest s)
+saved_there s rest found after left list opened count most =
+    let same : record { rest = after.rest; saved = after.saved; scopes = after.scopes; entered = after.entered; most_saved = after.most_saved } ≡ save found (at rest s) = rw (left, opened, count, most, list, length-append s.saved (found ∷ [])) refl in
+    same
+
+-- the same as the first component of a nested name, and as the next
+pub first_source_found : (s : ParserState) {text rest : List ℕ} {found : Shape} {after : ParserState} → source_name s.rest ≡ Some (text, rest) → tag_case rest ≡ NoTag
+    → found ≡ plain_shape (source_text text) → after.rest ≡ rest → after.saved ≡ s.saved ++ found ∷ [] → after.scopes ≡ s.scopes
+    → after.entered ≡ s.entered → after.most_saved ≡ max s.most_saved (length after.saved) → parse_first_source s ≡ Some (found, after)
+first_source_found s {text} {rest} {found} {after} read case built left list opened count most =
+    let parsed : parse_source_in None s ≡ Some (found, at rest s) = source_found None s read case built refl in
+    rw parsed (ap (λ (t : ParserState). Some (found, t)) (sym (saved_there s rest found after left list opened count most)))
+
+pub next_source_found : (scope : Shape) (s : ParserState) {text rest : List ℕ} {found : Shape} {after : ParserState} → source_name s.rest ≡ Some (text, rest) → tag_case rest ≡ NoTag
+    → found ≡ qualified scope (plain_shape (source_text text)) → after.rest ≡ past_initializer_letter rest → after.saved ≡ s.saved ++ found ∷ [] → after.scopes ≡ s.scopes
+    → after.entered ≡ s.entered → after.most_saved ≡ max s.most_saved (length after.saved) → parse_next_source (Some scope) s ≡ Some (found, after)
+next_source_found scope s {text} {rest} {found} {after} read case built left list opened count most =
+    let parsed : parse_source_in (Some scope) s ≡ Some (found, at rest s) = source_found (Some scope) s read case built refl in
+    rw parsed (ap (λ (t : ParserState). Some (found, t)) (sym (saved_there s (past_initializer_letter rest) found after left list opened count most)))
 
 -- a range stays where nothing is put
 nothing_moved : (at : ℕ) (own : ℕ × ℕ) → moved at 0 own ≡ own

@@ -286,9 +286,21 @@ first_as StdFirst unqualified x s = Some (plain_shape (codes "std"), skip 2 s)
 first_as SubstitutionFirst unqualified x s = parse_substitution s
 first_as NameFirst unqualified x s = unqualified None s >>= λ name. Some (name.0, save name.0 name.1)
 
+-- a source name in no scope as the first component of a <nested-name>, which is saved
+abbrev pub parse_first_source : Parses Shape
+parse_first_source s = parse_source_in None s >>= λ name. Some (name.0, save name.0 name.1)
+
 -- what stands of a <nested-name> so far is saved, and the last saved shape is to be taken back at its end
 abbrev pub next_component : Shape × ParserState → Option (Turn (Bool × Shape) Shape × ParserState)
 next_component next = Some (goes_on (true, next.0), past_initializer (save next.0 next.1))
+
+-- a component that was read is saved, and the M of a data member's initializer is passed over
+abbrev pub end_component : Shape × ParserState → Option (Shape × ParserState)
+end_component next = Some (next.0, past_initializer (save next.0 next.1))
+
+-- a source name, in the scope that stands in front of it, as the next component of a <nested-name>
+abbrev pub parse_next_source : Option Shape → Parses Shape
+parse_next_source scope s = parse_source_in scope s >>= end_component
 
 -- one more component of a <nested-name>, or its E
 abbrev pub component_as : ComponentCase → ParsesName → Parses Shape → Bool × Shape

@@ -1,5 +1,5 @@
 //! Names (Itanium C++ ABI 5.1.2).
-ghost use Rattle.std.specs.Prelude.{◌≡◌, ◌<◌, codes, option_map, None, Some, IfSome, OnOk, true};
+ghost use Rattle.std.specs.Prelude.{◌≡◌, ◌<◌, codes, length, option_map, None, Some, IfSome, OnOk, true};
 ghost use Rattle.demangle_text.specs.Shape.{appended};
 ghost use Rattle.demangle_text.specs.State.{IsLiving, shape, Lives, IsEdit, IsRun, SameFrame, saved};
 ghost use Rattle.demangle_edit.specs.Names.{with_name_qualifiers};
@@ -14,7 +14,7 @@ use demangle_edit::{
     tag,
 };
 use demangle_text::{Piece, Place};
-use itanium_syntax::names::{TagCase, source_text, tag_case};
+use itanium_syntax::names::{TagCase, past_initializer_letter, source_text, tag_case};
 use itanium_syntax::numerals::{lambda_number, unnamed_type_number};
 use itanium_syntax::operators::operator_here;
 use itanium_syntax::scalar::source_name;
@@ -125,6 +125,76 @@ impl<'a> Reader<'a> {
                 Ok(())
             }
             TagCase::NextTag => self.read_tagged_component(),
+        }
+    }
+
+    /// A `<source-name>` in no scope, and `<abi-tags>` after it, as the first component of a `<nested-name>`: it is
+    /// saved.
+    #[tactic(auto, using(crate::proofs::Rules::source_names))]
+    #[inline(always)]
+    pub fn read_first_source(&mut self) -> Result<(), Stop>
+        ensures reads { Gives result self.new (spec.parse_first_source (state self.old)) }
+        ensures some { OnOk result (0 < length (saved self.new.buffer.value)) }
+        ensures kept { OnOk result (SameFrame self.old.buffer.value self.new.buffer.value) }
+        ensures bounds { Bounds 2 result (state self.old) (state self.new) }
+        ensures saved { SavedBounds 0 result (state self.old) (state self.new) }
+    {
+        let Some((from, to)) = source_name(self.rest, 0) else {
+            return Err(Stop::Unread);
+        };
+        let rest = &self.rest[to..];
+        match tag_case(rest) {
+            TagCase::NoTag => {
+                let text = source_text(&self.rest[from..to]);
+                let buffer = &mut *self.buffer;
+                let whole = buffer.push(text)?;
+                buffer.save(whole)?;
+                self.most_saved = self.most_saved.max(buffer.saved_len());
+                self.found = whole;
+                self.rest = rest;
+                Ok(())
+            }
+            TagCase::NextTag => {
+                self.framed_tagged_source()?;
+                self.save_found()?;
+                Ok(())
+            }
+        }
+    }
+
+    /// A `<source-name>` in the scope that was found, and `<abi-tags>` after it, as the next component of a
+    /// `<nested-name>`: it is saved, and the `M` of a data member's initializer is passed over.
+    #[tactic(auto, using(crate::proofs::Rules::source_names))]
+    #[inline(always)]
+    pub fn read_next_source(&mut self) -> Result<(), Stop>
+        requires living { IsLiving self.old.buffer.value self.old.found }
+        ensures reads { Gives result self.new
+            (spec.parse_next_source (Some (shape self.old.buffer.value self.old.found)) (state self.old)) }
+        ensures some { OnOk result (0 < length (saved self.new.buffer.value)) }
+        ensures run { OnOk result (IsRun self.old.buffer.value self.new.buffer.value) }
+        ensures bounds { Bounds 2 result (state self.old) (state self.new) }
+        ensures saved { SavedBounds 0 result (state self.old) (state self.new) }
+    {
+        let Some((from, to)) = source_name(self.rest, 0) else {
+            return Err(Stop::Unread);
+        };
+        let rest = &self.rest[to..];
+        match tag_case(rest) {
+            TagCase::NoTag => {
+                let text = source_text(&self.rest[from..to]);
+                let buffer = &mut *self.buffer;
+                let whole = qualify_text(buffer, self.found, text)?;
+                buffer.save(whole)?;
+                self.most_saved = self.most_saved.max(buffer.saved_len());
+                self.found = whole;
+                self.rest = past_initializer_letter(rest);
+                Ok(())
+            }
+            TagCase::NextTag => {
+                self.read_tagged_component()?;
+                self.end_component()?;
+                Ok(())
+            }
         }
     }
 

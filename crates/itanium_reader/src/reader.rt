@@ -16,7 +16,7 @@ use itanium_syntax::abbreviations::{
 };
 use itanium_syntax::context::Context;
 use itanium_syntax::names::{
-    SubstitutionCase, past_initializer_letter, source_text, substitution_case,
+    SubstitutionCase, source_text, substitution_case,
 };
 use itanium_syntax::numerals::{Radix, index_of};
 use itanium_syntax::scalar::source_name;
@@ -78,7 +78,10 @@ impl<'a> Reader<'a> {
         ensures found { self.new.found ≡ self.old.found }
         ensures buffer { self.new.buffer.value ≡ self.old.buffer.value }
     {
-        self.rest = past_initializer_letter(self.rest);
+        // Mostly there is none, and then nothing is written.
+        if let [b'M', rest @ ..] = self.rest {
+            self.rest = rest;
+        }
     }
 
     /// Saves what was found for substitutions.

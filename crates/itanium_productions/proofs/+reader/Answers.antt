@@ -4,7 +4,7 @@ use Rattle.std.proofs.lemmas.Result.{err_from_is_err_and}
 use Rattle.itanium_syntax.proofs.Fronts.{attached_some}
 use Rattle.demangle_text.specs.State.{shape, SameFrame}
 use Rattle.itanium_reader.specs.Outcome.{state}
-use Rattle.itanium_reader.proofs.Unfold.{source_opens, saved_first, free_found, kept_scope, some_scope, stops, list_stops, args_start, pack_start, components_end, components_args, components_no_args, components_name, components_no_name, items_end, items_more, items_fail, typed_end, typed_more, typed_fail, types_end, types_more, types_fail, kept_shapes, one_more_lives}
+use Rattle.itanium_reader.proofs.Unfold.{source_opens, saved_first, free_found, kept_scope, some_scope, stops, list_stops, args_start, pack_start, components_end, components_args, components_no_args, components_name, components_no_name, components_source, components_no_source, items_end, items_more, items_fail, typed_end, typed_more, typed_fail, types_end, types_more, types_fail, kept_shapes, one_more_lives}
 use Rattle.itanium_productions.proofs.+reader.Goals as goal
 
 pub args::read_args-loop-reader-init : goal.args::read_args-loop-reader-init
@@ -66,16 +66,16 @@ names::read_components-returns-in_err-read_other_component-in-NameComponent-clau
     rw (e.1, e.2) (stops _ _ (c.in_err-read_other_component-in-NameComponent.ensures {u = tt}).reads
     (components_no_name _ _ c.loop-reader.invariant.reads (sym c.in-NameComponent.ensures.case)))
 
-pub names::read_components-returns-in_err-read_source_component-in-NameComponent-clause-reads : goal.names::read_components-returns-in_err-read_source_component-in-NameComponent-clause-reads
-names::read_components-returns-in_err-read_source_component-in-NameComponent-clause-reads t c =
-    let r = c.from_residual-in_err-read_source_component-in-NameComponent in
+pub names::read_components-returns-in_err-read_next_source-in-NameComponent-clause-reads : goal.names::read_components-returns-in_err-read_next_source-in-NameComponent-clause-reads
+names::read_components-returns-in_err-read_next_source-in-NameComponent-clause-reads t c =
+    let r = c.from_residual-in_err-read_next_source-in-NameComponent in
     let e = err_from_is_err_and r.result r.ensures.1 in
-    rw (e.1, e.2) (stops _ _ (c.in_err-read_source_component-in-NameComponent.ensures {u = tt}).reads
-    (λ none. components_no_name _ _ c.loop-reader.invariant.reads (sym c.in-NameComponent.ensures.case) (rw (source_opens _ _ _ (state c.loop-reader.reader) (search rules)) none)))
+    rw (e.1, e.2) (stops _ _ (c.in_err-read_next_source-in-NameComponent.ensures {u = tt}).reads
+    (components_no_source _ _ c.loop-reader.invariant.reads (sym c.in-NameComponent.ensures.case) (source_opens _ _ _ (state c.loop-reader.reader) (search rules))))
 
 pub names::read_components-loop-reader-preserved-then-begins_source : goal.names::read_components-loop-reader-preserved-then-begins_source
 names::read_components-loop-reader-preserved-then-begins_source t c = record {
-  reads = components_name _ _ c.loop-reader.invariant.reads {mid = state c.read_source_component.new.self} (sym c.in-NameComponent.ensures.case) (rw (source_opens _ _ _ (state c.loop-reader.reader) (search rules)) (search rules)) (search rules) (search rules) (search rules);
+  reads = components_source _ _ c.loop-reader.invariant.reads (sym c.in-NameComponent.ensures.case) (source_opens _ _ _ (state c.loop-reader.reader) (search rules)) (search rules) (search rules);
   living = search rules;
   run = search rules;
   some_saved = search rules;

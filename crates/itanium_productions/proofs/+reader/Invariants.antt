@@ -188,6 +188,9 @@ decreases-names::read_unqualified l = 16 * l.depth + 7
 abbrev pub decreases-names::read_first : goal.decreases-names::read_first
 decreases-names::read_first l = 16 * l.depth + 9
 
+abbrev pub decreases-names::read_other_first : goal.decreases-names::read_other_first
+decreases-names::read_other_first l = 16 * l.depth + 8
+
 abbrev pub decreases-names::read_outer_name : goal.decreases-names::read_outer_name
 decreases-names::read_outer_name l = 16 * l.depth + 8
 
