@@ -102,6 +102,10 @@ last_byte front list =
     let last : length whole - 1 ≡ length front + (length (60 ∷ list) - 1) = omega (arith, length-append front (60 ∷ list)) in
     ap (bytes_eq (codes ">")) (ap (λ (k : ℕ). drop k whole) last ∙ drop-append-add front (60 ∷ list) (length (60 ∷ list) - 1))
 
+-- a list of template arguments that isn't closed yet: `<` and what follows
+abbrev pub begun_list : List ℕ → ℕ × ℕ → Bool → Bool → Shape
+begun_list list own templ ctor = record { form = Plain (60 ∷ list); own = own; templ = templ; ctor = ctor }
+
 -- a name with its template arguments, one after another, is the name with the list attached
 pub arguments_built : (name : Shape) (args : List Shape) → arguments_closed (listed_each true (arguments_opened name) args) ≡ attached name (arguments_shape args)
 arguments_built name args =
@@ -117,6 +121,31 @@ arguments_built name args =
     ap arguments_closed (each_listed begun args tt) ∙ ap (λ (b : Bool). appended (end_at b) (appended all begun)) test_is
     ∙ appended_twice all end begun ∙ ap (flagged true name.ctor) (appended_twice (gap ++ codes "<") (all ++ end) (flattened name))
     ∙ ap (λ (v : List ℕ). flagged true name.ctor (appended v (flattened name))) (append_assoc gap (codes "<") (all ++ end))
+
+-- one text more in a list after a name
+pub attached_more : (name list next : Shape) (first : Bool) → listed_more first (attached name list) next ≡ attached name (listed_more first list next)
+attached_more name list next first =
+    let gap = angle_gap (text name) in
+    let more = separator first ++ text next in
+    let one_text : (gap ++ text list) ++ more ≡ gap ++ ((text list ++ separator first) ++ text next) = simp append_assoc in
+    appended_twice (separator first) (text next) (attached name list)
+    ∙ ap (flagged true name.ctor) (appended_twice (gap ++ text list) more (flattened name))
+    ∙ ap (λ (v : List ℕ). flagged true name.ctor (appended v (flattened name))) one_text
+
+-- the end of a list after a name
+pub attached_closed : (name : Shape) (list : List ℕ) (own : ℕ × ℕ) (templ ctor : Bool)
+    → arguments_closed (attached name (begun_list list own templ ctor)) ≡ attached name (whole_shape (arguments_closed (begun_list list own templ ctor)))
+attached_closed name list own templ ctor =
+    let t = text name in
+    let gap = angle_gap t in
+    let end_at = λ (b : Bool). if b then codes " >" else codes ">" in
+    let end = end_at (ends_with nat_eq (60 ∷ list) (codes ">")) in
+    let begun = attached name (begun_list list own templ ctor) in
+    let text_is : text begun ≡ (t ++ gap) ++ (60 ∷ list) = simp append_assoc in
+    let test_is : ends_with nat_eq (text begun) (codes ">") ≡ ends_with nat_eq (60 ∷ list) (codes ">") =
+    ap (λ (v : List ℕ). ends_with nat_eq v (codes ">")) text_is ∙ last_byte (t ++ gap) list in
+    ap (λ (b : Bool). appended (end_at b) begun) test_is ∙ ap (flagged true name.ctor) (appended_twice (gap ++ (60 ∷ list)) end (flattened name))
+    ∙ ap (λ (v : List ℕ). flagged true name.ctor (appended v (flattened name))) (append_assoc gap (60 ∷ list) end)
 
 -- a list by itself
 pub arguments_alone : (args : List Shape) → whole_shape (arguments_closed (listed_each true (plain_shape (codes "<")) args)) ≡ arguments_shape args

@@ -143,12 +143,13 @@ pub fn open_arguments(buf: &mut Buffer, name: Piece) -> Result<Piece, AllocError
     ensures edit { OnOk result (IsEdit buf.old buf.new) }
 {
     let ctor = buf.ctor(name);
-    let plain = buf.plain(name);
-    let opened = if buf.bytes(name).ends_with(b"<") {
-        buf.append(plain, b" <")?
+    let opening: &[u8] = if buf.bytes(name).ends_with(b"<") {
+        b" <"
     } else {
-        buf.append(plain, b"<")?
+        b"<"
     };
+    let plain = buf.plain(name);
+    let opened = buf.append(plain, opening)?;
     Ok(buf.with_flags(opened, true, ctor))
 }
 
@@ -162,11 +163,12 @@ pub fn close_arguments(buf: &mut Buffer, list: Piece) -> Result<Piece, AllocErro
     ensures shape { IfOk result (λ p. Lives buf.new p (arguments_closed (shape buf.old list))) }
     ensures edit { OnOk result (IsEdit buf.old buf.new) }
 {
-    if buf.bytes(list).ends_with(b">") {
-        buf.append(list, b" >")
+    let end: &[u8] = if buf.bytes(list).ends_with(b">") {
+        b" >"
     } else {
-        buf.append(list, b">")
-    }
+        b">"
+    };
+    buf.append(list, end)
 }
 
 /// The name with the `(` of its parameters. A plain piece with the last own name and the flag `ctor`

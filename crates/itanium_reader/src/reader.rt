@@ -253,6 +253,7 @@ impl<'a> Reader<'a> {
         ensures state { OnOk result (state self.new ≡ spec.begin opens (state self.old)) }
         ensures more { OnOk result (length (scopes self.old.buffer.value) ≤ length (scopes self.new.buffer.value)) }
         ensures opened { OnOk result (opens ≡ true → 0 < length (scopes self.new.buffer.value)) }
+        ensures found { OnOk result (self.new.found ≡ self.old.found) }
         ensures kept { OnOk result (SameFrame self.old.buffer.value self.new.buffer.value) }
     {
         if opens {
