@@ -2,14 +2,14 @@
 use Rattle.std.proofs.Common.{◌≡◌, ◌<◌, ◌≤◌, ℕ, zero, suc, ◌+◌, ◌-◌, max, Bool, true, false, List, [], ◌∷◌, ◌++◌, length, drop, map, All, refl, sym, ◌∙◌, ap, ap₂, append_assoc, arith, Option, Some, None, Result, Ok, Err}
 use Rattle.std.specs.Prelude.{IfSome, option_map, is_some, nat_le, ◌&&◌, ◌==◌, if◌then◌else◌}
 use Rattle.std.proofs.lemmas.Bool.Decides.{nat_tests}
-use Rattle.std.proofs.lemmas.List.{append-nil}
+use Rattle.std.proofs.lemmas.List.{append-nil, length-append}
 use Rattle.demangle_text.specs.declared.shape.Piece.{Piece}
 use Rattle.demangle_text.specs.declared.buffer.Buffer.{Buffer}
 use Rattle.demangle_text.specs.State.{IsLiving, shape, SameFrame}
-use Rattle.demangle_text.specs.Shape.{Shape, Plain, plain_shape, whole_shape, text, flattened, moved}
-use Rattle.demangle_edit.specs.Names.{attached, tagged}
-use Rattle.demangle_edit.specs.Built.{separator, separated, listed_more, arguments_opened, arguments_closed}
-use Rattle.demangle_edit.proofs.Built.{begun_list, attached_more, attached_closed}
+use Rattle.demangle_text.specs.Shape.{Shape, Plain, plain_shape, whole_shape, text, text_len, joined, flattened, moved}
+use Rattle.demangle_edit.specs.Names.{angle_gap, attached, tagged}
+use Rattle.demangle_edit.specs.Built.{separator, separated, listed_more, arguments_closed, arguments_begun, arguments_ended}
+use Rattle.demangle_edit.proofs.Built.{begun_list, begun_more, ended_attached}
 use Rattle.itanium_syntax.specs.declared.context.Context.{Context}
 use Rattle.itanium_syntax.specs.declared.numerals.Radix.TheVariants.{Decimal}
 use Rattle.itanium_syntax.specs.Scalars.{index_of, source_name}
@@ -24,8 +24,8 @@ use Rattle.itanium_reader.specs.declared.stop.Stop.{Stop}
 use Rattle.itanium_reader.specs.declared.stop.Stop.TheVariants.{Unread, Memory}
 use Rattle.itanium_reader.specs.Outcome.{Gives, GivesList, SavedBounds}
 use Rattle.itanium_reader.proofs.Loops.{LoopSoFar, loop_start, loop_end, loop_more, loop_fail, ListSoFar, list_start, list_end, list_more, list_fail}
-use Rattle.itanium_reader.specs.Cases.{ArgsCase, FreeName, ConstructorName, DestructorName, SourceName, NoTag, NextTag, EndOfComponents, ArgsComponent, NameComponent, EndOfArguments, NextArgument, EndOfTypes, NextType}
-use Rattle.itanium_reader.specs.Parser.{ParserState, Parses, Turn, goes_on, after_turn, loop, list_as, ParsesName, ParsesBareName, ◌>>=◌, enter, at, save, skip, begin, put, put_nowhere, taken_back, past_initializer, substitution_as, parse_substitution, parameter_as, parse_parameter, tag_turn, unqualified_as, parse_unqualified, parse_free, in_scope, parse_tags, parse_source_in, first_as, attached_by, component_turn, parse_components, parse_nested, name_as, qualified_by, parse_bare_name, parse_name, encoding_as, parse_encoding, entity_as, parse_local, primary_by, parse_primary, special_by, parse_special, thunk_by, parse_thunk, expression_as, parse_expression, parse_argument, argument_by, list_turn, typed_turn, parse_list, parse_packed, parse_args, parse_pack, types_turn, type_as, parse_type, symbol_as, parse_symbol}
+use Rattle.itanium_reader.specs.Cases.{FreeName, ConstructorName, DestructorName, SourceName, NoTag, NextTag, EndOfComponents, ArgsComponent, NameComponent, EndOfArguments, NextArgument, EndOfTypes, NextType}
+use Rattle.itanium_reader.specs.Parser.{ParserState, Parses, ParsesName, ParsesBareName, ◌>>=◌, enter, at, save, skip, begin, put, put_nowhere, taken_back, past_initializer, substitution_as, parse_substitution, parameter_as, parse_parameter, tag_turn, unqualified_as, parse_unqualified, parse_free, in_scope, parse_tags, parse_source_in, first_as, attached_by, component_turn, parse_components, parse_nested, name_as, qualified_by, parse_bare_name, parse_name, encoding_as, parse_encoding, entity_as, parse_local, primary_by, parse_primary, special_by, parse_special, thunk_by, parse_thunk, expression_as, parse_expression, parse_argument, argument_by, list_turn, typed_turn, parse_list, parse_packed, parse_args, parse_pack, types_turn, type_as, parse_type, symbol_as, parse_symbol}
 
 pub bare_name_opens : (d : ℕ) (x : Context) (s : ParserState) → 0 < d → parse_bare_name d x s
     ≡ name_as (name_case s.rest) (parse_unqualified (parse_type (d - 1) x) (parse_type (d - 1) (inside_lambda x))) (parse_args (d - 1) x true)
@@ -250,55 +250,6 @@ nothing_in_front list = λ j. record { form = Plain (append-nil (text list) j); 
 pub words_joined : (words t close : List ℕ) → plain_shape ((words ++ t) ++ close) ≡ plain_shape (words ++ (t ++ (close ++ [])))
 words_joined words t close = ap plain_shape (append_assoc words t close ∙ ap (λ (c : List ℕ). words ++ (t ++ c)) (sym (append-nil close)))
 
--- the turns of a list after a name are those of the list by itself, put after the name
-module _ (put : Shape → ParserState → ParserState) (item : Parses Shape) (name : Shape) where
-  -- what follows a turn, with the end of the list
-  abbrev by_itself : ℕ → Option (Turn (Bool × Shape) Shape × ParserState) → Option (Shape × ParserState)
-  by_itself n turn = turn >>= (λ t. after_turn t.0 (loop (list_turn put item) n) t.1) >>= λ r. Some (whole_shape (arguments_closed r.0), r.1)
-
-  abbrev after_name : ℕ → Option (Turn (Bool × Shape) Shape × ParserState) → Option (Shape × ParserState)
-  after_name n turn = turn >>= (λ t. after_turn t.0 (loop (list_turn put item) n) t.1) >>= λ r. Some (arguments_closed r.0, r.1)
-
-  -- from here on, whatever is listed so far
-  abbrev Attaches : ℕ → Type 0
-  Attaches n = (first : Bool) (list : List ℕ) (own : ℕ × ℕ) (templ ctor : Bool) (s : ParserState)
-      → attached_by (λ s. by_itself n (Some (goes_on (first, begun_list list own templ ctor), s))) name s
-      ≡ after_name n (Some (goes_on (first, attached name (begun_list list own templ ctor)), s))
-
-  module _ (n : ℕ) (again : Attaches n) (first : Bool) (list : List ℕ) (own : ℕ × ℕ) (templ ctor : Bool) where
-    with_item : (read : Option (Shape × ParserState)) (s : ParserState)
-        → attached_by (λ s. by_itself n (read >>= λ next. Some (goes_on (false, listed_more first (begun_list list own templ ctor) next.0), put next.0 next.1))) name s
-        ≡ after_name n (read >>= λ next. Some (goes_on (false, listed_more first (attached name (begun_list list own templ ctor)) next.0), put next.0 next.1))
-    with_item None s = refl
-    with_item (Some (next, after)) s =
-        let more = listed_more first (begun_list list own templ ctor) next in
-        again false ((list ++ separator first) ++ text next) more.own templ ctor (put next after)
-        ∙ ap (λ (found : Shape). after_name n (Some (goes_on (false, found), put next after))) (sym (attached_more name (begun_list list own templ ctor) next first))
-
-    with_turn : (case : ArgsCase) (s : ParserState)
-        → attached_by (λ s. by_itself n (list_as case put item (first, begun_list list own templ ctor) s)) name s
-        ≡ after_name n (list_as case put item (first, attached name (begun_list list own templ ctor)) s)
-    with_turn EndOfArguments s = ap (λ (found : Shape). Some (found, skip 1 s)) (sym (attached_closed name list own templ ctor))
-    with_turn NextArgument s = with_item (item s) s
-
-  attached_loop : (n : ℕ) → Attaches n
-  unfolding loop list_turn
-  attached_loop zero first list own templ ctor s = refl
-  attached_loop (suc n) first list own templ ctor s = with_turn n (attached_loop n) first list own templ ctor (args_case s.rest) s
-
--- a list begins after a name
-pub attached_start : (d : ℕ) (x : Context) (of_name : Bool) (s : ParserState) (name : Shape) {opens : Bool} {n : ℕ} {list : Shape} {after : ParserState} → 0 < d
-    → opens ≡ opens_scope of_name x → list ≡ arguments_opened name → after ≡ begin opens (skip 1 (enter s)) → n ≡ length after.scopes
-    → ListSoFar (attached_by (parse_args d x of_name) name s) (list_turn (put opens n) (parse_argument (d - 1) x)) (λ found. arguments_closed found) (true, list) after
-attached_start d x of_name s name {opens} {n} {list} {after} deep opened built left scopes =
-    rw (scopes, left, opened, built) (list_start (ap (λ (read : Option (Shape × ParserState)). read >>= λ r. Some (attached name r.0, r.1)) (args_opens d x of_name s deep)
-    ∙ attached_loop (put (opens_scope of_name x) (length (begin (opens_scope of_name x) (skip 1 (enter s))).scopes)) (parse_argument (d - 1) x) name
-    (length (begin (opens_scope of_name x) (skip 1 (enter s))).rest + 1) true [] (0, 1) false false (begin (opens_scope of_name x) (skip 1 (enter s)))))
-
--- no list is read after a name where none may open
-pub no_attached : (d : ℕ) (x : Context) (of_name : Bool) (name : Shape) (s : ParserState) → d ≡ 0 → attached_by (parse_args d x of_name) name s ≡ None
-no_attached d x of_name name s none = rw (none, no_args x of_name s) refl
-
 -- a pack begins
 pub pack_start : (d : ℕ) (x : Context) (s : ParserState) {inside : Context} {list : Shape} {after : ParserState} → 0 < d → inside ≡ inside_pack x → list ≡ plain_shape [] → after ≡ skip 1 (enter s)
     → ListSoFar (parse_pack d x s) (list_turn put_nowhere (parse_argument (d - 1) inside)) whole_shape (true, list) after
@@ -319,6 +270,76 @@ module _ {whole : Option (Shape × ParserState)} (put : Shape → ParserState �
   pub items_fail : args_case s.rest ≡ NextArgument → item s ≡ None → whole ≡ None
   unfolding list_turn
   items_fail case none = list_fail so_far (rw (case, none) refl)
+
+-- what is read gets its end
+abbrev with_end : (Shape → Shape) → Option (Shape × ParserState) → Option (Shape × ParserState)
+with_end finish read = read >>= λ r. Some (finish r.0, r.1)
+
+-- one end, and then another
+ended_twice : (read : Option (Shape × ParserState)) (first second : Shape → Shape) → with_end second (with_end first read) ≡ with_end (λ found. second (first found)) read
+ended_twice None first second = refl
+ended_twice (Some r) first second = refl
+
+-- A list after a name has come this far: what is found stands for the name's text and the list's.
+pub record AttachedSoFar (whole : Option (Shape × ParserState)) (put : Shape → ParserState → ParserState) (item : Parses Shape) (name : Shape) (first : Bool) (found : Shape) (s : ParserState) : Type 0 where
+  pub list : List ℕ
+  pub own : ℕ × ℕ
+  pub templ : Bool
+  pub ctor : Bool
+  pub so_far : ListSoFar whole (list_turn put item) (λ all. attached name (whole_shape (arguments_closed all))) (first, begun_list list own templ ctor) s
+  pub stands : found ≡ plain_shape (text name ++ (angle_gap (text name) ++ (60 ∷ list)))
+
+-- a list begins after a name
+pub attached_start : (d : ℕ) (x : Context) (of_name : Bool) (s : ParserState) (name : Shape) {opens : Bool} {n : ℕ} {found : Shape} {after : ParserState} → 0 < d
+    → opens ≡ opens_scope of_name x → found ≡ arguments_begun name → after ≡ begin opens (skip 1 (enter s)) → n ≡ length after.scopes
+    → AttachedSoFar (attached_by (parse_args d x of_name) name s) (put opens n) (parse_argument (d - 1) x) name true found after
+attached_start d x of_name s name {opens} {n} {found} {after} deep opened built left scopes = record {
+  list = [];
+  own = (0, 1);
+  templ = false;
+  ctor = false;
+  so_far = rw (scopes, left, opened) (list_start (ap (with_end (attached name)) (args_opens d x of_name s deep)
+      ∙ ended_twice _ (λ all. whole_shape (arguments_closed all)) (attached name)));
+  stands = built;
+}
+
+-- the turns of a list after a name
+module _ {whole : Option (Shape × ParserState)} (put : Shape → ParserState → ParserState) (item : Parses Shape) (name : Shape) {first : Bool} {found : Shape} {s : ParserState}
+    (so_far : AttachedSoFar whole put item name first found s) where
+  pub attached_end : {last : Shape} {after : ParserState} → args_case s.rest ≡ EndOfArguments → last ≡ arguments_ended (text_len name) name.own name.ctor found
+      → after ≡ skip 1 s → whole ≡ Some (last, after)
+  attached_end case built left =
+      items_end put item (λ all. attached name (whole_shape (arguments_closed all))) so_far.so_far case
+      (built ∙ ap (arguments_ended (text_len name) name.own name.ctor) so_far.stands ∙ ended_attached name so_far.list so_far.own so_far.templ so_far.ctor) left
+
+  pub attached_more : {next more : Shape} {mid after : ParserState} → args_case s.rest ≡ NextArgument → item s ≡ Some (next, mid) → length mid.rest < length s.rest
+      → more ≡ joined (separated first found) [] next → after ≡ put next mid → after.rest ≡ mid.rest → AttachedSoFar whole put item name false more after
+  attached_more {next} {more} {mid} {after} case read shorter built left same =
+      let longer = listed_more first (begun_list so_far.list so_far.own so_far.templ so_far.ctor) next in record {
+        list = (so_far.list ++ separator first) ++ text next;
+        own = longer.own;
+        templ = so_far.templ;
+        ctor = so_far.ctor;
+        so_far = items_more put item (λ all. attached name (whole_shape (arguments_closed all))) so_far.so_far case read shorter refl left same;
+        stands = built ∙ ap (λ (l : Shape). joined (separated first l) [] next) so_far.stands ∙ begun_more (text name) (angle_gap (text name)) so_far.list next first;
+      }
+
+  pub attached_fail : args_case s.rest ≡ NextArgument → item s ≡ None → whole ≡ None
+  attached_fail case none = items_fail put item (λ all. attached name (whole_shape (arguments_closed all))) so_far.so_far case none
+
+  -- what is found is a text that begins with the name's
+  pub attached_plain : found ≡ plain_shape (text found)
+  attached_plain = so_far.stands ∙ ap (λ (l : Shape). plain_shape (text l)) (sym so_far.stands)
+
+  pub attached_front : text_len name ≤ text_len found
+  attached_front =
+      let list = angle_gap (text name) ++ (60 ∷ so_far.list) in
+      let len_is : text_len found ≡ text_len name + length list = ap text_len so_far.stands ∙ length-append (text name) list in
+      omega (arith, len_is)
+
+-- no list is read after a name where none may open
+pub no_attached : (d : ℕ) (x : Context) (of_name : Bool) (name : Shape) (s : ParserState) → d ≡ 0 → attached_by (parse_args d x of_name) name s ≡ None
+no_attached d x of_name name s none = rw (none, no_args x of_name s) refl
 
 -- the turns of types that are put onto a list
 module _ {whole : Option (Shape × ParserState)} (type : Parses Shape) {first : Bool} {list : Shape} {s : ParserState} (so_far : LoopSoFar whole (typed_turn type) (first, list) s) where
