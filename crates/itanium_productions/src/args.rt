@@ -6,7 +6,7 @@ ghost use Rattle.itanium_reader.specs.Outcome.{state, Gives, HasRoom, Bounds, Sa
 
 use crate::expressions::{read_expression, read_primary};
 use crate::types::read_type;
-use demangle_edit::{close_arguments, list_next, open_arguments};
+use demangle_edit::{begin_arguments, end_arguments, list_next};
 use itanium_reader::{Reader, Stop};
 use itanium_syntax::args::{ArgsCase, ArgumentCase, args_case, argument_case};
 use itanium_syntax::context::Context;
@@ -35,25 +35,28 @@ pub(crate) fn read_attached(
     if depth == 0 {
         return Err(Stop::Unread);
     }
+    let len = reader.buffer.len(reader.found);
+    let own = reader.buffer.own_range(reader.found);
+    let ctor = reader.buffer.ctor(reader.found);
     reader.entered += 1;
     reader.skip(1);
     let opens = context.opens_scope(of_name);
     reader.begin(opens)?;
     let scopes = reader.buffer.scopes();
-    let mut list = open_arguments(&mut reader.buffer, reader.found)?;
+    let mut list = begin_arguments(&mut reader.buffer, reader.found)?;
     let mut first = true;
     loop {
         match args_case(reader.rest) {
             ArgsCase::EndOfArguments => {
                 reader.skip(1);
-                reader.found = close_arguments(&mut reader.buffer, list)?;
+                reader.found = end_arguments(&mut reader.buffer, list, len, own, ctor)?;
                 return Ok(());
             }
             ArgsCase::NextArgument => {
                 list = reader.separate_list(list, first)?;
                 framed_argument(reader, depth - 1, context)?;
                 reader.put_found(opens, scopes)?;
-                list = list_next(&mut reader.buffer, list, reader.found)?;
+                list = reader.buffer.join(list, b"", reader.found)?;
                 first = false;
             }
         }

@@ -328,14 +328,15 @@ module _ {whole : Option (Shape × ParserState)} (put : Shape → ParserState �
   attached_fail case none = items_fail put item (λ all. attached name (whole_shape (arguments_closed all))) so_far.so_far case none
 
   -- what is found is a text that begins with the name's
-  pub attached_plain : found ≡ plain_shape (text found)
-  attached_plain = so_far.stands ∙ ap (λ (l : Shape). plain_shape (text l)) (sym so_far.stands)
+  pub attached_plain : {all : Shape} → all ≡ found → all ≡ plain_shape (text all)
+  attached_plain same =
+      let is = same ∙ so_far.stands in is ∙ ap (λ (l : Shape). plain_shape (text l)) (sym is)
 
-  pub attached_front : text_len name ≤ text_len found
-  attached_front =
+  pub attached_front : {len all : ℕ} → len ≡ text_len name → all ≡ text_len found → len ≤ all
+  attached_front {len} {all} long same =
       let list = angle_gap (text name) ++ (60 ∷ so_far.list) in
-      let len_is : text_len found ≡ text_len name + length list = ap text_len so_far.stands ∙ length-append (text name) list in
-      omega (arith, len_is)
+      let len_is : all ≡ text_len name + length list = same ∙ ap text_len so_far.stands ∙ length-append (text name) list in
+      omega (arith, long, len_is)
 
 -- no list is read after a name where none may open
 pub no_attached : (d : ℕ) (x : Context) (of_name : Bool) (name : Shape) (s : ParserState) → d ≡ 0 → attached_by (parse_args d x of_name) name s ≡ None

@@ -6,6 +6,7 @@ use Rattle.demangle_text.specs.Shape.{whole_shape}
 use Rattle.demangle_edit.specs.Built.{arguments_closed}
 use Rattle.itanium_syntax.specs.Context.{inside_lambda}
 use Rattle.itanium_reader.proofs.Loops.{LoopSoFar, ListSoFar}
+use Rattle.itanium_reader.proofs.Unfold.{AttachedSoFar}
 use Rattle.itanium_productions.proofs.+reader.Given as goal
 
 abbrev pub decreases-names::read_bare_name : goal.decreases-names::read_bare_name
@@ -87,9 +88,9 @@ decreases-names::read_components-loop-reader l = length l.reader.rest.now
 abbrev pub invariant-args::read_attached-loop-reader : goal.invariant-args::read_attached-loop-reader
 invariant-args::read_attached-loop-reader l = record {
   positive : 0 < l.depth;
-  reads : ListSoFar (spec.attached_by (spec.parse_args l.depth l.context l.of_name) (shape l.fn.reader.buffer.value l.fn.reader.found) (state l.fn.reader))
-      (spec.list_turn (spec.put l.opens l.scopes) (spec.parse_argument (l.depth - 1) l.context))
-      (λ list. arguments_closed list) (l.first, shape l.reader.buffer.value l.list) (state l.reader);
+  reads : AttachedSoFar (spec.attached_by (spec.parse_args l.depth l.context l.of_name) (shape l.fn.reader.buffer.value l.fn.reader.found) (state l.fn.reader))
+      (spec.put l.opens l.scopes) (spec.parse_argument (l.depth - 1) l.context) (shape l.fn.reader.buffer.value l.fn.reader.found) l.first
+      (shape l.reader.buffer.value l.list) (state l.reader);
   living : IsLiving l.reader.buffer.value l.list;
   run : IsRun l.fn.reader.buffer.value l.reader.buffer.value;
   scopes_stand : length (scopes l.fn.reader.buffer.value) ≤ l.scopes;
