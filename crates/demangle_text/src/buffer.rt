@@ -680,10 +680,25 @@ impl Buffer {
             self.insert_at(second.from_byte, bytes)?;
             return Ok(first.from_byte);
         }
+        self.join_bare(first, bytes, second)
+    }
+
+    // The same of texts that aren't adjacent at the end: a function of its own, so that the pieces that are handed on are
+    // made only there.
+    #[inline(always)]
+    fn join_bare(&mut self, first: Piece, bytes: &[u8], second: Piece) -> Result<usize, AllocError>
+        requires first_living { IsLiving self.old first }
+        requires second_living { IsLiving self.old second }
+        requires apart { IsAdjacent self.old first second → ⊥ }
+        ensures joint { IfOk result (IsJoint self.old self.new first bytes.now second) }
+        ensures edit { OnOk result (IsEdit self.old self.new) }
+        ensures err { OnErr result (KeepsAll self.old self.new) }
+        ensures main_err { OnErr result (self.new.main_text ≡ self.old.main_text) }
+    {
         self.join_elsewhere(first.bare(), bytes, second.bare())
     }
 
-    // The same of texts that aren't adjacent at the end.
+    // The same of plain pieces.
     #[inline(never)]
     fn join_elsewhere(
         &mut self,
