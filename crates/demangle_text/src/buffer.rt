@@ -355,13 +355,31 @@ impl Buffer {
             return Ok(piece.from_byte);
         }
         if at == piece.text_len() {
-            return self.extend_copy(piece.bare(), bytes, b"");
+            return self.extend_bare(piece, bytes, b"");
         }
         self.splice_copy(piece.bare(), at, b"", bytes, b"")
     }
 
     // The text of a piece that doesn't stand at the end, with both texts after it, at the end of the main text: where
-    // it begins.
+    // it begins. A function of its own, so that the plain piece that is handed on is made only there.
+    #[inline(always)]
+    fn extend_bare(
+        &mut self,
+        piece: Piece,
+        first: &[u8],
+        second: &[u8],
+    ) -> Result<usize, AllocError>
+        requires living { IsLiving self.old piece }
+        requires apart { IsTail self.old piece → ⊥ }
+        ensures splice { IfOk result (IsSplice self.old self.new piece (piece.to_byte - piece.from_byte)
+            (first.now ++ second.now)) }
+        ensures kept { KeepsAll self.old self.new }
+        ensures main_err { OnErr result (self.new.main_text ≡ self.old.main_text) }
+    {
+        self.extend_copy(piece.bare(), first, second)
+    }
+
+    // The same of a plain piece.
     #[inline(never)]
     fn extend_copy(
         &mut self,
@@ -464,7 +482,7 @@ impl Buffer {
             self.add_pair(first, second)?;
             return Ok(piece.from_byte);
         }
-        self.extend_copy(piece.bare(), first, second)
+        self.extend_bare(piece, first, second)
     }
 
     // Two texts at the end of the main text.
