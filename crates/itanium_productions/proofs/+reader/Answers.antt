@@ -4,6 +4,7 @@ use Rattle.std.proofs.lemmas.Result.{err_from_is_err_and}
 use Rattle.itanium_syntax.proofs.Fronts.{attached_some}
 use Rattle.demangle_text.specs.State.{shape, SameFrame}
 use Rattle.itanium_reader.specs.Outcome.{state}
+use Rattle.itanium_reader.specs.Parser as spec
 use Rattle.itanium_reader.proofs.Unfold.{saved_first, free_found, kept_scope, some_scope, stops, list_stops, attached_start, attached_end, attached_more, attached_fail, attached_plain, attached_front, pack_start, components_end, components_args, components_no_args, components_name, components_no_name, items_end, items_more, items_fail, typed_end, typed_more, typed_fail, types_end, types_more, types_fail, kept_shapes, one_more_lives}
 use Rattle.itanium_productions.proofs.+reader.Goals as goal
 
@@ -36,7 +37,8 @@ pub args::read_attached-returns-in_err-framed_argument-in-NextArgument-clause-re
 args::read_attached-returns-in_err-framed_argument-in-NextArgument-clause-reads t c =
     let r = c.from_residual-in_err-framed_argument-in-NextArgument in
     let e = err_from_is_err_and r.result r.ensures.1 in
-    rw (e.1, e.2) (stops _ _ (c.in_err-framed_argument-in-NextArgument.ensures {u = tt}).reads
+    let whole = spec.attached_by (spec.parse_args c.args.depth c.args.context c.args.of_name) (shape c.args.reader.now.buffer.value c.args.reader.now.found) (state c.args.reader.now) in
+    rw (e.1, e.2) (stops _ {whole = whole} _ (c.in_err-framed_argument-in-NextArgument.ensures {u = tt}).reads
     (λ none. attached_fail _ _ _ c.loop-reader.invariant.reads (sym c.in-NextArgument.ensures.case) (search rules)))
 
 pub args::read_attached-loop-reader-preserved : goal.args::read_attached-loop-reader-preserved

@@ -3,7 +3,6 @@ use Rattle.demangle_text.specs.State.{IsLiving, IsRun, SameFrame, shape, saved, 
 use Rattle.itanium_reader.specs.Parser as spec
 use Rattle.itanium_reader.specs.Outcome.{state}
 use Rattle.demangle_text.specs.Shape.{whole_shape}
-use Rattle.demangle_edit.specs.Built.{arguments_closed}
 use Rattle.itanium_syntax.specs.Context.{inside_lambda}
 use Rattle.itanium_reader.proofs.Loops.{LoopSoFar, ListSoFar}
 use Rattle.itanium_reader.proofs.Unfold.{AttachedSoFar}
