@@ -39,7 +39,7 @@ args::read_attached-returns-in_err-framed_argument-in-NextArgument-clause-reads 
     let e = err_from_is_err_and r.result r.ensures.1 in
     let whole = spec.attached_by (spec.parse_args c.args.depth c.args.context c.args.of_name) (shape c.args.reader.now.buffer.value c.args.reader.now.found) (state c.args.reader.now) in
     rw (e.1, e.2) (stops _ {whole = whole} _ (c.in_err-framed_argument-in-NextArgument.ensures {u = tt}).reads
-    (λ none. attached_fail _ _ _ c.loop-reader.invariant.reads (sym c.in-NextArgument.ensures.case) (search rules)))
+    (λ none. attached_fail {whole = whole} _ _ _ c.loop-reader.invariant.reads (sym c.in-NextArgument.ensures.case) (search rules)))
 
 pub args::read_attached-loop-reader-preserved : goal.args::read_attached-loop-reader-preserved
 args::read_attached-loop-reader-preserved t c = record {
