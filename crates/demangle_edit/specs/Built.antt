@@ -1,9 +1,9 @@
 -- Lists that are built as they are read: what opens them, what each text adds, and what closes them.
-use Rattle.std.specs.Prelude.{ℕ, List, [], ◌∷◌, ◌++◌, map, codes, decimal, Bool, true, false, if◌then◌else◌, nat_eq}
+use Rattle.std.specs.Prelude.{ℕ, ◌-◌, List, [], ◌∷◌, ◌++◌, map, codes, decimal, Bool, true, false, if◌then◌else◌, nat_eq}
 use Rattle.std.specs.List.{ends_with}
 use Rattle.demangle_quals.specs.declared.quals.Quals.{Quals}
 use Rattle.demangle_quals.specs.Quals.{quals_text}
-use Rattle.demangle_text.specs.Shape.{Shape, text, plain_shape, whole_shape, appended, flattened, flagged}
+use Rattle.demangle_text.specs.Shape.{Shape, text, text_len, plain_shape, whole_shape, with_own, appended, flattened, flagged, moved}
 use Rattle.demangle_edit.specs.Lists.{listed}
 use Rattle.demangle_edit.specs.Names.{angle_gap}
 
@@ -40,6 +40,17 @@ arguments_opened name = flagged true name.ctor (appended (angle_gap (text name) 
 -- the end of a list of template arguments, with a space after `>`
 abbrev pub arguments_closed : Shape → Shape
 arguments_closed list = appended (if ends_with nat_eq (text list) (codes ">") then codes " >" else codes ">") list
+
+-- the text of a name with the `<` of its template arguments
+abbrev pub arguments_begun : Shape → Shape
+arguments_begun name = plain_shape (text name ++ (angle_gap (text name) ++ codes "<"))
+
+-- the end of a list of template arguments on a name: the name has this length, this last own name and this flag
+abbrev pub arguments_ended : ℕ → ℕ × ℕ → Bool → Shape → Shape
+arguments_ended len own ctor list =
+    let closed = arguments_closed list in
+    let moved_own = moved len (text_len closed - len) own in
+    flagged true ctor (with_own moved_own.0 moved_own.1 closed)
 
 -- a list of template arguments by itself
 abbrev pub arguments_shape : List Shape → Shape

@@ -8,7 +8,7 @@ use std::alloc::AllocError;
 
 // A range of a text of this length, when n bytes are put after the text.
 #[inline(always)]
-fn range_before(own: (usize, usize), len: usize, n: usize) -> (usize, usize)
+pub(crate) fn range_before(own: (usize, usize), len: usize, n: usize) -> (usize, usize)
     requires ordered { own.0 ≤ own.1 }
     requires within { own.1 ≤ len }
     requires fits { len + n < 2 ^ 64 }

@@ -130,12 +130,7 @@ fn push_float(buf: &mut Buffer, value: &[u8]) -> Result<Piece, AllocError>
 
 // A literal with its type in parentheses, the first of which is there.
 #[tactic(auto, using(demangle_text::proofs::Laws::laws))]
-fn print_cast(
-    buf: &mut Buffer,
-    paren: Piece,
-    ty: Piece,
-    value: &[u8],
-) -> Result<Piece, AllocError>
+fn print_cast(buf: &mut Buffer, paren: Piece, ty: Piece, value: &[u8]) -> Result<Piece, AllocError>
     requires paren { Lives buf.old paren (plain_shape (codes "(")) }
     requires ty { IsLiving buf.old ty }
     ensures shape { IfOk result (λ p. Lives buf.new p

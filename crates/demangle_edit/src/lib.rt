@@ -19,8 +19,8 @@ mod types;
 
 pub use crate::expressions::{address, subexpr, write_literal, write_opened_literal};
 pub use crate::lists::{
-    append_number, close_arguments, close_lambda, close_params, glue, list_next, open_arguments,
-    open_params, separate,
+    append_number, begin_arguments, close_arguments, close_lambda, close_params, end_arguments,
+    glue, list_next, open_arguments, open_params, separate,
 };
 pub use crate::names::{
     apply_name_qualifiers, attach_template_args, format_params, qualify, qualify_ctor,

@@ -1,13 +1,14 @@
 //! Texts that follow one another, and lists that are built as they are read.
-ghost use Rattle.std.specs.Prelude.{◌≡◌, ◌++◌, All, map, decimal, IfOk, OnOk};
-ghost use Rattle.demangle_text.specs.Shape.{text, plain_shape, appended};
+ghost use Rattle.std.specs.Prelude.{◌≡◌, ◌≤◌, ◌++◌, All, map, decimal, IfOk, OnOk};
+ghost use Rattle.demangle_text.specs.Shape.{text, text_len, plain_shape, appended};
 ghost use Rattle.demangle_text.specs.State.{IsLiving, shape, Lives, IsEdit, KeepsAll};
 ghost use Rattle.demangle_edit.specs.Lists.{glued, part_text, IsLivingPart};
 ghost use Rattle.demangle_edit.specs.Built.{separator, separated, followed, listed_more};
 ghost use Rattle.demangle_edit.specs.Built.{arguments_opened, arguments_closed};
+ghost use Rattle.demangle_edit.specs.Built.{arguments_begun, arguments_ended};
 ghost use Rattle.demangle_edit.specs.Built.{params_opened, params_closed, pack_shape, lambda_closed};
 
-use crate::appends::append_piece;
+use crate::appends::{append_piece, range_before};
 use crate::dimensions::{MOST_DIGITS, number_bytes};
 use crate::names::gap_before_args;
 use crate::parts::Glue;
@@ -143,12 +144,13 @@ pub fn open_arguments(buf: &mut Buffer, name: Piece) -> Result<Piece, AllocError
     ensures edit { OnOk result (IsEdit buf.old buf.new) }
 {
     let ctor = buf.ctor(name);
-    let plain = buf.plain(name);
-    let opened = if buf.bytes(name).ends_with(b"<") {
-        buf.append(plain, b" <")?
+    let opening: &[u8] = if buf.bytes(name).ends_with(b"<") {
+        b" <"
     } else {
-        buf.append(plain, b"<")?
+        b"<"
     };
+    let plain = buf.plain(name);
+    let opened = buf.append(plain, opening)?;
     Ok(buf.with_flags(opened, true, ctor))
 }
 
@@ -162,11 +164,56 @@ pub fn close_arguments(buf: &mut Buffer, list: Piece) -> Result<Piece, AllocErro
     ensures shape { IfOk result (λ p. Lives buf.new p (arguments_closed (shape buf.old list))) }
     ensures edit { OnOk result (IsEdit buf.old buf.new) }
 {
-    if buf.bytes(list).ends_with(b">") {
-        buf.append(list, b" >")
+    let end: &[u8] = if buf.bytes(list).ends_with(b">") {
+        b" >"
     } else {
-        buf.append(list, b">")
-    }
+        b">"
+    };
+    buf.append(list, end)
+}
+
+/// The text of the name with the `<` of its template arguments, after a space where it ends in `<`, as a plain piece.
+///
+/// The list is built as a text: each argument by `separate` and then `join` of the buffer. `end_arguments` gives it
+/// what the name was. An error comes where memory is refused, and then only `clear` of the buffer is promised.
+#[inline(always)]
+#[tactic(auto, using(demangle_text::proofs::Laws::laws, crate::proofs::Built::begun_text))]
+pub fn begin_arguments(buf: &mut Buffer, name: Piece) -> Result<Piece, AllocError>
+    requires name { IsLiving buf.old name }
+    ensures shape { IfOk result (λ p. Lives buf.new p (arguments_begun (shape buf.old name))) }
+    ensures edit { OnOk result (IsEdit buf.old buf.new) }
+{
+    let opened = open_arguments(buf, name)?;
+    let bare = buf.with_flags(opened, false, false);
+    Ok(buf.whole(bare))
+}
+
+/// The list of template arguments with its `>`, after a space where its text ends in `>`: a name that had this
+/// length, this last own name and this flag `ctor`. A plain piece; `templ` holds.
+///
+/// An error comes where memory is refused, and then only `clear` of the buffer is promised.
+#[inline(always)]
+#[tactic(auto, using(demangle_text::proofs::Laws::laws))]
+pub fn end_arguments(
+    buf: &mut Buffer,
+    list: Piece,
+    len: usize,
+    own: (usize, usize),
+    ctor: bool,
+) -> Result<Piece, AllocError>
+    requires list { IsLiving buf.old list }
+    requires plain { shape buf.old list ≡ plain_shape (text (shape buf.old list)) }
+    requires ordered { own.0 ≤ own.1 }
+    requires within { own.1 ≤ len }
+    requires front { len ≤ text_len (shape buf.old list) }
+    ensures shape { IfOk result (λ p. Lives buf.new p (arguments_ended len own ctor (shape buf.old list))) }
+    ensures edit { OnOk result (IsEdit buf.old buf.new) }
+{
+    let closed = close_arguments(buf, list)?;
+    let all = buf.len(closed);
+    let (from, to) = range_before(own, len, all - len);
+    let named = buf.own_at(closed, from, to);
+    Ok(buf.with_flags(named, true, ctor))
 }
 
 /// The name with the `(` of its parameters. A plain piece with the last own name and the flag `ctor`

@@ -7,10 +7,10 @@ use crate::pieces::{
 };
 use demangle_edit::{
     Glue, Pointer, Quals, Reference, address, append_number, apply_name_qualifiers,
-    attach_template_args, close_arguments, close_lambda, close_params, collapse_ref, expand,
-    format_params, function_type, glue, list_next, open_arguments, open_params, qualify,
-    qualify_ctor, qualify_text, separate, subexpr, tag, wrap_array, wrap_cv, wrap_member_pointer,
-    wrap_pointer, write_literal,
+    attach_template_args, begin_arguments, close_arguments, close_lambda, close_params,
+    collapse_ref, end_arguments, expand, format_params, function_type, glue, list_next,
+    open_arguments, open_params, qualify, qualify_ctor, qualify_text, separate, subexpr, tag,
+    wrap_array, wrap_cv, wrap_member_pointer, wrap_pointer, write_literal,
 };
 use demangle_text::{Buffer, Kind, Piece};
 use std::alloc::Global;
@@ -250,6 +250,21 @@ fn arguments_built_on_a_name(rt: HostRuntime) {
     assert_named(&rt, &buf, whole, b"A::f<A, B<A, A> >", 3, 4);
     assert_flags(&rt, &buf, whole, true, false);
     assert_no_arguments(&rt, &mut buf);
+    drop(buf);
+}
+
+#[test]
+#[tactic(auto, using(demangle_text::proofs::Laws::laws))]
+fn arguments_built_as_a_text(rt: HostRuntime) {
+    let mut buf = Buffer::new(rt.alloc());
+    let name = named(&rt, &mut buf, b"A::f", 3, 4, false, false);
+    let (len, own, ctor) = (buf.len(name), buf.own_range(name), buf.ctor(name));
+    let opened = begin_arguments(&mut buf, name).expect(&rt, "no memory");
+    let argument = push(&rt, &mut buf, b"B<A>");
+    let list = buf.join(opened, b"", argument).expect(&rt, "no memory");
+    let whole = end_arguments(&mut buf, list, len, own, ctor).expect(&rt, "no memory");
+    assert_named(&rt, &buf, whole, b"A::f<B<A> >", 3, 4);
+    assert_flags(&rt, &buf, whole, true, false);
     drop(buf);
 }
 

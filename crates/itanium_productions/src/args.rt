@@ -6,81 +6,14 @@ ghost use Rattle.itanium_reader.specs.Outcome.{state, Gives, HasRoom, Bounds, Sa
 
 use crate::expressions::{read_expression, read_primary};
 use crate::types::read_type;
-use demangle_edit::{attach_template_args, close_arguments, list_next};
+use demangle_edit::{begin_arguments, end_arguments, list_next};
 use itanium_reader::{Reader, Stop};
 use itanium_syntax::args::{ArgsCase, ArgumentCase, args_case, argument_case};
 use itanium_syntax::context::Context;
 
-/// `<template-args> ::= I <template-arg>* E`, of a name or of a type, within `depth` open productions.
+/// `<template-args> ::= I <template-arg>* E`, of a name or of a type, after what was found, within `depth` open
+/// productions.
 #[tactic(auto, using(itanium_reader::proofs::Rules::argument_lists))]
-#[cycle(reader)]
-pub(crate) fn read_args(
-    reader: &mut Reader,
-    depth: usize,
-    context: Context,
-    of_name: bool,
-) -> Result<(), Stop>
-    requires room { HasRoom 1 (state reader.old) }
-    requires some { 0 < length reader.old.rest.now }
-    ensures reads { Gives result reader.new (spec.parse_args depth context of_name (state reader.old)) }
-    ensures run { OnOk result (IsRun reader.old.buffer.value reader.new.buffer.value) }
-    ensures refused { depth ≡ 0 → reader.new.entered ≡ reader.old.entered }
-    ensures bounds { Bounds 1 result (state reader.old) (state reader.new) }
-    ensures saved { SavedBounds 2 result (state reader.old) (state reader.new) }
-{
-    if depth == 0 {
-        return Err(Stop::Unread);
-    }
-    reader.entered += 1;
-    reader.skip(1);
-    let opens = context.opens_scope(of_name);
-    reader.begin(opens)?;
-    let scopes = reader.buffer.scopes();
-    let mut list = reader.buffer.push(b"<")?;
-    let mut first = true;
-    loop {
-        match args_case(reader.rest) {
-            ArgsCase::EndOfArguments => {
-                reader.skip(1);
-                let closed = close_arguments(&mut reader.buffer, list)?;
-                reader.found = reader.buffer.whole(closed);
-                return Ok(());
-            }
-            ArgsCase::NextArgument => {
-                list = reader.separate_list(list, first)?;
-                framed_argument(reader, depth - 1, context)?;
-                reader.put_found(opens, scopes)?;
-                list = list_next(&mut reader.buffer, list, reader.found)?;
-                first = false;
-            }
-        }
-    }
-}
-
-/// `<template-args>` in a frame of their own: what lived keeps its shape.
-#[tactic(auto, using(itanium_reader::proofs::Rules::buffers))]
-#[cycle(reader)]
-pub(crate) fn framed_args(
-    reader: &mut Reader,
-    depth: usize,
-    context: Context,
-    of_name: bool,
-) -> Result<(), Stop>
-    requires room { HasRoom 1 (state reader.old) }
-    requires some { 0 < length reader.old.rest.now }
-    ensures reads { Gives result reader.new (spec.parse_args depth context of_name (state reader.old)) }
-    ensures kept { OnOk result (SameFrame reader.old.buffer.value reader.new.buffer.value) }
-    ensures bounds { Bounds 1 result (state reader.old) (state reader.new) }
-    ensures saved { SavedBounds 2 result (state reader.old) (state reader.new) }
-{
-    let mark = reader.buffer.open();
-    read_args(reader, depth, context, of_name)?;
-    reader.buffer.close_in_place(mark, &mut reader.found)?;
-    Ok(())
-}
-
-/// `<template-args>` after what was found.
-#[tactic(auto, using(itanium_reader::proofs::Rules::buffers))]
 #[cycle(reader)]
 pub(crate) fn read_attached(
     reader: &mut Reader,
@@ -95,13 +28,39 @@ pub(crate) fn read_attached(
         (spec.attached_by (spec.parse_args depth context of_name)
         (shape reader.old.buffer.value reader.old.found) (state reader.old)) }
     ensures run { OnOk result (IsRun reader.old.buffer.value reader.new.buffer.value) }
+    ensures refused { depth ≡ 0 → reader.new.entered ≡ reader.old.entered }
     ensures bounds { Bounds 1 result (state reader.old) (state reader.new) }
     ensures saved { SavedBounds 2 result (state reader.old) (state reader.new) }
 {
-    let name = reader.found;
-    framed_args(reader, depth, context, of_name)?;
-    reader.found = attach_template_args(&mut reader.buffer, name, reader.found)?;
-    Ok(())
+    if depth == 0 {
+        return Err(Stop::Unread);
+    }
+    let len = reader.buffer.len(reader.found);
+    let own = reader.buffer.own_range(reader.found);
+    let ctor = reader.buffer.ctor(reader.found);
+    reader.entered += 1;
+    reader.skip(1);
+    let opens = context.opens_scope(of_name);
+    reader.begin(opens)?;
+    let scopes = reader.buffer.scopes();
+    let mut list = begin_arguments(&mut reader.buffer, reader.found)?;
+    let mut first = true;
+    loop {
+        match args_case(reader.rest) {
+            ArgsCase::EndOfArguments => {
+                reader.skip(1);
+                reader.found = end_arguments(&mut reader.buffer, list, len, own, ctor)?;
+                return Ok(());
+            }
+            ArgsCase::NextArgument => {
+                list = reader.separate_list(list, first)?;
+                framed_argument(reader, depth - 1, context)?;
+                reader.put_found(opens, scopes)?;
+                list = reader.buffer.join(list, b"", reader.found)?;
+                first = false;
+            }
+        }
+    }
 }
 
 /// `<template-arg> ::= J <template-arg>* E`, within `depth` open productions: no scope is dropped between its

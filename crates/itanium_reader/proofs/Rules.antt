@@ -1,7 +1,7 @@
 -- What the check may use for the readers: the laws of the buffer, and what unfolds each.
 use Rattle.demangle_text.proofs.Laws.{laws, runs}
 use Rattle.itanium_syntax.proofs.Fronts.{cases, names_some, entities_some, expressions_some, arguments_some, specials_some}
-use Rattle.itanium_reader.proofs.Unfold.{bare_name_opens, no_bare_name, name_opens, encoding_opens, local_opens, expression_opens, no_expression, primary_opens, argument_opens, thunk_opens, no_thunk, special_opens, args_opens, no_args, pack_opens, no_pack, type_opens, no_type, substitution_opens, parameter_opens, unqualified_opens, symbol_opens, nested_opens, kept_scope, some_scope, source_opens, no_tags, nothing_in_front, words_joined}
+use Rattle.itanium_reader.proofs.Unfold.{bare_name_opens, no_bare_name, name_opens, encoding_opens, local_opens, expression_opens, no_expression, primary_opens, argument_opens, thunk_opens, no_thunk, special_opens, no_attached, pack_opens, no_pack, type_opens, no_type, substitution_opens, parameter_opens, unqualified_opens, symbol_opens, nested_opens, kept_scope, some_scope, source_opens, no_tags, nothing_in_front, words_joined}
 use Rattle.itanium_reader.proofs.Loops.{loop_start}
 
 pub ruleset buffers = (laws, runs)
@@ -52,7 +52,7 @@ pub ruleset expressions = (fronts, expressions_some, expression_opens, no_expres
 
 pub ruleset arguments = (fronts, arguments_some, argument_opens)
 
-pub ruleset argument_lists = (buffers, args_opens, no_args)
+pub ruleset argument_lists = (buffers, no_attached)
 
 pub ruleset packs = (buffers, pack_opens, no_pack)
 

@@ -1,14 +1,15 @@
 -- One level of the parser's functions, and the turns of its loops.
 use Rattle.std.proofs.Common.{◌≡◌, ◌<◌, ◌≤◌, ℕ, zero, suc, ◌+◌, ◌-◌, max, Bool, true, false, List, [], ◌∷◌, ◌++◌, length, drop, map, All, refl, sym, ◌∙◌, ap, ap₂, append_assoc, arith, Option, Some, None, Result, Ok, Err}
-use Rattle.std.specs.Prelude.{IfSome, option_map, is_some, codes, nat_le, ◌&&◌, ◌==◌, if◌then◌else◌}
+use Rattle.std.specs.Prelude.{IfSome, option_map, is_some, nat_le, ◌&&◌, ◌==◌, if◌then◌else◌}
 use Rattle.std.proofs.lemmas.Bool.Decides.{nat_tests}
 use Rattle.std.proofs.lemmas.List.{append-nil, length-append}
 use Rattle.demangle_text.specs.declared.shape.Piece.{Piece}
 use Rattle.demangle_text.specs.declared.buffer.Buffer.{Buffer}
 use Rattle.demangle_text.specs.State.{IsLiving, shape, SameFrame}
-use Rattle.demangle_text.specs.Shape.{Shape, Plain, plain_shape, whole_shape, text, flattened, moved}
-use Rattle.demangle_edit.specs.Names.{qualified, tagged}
-use Rattle.demangle_edit.specs.Built.{separated, listed_more, arguments_closed}
+use Rattle.demangle_text.specs.Shape.{Shape, Plain, plain_shape, whole_shape, text, text_len, joined, flattened, moved}
+use Rattle.demangle_edit.specs.Names.{angle_gap, attached, qualified, tagged}
+use Rattle.demangle_edit.specs.Built.{separator, separated, listed_more, arguments_closed, arguments_begun, arguments_ended}
+use Rattle.demangle_edit.proofs.Built.{begun_list, begun_more, ended_attached}
 use Rattle.itanium_syntax.specs.declared.context.Context.{Context}
 use Rattle.itanium_syntax.specs.declared.numerals.Radix.TheVariants.{Decimal}
 use Rattle.itanium_syntax.specs.Scalars.{index_of, source_name}
@@ -285,12 +286,6 @@ nothing_in_front list = λ j. record { form = Plain (append-nil (text list) j); 
 pub words_joined : (words t close : List ℕ) → plain_shape ((words ++ t) ++ close) ≡ plain_shape (words ++ (t ++ (close ++ [])))
 words_joined words t close = ap plain_shape (append_assoc words t close ∙ ap (λ (c : List ℕ). words ++ (t ++ c)) (sym (append-nil close)))
 
--- a list begins
-pub args_start : (d : ℕ) (x : Context) (of_name : Bool) (s : ParserState) {opens : Bool} {n : ℕ} {list : Shape} {after : ParserState} → 0 < d → opens ≡ opens_scope of_name x
-    → list ≡ plain_shape (codes "<") → after ≡ begin opens (skip 1 (enter s)) → n ≡ length after.scopes
-    → ListSoFar (parse_args d x of_name s) (list_turn (put opens n) (parse_argument (d - 1) x)) (λ found. whole_shape (arguments_closed found)) (true, list) after
-args_start d x of_name s deep opened built left scopes = rw (scopes, left, opened, built) (list_start (args_opens d x of_name s deep))
-
 -- a pack begins
 pub pack_start : (d : ℕ) (x : Context) (s : ParserState) {inside : Context} {list : Shape} {after : ParserState} → 0 < d → inside ≡ inside_pack x → list ≡ plain_shape [] → after ≡ skip 1 (enter s)
     → ListSoFar (parse_pack d x s) (list_turn put_nowhere (parse_argument (d - 1) inside)) whole_shape (true, list) after
@@ -311,6 +306,77 @@ module _ {whole : Option (Shape × ParserState)} (put : Shape → ParserState �
   pub items_fail : args_case s.rest ≡ NextArgument → item s ≡ None → whole ≡ None
   unfolding list_turn
   items_fail case none = list_fail so_far (rw (case, none) refl)
+
+-- what is read gets its end
+abbrev with_end : (Shape → Shape) → Option (Shape × ParserState) → Option (Shape × ParserState)
+with_end finish read = read >>= λ r. Some (finish r.0, r.1)
+
+-- one end, and then another
+ended_twice : (read : Option (Shape × ParserState)) (first second : Shape → Shape) → with_end second (with_end first read) ≡ with_end (λ found. second (first found)) read
+ended_twice None first second = refl
+ended_twice (Some r) first second = refl
+
+-- A list after a name has come this far: what is found stands for the name's text and the list's.
+pub record AttachedSoFar (whole : Option (Shape × ParserState)) (put : Shape → ParserState → ParserState) (item : Parses Shape) (name : Shape) (first : Bool) (found : Shape) (s : ParserState) : Type 0 where
+  pub list : List ℕ
+  pub own : ℕ × ℕ
+  pub templ : Bool
+  pub ctor : Bool
+  pub so_far : ListSoFar whole (list_turn put item) (λ all. attached name (whole_shape (arguments_closed all))) (first, begun_list list own templ ctor) s
+  pub stands : found ≡ plain_shape (text name ++ (angle_gap (text name) ++ (60 ∷ list)))
+
+-- a list begins after a name
+pub attached_start : (d : ℕ) (x : Context) (of_name : Bool) (s : ParserState) (name : Shape) {opens : Bool} {n : ℕ} {found : Shape} {after : ParserState} → 0 < d
+    → opens ≡ opens_scope of_name x → found ≡ arguments_begun name → after ≡ begin opens (skip 1 (enter s)) → n ≡ length after.scopes
+    → AttachedSoFar (attached_by (parse_args d x of_name) name s) (put opens n) (parse_argument (d - 1) x) name true found after
+attached_start d x of_name s name {opens} {n} {found} {after} deep opened built left scopes = record {
+  list = [];
+  own = (0, 1);
+  templ = false;
+  ctor = false;
+  so_far = rw (scopes, left, opened) (list_start (ap (with_end (attached name)) (args_opens d x of_name s deep)
+      ∙ ended_twice _ (λ all. whole_shape (arguments_closed all)) (attached name)));
+  stands = built;
+}
+
+-- the turns of a list after a name
+module _ {whole : Option (Shape × ParserState)} (put : Shape → ParserState → ParserState) (item : Parses Shape) (name : Shape) {first : Bool} {found : Shape} {s : ParserState}
+    (so_far : AttachedSoFar whole put item name first found s) where
+  pub attached_end : {last : Shape} {after : ParserState} → args_case s.rest ≡ EndOfArguments → last ≡ arguments_ended (text_len name) name.own name.ctor found
+      → after ≡ skip 1 s → whole ≡ Some (last, after)
+  attached_end case built left =
+      items_end put item (λ all. attached name (whole_shape (arguments_closed all))) so_far.so_far case
+      (built ∙ ap (arguments_ended (text_len name) name.own name.ctor) so_far.stands ∙ ended_attached name so_far.list so_far.own so_far.templ so_far.ctor) left
+
+  pub attached_more : {next more : Shape} {mid after : ParserState} → args_case s.rest ≡ NextArgument → item s ≡ Some (next, mid) → length mid.rest < length s.rest
+      → more ≡ joined (separated first found) [] next → after ≡ put next mid → after.rest ≡ mid.rest → AttachedSoFar whole put item name false more after
+  attached_more {next} {more} {mid} {after} case read shorter built left same =
+      let longer = listed_more first (begun_list so_far.list so_far.own so_far.templ so_far.ctor) next in record {
+        list = (so_far.list ++ separator first) ++ text next;
+        own = longer.own;
+        templ = so_far.templ;
+        ctor = so_far.ctor;
+        so_far = items_more put item (λ all. attached name (whole_shape (arguments_closed all))) so_far.so_far case read shorter refl left same;
+        stands = built ∙ ap (λ (l : Shape). joined (separated first l) [] next) so_far.stands ∙ begun_more (text name) (angle_gap (text name)) so_far.list next first;
+      }
+
+  pub attached_fail : args_case s.rest ≡ NextArgument → item s ≡ None → whole ≡ None
+  attached_fail case none = items_fail put item (λ all. attached name (whole_shape (arguments_closed all))) so_far.so_far case none
+
+  -- what is found is a text that begins with the name's
+  pub attached_plain : {all : Shape} → all ≡ found → all ≡ plain_shape (text all)
+  attached_plain same =
+      let is = same ∙ so_far.stands in is ∙ ap (λ (l : Shape). plain_shape (text l)) (sym is)
+
+  pub attached_front : {len all : ℕ} → len ≡ text_len name → all ≡ text_len found → len ≤ all
+  attached_front {len} {all} long same =
+      let list = angle_gap (text name) ++ (60 ∷ so_far.list) in
+      let len_is : all ≡ text_len name + length list = same ∙ ap text_len so_far.stands ∙ length-append (text name) list in
+      omega (arith, long, len_is)
+
+-- no list is read after a name where none may open
+pub no_attached : (d : ℕ) (x : Context) (of_name : Bool) (name : Shape) (s : ParserState) → d ≡ 0 → attached_by (parse_args d x of_name) name s ≡ None
+no_attached d x of_name name s none = rw (none, no_args x of_name s) refl
 
 -- the turns of types that are put onto a list
 module _ {whole : Option (Shape × ParserState)} (type : Parses Shape) {first : Bool} {list : Shape} {s : ParserState} (so_far : LoopSoFar whole (typed_turn type) (first, list) s) where

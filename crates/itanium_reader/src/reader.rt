@@ -15,9 +15,7 @@ use itanium_syntax::abbreviations::{
     Abbreviation, abbreviation_of, abbreviation_own_len, abbreviation_text,
 };
 use itanium_syntax::context::Context;
-use itanium_syntax::names::{
-    SubstitutionCase, source_text, substitution_case,
-};
+use itanium_syntax::names::{SubstitutionCase, source_text, substitution_case};
 use itanium_syntax::numerals::{Radix, index_of};
 use itanium_syntax::scalar::source_name;
 use itanium_syntax::types::{builtin_text, past_builtin};
@@ -265,6 +263,7 @@ impl<'a> Reader<'a> {
         ensures state { OnOk result (state self.new ≡ spec.begin opens (state self.old)) }
         ensures more { OnOk result (length (scopes self.old.buffer.value) ≤ length (scopes self.new.buffer.value)) }
         ensures opened { OnOk result (opens ≡ true → 0 < length (scopes self.new.buffer.value)) }
+        ensures found { OnOk result (self.new.found ≡ self.old.found) }
         ensures kept { OnOk result (SameFrame self.old.buffer.value self.new.buffer.value) }
     {
         if opens {

@@ -4,13 +4,14 @@ use Rattle.std.proofs.lemmas.Result.{err_from_is_err_and}
 use Rattle.itanium_syntax.proofs.Fronts.{attached_some}
 use Rattle.demangle_text.specs.State.{shape, SameFrame}
 use Rattle.itanium_reader.specs.Outcome.{state}
-use Rattle.itanium_reader.proofs.Unfold.{source_opens, saved_first, free_found, kept_scope, some_scope, stops, list_stops, args_start, pack_start, components_end, components_args, components_no_args, components_name, components_no_name, components_source, components_no_source, items_end, items_more, items_fail, typed_end, typed_more, typed_fail, types_end, types_more, types_fail, kept_shapes, one_more_lives}
+use Rattle.itanium_reader.specs.Parser as spec
+use Rattle.itanium_reader.proofs.Unfold.{source_opens, saved_first, free_found, kept_scope, some_scope, stops, list_stops, attached_start, attached_end, attached_more, attached_fail, attached_plain, attached_front, pack_start, components_end, components_args, components_no_args, components_name, components_no_name, components_source, components_no_source, items_end, items_more, items_fail, typed_end, typed_more, typed_fail, types_end, types_more, types_fail, kept_shapes, one_more_lives}
 use Rattle.itanium_productions.proofs.+reader.Goals as goal
 
-pub args::read_args-loop-reader-init : goal.args::read_args-loop-reader-init
-args::read_args-loop-reader-init t c = record {
+pub args::read_attached-loop-reader-init : goal.args::read_attached-loop-reader-init
+args::read_attached-loop-reader-init t c = record {
   positive = search rules;
-  reads = args_start _ _ _ _ (search rules) (search rules) (search rules) (search rules) (search rules);
+  reads = attached_start _ _ _ _ (shape c.args.reader.now.buffer.value c.args.reader.now.found) (search rules) (search rules) (search rules) (search rules) (search rules);
   living = search rules;
   run = search rules;
   scopes_stand = search rules;
@@ -22,21 +23,28 @@ args::read_args-loop-reader-init t c = record {
   most = search rules;
 }
 
-pub args::read_args-returns-in-EndOfArguments-clause-reads : goal.args::read_args-returns-in-EndOfArguments-clause-reads
-args::read_args-returns-in-EndOfArguments-clause-reads t c =
-    (search rules, items_end _ _ _ c.loop-reader.invariant.reads (sym c.in-EndOfArguments.ensures.case) (search rules) (search rules))
+pub args::read_attached-end_arguments-requires-clause-plain : goal.args::read_attached-end_arguments-requires-clause-plain
+args::read_attached-end_arguments-requires-clause-plain t c = attached_plain _ _ _ c.loop-reader.invariant.reads (search rules)
 
-pub args::read_args-returns-in_err-framed_argument-in-NextArgument-clause-reads : goal.args::read_args-returns-in_err-framed_argument-in-NextArgument-clause-reads
-args::read_args-returns-in_err-framed_argument-in-NextArgument-clause-reads t c =
+pub args::read_attached-end_arguments-requires-clause-front : goal.args::read_attached-end_arguments-requires-clause-front
+args::read_attached-end_arguments-requires-clause-front t c = attached_front _ _ _ c.loop-reader.invariant.reads (search rules) (search rules)
+
+pub args::read_attached-returns-in-EndOfArguments-clause-reads : goal.args::read_attached-returns-in-EndOfArguments-clause-reads
+args::read_attached-returns-in-EndOfArguments-clause-reads t c =
+    (search rules, attached_end _ _ _ c.loop-reader.invariant.reads (sym c.in-EndOfArguments.ensures.case) (search rules) (search rules))
+
+pub args::read_attached-returns-in_err-framed_argument-in-NextArgument-clause-reads : goal.args::read_attached-returns-in_err-framed_argument-in-NextArgument-clause-reads
+args::read_attached-returns-in_err-framed_argument-in-NextArgument-clause-reads t c =
     let r = c.from_residual-in_err-framed_argument-in-NextArgument in
     let e = err_from_is_err_and r.result r.ensures.1 in
-    rw (e.1, e.2) (stops _ _ (c.in_err-framed_argument-in-NextArgument.ensures {u = tt}).reads
-    (λ none. items_fail _ _ _ c.loop-reader.invariant.reads (sym c.in-NextArgument.ensures.case) (search rules)))
+    let whole = spec.attached_by (spec.parse_args c.args.depth c.args.context c.args.of_name) (shape c.args.reader.now.buffer.value c.args.reader.now.found) (state c.args.reader.now) in
+    rw (e.1, e.2) (stops _ {whole = whole} _ (c.in_err-framed_argument-in-NextArgument.ensures {u = tt}).reads
+    (λ none. attached_fail {whole = whole} _ _ _ c.loop-reader.invariant.reads (sym c.in-NextArgument.ensures.case) (search rules)))
 
-pub args::read_args-loop-reader-preserved : goal.args::read_args-loop-reader-preserved
-args::read_args-loop-reader-preserved t c = record {
+pub args::read_attached-loop-reader-preserved : goal.args::read_attached-loop-reader-preserved
+args::read_attached-loop-reader-preserved t c = record {
   positive = search rules;
-  reads = items_more _ _ _ c.loop-reader.invariant.reads {next = shape c.framed_argument.new.reader.buffer.value c.framed_argument.new.reader.found} {mid = state c.framed_argument.new.reader}
+  reads = attached_more _ _ _ c.loop-reader.invariant.reads {next = shape c.framed_argument.new.reader.buffer.value c.framed_argument.new.reader.found} {mid = state c.framed_argument.new.reader}
       (sym c.in-NextArgument.ensures.case) (search rules) (search rules) (search rules) (search rules) (search rules);
   living = search rules;
   run = search rules;

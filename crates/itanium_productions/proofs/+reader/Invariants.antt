@@ -3,9 +3,9 @@ use Rattle.demangle_text.specs.State.{IsLiving, IsRun, SameFrame, shape, saved, 
 use Rattle.itanium_reader.specs.Parser as spec
 use Rattle.itanium_reader.specs.Outcome.{state}
 use Rattle.demangle_text.specs.Shape.{whole_shape}
-use Rattle.demangle_edit.specs.Built.{arguments_closed}
 use Rattle.itanium_syntax.specs.Context.{inside_lambda}
 use Rattle.itanium_reader.proofs.Loops.{LoopSoFar, ListSoFar}
+use Rattle.itanium_reader.proofs.Unfold.{AttachedSoFar}
 use Rattle.itanium_productions.proofs.+reader.Given as goal
 
 abbrev pub decreases-names::read_bare_name : goal.decreases-names::read_bare_name
@@ -38,14 +38,8 @@ decreases-encodings::read_entity l = 16 * l.depth + 2
 abbrev pub decreases-encodings::read_local : goal.decreases-encodings::read_local
 decreases-encodings::read_local l = 16 * l.depth + 7
 
-abbrev pub decreases-args::read_args : goal.decreases-args::read_args
-decreases-args::read_args l = 16 * l.depth
-
 abbrev pub decreases-types::read_type : goal.decreases-types::read_type
 decreases-types::read_type l = 16 * l.depth
-
-abbrev pub decreases-args::framed_args : goal.decreases-args::framed_args
-decreases-args::framed_args l = 16 * l.depth + 1
 
 abbrev pub decreases-args::read_argument : goal.decreases-args::read_argument
 decreases-args::read_argument l = 16 * l.depth + 8
@@ -90,12 +84,12 @@ invariant-names::read_components-loop-reader l = record {
 abbrev pub decreases-names::read_components-loop-reader : goal.decreases-names::read_components-loop-reader
 decreases-names::read_components-loop-reader l = length l.reader.rest.now
 
-abbrev pub invariant-args::read_args-loop-reader : goal.invariant-args::read_args-loop-reader
-invariant-args::read_args-loop-reader l = record {
+abbrev pub invariant-args::read_attached-loop-reader : goal.invariant-args::read_attached-loop-reader
+invariant-args::read_attached-loop-reader l = record {
   positive : 0 < l.depth;
-  reads : ListSoFar (spec.parse_args l.depth l.context l.of_name (state l.fn.reader))
-      (spec.list_turn (spec.put l.opens l.scopes) (spec.parse_argument (l.depth - 1) l.context))
-      (λ list. whole_shape (arguments_closed list)) (l.first, shape l.reader.buffer.value l.list) (state l.reader);
+  reads : AttachedSoFar (spec.attached_by (spec.parse_args l.depth l.context l.of_name) (shape l.fn.reader.buffer.value l.fn.reader.found) (state l.fn.reader))
+      (spec.put l.opens l.scopes) (spec.parse_argument (l.depth - 1) l.context) (shape l.fn.reader.buffer.value l.fn.reader.found) l.first
+      (shape l.reader.buffer.value l.list) (state l.reader);
   living : IsLiving l.reader.buffer.value l.list;
   run : IsRun l.fn.reader.buffer.value l.reader.buffer.value;
   scopes_stand : length (scopes l.fn.reader.buffer.value) ≤ l.scopes;
@@ -107,8 +101,8 @@ invariant-args::read_args-loop-reader l = record {
   most : l.reader.most_saved + 1 ≤ max (l.fn.reader.most_saved + 1) (length (saved l.fn.reader.buffer.value) + length l.fn.reader.rest.now);
 }
 
-abbrev pub decreases-args::read_args-loop-reader : goal.decreases-args::read_args-loop-reader
-decreases-args::read_args-loop-reader l = length l.reader.rest.now
+abbrev pub decreases-args::read_attached-loop-reader : goal.decreases-args::read_attached-loop-reader
+decreases-args::read_attached-loop-reader l = length l.reader.rest.now
 
 abbrev pub decreases-types::framed_type : goal.decreases-types::framed_type
 decreases-types::framed_type l = 16 * l.depth + 1
