@@ -15,9 +15,7 @@ use itanium_syntax::abbreviations::{
     Abbreviation, abbreviation_of, abbreviation_own_len, abbreviation_text,
 };
 use itanium_syntax::context::Context;
-use itanium_syntax::names::{
-    SubstitutionCase, source_text, substitution_case,
-};
+use itanium_syntax::names::{SubstitutionCase, source_text, substitution_case};
 use itanium_syntax::numerals::{Radix, index_of};
 use itanium_syntax::scalar::source_name;
 use itanium_syntax::types::{builtin_text, past_builtin};
