@@ -155,7 +155,7 @@ IsJoint-inserted s t first bytes second h ordered after is =
 pub IsJoint-copied : (s t : Store) (first : Piece) (bytes : List ℕ) (second : Piece) (from : ℕ) → (IsAdjacent s first second → ⊥) → (IsTail s second → EndsBy second.from_byte first → ⊥)
     → s.frame_main ≤ length s.main_text → from ≡ length s.main_text
     → t.main_text ≡ s.main_text ++ (piece_text s.main_text s.side_text first ++ bytes ++ piece_text s.main_text s.side_text second) → IsJoint s t first bytes second from
-IsJoint-copied s t first bytes second from apart behind inner starts is =
+IsJoint-copied s t first bytes second from apart later inner starts is =
     let more = piece_text s.main_text s.side_text first ++ bytes ++ piece_text s.main_text s.side_text second in
     record {
       within = omega (arith, ap length is ∙ length-append s.main_text more);
@@ -163,7 +163,7 @@ IsJoint-copied s t first bytes second from apart behind inner starts is =
       inner = omega (arith, inner, starts);
       front = ap (take from) is ∙ front_longer s.main_text more from (omega (arith, starts));
       in_place = λ h. absurd (apart h);
-      in_front = λ tail before _. absurd (behind tail before);
+      in_front = λ tail before _. absurd (later tail before);
     }
 
 -- the first text and the bytes in front of a second one that ends the main text

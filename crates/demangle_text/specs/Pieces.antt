@@ -242,8 +242,8 @@ pub record IsSplice (old new : Store) (p : Piece) (at : ℕ) (bytes : List ℕ) 
   pub front : take from new.main_text ≡ take from old.main_text
   pub in_place : IsTail old p → (from ≡ p.from_byte) × (length new.main_text ≡ length old.main_text + length bytes)
 
--- the main text ends in both texts with bytes between them, from a byte on: adjacent pieces at the end stayed, and so did
--- a second one at the end with the first before it
+-- the main text ends in both texts with bytes between them, from a byte on: adjacent pieces at the end stayed, and so
+-- did a second one at the end with the first before it
 pub record IsJoint (old new : Store) (first : Piece) (bytes : List ℕ) (second : Piece) (from : ℕ) : Type 0 where
   pub within : from ≤ length new.main_text
   pub text : drop from new.main_text

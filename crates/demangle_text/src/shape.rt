@@ -76,8 +76,8 @@ impl Piece {
         }
     }
 
-    // Its text as a plain piece, all of which is its last own name. A call that isn't inlined is given this one, so that
-    // the piece itself needn't be kept in memory.
+    // Its text as a plain piece, all of which is its last own name. A call that isn't inlined is given this one, so
+    // that the piece itself needn't be kept in memory.
     #[inline(always)]
     pub(crate) fn bare(self) -> Piece
         requires ordered { self.from_byte ≤ self.to_byte }

@@ -1,5 +1,5 @@
 use Rattle.std.proofs.Common.{arith}
-use Rattle.demangle_text.proofs.Overlaps.{overlapping}
+use Rattle.symfilter_engine.proofs.Overlaps.{overlapping}
 use Rattle.symfilter_engine.proofs.gathered.by_sixty_four.Goals as goal
 
 pub returns : goal.returns
