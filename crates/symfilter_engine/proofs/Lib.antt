@@ -5,3 +5,4 @@ pub mod LineEnds
 pub mod Chunks
 pub mod Copying
 pub mod Gathering
+pub mod Overlaps
