@@ -6,15 +6,30 @@ ghost use Rattle.itanium_demangle.specs.Ascii.{AreAscii};
 use std::simd::prelude::*;
 use std::str::from_utf8;
 
-/// How many bytes are looked at at once.
-const LANES: usize = 16;
+/// So many bytes are looked at at once.
+const LANES: usize = 32;
+
+/// So many of fewer bytes.
+const FEW_LANES: usize = 16;
 
 /// The greatest ASCII byte.
 const LAST: u8 = 127;
 
-/// Whether a byte of the 16 from `at` on isn't ASCII.
+/// Whether a byte of the 32 from `at` on isn't ASCII.
 #[inline(always)]
 fn has_other(bytes: &[u8], at: usize) -> bool
+    requires { at + 32 ≤ length bytes.now }
+    ensures none { result ≡ false → AreAscii bytes.now at (at + 32) }
+{
+    let found = u8x32::from_slice(&bytes[at..])
+        .simd_gt(u8x32::splat(LAST))
+        .to_bitmask();
+    found != 0
+}
+
+/// Whether a byte of the 16 from `at` on isn't ASCII.
+#[inline(always)]
+fn few_have_other(bytes: &[u8], at: usize) -> bool
     requires { at + 16 ≤ length bytes.now }
     ensures none { result ≡ false → AreAscii bytes.now at (at + 16) }
 {
@@ -29,6 +44,9 @@ fn has_other(bytes: &[u8], at: usize) -> bool
 fn is_ascii(bytes: &[u8]) -> bool
     ensures all { result ≡ true → AreAscii bytes.now 0 (length bytes.now) }
 {
+    if bytes.len() < FEW_LANES {
+        return false;
+    }
     let mut at = 0;
     while bytes.len() - at >= LANES {
         if has_other(bytes, at) {
@@ -36,10 +54,10 @@ fn is_ascii(bytes: &[u8]) -> bool
         }
         at += LANES;
     }
-    if at == 0 {
+    if bytes.len() - at > FEW_LANES && few_have_other(bytes, at) {
         return false;
     }
-    !has_other(bytes, bytes.len() - LANES)
+    !few_have_other(bytes, bytes.len() - FEW_LANES)
 }
 
 /// Whether the bytes are UTF-8.
@@ -51,5 +69,14 @@ pub(crate) fn is_utf8(bytes: &[u8]) -> bool
     if is_ascii(bytes) {
         return true;
     }
+    is_known_utf8(bytes)
+}
+
+/// The same by std's test. It is inlined, so that its answer goes through memory on this way alone.
+#[inline(always)]
+fn is_known_utf8(bytes: &[u8]) -> bool
+    ensures yes { result ≡ true → IsUtf8 bytes.now }
+    ensures no { result ≡ false → ¬ (IsUtf8 bytes.now) }
+{
     from_utf8(bytes).is_ok()
 }
