@@ -273,11 +273,28 @@ pub(crate) fn read_nested(
 {
     let quals = name_quals(reader.rest);
     reader.rest = past_name_quals(reader.rest);
+    read_prefix(reader, depth, context)?;
+    Ok(quals)
+}
+
+/// `<prefix> <unqualified-name> E`, after the qualifiers of a `<nested-name>`.
+#[tactic(auto, using(itanium_reader::proofs::Rules::buffers))]
+#[cycle(reader)]
+#[inline(never)]
+pub(crate) fn read_prefix(reader: &mut Reader, depth: usize, context: Context) -> Result<(), Stop>
+    requires room { HasRoom 2 (state reader.old) }
+    ensures reads { Gives result reader.new (spec.parse_prefix
+        (spec.parse_unqualified (spec.parse_type depth context)
+        (spec.parse_type depth (inside_lambda context)))
+        (spec.parse_args depth context true) context (state reader.old)) }
+    ensures run { OnOk result (IsRun reader.old.buffer.value reader.new.buffer.value) }
+    ensures bounds { Bounds 1 result (state reader.old) (state reader.new) }
+    ensures saved { SavedBounds 1 result (state reader.old) (state reader.new) }
+{
     let takes = saves_first(first_case(reader.rest));
     read_first(reader, depth, context)?;
     reader.skip_initializer();
-    read_components(reader, depth, context, takes)?;
-    Ok(quals)
+    read_components(reader, depth, context, takes)
 }
 
 /// The later components of a `<nested-name>` after what was found, up to its `E`.

@@ -321,6 +321,16 @@ parse_components unqualified args takes name s = parse_loop (component_turn unqu
 abbrev pub ParsesBareName : Type 0
 ParsesBareName = Parses (Shape × Quals)
 
+-- what is after the qualifiers of a <nested-name>
+abbrev pub parse_prefix : ParsesName → Parses Shape → Context → Parses Shape
+parse_prefix unqualified args x s =
+    first_as (first_case s.rest) unqualified x s >>= λ first.
+    parse_components unqualified args (saves_first (first_case s.rest)) first.0 (past_initializer first.1)
+
+-- a name with the qualifiers that were read in front of it
+abbrev pub with_quals : Quals → Shape × ParserState → Option ((Shape × Quals) × ParserState)
+with_quals quals name = Some ((name.0, quals), name.1)
+
 -- what is after the N of a <nested-name>
 unfoldable pub parse_nested : ParsesName → Parses Shape → Context → ParsesBareName
 parse_nested unqualified args x s =
