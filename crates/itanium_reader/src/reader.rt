@@ -101,7 +101,7 @@ impl<'a> Reader<'a> {
 
     /// Ends a component of a `<nested-name>`: saves what was found, and goes past the `M` of a data member's
     /// initializer, where one stands.
-    #[inline(never)]
+    #[inline(always)]
     pub fn end_component(&mut self) -> Result<(), AllocError>
         requires living { IsLiving self.old.buffer.value self.old.found }
         ensures shape { OnOk result (Lives self.new.buffer.value self.new.found
