@@ -83,6 +83,7 @@ impl<'a> Reader<'a> {
     }
 
     /// Saves what was found for substitutions.
+    #[inline(always)]
     pub fn save_found(&mut self) -> Result<(), AllocError>
         requires living { IsLiving self.old.buffer.value self.old.found }
         ensures shape { OnOk result (Lives self.new.buffer.value self.new.found

@@ -267,6 +267,7 @@ pub fn name_quals(bytes: &[u8]) -> Quals
     ensures value { result ≡ spec.name_quals bytes.now }
 {
     match bytes {
+        [b'1'..=b'9', ..] => Quals::none(),
         [b'H', ..] => Quals::none(),
         [b'K', rest @ ..] => match rest {
             [b'R' | b'O', ..] => written_quals(bytes),
@@ -284,6 +285,7 @@ pub fn past_name_quals(bytes: &[u8]) -> &[u8]
     ensures within { length result.now ≤ length bytes.now }
 {
     match bytes {
+        [b'1'..=b'9', ..] => bytes,
         [b'H', rest @ ..] => rest,
         [b'K', rest @ ..] => match rest {
             [b'R' | b'O', ..] => past_written_quals(bytes),
