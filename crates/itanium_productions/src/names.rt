@@ -18,7 +18,7 @@ use itanium_syntax::args::{AttachedCase, attached_case};
 use itanium_syntax::context::Context;
 use itanium_syntax::encodings::shows_words;
 use itanium_syntax::names::{
-    ComponentCase, FirstCase, FreeCase, NameCase, UnqualifiedCase, UnscopedCase, begins_source,
+    ComponentCase, FirstCase, FreeCase, NameCase, UnqualifiedCase, UnscopedCase, begins_quals, begins_source,
     component_case, first_case, free_case, name_case, name_quals, past_internal, past_name_quals,
     saves_first, unqualified_case, unscoped_case,
 };
@@ -271,8 +271,11 @@ pub(crate) fn read_nested(
     ensures bounds { Bounds 1 result (state reader.old) (state reader.new) }
     ensures saved { SavedBounds 1 result (state reader.old) (state reader.new) }
 {
-    let quals = name_quals(reader.rest);
-    reader.rest = past_name_quals(reader.rest);
+    let mut quals = Quals::none();
+    if begins_quals(reader.rest) {
+        quals = name_quals(reader.rest);
+        reader.rest = past_name_quals(reader.rest);
+    }
     read_prefix(reader, depth, context)?;
     Ok(quals)
 }

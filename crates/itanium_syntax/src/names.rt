@@ -1,5 +1,6 @@
 //! The cases of names: which one the next bytes begin. Of several cases the first one that fits holds.
 ghost use Rattle.std.specs.Prelude.{◌≡◌, ◌≤◌, length, codes, false};
+ghost use Rattle.demangle_quals.specs.Quals.{no_quals};
 ghost use Rattle.itanium_syntax.specs.Bytes.{begins};
 ghost use Rattle.itanium_syntax.specs.Names as spec;
 
@@ -261,13 +262,24 @@ const CONSTANT: Quals = Quals {
     reference: None,
 };
 
+/// Whether qualifiers of a `<nested-name>` stand there, or `H`, which says none.
+#[inline(always)]
+pub fn begins_quals(bytes: &[u8]) -> bool
+    ensures none { result ≡ false → spec.name_quals bytes.now ≡ no_quals }
+    ensures rest { result ≡ false → spec.past_name_quals bytes.now ≡ bytes.now }
+{
+    match bytes {
+        [b'H' | b'r' | b'V' | b'K' | b'R' | b'O', ..] => true,
+        _ => false,
+    }
+}
+
 /// The qualifiers of a `<nested-name>`: `H`, which says none, or `<CV-qualifiers>` and a `<ref-qualifier>`.
 #[inline(always)]
 pub fn name_quals(bytes: &[u8]) -> Quals
     ensures value { result ≡ spec.name_quals bytes.now }
 {
     match bytes {
-        [b'1'..=b'9', ..] => Quals::none(),
         [b'H', ..] => Quals::none(),
         [b'K', rest @ ..] => match rest {
             [b'R' | b'O', ..] => written_quals(bytes),
@@ -285,7 +297,6 @@ pub fn past_name_quals(bytes: &[u8]) -> &[u8]
     ensures within { length result.now ≤ length bytes.now }
 {
     match bytes {
-        [b'1'..=b'9', ..] => bytes,
         [b'H', rest @ ..] => rest,
         [b'K', rest @ ..] => match rest {
             [b'R' | b'O', ..] => past_written_quals(bytes),
