@@ -145,11 +145,7 @@ fn print_cast(buf: &mut Buffer, paren: Piece, ty: Piece, value: &[u8]) -> Result
 
 // A literal of a form that doesn't show its type.
 #[tactic(auto, using(demangle_text::proofs::Laws::laws))]
-fn print_untyped(
-    buf: &mut Buffer,
-    form: LiteralForm,
-    value: &[u8],
-) -> Result<Piece, AllocError>
+fn print_untyped(buf: &mut Buffer, form: LiteralForm, value: &[u8]) -> Result<Piece, AllocError>
     requires untyped { form ≡ LiteralForm.Cast → ⊥ }
     ensures shape { IfOk result (λ p. Lives buf.new p (plain_shape (spec.literal_text form [] value.now))) }
     ensures edit { OnOk result (IsEdit buf.old buf.new) }

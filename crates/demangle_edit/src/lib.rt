@@ -17,7 +17,9 @@ mod names;
 mod parts;
 mod types;
 
-pub use crate::expressions::{address, subexpr, write_literal, write_literal_of, write_opened_literal};
+pub use crate::expressions::{
+    address, subexpr, write_literal, write_literal_of, write_opened_literal,
+};
 pub use crate::lists::{
     append_number, begin_arguments, close_arguments, close_lambda, close_params, end_arguments,
     glue, list_next, open_arguments, open_params, separate,

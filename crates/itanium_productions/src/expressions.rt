@@ -8,7 +8,6 @@ ghost use Rattle.itanium_reader.specs.Outcome.{state, Gives, HasRoom, Bounds, Sa
 
 use crate::encodings::read_encoding;
 use crate::types::{framed_type, read_type};
-use itanium_syntax::types::{TypeCase, type_case};
 use demangle_edit::{address, subexpr};
 use demangle_text::Piece;
 use itanium_reader::{Reader, Stop};
@@ -16,6 +15,7 @@ use itanium_syntax::context::Context;
 use itanium_syntax::expressions::{
     ExpressionCase, LiteralCase, expression_case, expression_text, literal_case, takes_parentheses,
 };
+use itanium_syntax::types::{TypeCase, type_case};
 
 /// `<expr-primary> ::= L <type> <value> E | L _Z <encoding> E`
 #[tactic(auto, using(itanium_reader::proofs::Rules::primaries))]

@@ -18,9 +18,9 @@ use itanium_syntax::args::{AttachedCase, attached_case};
 use itanium_syntax::context::Context;
 use itanium_syntax::encodings::shows_words;
 use itanium_syntax::names::{
-    ComponentCase, FirstCase, FreeCase, NameCase, UnqualifiedCase, UnscopedCase, begins_quals, begins_source,
-    component_case, first_case, free_case, name_case, name_quals, past_internal, past_name_quals,
-    saves_first, unqualified_case, unscoped_case,
+    ComponentCase, FirstCase, FreeCase, NameCase, UnqualifiedCase, UnscopedCase, begins_quals,
+    begins_source, component_case, first_case, free_case, name_case, name_quals, past_internal,
+    past_name_quals, saves_first, unqualified_case, unscoped_case,
 };
 
 /// `<closure-type-name> ::= Ul <lambda-sig> E [<nonnegative number>] _`, after its `Ul`.

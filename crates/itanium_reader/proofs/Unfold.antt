@@ -171,6 +171,7 @@ nested_opens unqualified args x s = then_named (first_as (first_case (past_name_
   where
     later : Shape × ParserState → Option (Shape × ParserState)
     later first = parse_components unqualified args (saves_first (first_case (past_name_quals s.rest))) first.0 (past_initializer first.1)
+
     then_named : (first : Option (Shape × ParserState)) → (first >>= λ f. later f >>= with_quals (name_quals s.rest)) ≡ ((first >>= later) >>= with_quals (name_quals s.rest))
     then_named None = refl
     then_named (Some f) = refl
