@@ -246,11 +246,11 @@ pub fn write_literal_of(
 {
     let bytes = value.as_bytes();
     let form = literal_form(ty, is_minus(bytes));
-    if !has_value(form, bytes) {
-        return Ok(None);
+    if has_value(form, bytes) {
+        let literal = print_literal_of(buf, ty, form, bytes)?;
+        return Ok(Some(literal));
     }
-    let literal = print_literal_of(buf, ty, form, bytes)?;
-    Ok(Some(literal))
+    Ok(None)
 }
 
 /// As `write_literal`, where a piece of the text `(` lives: a literal with its type in parentheses begins with it, so

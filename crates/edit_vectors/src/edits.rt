@@ -10,7 +10,8 @@ use demangle_edit::{
     attach_template_args, begin_arguments, close_arguments, close_lambda, close_params,
     collapse_ref, end_arguments, expand, format_params, function_type, glue, list_next,
     open_arguments, open_params, qualify, qualify_ctor, qualify_text, separate, subexpr, tag,
-    wrap_array, wrap_cv, wrap_member_pointer, wrap_pointer, write_literal,
+    wrap_array, wrap_cv, wrap_member_pointer, wrap_pointer, write_literal, write_literal_of,
+    write_opened_literal,
 };
 use demangle_text::{Buffer, Kind, Piece};
 use std::alloc::Global;
@@ -529,6 +530,28 @@ fn assert_literal(rt: &impl Abort, alloc: Global, ty: &str, value: &str, expecte
     drop(buf);
 }
 
+// So has the literal of a type that is a text and no piece.
+#[tactic(auto, using(demangle_text::proofs::Laws::laws))]
+fn assert_literal_of(rt: &impl Abort, alloc: Global, ty: &str, value: &str, expected: &str) {
+    let mut buf = Buffer::new(alloc);
+    let literal = made(rt, write_literal_of(&mut buf, ty.as_bytes(), value));
+    assert_named(rt, &buf, literal, expected.as_bytes(), 0, expected.len());
+    assert_flags(rt, &buf, literal, false, false);
+    drop(buf);
+}
+
+// And that of a type that stands after its parenthesis.
+#[tactic(auto, using(demangle_text::proofs::Laws::laws))]
+fn assert_opened_literal(rt: &impl Abort, alloc: Global, ty: &str, value: &str, expected: &str) {
+    let mut buf = Buffer::new(alloc);
+    let paren = buf.push(b"(").expect(rt, "no memory");
+    let ty = buf.push(ty.as_bytes()).expect(rt, "no memory");
+    let literal = made(rt, write_opened_literal(&mut buf, paren, ty, value));
+    assert_named(rt, &buf, literal, expected.as_bytes(), 0, expected.len());
+    assert_flags(rt, &buf, literal, false, false);
+    drop(buf);
+}
+
 #[test]
 fn literals(rt: HostRuntime) {
     let rows = &[
@@ -550,6 +573,8 @@ fn literals(rt: HostRuntime) {
     ];
     for (ty, value, expected) in rows {
         assert_literal(&rt, rt.alloc(), ty, value, expected);
+        assert_literal_of(&rt, rt.alloc(), ty, value, expected);
+        assert_opened_literal(&rt, rt.alloc(), ty, value, expected);
     }
 }
 

@@ -83,7 +83,7 @@ pub(crate) fn read_other_literal(
     reader.end_literal()
 }
 
-/// `<type> <value> E` of a builtin type, in a literal.
+/// The same of a builtin type.
 #[tactic(auto, using(itanium_reader::proofs::Rules::types))]
 fn read_builtin_literal(reader: &mut Reader, depth: usize, context: Context) -> Result<(), Stop>
     requires room { HasRoom 2 (state reader.old) }
