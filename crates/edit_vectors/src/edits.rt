@@ -59,6 +59,27 @@ fn arguments_grow_in_the_main_text(rt: HostRuntime) {
 
 #[test]
 #[tactic(auto, using(demangle_text::proofs::Laws::laws))]
+fn a_text_goes_after_its_scope_in_the_main_text(rt: HostRuntime) {
+    let mut buf = Buffer::new(rt.alloc());
+    let scope = push(&rt, &mut buf, b"A");
+    qualify_text(&mut buf, scope, b"value").expect(&rt, "no memory");
+    assert_eq!(&rt; buf.main_bytes(), b"A::value".as_slice());
+    drop(buf);
+}
+
+#[test]
+#[tactic(auto, using(demangle_text::proofs::Laws::laws))]
+fn a_literal_stays_after_its_parenthesis_in_the_main_text(rt: HostRuntime) {
+    let mut buf = Buffer::new(rt.alloc());
+    let paren = buf.push(b"(").expect(&rt, "no memory");
+    let ty = buf.push(b"A::B").expect(&rt, "no memory");
+    made(&rt, write_opened_literal(&mut buf, paren, ty, "n5"));
+    assert_eq!(&rt; buf.main_bytes(), b"(A::B)-5".as_slice());
+    drop(buf);
+}
+
+#[test]
+#[tactic(auto, using(demangle_text::proofs::Laws::laws))]
 fn qualified_name(rt: HostRuntime) {
     let mut buf = Buffer::new(rt.alloc());
     let scope = push(&rt, &mut buf, b"Foo");
@@ -266,6 +287,7 @@ fn arguments_built_as_a_text(rt: HostRuntime) {
     let whole = end_arguments(&mut buf, list, len, own, ctor).expect(&rt, "no memory");
     assert_named(&rt, &buf, whole, b"A::f<B<A> >", 3, 4);
     assert_flags(&rt, &buf, whole, true, false);
+    assert_eq!(&rt; buf.main_bytes(), b"A::f<B<A> >".as_slice());
     drop(buf);
 }
 

@@ -6,10 +6,10 @@ ghost use Rattle.itanium_demangle.specs.Ascii.{AreAscii};
 use std::simd::prelude::*;
 use std::str::from_utf8;
 
-/// So many bytes are looked at at once.
+/// How many bytes are looked at at once.
 const LANES: usize = 32;
 
-/// So many of fewer bytes.
+/// How many of the last bytes are.
 const FEW_LANES: usize = 16;
 
 /// The greatest ASCII byte.
@@ -39,7 +39,7 @@ fn few_have_other(bytes: &[u8], at: usize) -> bool
     found != 0
 }
 
-/// Whether all bytes are known to be ASCII: of fewer than 16 it isn't.
+/// Whether all bytes are known to be ASCII: of fewer than 16 it isn't known.
 #[inline(always)]
 fn is_ascii(bytes: &[u8]) -> bool
     ensures all { result ≡ true → AreAscii bytes.now 0 (length bytes.now) }
@@ -69,12 +69,12 @@ pub(crate) fn is_utf8(bytes: &[u8]) -> bool
     if is_ascii(bytes) {
         return true;
     }
-    is_known_utf8(bytes)
+    is_utf8_by_std(bytes)
 }
 
 /// The same by std's test. It is inlined, so that its answer goes through memory on this way alone.
 #[inline(always)]
-fn is_known_utf8(bytes: &[u8]) -> bool
+fn is_utf8_by_std(bytes: &[u8]) -> bool
     ensures yes { result ≡ true → IsUtf8 bytes.now }
     ensures no { result ≡ false → ¬ (IsUtf8 bytes.now) }
 {

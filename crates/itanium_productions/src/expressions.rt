@@ -97,7 +97,7 @@ fn read_builtin_literal(reader: &mut Reader, depth: usize, context: Context) -> 
         return Err(Stop::Unread);
     }
     reader.entered += 1;
-    reader.read_builtin_literal()
+    reader.end_builtin_literal()
 }
 
 /// `pp_ <expression>` and `mm_ <expression>`

@@ -276,7 +276,7 @@ pub(crate) fn read_nested(
         quals = name_quals(reader.rest);
         reader.rest = past_name_quals(reader.rest);
     }
-    read_prefix(reader, depth, context)?;
+    read_after_quals(reader, depth, context)?;
     Ok(quals)
 }
 
@@ -284,9 +284,9 @@ pub(crate) fn read_nested(
 #[tactic(auto, using(itanium_reader::proofs::Rules::buffers))]
 #[cycle(reader)]
 #[inline(never)]
-pub(crate) fn read_prefix(reader: &mut Reader, depth: usize, context: Context) -> Result<(), Stop>
+pub(crate) fn read_after_quals(reader: &mut Reader, depth: usize, context: Context) -> Result<(), Stop>
     requires room { HasRoom 2 (state reader.old) }
-    ensures reads { Gives result reader.new (spec.parse_prefix
+    ensures reads { Gives result reader.new (spec.parse_after_quals
         (spec.parse_unqualified (spec.parse_type depth context)
         (spec.parse_type depth (inside_lambda context)))
         (spec.parse_args depth context true) context (state reader.old)) }

@@ -322,8 +322,8 @@ abbrev pub ParsesBareName : Type 0
 ParsesBareName = Parses (Shape × Quals)
 
 -- what is after the qualifiers of a <nested-name>
-abbrev pub parse_prefix : ParsesName → Parses Shape → Context → Parses Shape
-parse_prefix unqualified args x s =
+abbrev pub parse_after_quals : ParsesName → Parses Shape → Context → Parses Shape
+parse_after_quals unqualified args x s =
     first_as (first_case s.rest) unqualified x s >>= λ first.
     parse_components unqualified args (saves_first (first_case s.rest)) first.0 (past_initializer first.1)
 

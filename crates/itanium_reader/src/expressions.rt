@@ -57,8 +57,9 @@ impl<'a> Reader<'a> {
         Ok(())
     }
 
-    /// A literal of the builtin type that stands there, whose text goes nowhere else, up to the `E` after its value.
-    pub fn read_builtin_literal(&mut self) -> Result<(), Stop>
+    /// A literal of the builtin type that stands there, whose text isn't put into the buffer, up to the `E` after
+    /// its value.
+    pub fn end_builtin_literal(&mut self) -> Result<(), Stop>
         requires builtin { type_case self.old.rest.now ≡ BuiltinType }
         ensures reads { Gives result self.new (spec.literal_end (plain_shape (builtin_text self.old.rest.now))
             (spec.at (past_builtin self.old.rest.now) (state self.old))) }
@@ -78,7 +79,7 @@ impl<'a> Reader<'a> {
         Ok(())
     }
 
-    /// The same after a `(` that stands in front of the type, for a literal with its type in parentheses.
+    /// As `end_literal`, after a `(` that stands in front of the type, for a literal with its type in parentheses.
     pub fn end_opened_literal(&mut self, paren: Piece) -> Result<(), Stop>
         requires paren { Lives self.old.buffer.value paren (plain_shape (codes "(")) }
         requires living { IsLiving self.old.buffer.value self.old.found }

@@ -265,6 +265,7 @@ const CONSTANT: Quals = Quals {
 /// Whether qualifiers of a `<nested-name>` stand there, or `H`, which says none.
 #[inline(always)]
 pub fn begins_quals(bytes: &[u8]) -> bool
+    ensures value { result ≡ spec.begins_quals bytes.now }
     ensures none { result ≡ false → spec.name_quals bytes.now ≡ no_quals }
     ensures rest { result ≡ false → spec.past_name_quals bytes.now ≡ bytes.now }
 {

@@ -65,8 +65,8 @@ decreases-names::read_unscoped l = 16 * l.depth + 10
 abbrev pub decreases-names::read_nested : goal.decreases-names::read_nested
 decreases-names::read_nested l = 16 * l.depth + 12
 
-abbrev pub decreases-names::read_prefix : goal.decreases-names::read_prefix
-decreases-names::read_prefix l = 16 * l.depth + 11
+abbrev pub decreases-names::read_after_quals : goal.decreases-names::read_after_quals
+decreases-names::read_after_quals l = 16 * l.depth + 11
 
 abbrev pub invariant-names::read_components-loop-reader : goal.invariant-names::read_components-loop-reader
 invariant-names::read_components-loop-reader l = record {
