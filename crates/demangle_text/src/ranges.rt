@@ -134,12 +134,11 @@ impl Ranges {
         ensures ok { OnOk result (self.new ≡ self.old ++ piece.now ∷ []) }
         ensures err { OnErr result (self.new ≡ self.old) }
     {
-        let at = self.count;
-        if at == self.pieces.len() {
+        if self.count == self.pieces.len() {
             more(&mut self.pieces)?;
         }
-        self.pieces[at] = *piece;
-        self.count = at + 1;
+        self.pieces[self.count] = *piece;
+        self.count += 1;
         self.end = end;
         Ok(())
     }
