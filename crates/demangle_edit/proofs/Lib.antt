@@ -6,3 +6,4 @@ pub mod Cuts
 pub mod Arrays
 pub mod Members
 mod Digits
+pub mod Literals

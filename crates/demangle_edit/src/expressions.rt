@@ -1,5 +1,5 @@
 //! Edits that make literals and operands of expressions (Itanium C++ ABI 5.1, "Expressions").
-ghost use Rattle.std.specs.Prelude.{◌≡◌, codes, IfOk, OnOk};
+ghost use Rattle.std.specs.Prelude.{◌≡◌, codes, [], IfOk, OnOk};
 ghost use Rattle.demangle_text.specs.Shape.{text, plain_shape, appended, whole_shape};
 ghost use Rattle.demangle_text.specs.State.{IsLiving, shape, Lives, IsEdit, KeepsAll, main_bytes};
 ghost use Rattle.demangle_edit.specs.Answers.{Answers, OnNone};
@@ -143,8 +143,27 @@ fn print_cast(buf: &mut Buffer, paren: Piece, ty: Piece, value: &[u8]) -> Result
     append_value(buf, cast, value)
 }
 
-// A literal of this form.
+// A literal of a form that doesn't show its type.
 #[tactic(auto, using(demangle_text::proofs::Laws::laws))]
+fn print_untyped(buf: &mut Buffer, form: LiteralForm, value: &[u8]) -> Result<Piece, AllocError>
+    requires untyped { form ≡ LiteralForm.Cast → ⊥ }
+    ensures shape { IfOk result (λ p. Lives buf.new p (plain_shape (spec.literal_text form [] value.now))) }
+    ensures edit { OnOk result (IsEdit buf.old buf.new) }
+{
+    match form {
+        LiteralForm::Boolean => buf.push(boolean_bytes(value)),
+        LiteralForm::Null => buf.push(b"nullptr"),
+        LiteralForm::Integer => {
+            let empty = buf.push(b"")?;
+            append_value(buf, empty, value)
+        }
+        LiteralForm::Float => push_float(buf, value),
+        LiteralForm::Cast => unreachable!(),
+    }
+}
+
+// A literal of this form.
+#[tactic(auto, using(demangle_text::proofs::Laws::laws, crate::proofs::Literals::untyped))]
 fn print_literal(
     buf: &mut Buffer,
     ty: Piece,
@@ -157,17 +176,33 @@ fn print_literal(
     ensures edit { OnOk result (IsEdit buf.old buf.new) }
 {
     match form {
-        LiteralForm::Boolean => buf.push(boolean_bytes(value)),
-        LiteralForm::Null => buf.push(b"nullptr"),
-        LiteralForm::Integer => {
-            let empty = buf.push(b"")?;
-            append_value(buf, empty, value)
-        }
-        LiteralForm::Float => push_float(buf, value),
         LiteralForm::Cast => {
             let cast = parenthesize(buf, ty)?;
             append_value(buf, cast, value)
         }
+        _ => print_untyped(buf, form, value),
+    }
+}
+
+// A literal of this form, of a type with this text.
+#[tactic(auto, using(demangle_text::proofs::Laws::laws, crate::proofs::Literals::untyped))]
+fn print_literal_of(
+    buf: &mut Buffer,
+    ty: &[u8],
+    form: LiteralForm,
+    value: &[u8],
+) -> Result<Piece, AllocError>
+    ensures shape { IfOk result (λ p. Lives buf.new p (plain_shape (spec.literal_text form ty.now value.now))) }
+    ensures edit { OnOk result (IsEdit buf.old buf.new) }
+{
+    match form {
+        LiteralForm::Cast => {
+            let opened = buf.push(b"(")?;
+            let typed = buf.append_pair(opened, ty, b")")?;
+            let cast = buf.whole(typed);
+            append_value(buf, cast, value)
+        }
+        _ => print_untyped(buf, form, value),
     }
 }
 
@@ -195,6 +230,27 @@ pub fn write_literal(buf: &mut Buffer, ty: Piece, value: &str) -> Result<Option<
     }
     let literal = print_literal(buf, ty, form, bytes)?;
     Ok(Some(literal))
+}
+
+/// As `write_literal`, of a type with this text, which needn't be the text of a piece.
+#[tactic(auto, using(demangle_text::proofs::Laws::laws))]
+pub fn write_literal_of(
+    buf: &mut Buffer,
+    ty: &[u8],
+    value: &str,
+) -> Result<Option<Piece>, AllocError>
+    ensures shape { Answers result buf.new (spec.literal_step (plain_shape ty.now) value.now) }
+    ensures edit { OnOk result (IsEdit buf.old buf.new) }
+    ensures none { OnNone result (KeepsAll buf.old buf.new) }
+    ensures none_main { OnNone result (main_bytes buf.new ≡ main_bytes buf.old) }
+{
+    let bytes = value.as_bytes();
+    let form = literal_form(ty, is_minus(bytes));
+    if has_value(form, bytes) {
+        let literal = print_literal_of(buf, ty, form, bytes)?;
+        return Ok(Some(literal));
+    }
+    Ok(None)
 }
 
 /// As `write_literal`, where a piece of the text `(` lives: a literal with its type in parentheses begins with it, so

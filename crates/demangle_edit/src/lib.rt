@@ -5,8 +5,8 @@
 //! of the buffer is the only call that is promised.
 //!
 //! A list after a name is put together from pieces (`attach_template_args`, `format_params`), or built as it is
-//! read: what opens it, then for each text `separate` before it is read and `list_next` after it, then what closes
-//! it. Both give the same shape.
+//! read: what opens it, then for each text `separate` before it is read and `list_next` after it (`join` of the
+//! buffer in a list that `begin_arguments` began), then what closes it. Both give the same shape.
 #![tactic(auto)]
 
 mod appends;
@@ -17,7 +17,9 @@ mod names;
 mod parts;
 mod types;
 
-pub use crate::expressions::{address, subexpr, write_literal, write_opened_literal};
+pub use crate::expressions::{
+    address, subexpr, write_literal, write_literal_of, write_opened_literal,
+};
 pub use crate::lists::{
     append_number, begin_arguments, close_arguments, close_lambda, close_params, end_arguments,
     glue, list_next, open_arguments, open_params, separate,

@@ -100,7 +100,8 @@ pub(crate) fn list_more(
 ///
 /// The list is what `open_arguments` or `open_params` answers, or a piece of the bytes that open it:
 /// `{lambda(` for a lambda, none for a pack. Of each text `separate` comes before it is read, and
-/// `list_next` after it. A pack needs no end but `whole` of the buffer.
+/// `list_next` after it; after `begin_arguments` it is `join` of the buffer that comes after it. A
+/// pack needs no end but `whole` of the buffer.
 ///
 /// An error comes where memory is refused, and then only `clear` of the buffer is promised.
 #[inline(always)]
@@ -188,8 +189,9 @@ pub fn begin_arguments(buf: &mut Buffer, name: Piece) -> Result<Piece, AllocErro
     Ok(buf.whole(bare))
 }
 
-/// The list of template arguments with its `>`, after a space where its text ends in `>`: a name that had this
-/// length, this last own name and this flag `ctor`. A plain piece; `templ` holds.
+/// The list that `begin_arguments` began, with its `>`, after a space where its text ends in `>`. `len`, `own` and
+/// `ctor` are those that the name had; the last own name moves as an insertion at `len` moves it. A plain piece;
+/// `templ` holds.
 ///
 /// An error comes where memory is refused, and then only `clear` of the buffer is promised.
 #[inline(always)]

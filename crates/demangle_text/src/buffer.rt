@@ -255,6 +255,8 @@ impl Buffer {
     #[inline(always)]
     pub fn empty(&self) -> Piece
         ensures shape { Lives self.now result (plain_shape []) }
+        ensures stands { Stands result 0 0 }
+        ensures age { (f : Frame) → IsOlder result f }
     {
         Piece::whole_at(0, 0)
     }

@@ -134,11 +134,12 @@ impl Ranges {
         ensures ok { OnOk result (self.new ≡ self.old ++ piece.now ∷ []) }
         ensures err { OnErr result (self.new ≡ self.old) }
     {
-        if self.count == self.pieces.len() {
+        let at = self.count;
+        if at == self.pieces.len() {
             more(&mut self.pieces)?;
         }
-        self.pieces[self.count] = *piece;
-        self.count += 1;
+        self.pieces[at] = *piece;
+        self.count = at + 1;
         self.end = end;
         Ok(())
     }

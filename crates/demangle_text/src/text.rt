@@ -125,6 +125,7 @@ impl Text {
     }
 
     // A part of the text once more at the end.
+    #[inline(always)]
     pub(crate) fn repeat(&mut self, from: usize, to: usize) -> Result<(), AllocError>
         requires ordered { from ≤ to }
         requires within { to ≤ length self.old }

@@ -11,11 +11,11 @@ use Rattle.std.specs.Str.{IsUtf8}
 use Rattle.itanium_demangle.specs.Ascii.{AreAscii}
 
 -- which lanes are greater than the last one
-pub mask_of : (lanes : List ℕ) → length lanes ≡ 16
-    → mask_l (map (top (hbits w8)) (zip2 (λ a b. cond (ltb a b) (2 ^ bits w8 - 1) 0) (replicate 16 127) lanes)) % 2 ^ 64 ≡ mask_l (map (λ byte. ltb 127 byte) lanes)
-mask_of lanes long =
-    ap (λ ms. mask_l ms % 2 ^ 64) (tops_compared w8 ltb (replicate 16 127) lanes ∙ zip2_splat_left ltb 127 16 lanes long)
-    ∙ mask_l-mod (map (λ byte. ltb 127 byte) lanes) 64 (omega (arith, length-map lanes (λ byte. ltb 127 byte)))
+pub mask_of : (n : ℕ) (lanes : List ℕ) → length lanes ≡ n → n ≤ 64
+    → mask_l (map (top (hbits w8)) (zip2 (λ a b. cond (ltb a b) (2 ^ bits w8 - 1) 0) (replicate n 127) lanes)) % 2 ^ 64 ≡ mask_l (map (λ byte. ltb 127 byte) lanes)
+mask_of n lanes long few =
+    ap (λ ms. mask_l ms % 2 ^ 64) (tops_compared w8 ltb (replicate n 127) lanes ∙ zip2_splat_left ltb 127 n lanes long)
+    ∙ mask_l-mod (map (λ byte. ltb 127 byte) lanes) 64 (omega (arith, few, long, length-map lanes (λ byte. ltb 127 byte)))
 
 -- none is greater than the last one
 pub low_from : (bytes : List ℕ) (from to : ℕ) → ((i : ℕ) → from ≤ i → i < to → ltb 127 (get_or bytes i 0) ≡ false) → AreAscii bytes from to

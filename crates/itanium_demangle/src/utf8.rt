@@ -7,14 +7,29 @@ use std::simd::prelude::*;
 use std::str::from_utf8;
 
 /// How many bytes are looked at at once.
-const LANES: usize = 16;
+const LANES: usize = 32;
+
+/// How many of the last bytes are.
+const FEW_LANES: usize = 16;
 
 /// The greatest ASCII byte.
 const LAST: u8 = 127;
 
-/// Whether a byte of the 16 from `at` on isn't ASCII.
+/// Whether a byte of the 32 from `at` on isn't ASCII.
 #[inline(always)]
 fn has_other(bytes: &[u8], at: usize) -> bool
+    requires { at + 32 ≤ length bytes.now }
+    ensures none { result ≡ false → AreAscii bytes.now at (at + 32) }
+{
+    let found = u8x32::from_slice(&bytes[at..])
+        .simd_gt(u8x32::splat(LAST))
+        .to_bitmask();
+    found != 0
+}
+
+/// Whether a byte of the 16 from `at` on isn't ASCII.
+#[inline(always)]
+fn few_have_other(bytes: &[u8], at: usize) -> bool
     requires { at + 16 ≤ length bytes.now }
     ensures none { result ≡ false → AreAscii bytes.now at (at + 16) }
 {
@@ -24,11 +39,14 @@ fn has_other(bytes: &[u8], at: usize) -> bool
     found != 0
 }
 
-/// Whether all bytes are known to be ASCII: of fewer than 16 it isn't.
+/// Whether all bytes are known to be ASCII: of fewer than 16 it isn't known.
 #[inline(always)]
 fn is_ascii(bytes: &[u8]) -> bool
     ensures all { result ≡ true → AreAscii bytes.now 0 (length bytes.now) }
 {
+    if bytes.len() < FEW_LANES {
+        return false;
+    }
     let mut at = 0;
     while bytes.len() - at >= LANES {
         if has_other(bytes, at) {
@@ -36,10 +54,10 @@ fn is_ascii(bytes: &[u8]) -> bool
         }
         at += LANES;
     }
-    if at == 0 {
+    if bytes.len() - at > FEW_LANES && few_have_other(bytes, at) {
         return false;
     }
-    !has_other(bytes, bytes.len() - LANES)
+    !few_have_other(bytes, bytes.len() - FEW_LANES)
 }
 
 /// Whether the bytes are UTF-8.
@@ -51,5 +69,14 @@ pub(crate) fn is_utf8(bytes: &[u8]) -> bool
     if is_ascii(bytes) {
         return true;
     }
+    is_utf8_by_std(bytes)
+}
+
+/// The same by std's test. It is inlined, so that its answer goes through memory on this way alone.
+#[inline(always)]
+fn is_utf8_by_std(bytes: &[u8]) -> bool
+    ensures yes { result ≡ true → IsUtf8 bytes.now }
+    ensures no { result ≡ false → ¬ (IsUtf8 bytes.now) }
+{
     from_utf8(bytes).is_ok()
 }

@@ -1,6 +1,8 @@
 //! Literals, external names and expressions (Itanium C++ ABI 5.1, "Expressions").
 ghost use Rattle.std.specs.Prelude.{◌≡◌, ◌<◌, OnOk, length};
 ghost use Rattle.demangle_text.specs.State.{IsLiving, shape, IsRun, SameFrame};
+ghost use Rattle.itanium_reader.specs.Cases.{BuiltinType};
+ghost use Rattle.itanium_syntax.specs.Types.{type_case};
 ghost use Rattle.itanium_reader.specs.Parser as spec;
 ghost use Rattle.itanium_reader.specs.Outcome.{state, Gives, HasRoom, Bounds, SavedBounds};
 
@@ -13,6 +15,7 @@ use itanium_syntax::context::Context;
 use itanium_syntax::expressions::{
     ExpressionCase, LiteralCase, expression_case, expression_text, literal_case, takes_parentheses,
 };
+use itanium_syntax::types::{TypeCase, type_case};
 
 /// `<expr-primary> ::= L <type> <value> E | L _Z <encoding> E`
 #[tactic(auto, using(itanium_reader::proofs::Rules::primaries))]
@@ -33,17 +36,68 @@ pub(crate) fn read_primary(reader: &mut Reader, depth: usize, context: Context) 
         }
         LiteralCase::ValueLiteral => {
             reader.skip(1);
-            if let [b'N', ..] = reader.rest {
-                // The enumerators of a class or a namespace have their type in parentheses.
-                let paren = reader.buffer.push(b"(")?;
-                framed_type(reader, depth, context)?;
-                return reader.end_opened_literal(paren);
-            }
-            read_type(reader, depth, context)?;
-            reader.end_literal()
+            read_literal(reader, depth, context)
         }
         LiteralCase::NoLiteral => Err(Stop::Unread),
     }
+}
+
+/// `<type> <value> E`, in a literal.
+#[tactic(auto, using(itanium_reader::proofs::Rules::buffers))]
+#[cycle(reader)]
+#[inline(always)]
+pub(crate) fn read_literal(reader: &mut Reader, depth: usize, context: Context) -> Result<(), Stop>
+    requires room { HasRoom 2 (state reader.old) }
+    ensures reads { Gives result reader.new (spec.literal_by (spec.parse_type depth context) (state reader.old)) }
+    ensures run { OnOk result (IsRun reader.old.buffer.value reader.new.buffer.value) }
+    ensures bounds { Bounds 0 result (state reader.old) (state reader.new) }
+    ensures saved { SavedBounds 0 result (state reader.old) (state reader.new) }
+{
+    if let TypeCase::BuiltinType = type_case(reader.rest) {
+        return read_builtin_literal(reader, depth, context);
+    }
+    read_other_literal(reader, depth, context)
+}
+
+/// The same of a type that isn't builtin.
+#[tactic(auto, using(itanium_reader::proofs::Rules::buffers))]
+#[cycle(reader)]
+pub(crate) fn read_other_literal(
+    reader: &mut Reader,
+    depth: usize,
+    context: Context,
+) -> Result<(), Stop>
+    requires room { HasRoom 2 (state reader.old) }
+    ensures reads { Gives result reader.new (spec.literal_by (spec.parse_type depth context) (state reader.old)) }
+    ensures run { OnOk result (IsRun reader.old.buffer.value reader.new.buffer.value) }
+    ensures bounds { Bounds 0 result (state reader.old) (state reader.new) }
+    ensures saved { SavedBounds 0 result (state reader.old) (state reader.new) }
+{
+    if let [b'N', ..] = reader.rest {
+        // The enumerators of a class or a namespace have their type in parentheses.
+        let paren = reader.buffer.push(b"(")?;
+        framed_type(reader, depth, context)?;
+        return reader.end_opened_literal(paren);
+    }
+    read_type(reader, depth, context)?;
+    reader.end_literal()
+}
+
+/// The same of a builtin type.
+#[tactic(auto, using(itanium_reader::proofs::Rules::types))]
+fn read_builtin_literal(reader: &mut Reader, depth: usize, context: Context) -> Result<(), Stop>
+    requires room { HasRoom 2 (state reader.old) }
+    requires builtin { type_case reader.old.rest.now ≡ BuiltinType }
+    ensures reads { Gives result reader.new (spec.literal_by (spec.parse_type depth context) (state reader.old)) }
+    ensures run { OnOk result (IsRun reader.old.buffer.value reader.new.buffer.value) }
+    ensures bounds { Bounds 0 result (state reader.old) (state reader.new) }
+    ensures saved { SavedBounds 0 result (state reader.old) (state reader.new) }
+{
+    if depth == 0 {
+        return Err(Stop::Unread);
+    }
+    reader.entered += 1;
+    reader.end_builtin_literal()
 }
 
 /// `pp_ <expression>` and `mm_ <expression>`

@@ -18,9 +18,9 @@ use itanium_syntax::args::{AttachedCase, attached_case};
 use itanium_syntax::context::Context;
 use itanium_syntax::encodings::shows_words;
 use itanium_syntax::names::{
-    ComponentCase, FirstCase, FreeCase, NameCase, UnqualifiedCase, UnscopedCase, begins_source,
-    component_case, first_case, free_case, name_case, name_quals, past_internal, past_name_quals,
-    saves_first, unqualified_case, unscoped_case,
+    ComponentCase, FirstCase, FreeCase, NameCase, UnqualifiedCase, UnscopedCase, begins_quals,
+    begins_source, component_case, first_case, free_case, name_case, name_quals, past_internal,
+    past_name_quals, saves_first, unqualified_case, unscoped_case,
 };
 
 /// `<closure-type-name> ::= Ul <lambda-sig> E [<nonnegative number>] _`, after its `Ul`.
@@ -271,13 +271,33 @@ pub(crate) fn read_nested(
     ensures bounds { Bounds 1 result (state reader.old) (state reader.new) }
     ensures saved { SavedBounds 1 result (state reader.old) (state reader.new) }
 {
-    let quals = name_quals(reader.rest);
-    reader.rest = past_name_quals(reader.rest);
+    let mut quals = Quals::none();
+    if begins_quals(reader.rest) {
+        quals = name_quals(reader.rest);
+        reader.rest = past_name_quals(reader.rest);
+    }
+    read_after_quals(reader, depth, context)?;
+    Ok(quals)
+}
+
+/// `<prefix> <unqualified-name> E`, after the qualifiers of a `<nested-name>`.
+#[tactic(auto, using(itanium_reader::proofs::Rules::buffers))]
+#[cycle(reader)]
+#[inline(never)]
+pub(crate) fn read_after_quals(reader: &mut Reader, depth: usize, context: Context) -> Result<(), Stop>
+    requires room { HasRoom 2 (state reader.old) }
+    ensures reads { Gives result reader.new (spec.parse_after_quals
+        (spec.parse_unqualified (spec.parse_type depth context)
+        (spec.parse_type depth (inside_lambda context)))
+        (spec.parse_args depth context true) context (state reader.old)) }
+    ensures run { OnOk result (IsRun reader.old.buffer.value reader.new.buffer.value) }
+    ensures bounds { Bounds 1 result (state reader.old) (state reader.new) }
+    ensures saved { SavedBounds 1 result (state reader.old) (state reader.new) }
+{
     let takes = saves_first(first_case(reader.rest));
     read_first(reader, depth, context)?;
     reader.skip_initializer();
-    read_components(reader, depth, context, takes)?;
-    Ok(quals)
+    read_components(reader, depth, context, takes)
 }
 
 /// The later components of a `<nested-name>` after what was found, up to its `E`.

@@ -25,7 +25,7 @@ use Rattle.itanium_reader.specs.declared.stop.Stop.TheVariants.{Unread, Memory}
 use Rattle.itanium_reader.specs.Outcome.{Gives, GivesList, SavedBounds}
 use Rattle.itanium_reader.proofs.Loops.{LoopSoFar, loop_start, loop_end, loop_more, loop_fail, ListSoFar, list_start, list_end, list_more, list_fail}
 use Rattle.itanium_reader.specs.Cases.{FreeName, ConstructorName, DestructorName, SourceName, NoTag, NextTag, EndOfComponents, ArgsComponent, NameComponent, EndOfArguments, NextArgument, EndOfTypes, NextType}
-use Rattle.itanium_reader.specs.Parser.{ParserState, Parses, ParsesName, ParsesBareName, ◌>>=◌, enter, at, save, skip, begin, put, put_nowhere, taken_back, past_initializer, substitution_as, parse_substitution, parameter_as, parse_parameter, tag_turn, unqualified_as, parse_unqualified, parse_free, in_scope, parse_tags, parse_source_in, parse_first_source, parse_next_source, end_component, next_component, goes_on, first_as, attached_by, component_turn, parse_components, parse_nested, name_as, qualified_by, parse_bare_name, parse_name, encoding_as, parse_encoding, entity_as, parse_local, primary_by, parse_primary, special_by, parse_special, thunk_by, parse_thunk, expression_as, parse_expression, parse_argument, argument_by, list_turn, typed_turn, parse_list, parse_packed, parse_args, parse_pack, types_turn, type_as, parse_type, symbol_as, parse_symbol}
+use Rattle.itanium_reader.specs.Parser.{ParserState, Parses, ParsesName, ParsesBareName, ◌>>=◌, enter, at, save, skip, begin, put, put_nowhere, taken_back, past_initializer, substitution_as, parse_substitution, parameter_as, parse_parameter, tag_turn, unqualified_as, parse_unqualified, parse_free, in_scope, parse_tags, parse_source_in, parse_first_source, parse_next_source, end_component, next_component, goes_on, first_as, attached_by, component_turn, parse_components, parse_after_quals, with_quals, parse_nested, name_as, qualified_by, parse_bare_name, parse_name, encoding_as, parse_encoding, entity_as, parse_local, primary_by, parse_primary, special_by, parse_special, thunk_by, parse_thunk, expression_as, parse_expression, parse_argument, argument_by, list_turn, typed_turn, parse_list, parse_packed, parse_args, parse_pack, types_turn, type_as, parse_type, symbol_as, parse_symbol}
 
 pub bare_name_opens : (d : ℕ) (x : Context) (s : ParserState) → 0 < d → parse_bare_name d x s
     ≡ name_as (name_case s.rest) (parse_unqualified (parse_type (d - 1) x) (parse_type (d - 1) (inside_lambda x))) (parse_args (d - 1) x true)
@@ -163,12 +163,18 @@ pub symbol_opens : (d : ℕ) (x : Context) (s : ParserState) → parse_symbol d 
 unfolding parse_symbol
 symbol_opens d x s = refl
 
+-- the qualifiers of a <nested-name> are read in front of the rest
 pub nested_opens : (unqualified : ParsesName) (args : Parses Shape) (x : Context) (s : ParserState) → parse_nested unqualified args x s
-    ≡ (first_as (first_case (past_name_quals s.rest)) unqualified x (at (past_name_quals s.rest) s) >>= λ first.
-    parse_components unqualified args (saves_first (first_case (past_name_quals s.rest))) first.0 (past_initializer first.1) >>= λ name.
-    Some ((name.0, name_quals s.rest), name.1))
+    ≡ (parse_after_quals unqualified args x (at (past_name_quals s.rest) s) >>= with_quals (name_quals s.rest))
 unfolding parse_nested
-nested_opens unqualified args x s = refl
+nested_opens unqualified args x s = then_named (first_as (first_case (past_name_quals s.rest)) unqualified x (at (past_name_quals s.rest) s))
+  where
+    later : Shape × ParserState → Option (Shape × ParserState)
+    later first = parse_components unqualified args (saves_first (first_case (past_name_quals s.rest))) first.0 (past_initializer first.1)
+
+    then_named : (first : Option (Shape × ParserState)) → (first >>= λ f. later f >>= with_quals (name_quals s.rest)) ≡ ((first >>= later) >>= with_quals (name_quals s.rest))
+    then_named None = refl
+    then_named (Some f) = refl
 
 -- a call that hands on why what it called has stopped: then the whole isn't parsed either
 pub stops : (after : Reader) {inner whole : Option (Shape × ParserState)} (e : Stop) → Gives (Err e) after inner → (inner ≡ None → whole ≡ None) → Gives (Err e) after whole

@@ -321,6 +321,16 @@ parse_components unqualified args takes name s = parse_loop (component_turn unqu
 abbrev pub ParsesBareName : Type 0
 ParsesBareName = Parses (Shape × Quals)
 
+-- what is after the qualifiers of a <nested-name>
+abbrev pub parse_after_quals : ParsesName → Parses Shape → Context → Parses Shape
+parse_after_quals unqualified args x s =
+    first_as (first_case s.rest) unqualified x s >>= λ first.
+    parse_components unqualified args (saves_first (first_case s.rest)) first.0 (past_initializer first.1)
+
+-- a name with the qualifiers that were read in front of it
+abbrev pub with_quals : Quals → Shape × ParserState → Option ((Shape × Quals) × ParserState)
+with_quals quals name = Some ((name.0, quals), name.1)
+
 -- what is after the N of a <nested-name>
 unfoldable pub parse_nested : ParsesName → Parses Shape → Context → ParsesBareName
 parse_nested unqualified args x s =
@@ -447,6 +457,10 @@ ended parsed = parsed >>= λ found. past_end found.1 >>= λ after. Some (found.0
 abbrev pub literal_end : Shape → Parses Shape
 literal_end type s =
     literal_value s.rest >>= λ found. literal_step type found.0 >>= λ literal. Some (literal, at found.1 s)
+
+-- a type, and the value of a literal after it
+abbrev pub literal_by : Parses Shape → Parses Shape
+literal_by type s = type s >>= λ t. literal_end t.0 t.1
 
 -- <expr-primary>, by what it begins with
 abbrev pub literal_as : LiteralCase → Parses Shape → Parses Shape → Parses Shape

@@ -337,7 +337,7 @@ impl<'a> Reader<'a> {
         self.print_set_quals(quals, shown)
     }
 
-    /// The same where there are some and they are shown.
+    /// The same where something is printed: words that are shown, or a reference.
     #[inline(never)]
     fn print_set_quals(&mut self, quals: Quals, shown: bool) -> Result<(), AllocError>
         requires living { IsLiving self.old.buffer.value self.old.found }

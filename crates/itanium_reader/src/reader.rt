@@ -1,7 +1,7 @@
 //! What the readers share: the bytes that are left, the buffer with what was saved, and the piece that was found.
 ghost use Rattle.std.specs.Prelude.{◌≡◌, ◌<◌, ◌≤◌, ◌+◌, IfOk, OnOk, [], length, max, true};
 ghost use Rattle.demangle_text.specs.Shape.{plain_shape};
-ghost use Rattle.demangle_text.specs.State.{IsLiving, Lives, shape, IsRun, SameFrame, saved, scopes, main_bytes};
+ghost use Rattle.demangle_text.specs.State.{IsLiving, Lives, shape, IsRun, SameFrame, saved, scopes, main_bytes, frame, outermost};
 ghost use Rattle.demangle_edit.specs.Built.{separated};
 ghost use Rattle.itanium_syntax.specs.Types.{builtin_text, past_builtin};
 ghost use Rattle.itanium_grammar.specs.Tree.{abbreviation_shape};
@@ -40,6 +40,8 @@ impl<'a> Reader<'a> {
     pub fn new(alloc: Global, buffer: Box<Buffer>, bytes: &'a [u8]) -> Self
         ensures state { state result ≡ spec.begun bytes.entry.now }
         ensures main { main_bytes result.buffer.value ≡ [] }
+        ensures no_mark { frame result.buffer.value ≡ outermost }
+        ensures found { IsLiving result.buffer.value result.found }
     {
         let mut buffer = buffer;
         buffer.clear();
@@ -83,6 +85,7 @@ impl<'a> Reader<'a> {
     }
 
     /// Saves what was found for substitutions.
+    #[inline(always)]
     pub fn save_found(&mut self) -> Result<(), AllocError>
         requires living { IsLiving self.old.buffer.value self.old.found }
         ensures shape { OnOk result (Lives self.new.buffer.value self.new.found
@@ -101,7 +104,7 @@ impl<'a> Reader<'a> {
 
     /// Ends a component of a `<nested-name>`: saves what was found, and goes past the `M` of a data member's
     /// initializer, where one stands.
-    #[inline(never)]
+    #[inline(always)]
     pub fn end_component(&mut self) -> Result<(), AllocError>
         requires living { IsLiving self.old.buffer.value self.old.found }
         ensures shape { OnOk result (Lives self.new.buffer.value self.new.found

@@ -1,5 +1,6 @@
 //! The cases of names: which one the next bytes begin. Of several cases the first one that fits holds.
 ghost use Rattle.std.specs.Prelude.{◌≡◌, ◌≤◌, length, codes, false};
+ghost use Rattle.demangle_quals.specs.Quals.{no_quals};
 ghost use Rattle.itanium_syntax.specs.Bytes.{begins};
 ghost use Rattle.itanium_syntax.specs.Names as spec;
 
@@ -260,6 +261,19 @@ const CONSTANT: Quals = Quals {
     restrict: false,
     reference: None,
 };
+
+/// Whether qualifiers of a `<nested-name>` stand there, or `H`, which says none.
+#[inline(always)]
+pub fn begins_quals(bytes: &[u8]) -> bool
+    ensures value { result ≡ spec.begins_quals bytes.now }
+    ensures none { result ≡ false → spec.name_quals bytes.now ≡ no_quals }
+    ensures rest { result ≡ false → spec.past_name_quals bytes.now ≡ bytes.now }
+{
+    match bytes {
+        [b'H' | b'r' | b'V' | b'K' | b'R' | b'O', ..] => true,
+        _ => false,
+    }
+}
 
 /// The qualifiers of a `<nested-name>`: `H`, which says none, or `<CV-qualifiers>` and a `<ref-qualifier>`.
 #[inline(always)]

@@ -53,6 +53,7 @@ pub enum TypesCase {
 
 /// Which `<type>` stands there. One of qualifiers takes a byte for them.
 #[tactic(auto, using(crate::proofs::Fronts::cv_shorter))]
+#[inline(always)]
 pub fn type_case(bytes: &[u8]) -> TypeCase
     ensures case { result ≡ spec.type_case bytes.now }
     ensures cv { spec.OnCv result (length (spec.past_cv bytes.now) < length bytes.now) }
@@ -122,6 +123,7 @@ pub fn types_case(of_function: bool, bytes: &[u8]) -> TypesCase
 }
 
 /// The text of the `<builtin-type>` that stands there, a letter or `D` and a letter, and no text where none does.
+#[inline(always)]
 pub fn builtin_text(bytes: &[u8]) -> &'static [u8]
     ensures text { result.now ≡ spec.builtin_text bytes.now }
 {
@@ -132,6 +134,7 @@ pub fn builtin_text(bytes: &[u8]) -> &'static [u8]
     }
 }
 
+#[inline(always)]
 fn letter_text(letter: u8) -> &'static [u8]
     ensures text { result.now ≡ spec.letter_text letter }
 {
@@ -161,6 +164,7 @@ fn letter_text(letter: u8) -> &'static [u8]
     }
 }
 
+#[inline(never)]
 fn two_letter_text(letter: u8) -> &'static [u8]
     ensures text { result.now ≡ spec.two_letter_text letter }
 {

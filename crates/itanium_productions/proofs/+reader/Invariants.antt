@@ -63,7 +63,10 @@ abbrev pub decreases-names::read_unscoped : goal.decreases-names::read_unscoped
 decreases-names::read_unscoped l = 16 * l.depth + 10
 
 abbrev pub decreases-names::read_nested : goal.decreases-names::read_nested
-decreases-names::read_nested l = 16 * l.depth + 11
+decreases-names::read_nested l = 16 * l.depth + 12
+
+abbrev pub decreases-names::read_after_quals : goal.decreases-names::read_after_quals
+decreases-names::read_after_quals l = 16 * l.depth + 11
 
 abbrev pub invariant-names::read_components-loop-reader : goal.invariant-names::read_components-loop-reader
 invariant-names::read_components-loop-reader l = record {
@@ -272,6 +275,12 @@ decreases-expressions::read_conditional l = 16 * l.depth + 4
 
 abbrev pub decreases-expressions::read_primary : goal.decreases-expressions::read_primary
 decreases-expressions::read_primary l = 16 * l.depth + 7
+
+abbrev pub decreases-expressions::read_other_literal : goal.decreases-expressions::read_other_literal
+decreases-expressions::read_other_literal l = 16 * l.depth + 2
+
+abbrev pub decreases-expressions::read_literal : goal.decreases-expressions::read_literal
+decreases-expressions::read_literal l = 16 * l.depth + 3
 
 abbrev pub decreases-args::read_expression_argument : goal.decreases-args::read_expression_argument
 decreases-args::read_expression_argument l = 16 * l.depth + 1

@@ -6,7 +6,6 @@ abbrev pub invariant-loop-at : goal.invariant-loop-at
 invariant-loop-at l =
     record {
       inside : l.at ≤ length l.bytes;
-      some : 0 < l.at → 16 ≤ l.at;
       low : AreAscii l.bytes 0 l.at;
     }
 
