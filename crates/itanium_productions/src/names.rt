@@ -284,7 +284,11 @@ pub(crate) fn read_nested(
 #[tactic(auto, using(itanium_reader::proofs::Rules::buffers))]
 #[cycle(reader)]
 #[inline(never)]
-pub(crate) fn read_after_quals(reader: &mut Reader, depth: usize, context: Context) -> Result<(), Stop>
+pub(crate) fn read_after_quals(
+    reader: &mut Reader,
+    depth: usize,
+    context: Context,
+) -> Result<(), Stop>
     requires room { HasRoom 2 (state reader.old) }
     ensures reads { Gives result reader.new (spec.parse_after_quals
         (spec.parse_unqualified (spec.parse_type depth context)
