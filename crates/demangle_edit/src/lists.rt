@@ -185,8 +185,8 @@ pub fn begin_arguments(buf: &mut Buffer, name: Piece) -> Result<Piece, AllocErro
     ensures edit { OnOk result (IsEdit buf.old buf.new) }
 {
     let opened = open_arguments(buf, name)?;
-    let bare = buf.with_flags(opened, false, false);
-    Ok(buf.whole(bare))
+    let unflagged = buf.with_flags(opened, false, false);
+    Ok(buf.whole(unflagged))
 }
 
 /// The list that `begin_arguments` began, with its `>`, after a space where its text ends in `>`. `len`, `own` and

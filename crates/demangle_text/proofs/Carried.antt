@@ -5,7 +5,7 @@ use Rattle.std.proofs.lemmas.List.{length-append, length-map, length-take-le, le
 use Rattle.std.proofs.lemmas.List.Edits.{length-between}
 use Rattle.std.proofs.lemmas.List.Elements.{All-head, All-tail, All-nil, All-cons}
 use Rattle.demangle_text.specs.declared.shape.Piece.{Piece}
-use Rattle.demangle_text.specs.Pieces.{Store, IsStore, IsPiece, IsApart, marks_of, shape_of, shape_in, home_bytes, IsAside, carried, carried_from}
+use Rattle.demangle_text.specs.Pieces.{Store, IsStore, IsPiece, IsApart, outline_of, shape_of, shape_in, home_bytes, IsAside, carried, carried_from}
 use Rattle.demangle_text.specs.State.{IsLiving, shape, Lives, IsOlder, Frame, frame, IsEdit, saved, scopes, parts_at, IsBelow, KeepsAll}
 use Rattle.demangle_text.proofs.States.{KeepsAll-elsewhere}
 use Rattle.demangle_text.proofs.Laws.{IsEdit-trans, IsEdit-keeps}
@@ -35,7 +35,7 @@ module _ (main new side : List ℕ) (low from to dest : ℕ) (m : Moves main new
 
   module _ (p : Piece) (h : IsPiece main side p) (a : IsApart low from to p) where
     shape_in-carried : shape_in new side (carried low from dest p) ≡ shape_in main side p
-    shape_in-carried = ap (λ (t : List ℕ). shape_of t (marks_of p)) (carried_text (lies_aside p.flags) (leb p.to_byte low) p.from_byte p.to_byte refl h.ordered h.within a)
+    shape_in-carried = ap (λ (t : List ℕ). shape_of t (outline_of p)) (carried_text (lies_aside p.flags) (leb p.to_byte low) p.from_byte p.to_byte refl h.ordered h.within a)
 
     IsPiece-carried : IsPiece new side (carried low from dest p)
     IsPiece-carried =
@@ -43,7 +43,7 @@ module _ (main new side : List ℕ) (low from to dest : ℕ) (m : Moves main new
         record {
           ordered = w.0;
           within = w.1;
-          marked = rw (carried_text (lies_aside p.flags) (leb p.to_byte low) p.from_byte p.to_byte refl h.ordered h.within a) h.marked;
+          outlined = rw (carried_text (lies_aside p.flags) (leb p.to_byte low) p.from_byte p.to_byte refl h.ordered h.within a) h.outlined;
         }
 
   -- the same of a list of pieces
@@ -99,8 +99,8 @@ module _ (s t : Store) (low from to dest : ℕ) (m : Moves s.main_text t.main_te
   Lives-below p h below =
       let same = older_text (lies_aside p.flags) p.from_byte p.to_byte h.ordered below in
       record {
-        living = record { ordered = h.ordered; within = older_within (lies_aside p.flags) p.to_byte h.within below; marked = rw same h.marked };
-        shape_is = ap (λ (v : List ℕ). shape_of v (marks_of p)) same;
+        living = record { ordered = h.ordered; within = older_within (lies_aside p.flags) p.to_byte h.within below; outlined = rw same h.outlined };
+        shape_is = ap (λ (v : List ℕ). shape_of v (outline_of p)) same;
       }
 
   IsEdit-moved : IsStore s → IsEdit s t

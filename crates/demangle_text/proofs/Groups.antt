@@ -1,15 +1,15 @@
--- What a new group makes of a declarator's text and its marks.
+-- What a new group makes of a declarator's text and its outline.
 use Rattle.std.proofs.Common.{◌≡◌, ℕ, ◌+◌, ◌-◌, ◌≤◌, List, [], ◌∷◌, ◌++◌, length, take, drop, Some, None, refl, sym, ap, ◌∙◌, arith, append_assoc}
 use Rattle.std.proofs.lemmas.List.{length-append, take_at, drop_at, append-nil}
 use Rattle.demangle_text.specs.declared.shape.Kind.TheVariants.{Array, Function}
 use Rattle.demangle_text.specs.declared.shape.Place.TheVariants.{Suffix}
 use Rattle.demangle_text.specs.Pieces.{Layout}
 use Rattle.demangle_text.specs.Pieces.{Flat, Cut}
-use Rattle.demangle_text.specs.Pieces.{Marks}
+use Rattle.demangle_text.specs.Pieces.{Outline}
 use Rattle.demangle_text.specs.Shape.{Form, Plain, Declared, form_text, front_text, grouped, gap_after, own_in, moved, opened_form, opened_own, opened_group, IsDeclared}
-use Rattle.demangle_text.specs.Pieces.{form_of, shape_of, IsMarked, IsLayout, layout_end, place_at, layout_opened, own_at}
+use Rattle.demangle_text.specs.Pieces.{form_of, shape_of, IsOutlined, IsLayout, layout_end, place_at, layout_opened, own_at}
 use Rattle.demangle_text.proofs.Forms.{layout_for, layout_for-form_of, text-form_of}
-use Rattle.demangle_text.proofs.Inserts.{marks_for, shape_of-marks_for, IsMarked-marks_for, moved_ordered, moved_within, length-inserted}
+use Rattle.demangle_text.proofs.Inserts.{outline_for, shape_of-outline_for, IsOutlined-outline_for, moved_ordered, moved_within, length-inserted}
 
 -- what is inserted in front of `after`
 abbrev pub group_text : List ℕ → List ℕ → List ℕ
@@ -98,8 +98,8 @@ layout_end_within t Flat h = omega arith
 layout_end_within t (Cut k None at) h = omega arith
 layout_end_within t (Cut k (Some g) at) h = omega arith
 
--- what a new group makes of a text and its marks
-pub record Groups (bytes t u : List ℕ) (m w : Marks) (at : ℕ) : Type 0 where
+-- what a new group makes of a text and its outline
+pub record Groups (bytes t u : List ℕ) (m w : Outline) (at : ℕ) : Type 0 where
   pub place : at ≡ place_at Suffix m.layout (length t)
   pub text : u ≡ take at t ++ (group_text bytes (take at t) ++ drop at t)
   pub layout : w.layout ≡ layout_opened (length (group_text bytes (take at t))) (length bytes + 2) m.layout
@@ -107,8 +107,8 @@ pub record Groups (bytes t u : List ℕ) (m w : Marks) (at : ℕ) : Type 0 where
   pub templ : w.templ ≡ m.templ
   pub ctor : w.ctor ≡ m.ctor
 
--- the text and its marks are those of the form with the group
-module _ (bytes t u : List ℕ) (m w : Marks) (at : ℕ) (h : IsMarked t m) (can : IsDeclared (form_of t m.layout)) (i : Groups bytes t u m w at) where
+-- the text and its outline are those of the form with the group
+module _ (bytes t u : List ℕ) (m w : Outline) (at : ℕ) (h : IsOutlined t m) (can : IsDeclared (form_of t m.layout)) (i : Groups bytes t u m w at) where
   abbrev f : Form
   f = form_of t m.layout
 
@@ -132,8 +132,8 @@ module _ (bytes t u : List ℕ) (m w : Marks) (at : ℕ) (h : IsMarked t m) (can
       ∙ ap (λ (v : List ℕ). front_text f ++ (group_text bytes (front_text f) ++ v)) rest
       ∙ text-opened bytes f can
 
-  marks_are : w ≡ marks_for (opened_form bytes f) (opened_own bytes f m.own) m.templ m.ctor
-  marks_are =
+  outline_is : w ≡ outline_for (opened_form bytes f) (opened_own bytes f m.own) m.templ m.ctor
+  outline_is =
       let l = layout_for-form_of t m.layout h.layout in
       let grows : length (group_text bytes (take at t)) ≡ n = ap (λ (v : List ℕ). length (group_text bytes v)) front in
       let by_layout : w.layout ≡ layout_for (opened_form bytes f) =
@@ -148,14 +148,14 @@ module _ (bytes t u : List ℕ) (m w : Marks) (at : ℕ) (h : IsMarked t m) (can
       λ j. record { layout = by_layout j; own = by_own j; templ = i.templ j; ctor = i.ctor j }
 
   pub shape-opened : shape_of u w ≡ opened_group bytes (shape_of t m)
-  shape-opened = rw (text_is, marks_are) (shape_of-marks_for (opened_form bytes f) (opened_own bytes f m.own) m.templ m.ctor)
+  shape-opened = rw (text_is, outline_is) (shape_of-outline_for (opened_form bytes f) (opened_own bytes f m.own) m.templ m.ctor)
 
-  pub IsMarked-opened : IsMarked u w
-  IsMarked-opened =
+  pub IsOutlined-opened : IsOutlined u w
+  IsOutlined-opened =
       let grows : length (group_text bytes (take at t)) ≡ n = ap (λ (v : List ℕ). length (group_text bytes v)) front in
       let long : length u ≡ length t + n = ap length i.text ∙ length-inserted t (group_text bytes (take at t)) at ∙ ap (λ (k : ℕ). length t + k) grows in
       let own = own-opened bytes f m.own can in
       let ordered : (opened_own bytes f m.own).0 ≤ (opened_own bytes f m.own).1 = rw own (moved_ordered (after_place f) n m.own h.own_ordered) in
       let inside = moved_within (after_place f) n (length t) m.own h.own_within in
       let within : (opened_own bytes f m.own).1 ≤ length (form_text (opened_form bytes f)) = rw own (omega (arith, long, ap length text_is, inside)) in
-      rw (text_is, marks_are) (IsMarked-marks_for (opened_form bytes f) (opened_own bytes f m.own) m.templ m.ctor ordered within)
+      rw (text_is, outline_is) (IsOutlined-outline_for (opened_form bytes f) (opened_own bytes f m.own) m.templ m.ctor ordered within)

@@ -1,4 +1,4 @@
--- The marks of a form's text, and what an insertion makes of them.
+-- The outline of a form's text, and what an insertion makes of them.
 use Rattle.std.proofs.Common.{◌≡◌, ℕ, ◌+◌, ◌≤◌, Bool, true, false, if◌then◌else◌, List, ◌∷◌, ◌++◌, length, take, drop, Some, None, refl, sym, ap, ◌∙◌, arith, append_assoc, add_comm, leb}
 use Rattle.std.proofs.lemmas.Bool.Decides.{nat_tests}
 use Rattle.std.proofs.lemmas.List.{length-append, take_at, drop_at, append-nil, take_all, drop_all, take-append-drop}
@@ -7,20 +7,20 @@ use Rattle.demangle_text.specs.declared.shape.Place.{Place}
 use Rattle.demangle_text.specs.declared.shape.Place.TheVariants.{Start, Close, Suffix, End}
 use Rattle.demangle_text.specs.Pieces.{Layout}
 use Rattle.demangle_text.specs.Pieces.{Cut}
-use Rattle.demangle_text.specs.Pieces.{Marks}
+use Rattle.demangle_text.specs.Pieces.{Outline}
 use Rattle.demangle_text.specs.Shape.{Form, Plain, Declared, Shape, form_text, grouped, own_in, moved, form_with, place_in, inserted, appended, CanInsert}
-use Rattle.demangle_text.specs.Pieces.{form_of, shape_of, IsOwn, IsMarked, place_at, layout_with, own_at}
+use Rattle.demangle_text.specs.Pieces.{form_of, shape_of, IsOwn, IsOutlined, place_at, layout_with, own_at}
 use Rattle.demangle_text.proofs.Forms.{layout_for, form_of-layout_for, IsLayout-layout_for, layout_for-form_of, text-form_of, parts, closed_parts}
 
--- the marks of a form's text
-abbrev pub marks_for : Form → ℕ × ℕ → Bool → Bool → Marks
-marks_for f own templ ctor = record { layout = layout_for f; own = own_in f own; templ = templ; ctor = ctor }
+-- the outline of a form's text
+abbrev pub outline_for : Form → ℕ × ℕ → Bool → Bool → Outline
+outline_for f own templ ctor = record { layout = layout_for f; own = own_in f own; templ = templ; ctor = ctor }
 
 abbrev pub shape_for : Form → ℕ × ℕ → Bool → Bool → Shape
 shape_for f own templ ctor = record { form = f; own = own_in f own; templ = templ; ctor = ctor }
 
-pub shape_of-marks_for : (f : Form) (own : ℕ × ℕ) (templ ctor : Bool) → shape_of (form_text f) (marks_for f own templ ctor) ≡ shape_for f own templ ctor
-shape_of-marks_for f own templ ctor = ap (λ (g : Form). let s : Shape = record { form = g; own = own_in f own; templ = templ; ctor = ctor } in s) (form_of-layout_for f)
+pub shape_of-outline_for : (f : Form) (own : ℕ × ℕ) (templ ctor : Bool) → shape_of (form_text f) (outline_for f own templ ctor) ≡ shape_for f own templ ctor
+shape_of-outline_for f own templ ctor = ap (λ (g : Form). let s : Shape = record { form = g; own = own_in f own; templ = templ; ctor = ctor } in s) (form_of-layout_for f)
 
 own_ordered : (f : Form) (own : ℕ × ℕ) → own.0 ≤ own.1 → (own_in f own).0 ≤ (own_in f own).1
 own_ordered (Plain t) own h = h
@@ -39,8 +39,8 @@ own_whole (Declared Array b (Some g) a) own = tt
 own_whole (Declared Function b None a) own = refl
 own_whole (Declared Function b (Some g) a) own = refl
 
-pub IsMarked-marks_for : (f : Form) (own : ℕ × ℕ) (templ ctor : Bool) → own.0 ≤ own.1 → own.1 ≤ length (form_text f) → IsMarked (form_text f) (marks_for f own templ ctor)
-IsMarked-marks_for f own templ ctor ordered within = record {
+pub IsOutlined-outline_for : (f : Form) (own : ℕ × ℕ) (templ ctor : Bool) → own.0 ≤ own.1 → own.1 ≤ length (form_text f) → IsOutlined (form_text f) (outline_for f own templ ctor)
+IsOutlined-outline_for f own templ ctor ordered within = record {
   layout = IsLayout-layout_for f;
   own_ordered = own_ordered f own ordered;
   own_within = own_within f own within;
@@ -138,30 +138,30 @@ pub length-inserted : (t bytes : List ℕ) (n : ℕ) → length (take n t ++ (by
 length-inserted t bytes n =
     omega (arith, length-append (take n t) (bytes ++ drop n t), length-append bytes (drop n t), length-append (take n t) (drop n t), ap length (take-append-drop n t))
 
--- what an insertion makes of a text and its marks
-pub record Inserts (place : Place) (bytes t u : List ℕ) (m w : Marks) : Type 0 where
+-- what an insertion makes of a text and its outline
+pub record Inserts (place : Place) (bytes t u : List ℕ) (m w : Outline) : Type 0 where
   pub text : u ≡ take (place_at place m.layout (length t)) t ++ (bytes ++ drop (place_at place m.layout (length t)) t)
   pub layout : w.layout ≡ layout_with place (length bytes) m.layout
   pub own : w.own ≡ own_at m.layout (length u) (moved (place_at place m.layout (length t)) (length bytes) m.own)
   pub templ : w.templ ≡ m.templ
   pub ctor : w.ctor ≡ m.ctor
 
--- the text and its marks are those of the form with the bytes
-module _ (place : Place) (bytes t u : List ℕ) (m w : Marks) where
+-- the text and its outline are those of the form with the bytes
+module _ (place : Place) (bytes t u : List ℕ) (m w : Outline) where
   form : Form
   form = form_of t m.layout
 
   abbrev range : ℕ × ℕ
   range = moved (place_in place (form_of t m.layout)) (length bytes) m.own
 
-  place_is : IsMarked t m → CanInsert place (form_of t m.layout) → place_at place m.layout (length t) ≡ place_in place (form_of t m.layout)
+  place_is : IsOutlined t m → CanInsert place (form_of t m.layout) → place_at place m.layout (length t) ≡ place_in place (form_of t m.layout)
   place_is h can =
       let l = layout_for-form_of t m.layout h.layout in
       let e = text-form_of t m.layout h.layout in
       let p = place_for place (form_of t m.layout) can in
       ap (λ (k : Layout). place_at place k (length t)) (sym l) ∙ ap (λ (v : List ℕ). place_at place (layout_for (form_of t m.layout)) (length v)) (sym e) ∙ p
 
-  text_is : IsMarked t m → CanInsert place (form_of t m.layout) → Inserts place bytes t u m w → u ≡ form_text (form_with place bytes (form_of t m.layout))
+  text_is : IsOutlined t m → CanInsert place (form_of t m.layout) → Inserts place bytes t u m w → u ≡ form_text (form_with place bytes (form_of t m.layout))
   text_is h can i =
       let at = place_is h can in
       let e = text-form_of t m.layout h.layout in
@@ -169,8 +169,8 @@ module _ (place : Place) (bytes t u : List ℕ) (m w : Marks) where
       ∙ ap (λ (v : List ℕ). take (place_in place (form_of t m.layout)) v ++ (bytes ++ drop (place_in place (form_of t m.layout)) v)) (sym e)
       ∙ text-form_with place bytes (form_of t m.layout) can
 
-  marks_are : IsMarked t m → CanInsert place (form_of t m.layout) → Inserts place bytes t u m w → w ≡ marks_for (form_with place bytes (form_of t m.layout)) range m.templ m.ctor
-  marks_are h can i =
+  outline_is : IsOutlined t m → CanInsert place (form_of t m.layout) → Inserts place bytes t u m w → w ≡ outline_for (form_with place bytes (form_of t m.layout)) range m.templ m.ctor
+  outline_is h can i =
       let l = layout_for-form_of t m.layout h.layout in
       let by_layout : w.layout ≡ layout_for (form_with place bytes (form_of t m.layout)) = i.layout ∙ ap (layout_with place (length bytes)) (sym l) ∙ layout_with-layout_for place bytes (form_of t m.layout) can in
       let own1 : w.own ≡ own_at m.layout (length u) range = i.own ∙ ap (λ (n : ℕ). own_at m.layout (length u) (moved n (length bytes) m.own)) (place_is h can) in
@@ -179,20 +179,20 @@ module _ (place : Place) (bytes t u : List ℕ) (m w : Marks) where
       let by_own : w.own ≡ own_in (form_with place bytes (form_of t m.layout)) range = own1 ∙ own2 ∙ own_at-form_with place bytes (form_of t m.layout) range can in
       λ j. record { layout = by_layout j; own = by_own j; templ = i.templ j; ctor = i.ctor j }
 
-  pub shape-inserted : IsMarked t m → CanInsert place (form_of t m.layout) → Inserts place bytes t u m w → shape_of u w ≡ inserted place bytes (shape_of t m)
+  pub shape-inserted : IsOutlined t m → CanInsert place (form_of t m.layout) → Inserts place bytes t u m w → shape_of u w ≡ inserted place bytes (shape_of t m)
   shape-inserted h can i =
       let e = text_is h can i in
-      let k = marks_are h can i in
-      rw (e, k) (shape_of-marks_for (form_with place bytes (form_of t m.layout)) range m.templ m.ctor)
+      let k = outline_is h can i in
+      rw (e, k) (shape_of-outline_for (form_with place bytes (form_of t m.layout)) range m.templ m.ctor)
 
-  pub IsMarked-inserted : IsMarked t m → CanInsert place (form_of t m.layout) → Inserts place bytes t u m w → IsMarked u w
-  IsMarked-inserted h can i =
+  pub IsOutlined-inserted : IsOutlined t m → CanInsert place (form_of t m.layout) → Inserts place bytes t u m w → IsOutlined u w
+  IsOutlined-inserted h can i =
       let e = text_is h can i in
-      let k = marks_are h can i in
+      let k = outline_is h can i in
       let n : length u ≡ length t + length bytes = ap length i.text ∙ length-inserted t bytes (place_at place m.layout (length t)) in
       let within = moved_within (place_in place (form_of t m.layout)) (length bytes) (length t) m.own h.own_within in
       let fits : range.1 ≤ length (form_text (form_with place bytes (form_of t m.layout))) = omega (arith, n, ap length e, within) in
-      rw (e, k) (IsMarked-marks_for (form_with place bytes (form_of t m.layout)) range m.templ m.ctor (moved_ordered (place_in place (form_of t m.layout)) (length bytes) m.own h.own_ordered) fits)
+      rw (e, k) (IsOutlined-outline_for (form_with place bytes (form_of t m.layout)) range m.templ m.ctor (moved_ordered (place_in place (form_of t m.layout)) (length bytes) m.own h.own_ordered) fits)
 
 -- the last own name, when bytes are inserted at a place and then more of them after these
 pub moved_twice : (at next n m all : ℕ) (own : ℕ × ℕ) → next ≡ at + n → all ≡ n + m → moved next m (moved at n own) ≡ moved at all own

@@ -6,7 +6,7 @@ use Rattle.std.proofs.lemmas.List.{length-append, length-drop, append-nil, drop_
 use Rattle.demangle_text.specs.declared.shape.Piece.{Piece}
 use Rattle.demangle_text.specs.declared.shape.Mark.{Mark}
 use Rattle.demangle_text.specs.Shape.{text}
-use Rattle.demangle_text.specs.Pieces.{Store, IsStore, IsPiece, IsAt, IsMarked, marks_of, shape_of, shape_in, piece_text, home_bytes, Extends}
+use Rattle.demangle_text.specs.Pieces.{Store, IsStore, IsPiece, IsAt, IsOutlined, outline_of, shape_of, shape_in, piece_text, home_bytes, Extends}
 use Rattle.demangle_text.specs.State.{IsLiving, shape, saved, scopes, frame, inside, outside, Frame, IsOlder, KeepsAll, IsEdit, Closes, Lives, parts_at}
 use Rattle.demangle_text.proofs.Forms.{text-form_of}
 use Rattle.demangle_text.proofs.Texts.{part-append, map_same}
@@ -27,11 +27,11 @@ module _ (main side m n : List ℕ) (p : Piece) (h : IsPiece main side p) where
   IsPiece-grown = record {
     ordered = h.ordered;
     within = rw (home-grown main side m n (lies_aside p.flags)) (omega (arith, length-append (home_bytes main side (lies_aside p.flags)) (home_bytes m n (lies_aside p.flags)), h.within));
-    marked = rw piece_text-grown h.marked;
+    outlined = rw piece_text-grown h.outlined;
   }
 
   pub shape_in-grown : shape_in (main ++ m) (side ++ n) p ≡ shape_in main side p
-  shape_in-grown = ap (λ (t : List ℕ). shape_of t (marks_of p)) piece_text-grown
+  shape_in-grown = ap (λ (t : List ℕ). shape_of t (outline_of p)) piece_text-grown
 
 -- the same when the side text goes on
 module _ (main side new : List ℕ) (e : Extends side new) where
@@ -132,23 +132,23 @@ KeepsAll-elsewhere s t by_main by_side by_saved by_args by_starts by_frame_main 
 
 -- a piece of the main text that ends it, by its text
 pub Lives-at_end : (s : Store) (p : Piece) (t : List ℕ) → IsAt p p.from_byte (length s.main_text) → p.from_byte ≤ length s.main_text
-    → drop p.from_byte s.main_text ≡ t → IsMarked t (marks_of p) → Lives s p (shape_of t (marks_of p))
+    → drop p.from_byte s.main_text ≡ t → IsOutlined t (outline_of p) → Lives s p (shape_of t (outline_of p))
 unfolding IsLiving shape
-Lives-at_end s p t stands within is marked =
+Lives-at_end s p t stands within is outlined =
     let home : piece_text s.main_text s.side_text p ≡ slice_range s.main_text p.from_byte p.to_byte =
     ap (λ (h : Bool). slice_range (home_bytes s.main_text s.side_text h) p.from_byte p.to_byte) stands.in_main in
     let here : piece_text s.main_text s.side_text p ≡ t =
     home ∙ take_all (p.to_byte - p.from_byte) (drop p.from_byte s.main_text) (omega (arith, stands.ends, length-drop p.from_byte s.main_text)) ∙ is in
     record {
-      living = record { ordered = omega (arith, stands.ends); within = rw stands.in_main (omega (arith, stands.ends)); marked = rw here marked };
-      shape_is = ap (λ (u : List ℕ). shape_of u (marks_of p)) here;
+      living = record { ordered = omega (arith, stands.ends); within = rw stands.in_main (omega (arith, stands.ends)); outlined = rw here outlined };
+      shape_is = ap (λ (u : List ℕ). shape_of u (outline_of p)) here;
     }
 
 -- the same where the main text has just grown by its text
-pub Lives-grown : (s : Store) (t : List ℕ) (p : Piece) → IsAt p (length s.main_text) (length (s.main_text ++ t)) → IsMarked t (marks_of p) → Lives (longer s t) p (shape_of t (marks_of p))
-Lives-grown s t p stands marked =
+pub Lives-grown : (s : Store) (t : List ℕ) (p : Piece) → IsAt p (length s.main_text) (length (s.main_text ++ t)) → IsOutlined t (outline_of p) → Lives (longer s t) p (shape_of t (outline_of p))
+Lives-grown s t p stands outlined =
     let there : IsAt p p.from_byte (length (s.main_text ++ t)) = record { in_main = stands.in_main; begins = refl; ends = stands.ends } in
-    Lives-at_end (longer s t) p t there (omega (arith, stands.begins, length-append s.main_text t)) (drop_at s.main_text t p.from_byte (sym stands.begins)) marked
+    Lives-at_end (longer s t) p t there (omega (arith, stands.begins, length-append s.main_text t)) (drop_at s.main_text t p.from_byte (sym stands.begins)) outlined
 
 -- a mark is closed after an edit inside it
 pub Closes-edit : (s t : Store) (m : Mark) → frame s ≡ inside m → IsEdit s t → Closes s (record t { frame_main = m.outside_main; frame_side = m.outside_side }) m
@@ -169,7 +169,7 @@ on_err_from (Err e) q = q
 -- the text of a living piece is that of its bytes
 pub text_is : (s : Store) (p : Piece) → IsLiving s p → text (shape s p) ≡ piece_text s.main_text s.side_text p
 unfolding IsLiving shape
-text_is s p h = text-form_of (piece_text s.main_text s.side_text p) (marks_of p).layout h.marked.layout
+text_is s p h = text-form_of (piece_text s.main_text s.side_text p) (outline_of p).layout h.outlined.layout
 
 -- the same as it was
 pub unchanged : (s new : Store) → new.main_text ≡ s.main_text → new.side_text ≡ s.side_text → new.saved_pieces ≡ s.saved_pieces → new.arg_pieces ≡ s.arg_pieces

@@ -6,12 +6,12 @@ use Rattle.std.proofs.lemmas.List.Edits.{length-between}
 use Rattle.demangle_text.specs.declared.shape.Piece.{Piece}
 use Rattle.demangle_text.specs.Pieces.{Store, IsTail, IsAdjacent, IsSplice, IsJoint, EndsBy, piece_text, own_text, home_bytes}
 use Rattle.demangle_text.specs.Shape.{text, text_len, plain_shape, joined, inserted, own_shape, opened_group, CanInsert, IsDeclared, moved}
-use Rattle.demangle_text.specs.Pieces.{Layout, Flat, Cut, IsLayout, IsAt, IsMarked, marks_of, whole_marks, shape_of, place_at, layout_with, layout_opened, layout_end, own_at}
+use Rattle.demangle_text.specs.Pieces.{Layout, Flat, Cut, IsLayout, IsAt, IsOutlined, outline_of, whole_outline, shape_of, place_at, layout_with, layout_opened, layout_end, own_at}
 use Rattle.demangle_text.specs.State.{IsLiving, shape, Lives, IsEditOf, IsJoinOf, main_bytes, frame, frame_start, Frame, Stands}
 use Rattle.demangle_text.specs.declared.shape.Place.{Place}
 use Rattle.demangle_text.specs.declared.shape.Place.TheVariants.{Suffix}
-use Rattle.demangle_text.proofs.Inserts.{Inserts, length-inserted, shape-inserted, IsMarked-inserted}
-use Rattle.demangle_text.proofs.Groups.{Groups, group_text, layout_end_within, shape-opened, IsMarked-opened}
+use Rattle.demangle_text.proofs.Inserts.{Inserts, length-inserted, shape-inserted, IsOutlined-inserted}
+use Rattle.demangle_text.proofs.Groups.{Groups, group_text, layout_end_within, shape-opened, IsOutlined-opened}
 use Rattle.demangle_text.proofs.Texts.{part-part}
 use Rattle.demangle_text.proofs.States.{Lives-at_end, text_is}
 use Rattle.demangle_text.specs.Flags.{lies_aside, templ_by, ctor_by}
@@ -231,11 +231,11 @@ module _ (b n : Store) (p : Piece) (at : ℕ) (bytes : List ℕ) (from : ℕ) (l
 
   pub own-fits : p.own_end + length bytes ≤ length n.main_text
   unfolding IsLiving
-  own-fits = omega (arith, splice-long, i.within, lies.marked.own_within, length-text b p lies)
+  own-fits = omega (arith, splice-long, i.within, lies.outlined.own_within, length-text b p lies)
 
-  pub layout-fits : layout_end (marks_of p).layout + length bytes ≤ length n.main_text
+  pub layout-fits : layout_end (outline_of p).layout + length bytes ≤ length n.main_text
   unfolding IsLiving
-  layout-fits = omega (arith, splice-long, i.within, layout_end_within t (marks_of p).layout lies.marked.layout, length-text b p lies)
+  layout-fits = omega (arith, splice-long, i.within, layout_end_within t (outline_of p).layout lies.outlined.layout, length-text b p lies)
 
   module _ (q : Piece) (stands : IsAt q from (length n.main_text)) where
     abbrev u : List ℕ
@@ -247,18 +247,18 @@ module _ (b n : Store) (p : Piece) (at : ℕ) (bytes : List ℕ) (from : ℕ) (l
     there : IsAt q q.from_byte (length n.main_text)
     there = record { in_main = stands.in_main; begins = refl; ends = stands.ends }
 
-    at_end : IsMarked u (marks_of q) → Lives n q (shape_of u (marks_of q))
-    at_end marked = Lives-at_end n q u there (omega (arith, i.within, stands.begins)) (ap (λ (k : ℕ). drop k n.main_text) stands.begins) marked
+    at_end : IsOutlined u (outline_of q) → Lives n q (shape_of u (outline_of q))
+    at_end outlined = Lives-at_end n q u there (omega (arith, i.within, stands.begins)) (ap (λ (k : ℕ). drop k n.main_text) stands.begins) outlined
 
     -- the bytes at a place
-    pub Lives-inserted : (place : Place) → CanInsert place (shape b p).form → at ≡ place_at place (marks_of p).layout (p.to_byte - p.from_byte)
-        → (marks_of q).layout ≡ layout_with place (length bytes) (marks_of p).layout
-        → (marks_of q).own ≡ own_at (marks_of p).layout (length n.main_text - from) (moved at (length bytes) (marks_of p).own)
+    pub Lives-inserted : (place : Place) → CanInsert place (shape b p).form → at ≡ place_at place (outline_of p).layout (p.to_byte - p.from_byte)
+        → (outline_of q).layout ≡ layout_with place (length bytes) (outline_of p).layout
+        → (outline_of q).own ≡ own_at (outline_of p).layout (length n.main_text - from) (moved at (length bytes) (outline_of p).own)
         → templ_by q.flags ≡ templ_by p.flags → ctor_by q.flags ≡ ctor_by p.flags → Lives n q (inserted place bytes (shape b p))
     unfolding IsLiving shape
     Lives-inserted place can at_is layout own templ ctor =
-        let m = marks_of p in
-        let w = marks_of q in
+        let m = outline_of p in
+        let w = outline_of q in
         let at_t : at ≡ place_at place m.layout (length t) = at_is ∙ ap (place_at place m.layout) (sym (length-text b p lies)) in
         let k : Inserts place bytes t u m w = record {
           text = i.text ∙ ap (λ (j : ℕ). take j t ++ (bytes ++ drop j t)) at_t;
@@ -267,17 +267,17 @@ module _ (b n : Store) (p : Piece) (at : ℕ) (bytes : List ℕ) (from : ℕ) (l
           templ = templ;
           ctor = ctor;
         } in
-        rw (← shape-inserted place bytes t u m w lies.marked can k) (at_end (IsMarked-inserted place bytes t u m w lies.marked can k))
+        rw (← shape-inserted place bytes t u m w lies.outlined can k) (at_end (IsOutlined-inserted place bytes t u m w lies.outlined can k))
 
     -- a group before `after`, where the bytes are the gap and the group in its parentheses
-    pub Lives-opened : (group : List ℕ) → IsDeclared (shape b p).form → at ≡ place_at Suffix (marks_of p).layout (p.to_byte - p.from_byte) → bytes ≡ group_text group (take at t)
-        → (marks_of q).layout ≡ layout_opened (length bytes) (length group + 2) (marks_of p).layout
-        → (marks_of q).own ≡ own_at (marks_of p).layout (length n.main_text - from) (moved at (length bytes) (marks_of p).own)
+    pub Lives-opened : (group : List ℕ) → IsDeclared (shape b p).form → at ≡ place_at Suffix (outline_of p).layout (p.to_byte - p.from_byte) → bytes ≡ group_text group (take at t)
+        → (outline_of q).layout ≡ layout_opened (length bytes) (length group + 2) (outline_of p).layout
+        → (outline_of q).own ≡ own_at (outline_of p).layout (length n.main_text - from) (moved at (length bytes) (outline_of p).own)
         → templ_by q.flags ≡ templ_by p.flags → ctor_by q.flags ≡ ctor_by p.flags → Lives n q (opened_group group (shape b p))
     unfolding IsLiving shape
     Lives-opened group declared at_is is layout own templ ctor =
-        let m = marks_of p in
-        let w = marks_of q in
+        let m = outline_of p in
+        let w = outline_of q in
         let at_t : at ≡ place_at Suffix m.layout (length t) = at_is ∙ ap (place_at Suffix m.layout) (sym (length-text b p lies)) in
         let k : Groups group t u m w at = record {
           place = at_t;
@@ -287,7 +287,7 @@ module _ (b n : Store) (p : Piece) (at : ℕ) (bytes : List ℕ) (from : ℕ) (l
           templ = templ;
           ctor = ctor;
         } in
-        rw (← shape-opened group t u m w at lies.marked declared k) (at_end (IsMarked-opened group t u m w at lies.marked declared k))
+        rw (← shape-opened group t u m w at lies.outlined declared k) (at_end (IsOutlined-opened group t u m w at lies.outlined declared k))
 
     -- by how much its text grows
     pub opened-longer : (group : List ℕ) → Lives n q (opened_group group (shape b p)) → length bytes ≡ text_len (opened_group group (shape b p)) - text_len (shape b p)
@@ -300,33 +300,33 @@ module _ (b n : Store) (p : Piece) (at : ℕ) (bytes : List ℕ) (from : ℕ) (l
 
 -- both texts with bytes between them
 pub Lives-joined : (b n : Store) (first second q : Piece) (bytes : List ℕ) (from : ℕ) → IsLiving b first → IsLiving b second → IsJoint b n first bytes second from
-    → IsAt q from (length n.main_text) → marks_of q ≡ whole_marks (length n.main_text - from) → Lives n q (joined (shape b first) bytes (shape b second))
-Lives-joined b n first second q bytes from one two i stands marks =
+    → IsAt q from (length n.main_text) → outline_of q ≡ whole_outline (length n.main_text - from) → Lives n q (joined (shape b first) bytes (shape b second))
+Lives-joined b n first second q bytes from one two i stands outline =
     let u = piece_text b.main_text b.side_text first ++ bytes ++ piece_text b.main_text b.side_text second in
     let texts : u ≡ text (shape b first) ++ bytes ++ text (shape b second) =
     ap (λ (v : List ℕ). v ++ bytes ++ piece_text b.main_text b.side_text second) (sym (text_is b first one))
     ∙ ap (λ (v : List ℕ). text (shape b first) ++ bytes ++ v) (sym (text_is b second two)) in
     let n_is : length n.main_text - from ≡ length u = sym (length-drop from n.main_text) ∙ ap length i.text in
-    let marks_are : marks_of q ≡ whole_marks (length u) = marks ∙ ap whole_marks n_is in
-    let whole : IsMarked u (whole_marks (length u)) = record { layout = tt; own_ordered = omega arith; own_within = omega arith; own_whole = tt } in
+    let outline_is : outline_of q ≡ whole_outline (length u) = outline ∙ ap whole_outline n_is in
+    let whole : IsOutlined u (whole_outline (length u)) = record { layout = tt; own_ordered = omega arith; own_within = omega arith; own_whole = tt } in
     let there : IsAt q q.from_byte (length n.main_text) = record { in_main = stands.in_main; begins = refl; ends = stands.ends } in
-    let lives = Lives-at_end n q u there (omega (arith, i.within, stands.begins)) (ap (λ (k : ℕ). drop k n.main_text) stands.begins ∙ i.text) (subst (IsMarked u) (sym marks_are) whole) in
+    let lives = Lives-at_end n q u there (omega (arith, i.within, stands.begins)) (ap (λ (k : ℕ). drop k n.main_text) stands.begins ∙ i.text) (subst (IsOutlined u) (sym outline_is) whole) in
     record {
       living = lives.living;
-      shape_is = lives.shape_is ∙ ap (shape_of u) marks_are ∙ ap plain_shape texts;
+      shape_is = lives.shape_is ∙ ap (shape_of u) outline_is ∙ ap plain_shape texts;
     }
 
 -- a text that became all of the main text since a place
 pub Lives-settled : (b n : Store) (p q : Piece) (at : ℕ) → IsLiving b p → at ≤ length b.main_text → n.main_text ≡ take at b.main_text ++ piece_text b.main_text b.side_text p
-    → IsAt q at (length n.main_text) → marks_of q ≡ marks_of p → Lives n q (shape b p)
+    → IsAt q at (length n.main_text) → outline_of q ≡ outline_of p → Lives n q (shape b p)
 unfolding IsLiving shape
-Lives-settled b n p q at lies within is stands marks =
+Lives-settled b n p q at lies within is stands outline =
     let t = piece_text b.main_text b.side_text p in
     let low = length-take-le at b.main_text within in
     let there : IsAt q q.from_byte (length n.main_text) = record { in_main = stands.in_main; begins = refl; ends = stands.ends } in
     let text : drop q.from_byte n.main_text ≡ t = ap (λ (k : ℕ). drop k n.main_text) stands.begins ∙ ap (drop at) is ∙ drop_at (take at b.main_text) t at low in
-    let lives = Lives-at_end n q t there (omega (arith, ap length is, length-append (take at b.main_text) t, stands.begins)) text (subst (IsMarked t) (sym marks) lies.marked) in
-    record { living = lives.living; shape_is = lives.shape_is ∙ ap (shape_of t) marks }
+    let lives = Lives-at_end n q t there (omega (arith, ap length is, length-append (take at b.main_text) t, stands.begins)) text (subst (IsOutlined t) (sym outline) lies.outlined) in
+    record { living = lives.living; shape_is = lives.shape_is ∙ ap (shape_of t) outline }
 
 -- a text that stands there already
 pub settled-already : (b : Store) (p : Piece) (at : ℕ) → (lies_aside p.flags) ≡ false → p.from_byte ≡ at → p.to_byte ≡ length b.main_text → b.main_text ≡ take at b.main_text ++ piece_text b.main_text b.side_text p
@@ -348,11 +348,11 @@ settled-copy main mid t at from to is within starts ends =
 module _ (b : Store) (p q : Piece) (lies : IsLiving b p) (home : lies_aside q.flags ≡ lies_aside p.flags) (begins : q.from_byte ≡ p.from_byte + p.own_start) (ends : q.to_byte ≡ p.from_byte + p.own_end) where
   pub own-ordered : q.from_byte ≤ q.to_byte
   unfolding IsLiving
-  own-ordered = omega (arith, begins, ends, lies.marked.own_ordered)
+  own-ordered = omega (arith, begins, ends, lies.outlined.own_ordered)
 
   own-inside : p.from_byte + p.own_end ≤ p.to_byte
   unfolding IsLiving
-  own-inside = omega (arith, length-text b p lies, lies.marked.own_within, lies.ordered)
+  own-inside = omega (arith, length-text b p lies, lies.outlined.own_within, lies.ordered)
 
   pub own-within : q.to_byte ≤ length (home_bytes b.main_text b.side_text (lies_aside q.flags))
   unfolding IsLiving
@@ -364,7 +364,7 @@ module _ (b : Store) (p q : Piece) (lies : IsLiving b p) (home : lies_aside q.fl
   own-part =
       let bytes = home_bytes b.main_text b.side_text (lies_aside p.flags) in
       ap (λ (k : ℕ). slice_range bytes k q.to_byte) begins ∙ ap (λ (k : ℕ). slice_range bytes (p.from_byte + p.own_start) k) ends
-      ∙ part-part bytes p.from_byte p.to_byte p.own_start p.own_end lies.marked.own_ordered own-inside
+      ∙ part-part bytes p.from_byte p.to_byte p.own_start p.own_end lies.outlined.own_ordered own-inside
 
   pub own-piece : piece_text b.main_text b.side_text q ≡ own_text b.main_text b.side_text p
   own-piece = ap (λ (h : Bool). slice_range (home_bytes b.main_text b.side_text h) q.from_byte q.to_byte) home ∙ own-part
@@ -377,31 +377,31 @@ own_text-is b p lies = ap (λ (v : List ℕ). slice_range v p.own_start p.own_en
 -- how long it is
 pub length-own : (b : Store) (p : Piece) → IsLiving b p → length (own_text b.main_text b.side_text p) ≡ p.own_end - p.own_start
 unfolding IsLiving
-length-own b p lies = length-between (piece_text b.main_text b.side_text p) p.own_start p.own_end lies.marked.own_within
+length-own b p lies = length-between (piece_text b.main_text b.side_text p) p.own_start p.own_end lies.outlined.own_within
 
 -- the last own name as a piece of its own
 pub Lives-own : (b : Store) (p q : Piece) → IsLiving b p → (lies_aside q.flags) ≡ (lies_aside p.flags) → q.from_byte ≡ p.from_byte + p.own_start → q.to_byte ≡ p.from_byte + p.own_end
-    → marks_of q ≡ whole_marks (p.from_byte + p.own_end - (p.from_byte + p.own_start)) → Lives b q (own_shape (shape b p))
+    → outline_of q ≡ whole_outline (p.from_byte + p.own_end - (p.from_byte + p.own_start)) → Lives b q (own_shape (shape b p))
 unfolding IsLiving shape
-Lives-own b p q lies home begins ends marks =
+Lives-own b p q lies home begins ends outline =
     let bytes = home_bytes b.main_text b.side_text (lies_aside p.flags) in
     let t = piece_text b.main_text b.side_text p in
     let u = slice_range bytes (p.from_byte + p.own_start) (p.from_byte + p.own_end) in
     let n = length-text b p lies in
-    let inside : p.from_byte + p.own_end ≤ p.to_byte = omega (arith, n, lies.marked.own_within, lies.ordered) in
+    let inside : p.from_byte + p.own_end ≤ p.to_byte = omega (arith, n, lies.outlined.own_within, lies.ordered) in
     let m : length u ≡ p.from_byte + p.own_end - (p.from_byte + p.own_start) = length-between bytes (p.from_byte + p.own_start) (p.from_byte + p.own_end) (omega (arith, inside, lies.within)) in
     let here : piece_text b.main_text b.side_text q ≡ u =
     ap (λ (h : Bool). slice_range (home_bytes b.main_text b.side_text h) q.from_byte q.to_byte) home
     ∙ ap (λ (k : ℕ). slice_range bytes k q.to_byte) begins ∙ ap (λ (k : ℕ). slice_range bytes (p.from_byte + p.own_start) k) ends in
-    let marks_are : marks_of q ≡ whole_marks (length u) = marks ∙ ap whole_marks (sym m) in
-    let whole : IsMarked u (whole_marks (length u)) = record { layout = tt; own_ordered = omega arith; own_within = omega arith; own_whole = tt } in
+    let outline_is : outline_of q ≡ whole_outline (length u) = outline ∙ ap whole_outline (sym m) in
+    let whole : IsOutlined u (whole_outline (length u)) = record { layout = tt; own_ordered = omega arith; own_within = omega arith; own_whole = tt } in
     let name : u ≡ slice_range (text (shape b p)) p.own_start p.own_end =
-    part-part bytes p.from_byte p.to_byte p.own_start p.own_end lies.marked.own_ordered inside ∙ ap (λ (v : List ℕ). slice_range v p.own_start p.own_end) (sym (text_is b p lies)) in
+    part-part bytes p.from_byte p.to_byte p.own_start p.own_end lies.outlined.own_ordered inside ∙ ap (λ (v : List ℕ). slice_range v p.own_start p.own_end) (sym (text_is b p lies)) in
     record {
       living = record {
-        ordered = omega (arith, begins, ends, lies.marked.own_ordered);
+        ordered = omega (arith, begins, ends, lies.outlined.own_ordered);
         within = rw home (omega (arith, ends, inside, lies.within));
-        marked = rw (here, marks_are) whole;
+        outlined = rw (here, outline_is) whole;
       };
-      shape_is = ap (λ (v : List ℕ). shape_of v (marks_of q)) here ∙ ap (shape_of u) marks_are ∙ ap plain_shape name;
+      shape_is = ap (λ (v : List ℕ). shape_of v (outline_of q)) here ∙ ap (shape_of u) outline_is ∙ ap plain_shape name;
     }

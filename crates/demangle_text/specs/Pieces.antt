@@ -17,7 +17,7 @@ pub data Layout : Type 0 where
   Cut : Kind → Option ℕ → ℕ → Layout
 
 -- what a text stands for, by places in it
-pub record Marks : Type 0 where
+pub record Outline : Type 0 where
   pub layout : Layout
   pub own : ℕ × ℕ
   pub templ : Bool
@@ -29,8 +29,8 @@ layout_by None group at = Flat
 layout_by (Some kind) group at = Cut kind group at
 
 -- what the text of a piece stands for
-abbrev pub marks_of : Piece → Marks
-marks_of p = record {
+abbrev pub outline_of : Piece → Outline
+outline_of p = record {
   layout = layout_by (kind_by p.flags) (group_from (grouped_by p.flags) p.group_start) p.after_start;
   own = (p.own_start, p.own_end);
   templ = templ_by p.flags;
@@ -44,8 +44,8 @@ form_of t (Cut kind None at) = Declared kind (take at t) None (drop at t)
 form_of t (Cut kind (Some group) at) =
     Declared kind (take group t) (Some (slice_range t (group + 1) (at - 1))) (drop at t)
 
--- the shape of a text under its marks
-abbrev pub shape_of : List ℕ → Marks → Shape
+-- the shape of a text under its outline
+abbrev pub shape_of : List ℕ → Outline → Shape
 shape_of t m = record { form = form_of t m.layout; own = m.own; templ = m.templ; ctor = m.ctor }
 
 -- the layout fits the text: a group stands between its parentheses
@@ -61,20 +61,20 @@ IsOwn t Flat own = Unit {0}
 IsOwn t (Cut Array group at) own = Unit {0}
 IsOwn t (Cut Function group at) own = own ≡ (0, length t)
 
--- the marks fit the text
-pub record IsMarked (t : List ℕ) (m : Marks) : Type 0 where
+-- the outline fits the text
+pub record IsOutlined (t : List ℕ) (m : Outline) : Type 0 where
   pub layout : IsLayout t m.layout
   pub own_ordered : m.own.0 ≤ m.own.1
   pub own_within : m.own.1 ≤ length t
   pub own_whole : IsOwn t m.layout m.own
 
--- the marks of a plain text of this length, all of which is its last own name
-abbrev pub whole_marks : ℕ → Marks
-whole_marks len = record { layout = Flat; own = (0, len); templ = false; ctor = false }
+-- the outline of a plain text of this length, all of which is its last own name
+abbrev pub whole_outline : ℕ → Outline
+whole_outline len = record { layout = Flat; own = (0, len); templ = false; ctor = false }
 
--- the marks of a plain text that is cut to this length
-abbrev pub cut_marks : ℕ → Marks → Marks
-cut_marks len m = record m { layout = Flat; own = (min m.own.0 len, min m.own.1 len) }
+-- the outline of a plain text that is cut to this length
+abbrev pub cut_outline : ℕ → Outline → Outline
+cut_outline len m = record m { layout = Flat; own = (min m.own.0 len, min m.own.1 len) }
 
 -- where a place lies in a text of this length
 abbrev pub place_at : Place → Layout → ℕ → ℕ
@@ -133,11 +133,11 @@ own_text main side p = slice_range (piece_text main side p) p.own_start p.own_en
 pub record IsPiece (main side : List ℕ) (p : Piece) : Type 0 where
   pub ordered : p.from_byte ≤ p.to_byte
   pub within : p.to_byte ≤ length (home_bytes main side (lies_aside p.flags))
-  pub marked : IsMarked (piece_text main side p) (marks_of p)
+  pub outlined : IsOutlined (piece_text main side p) (outline_of p)
 
 -- the shape of a piece
 abbrev pub shape_in : List ℕ → List ℕ → Piece → Shape
-shape_in main side p = shape_of (piece_text main side p) (marks_of p)
+shape_in main side p = shape_of (piece_text main side p) (outline_of p)
 
 -- the piece lies in the main text, at these bytes
 pub record IsAt (p : Piece) (from to : ℕ) : Type 0 where

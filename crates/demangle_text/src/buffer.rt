@@ -62,7 +62,7 @@ impl Buffer {
     ghost use Rattle.demangle_text.specs.Shape.{opened_group, joined, shortened, CanInsert, IsPlain, IsDeclared};
     ghost use Rattle.demangle_text.specs.Shape.{flagged, with_own, flattened, whole_shape, own_shape, IsNotFunction};
     ghost use Rattle.demangle_text.specs.Shape.{kind_of, group_of, after_of, declared_at, declared_group};
-    ghost use Rattle.demangle_text.specs.Pieces.{IsTail, IsSplice, IsAdjacent, IsJoint, IsAt, EndsBy, marks_of, piece_text, own_text};
+    ghost use Rattle.demangle_text.specs.Pieces.{IsTail, IsSplice, IsAdjacent, IsJoint, IsAt, EndsBy, outline_of, piece_text, own_text};
 
     /// An empty buffer, with no mark open. It takes no memory.
     pub fn new(alloc: Global) -> Self
@@ -164,7 +164,7 @@ impl Buffer {
         ensures main { OnOk result (self.new.main_text ≡ take at self.old.main_text
             ++ piece_text self.old.main_text self.old.side_text piece.old) }
         ensures stands { OnOk result (IsAt piece.new at (length self.new.main_text)) }
-        ensures marks { OnOk result (marks_of piece.new ≡ marks_of piece.old) }
+        ensures outline { OnOk result (outline_of piece.new ≡ outline_of piece.old) }
         ensures within { at ≤ length self.old.main_text }
     {
         let len = self.main.len();
@@ -183,9 +183,9 @@ impl Buffer {
         ensures main { OnOk result (self.new.main_text ≡ take at self.old.main_text
             ++ piece_text self.old.main_text self.old.side_text piece.old) }
         ensures stands { OnOk result (IsAt piece.new at (length self.new.main_text)) }
-        ensures marks { OnOk result (marks_of piece.new ≡ marks_of piece.old) }
+        ensures outline { OnOk result (outline_of piece.new ≡ outline_of piece.old) }
     {
-        self.move_down(at, piece.bare())?;
+        self.move_down(at, piece.alone())?;
         *piece = piece.moved_to(at, self.main.len());
         Ok(())
     }
@@ -271,7 +271,7 @@ impl Buffer {
         ensures main_err { OnErr result (main_bytes self.new ≡ main_bytes self.old) }
         ensures stands { IfOk result (λ p. Stands p (length (main_bytes self.old)) (length (main_bytes self.new))) }
     {
-        let from = self.copy_text(piece.bare())?;
+        let from = self.copy_text(piece.alone())?;
         Ok(piece.moved_to(from, self.main.len()))
     }
 
@@ -384,7 +384,7 @@ impl Buffer {
         self.splice_elsewhere(piece, at, b"", bytes, b"")
     }
 
-    // `extend_copy` of a bare piece. It is inlined, so that the bare piece is made on this way alone.
+    // `extend_copy` of the piece's text alone. It is inlined, so that this second piece is made on no other way.
     #[inline(always)]
     fn extend_elsewhere(
         &mut self,
@@ -399,10 +399,10 @@ impl Buffer {
         ensures kept { KeepsAll self.old self.new }
         ensures main_err { OnErr result (self.new.main_text ≡ self.old.main_text) }
     {
-        self.extend_copy(piece.bare(), first, second)
+        self.extend_copy(piece.alone(), first, second)
     }
 
-    // `splice_copy` of a bare piece, inlined as well.
+    // `splice_copy` of the piece's text alone, inlined as well.
     #[inline(always)]
     fn splice_elsewhere(
         &mut self,
@@ -420,7 +420,7 @@ impl Buffer {
         ensures kept { KeepsAll self.old self.new }
         ensures main_err { OnErr result (self.new.main_text ≡ self.old.main_text) }
     {
-        self.splice_copy(piece.bare(), at, front, bytes, back)
+        self.splice_copy(piece.alone(), at, front, bytes, back)
     }
 
     // The text of a piece that doesn't stand at the end, with both texts after it, at the end of the main text: where
@@ -746,7 +746,7 @@ impl Buffer {
         self.join_apart(first, bytes, second)
     }
 
-    // `join_elsewhere` of bare pieces, inlined as well.
+    // `join_elsewhere` of the texts alone, inlined as well.
     #[inline(always)]
     fn join_apart(&mut self, first: Piece, bytes: &[u8], second: Piece) -> Result<usize, AllocError>
         requires first_living { IsLiving self.old first }
@@ -757,7 +757,7 @@ impl Buffer {
         ensures err { OnErr result (KeepsAll self.old self.new) }
         ensures main_err { OnErr result (self.new.main_text ≡ self.old.main_text) }
     {
-        self.join_elsewhere(first.bare(), bytes, second.bare())
+        self.join_elsewhere(first.alone(), bytes, second.alone())
     }
 
     // The same of texts that aren't adjacent at the end.

@@ -161,7 +161,7 @@ pub(crate) fn declared(flags: usize, kind: Kind, grouped: bool) -> usize
 /// A plain shape in the main text, with no flag.
 #[tactic(auto, unfolding(crate::specs::Flags::lowest, crate::specs::Flags::above))]
 #[inline(always)]
-pub(crate) fn bare_in_main() -> usize
+pub(crate) fn alone_in_main() -> usize
     ensures aside { lies_aside result ≡ false }
     ensures templ { templ_by result ≡ false }
     ensures ctor { ctor_by result ≡ false }
@@ -172,7 +172,7 @@ pub(crate) fn bare_in_main() -> usize
 
 /// A plain shape in the same text, with no flag.
 #[inline(always)]
-pub(crate) fn bare(flags: usize) -> usize
+pub(crate) fn alone(flags: usize) -> usize
     ensures aside { lies_aside result ≡ lies_aside flags }
     ensures templ { templ_by result ≡ false }
     ensures ctor { ctor_by result ≡ false }

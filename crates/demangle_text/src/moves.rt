@@ -2,7 +2,7 @@
 ghost use Rattle.std.specs.Prelude.{◌≡◌, ℕ, ◌+◌, ◌-◌, ◌^◌, ◌<◌, ◌≤◌, ◌++◌, length, slice_range, All, map, IfOk, OnOk};
 ghost use Rattle.std.specs.Prelude.{OnErr, true, false};
 ghost use Rattle.demangle_text.specs.Flags.{lies_aside};
-ghost use Rattle.demangle_text.specs.Pieces.{IsPiece, IsApart, IsAside, Extends, shape_in, marks_of, carried};
+ghost use Rattle.demangle_text.specs.Pieces.{IsPiece, IsApart, IsAside, Extends, shape_in, outline_of, carried};
 
 use crate::flags::in_side;
 use crate::ranges::Ranges;
@@ -17,7 +17,7 @@ fn set_aside(main: &[u8], side: &mut Text, piece: Piece) -> Result<Piece, AllocE
     ensures aside { IfOk result (λ p. lies_aside p.flags ≡ true) }
     ensures begins { IfOk result (λ p. p.from_byte ≡ length side.old) }
     ensures ends { IfOk result (λ p. p.to_byte ≡ length side.old + (piece.to_byte - piece.from_byte)) }
-    ensures marks { IfOk result (λ p. marks_of p ≡ marks_of piece) }
+    ensures outline { IfOk result (λ p. outline_of p ≡ outline_of piece) }
     ensures text { OnOk result (side.new ≡ side.old ++ slice_range main.now piece.from_byte piece.to_byte) }
     ensures err { OnErr result (side.new ≡ side.old) }
 {

@@ -1,11 +1,13 @@
 //! Pieces: where their texts lie, how these are cut into the parts of a shape, and where the last own name lies.
 ghost use Rattle.std.specs.Prelude.{◌≡◌, ℕ, ◌+◌, ◌-◌, ◌^◌, ◌<◌, ◌≤◌, true, if◌then◌else◌};
 ghost use Rattle.demangle_text.specs.Pieces.{place_at, layout_with, layout_opened, layout_end, own_at, own_of};
-ghost use Rattle.demangle_text.specs.Pieces.{whole_marks, cut_marks, marks_of, IsAt, EndsBy, Layout, layout_by};
+ghost use Rattle.demangle_text.specs.Pieces.{whole_outline, cut_outline, outline_of, IsAt, EndsBy, Layout, layout_by};
 ghost use Rattle.demangle_text.specs.Shape.{moved};
 ghost use Rattle.demangle_text.specs.Flags.{lies_aside, templ_by, ctor_by, grouped_by, kind_by, group_from};
 
-use crate::flags::{bare, bare_in_main, declared, declares, in_main, is_aside, is_grouped, plain};
+use crate::flags::{
+    alone, alone_in_main, declared, declares, in_main, is_aside, is_grouped, plain,
+};
 
 /// What a declarator declares.
 #[derive(Clone, Copy, Debug, PartialEq, Eq)]
@@ -63,7 +65,7 @@ impl Piece {
     pub(crate) fn whole_at(from: usize, to: usize) -> Piece
         requires ordered { from ≤ to }
         ensures stands { IsAt result from to }
-        ensures marks { marks_of result ≡ whole_marks (to - from) }
+        ensures outline { outline_of result ≡ whole_outline (to - from) }
     {
         Piece {
             from_byte: from,
@@ -72,22 +74,22 @@ impl Piece {
             own_end: to - from,
             group_start: 0,
             after_start: 0,
-            flags: bare_in_main(),
+            flags: alone_in_main(),
         }
     }
 
-    // Its text as a plain piece, all of which is its last own name. A call that isn't inlined is given this one, so
+    // Its text alone: a plain piece, all of which is its last own name. A call that isn't inlined is given this one, so
     // that the piece itself needn't be kept in memory.
     #[inline(always)]
-    pub(crate) fn bare(self) -> Piece
+    pub(crate) fn alone(self) -> Piece
         requires ordered { self.from_byte ≤ self.to_byte }
         ensures home { lies_aside result.flags ≡ lies_aside self.flags }
         ensures begins { result.from_byte ≡ self.from_byte }
         ensures ends { result.to_byte ≡ self.to_byte }
-        ensures marks { marks_of result ≡ whole_marks (self.to_byte - self.from_byte) }
+        ensures outline { outline_of result ≡ whole_outline (self.to_byte - self.from_byte) }
     {
         Piece {
-            flags: bare(self.flags),
+            flags: alone(self.flags),
             ..Piece::whole_at(self.from_byte, self.to_byte)
         }
     }
@@ -100,22 +102,22 @@ impl Piece {
         ensures home { lies_aside result.flags ≡ lies_aside self.flags }
         ensures begins { result.from_byte ≡ self.from_byte + self.own_start }
         ensures ends { result.to_byte ≡ self.from_byte + self.own_end }
-        ensures marks { marks_of result
-            ≡ whole_marks (self.from_byte + self.own_end - (self.from_byte + self.own_start)) }
+        ensures outline { outline_of result
+            ≡ whole_outline (self.from_byte + self.own_end - (self.from_byte + self.own_start)) }
     {
         let from = self.from_byte + self.own_start;
         let to = self.from_byte + self.own_end;
         Piece {
-            flags: bare(self.flags),
+            flags: alone(self.flags),
             ..Piece::whole_at(from, to)
         }
     }
 
-    // The same marks over other bytes of the main text.
+    // The same outline over other bytes of the main text.
     #[inline(always)]
     pub(crate) fn moved_to(self, from: usize, to: usize) -> Piece
         ensures stands { IsAt result from to }
-        ensures marks { marks_of result ≡ marks_of self }
+        ensures outline { outline_of result ≡ outline_of self }
     {
         Piece {
             from_byte: from,
@@ -163,7 +165,7 @@ impl Piece {
     #[inline(always)]
     pub(crate) fn place(self, place: Place) -> usize
         requires ordered { self.from_byte ≤ self.to_byte }
-        ensures value { result ≡ place_at place (marks_of self).layout (self.to_byte - self.from_byte) }
+        ensures value { result ≡ place_at place (outline_of self).layout (self.to_byte - self.from_byte) }
     {
         let len = self.text_len();
         if self.declares().is_none() {
@@ -194,11 +196,11 @@ impl Piece {
         requires text { from ≤ to }
         requires ordered { self.own_start ≤ self.own_end }
         requires own_fits { self.own_end + n < 2 ^ 64 }
-        requires layout_fits { layout_end (marks_of self).layout + n < 2 ^ 64 }
+        requires layout_fits { layout_end (outline_of self).layout + n < 2 ^ 64 }
         ensures stands { IsAt result from to }
-        ensures layout { (marks_of result).layout ≡ layout_with place n (marks_of self).layout }
-        ensures own { (marks_of result).own
-            ≡ own_at (marks_of self).layout (to - from) (moved at n (marks_of self).own) }
+        ensures layout { (outline_of result).layout ≡ layout_with place n (outline_of self).layout }
+        ensures own { (outline_of result).own
+            ≡ own_at (outline_of self).layout (to - from) (moved at n (outline_of self).own) }
         ensures templ { templ_by result.flags ≡ templ_by self.flags }
         ensures ctor { ctor_by result.flags ≡ ctor_by self.flags }
     {
@@ -218,9 +220,9 @@ impl Piece {
     // Where the group and `after` begin after n bytes were inserted at a place.
     #[inline(always)]
     fn parts_moved(self, place: Place, n: usize) -> (usize, usize)
-        requires fits { layout_end (marks_of self).layout + n < 2 ^ 64 }
+        requires fits { layout_end (outline_of self).layout + n < 2 ^ 64 }
         ensures value { layout_by (kind_by self.flags) (group_from (grouped_by self.flags) result.0) result.1
-            ≡ layout_with place n (marks_of self).layout }
+            ≡ layout_with place n (outline_of self).layout }
     {
         if self.declares().is_none() {
             return (self.group_start, self.after_start);
@@ -240,12 +242,12 @@ impl Piece {
         requires text { from ≤ to }
         requires ordered { self.own_start ≤ self.own_end }
         requires own_fits { self.own_end + n < 2 ^ 64 }
-        requires layout_fits { layout_end (marks_of self).layout + n < 2 ^ 64 }
+        requires layout_fits { layout_end (outline_of self).layout + n < 2 ^ 64 }
         requires within { m ≤ n }
         ensures stands { IsAt result from to }
-        ensures layout { (marks_of result).layout ≡ layout_opened n m (marks_of self).layout }
-        ensures own { (marks_of result).own
-            ≡ own_at (marks_of self).layout (to - from) (moved at n (marks_of self).own) }
+        ensures layout { (outline_of result).layout ≡ layout_opened n m (outline_of self).layout }
+        ensures own { (outline_of result).own
+            ≡ own_at (outline_of self).layout (to - from) (moved at n (outline_of self).own) }
         ensures templ { templ_by result.flags ≡ templ_by self.flags }
         ensures ctor { ctor_by result.flags ≡ ctor_by self.flags }
     {
@@ -276,7 +278,7 @@ impl Piece {
         ensures home { lies_aside result.flags ≡ lies_aside self.flags }
         ensures begins { result.from_byte ≡ self.from_byte }
         ensures ends { result.to_byte + n ≡ self.to_byte }
-        ensures marks { marks_of result ≡ cut_marks (self.to_byte - self.from_byte - n) (marks_of self) }
+        ensures outline { outline_of result ≡ cut_outline (self.to_byte - self.from_byte - n) (outline_of self) }
     {
         let left = self.text_len() - n;
         Piece {
@@ -295,8 +297,8 @@ impl Piece {
         ensures home { lies_aside result.flags ≡ lies_aside self.flags }
         ensures begins { result.from_byte ≡ self.from_byte }
         ensures ends { result.to_byte ≡ self.to_byte }
-        ensures layout { (marks_of result).layout ≡ Layout.Cut kind group at }
-        ensures own { (marks_of result).own ≡ own_of kind (self.to_byte - self.from_byte) (marks_of self).own }
+        ensures layout { (outline_of result).layout ≡ Layout.Cut kind group at }
+        ensures own { (outline_of result).own ≡ own_of kind (self.to_byte - self.from_byte) (outline_of self).own }
         ensures templ { templ_by result.flags ≡ templ_by self.flags }
         ensures ctor { ctor_by result.flags ≡ ctor_by self.flags }
     {
@@ -319,7 +321,7 @@ impl Piece {
     fn own_moved(self, at: usize, n: usize, len: usize) -> (usize, usize)
         requires ordered { self.own_start ≤ self.own_end }
         requires fits { self.own_end + n < 2 ^ 64 }
-        ensures value { result ≡ own_at (marks_of self).layout len (moved at n (self.own_start, self.own_end)) }
+        ensures value { result ≡ own_at (outline_of self).layout len (moved at n (self.own_start, self.own_end)) }
     {
         if matches!(self.declares(), Some(Kind::Function)) {
             (0, len)

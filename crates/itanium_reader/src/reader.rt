@@ -153,13 +153,13 @@ impl<'a> Reader<'a> {
 
     /// The name of std that a `<substitution>` stands for.
     #[inline(never)]
-    fn push_abbreviation(&mut self, known: Abbreviation) -> Result<(), AllocError>
-        ensures shape { OnOk result (Lives self.new.buffer.value self.new.found (abbreviation_shape known)) }
+    fn push_abbreviation(&mut self, abbreviation: Abbreviation) -> Result<(), AllocError>
+        ensures shape { OnOk result (Lives self.new.buffer.value self.new.found (abbreviation_shape abbreviation)) }
         ensures state { OnOk result (state self.new ≡ state self.old) }
         ensures kept { OnOk result (SameFrame self.old.buffer.value self.new.buffer.value) }
     {
-        let piece = self.buffer.push(abbreviation_text(known))?;
-        let end = 5 + abbreviation_own_len(known);
+        let piece = self.buffer.push(abbreviation_text(abbreviation))?;
+        let end = 5 + abbreviation_own_len(abbreviation);
         self.found = self.buffer.own_at(piece, 5, end);
         Ok(())
     }
@@ -175,11 +175,11 @@ impl<'a> Reader<'a> {
         self.skip(1);
         match substitution_case(self.rest) {
             SubstitutionCase::AbbreviationSubstitution => {
-                let Some(known) = abbreviation_of(self.rest) else {
+                let Some(abbreviation) = abbreviation_of(self.rest) else {
                     return Err(Stop::Unread);
                 };
                 self.skip(1);
-                self.push_abbreviation(known)?;
+                self.push_abbreviation(abbreviation)?;
                 Ok(())
             }
             SubstitutionCase::ComponentSubstitution => {

@@ -15,7 +15,7 @@ pub enum Abbreviation {
 
 /// Which name of std the letter after `S` stands for.
 pub fn abbreviation_of(bytes: &[u8]) -> Option<Abbreviation>
-    ensures known { result ≡ spec.abbreviation_of bytes.now }
+    ensures value { result ≡ spec.abbreviation_of bytes.now }
 {
     match bytes {
         [b'a', ..] => Some(Abbreviation::Allocator),
@@ -29,10 +29,10 @@ pub fn abbreviation_of(bytes: &[u8]) -> Option<Abbreviation>
 }
 
 /// What is printed for a name of std.
-pub fn abbreviation_text(known: Abbreviation) -> &'static [u8]
-    ensures text { result.now ≡ spec.abbreviation_text known }
+pub fn abbreviation_text(abbreviation: Abbreviation) -> &'static [u8]
+    ensures text { result.now ≡ spec.abbreviation_text abbreviation }
 {
-    match known {
+    match abbreviation {
         Abbreviation::Allocator => b"std::allocator",
         Abbreviation::BasicString => b"std::basic_string",
         Abbreviation::StdString => b"std::string",
@@ -43,11 +43,11 @@ pub fn abbreviation_text(known: Abbreviation) -> &'static [u8]
 }
 
 /// How long the last own name of a name of std is, in bytes: it stands after `std::`.
-pub fn abbreviation_own_len(known: Abbreviation) -> usize
-    ensures value { result ≡ length (spec.abbreviation_own known) }
-    ensures within { 5 + result ≤ length (spec.abbreviation_text known) }
+pub fn abbreviation_own_len(abbreviation: Abbreviation) -> usize
+    ensures value { result ≡ length (spec.abbreviation_own abbreviation) }
+    ensures within { 5 + result ≤ length (spec.abbreviation_text abbreviation) }
 {
-    match known {
+    match abbreviation {
         Abbreviation::Allocator => 9,
         Abbreviation::BasicString => 12,
         Abbreviation::StdString => 6,

@@ -1,8 +1,8 @@
--- The text with the bytes and its last own name after it stands at the end, and its marks are those of the shape with them.
+-- The text with the bytes and its last own name after it stands at the end, and its outline is that of the shape with them.
 use Rattle.std.proofs.Common.{◌≡◌, ◌+◌, ◌-◌, ◌++◌, ℕ, List, length, refl, ap, ◌∙◌, subst, arith}
 use Rattle.std.proofs.lemmas.List.{length-append}
 use Rattle.demangle_text.specs.declared.shape.Place.TheVariants.{End}
-use Rattle.demangle_text.specs.Pieces.{Store, IsAt, marks_of, own_at, own_text, layout_with}
+use Rattle.demangle_text.specs.Pieces.{Store, IsAt, outline_of, own_at, own_text, layout_with}
 use Rattle.demangle_text.specs.Shape.{moved, appended}
 use Rattle.demangle_text.specs.State.{shape, Lives, IsEditOf}
 use Rattle.demangle_text.proofs.Tails.{Lives-inserted, own-fits, layout-fits, own_text-is, length-own, IsEditOf-spliced}
@@ -47,10 +47,10 @@ returns-clause-shape c =
     let by = length c.args.between.now + (p.own_end - p.own_start) in
     let j : by ≡ length added = omega (arith, length-append c.args.between.now name, length-own b p c.requires.living) in
     let lives = Lives-inserted b n p at added from c.requires.living c.in_ok-from.ensures.splice q (subst (IsAt q from) k m.stands)
-    End tt refl (m.layout ∙ ap (λ (i : ℕ). layout_with End i (marks_of p).layout) j)
-    (m.own ∙ ap (λ (i : ℕ). own_at (marks_of p).layout (i - from) (moved c.place-at.result by (marks_of p).own)) k
-    ∙ ap (λ (i : ℕ). own_at (marks_of p).layout (length n.main_text - from) (moved c.place-at.result i (marks_of p).own)) j
-    ∙ ap (λ (i : ℕ). own_at (marks_of p).layout (length n.main_text - from) (moved i (length added) (marks_of p).own)) c.place-at.ensures.value) m.templ m.ctor in
+    End tt refl (m.layout ∙ ap (λ (i : ℕ). layout_with End i (outline_of p).layout) j)
+    (m.own ∙ ap (λ (i : ℕ). own_at (outline_of p).layout (i - from) (moved c.place-at.result by (outline_of p).own)) k
+    ∙ ap (λ (i : ℕ). own_at (outline_of p).layout (length n.main_text - from) (moved c.place-at.result i (outline_of p).own)) j
+    ∙ ap (λ (i : ℕ). own_at (outline_of p).layout (length n.main_text - from) (moved i (length added) (outline_of p).own)) c.place-at.ensures.value) m.templ m.ctor in
     subst (λ (v : List ℕ). Lives n q (appended (c.args.between.now ++ v) (shape b p))) (own_text-is b p c.requires.living) lives
 
 pub returns-clause-edit_of : goal.returns-clause-edit_of

@@ -1,8 +1,8 @@
--- The text with both texts after it stands at the end, and its marks are those of the shape with them.
+-- The text with both texts after it stands at the end, and its outline is that of the shape with them.
 use Rattle.std.proofs.Common.{◌≡◌, ◌+◌, ◌-◌, ◌++◌, ℕ, length, refl, sym, ap, ◌∙◌, subst, arith}
 use Rattle.std.proofs.lemmas.List.{length-append}
 use Rattle.demangle_text.specs.declared.shape.Place.TheVariants.{End}
-use Rattle.demangle_text.specs.Pieces.{Store, IsAt, marks_of, own_at, layout_with}
+use Rattle.demangle_text.specs.Pieces.{Store, IsAt, outline_of, own_at, layout_with}
 use Rattle.demangle_text.specs.Shape.{Shape, moved}
 use Rattle.demangle_text.specs.State.{shape, Lives}
 use Rattle.demangle_text.proofs.Inserts.{appended_twice}
@@ -36,8 +36,8 @@ returns-clause-shape c =
     let k : c.len.result ≡ length n.main_text = c.len.ensures.value ∙ ap (λ (s : Store). length s.main_text) c.self.view_is in
     let j = sym (length-append c.args.first.now c.args.second.now) in
     let lives = Lives-inserted b n p at both from c.requires.living c.in_ok-from.ensures.splice q (subst (IsAt q from) k m.stands)
-    End tt refl (m.layout ∙ ap (λ (i : ℕ). layout_with End i (marks_of p).layout) j)
-    (m.own ∙ ap (λ (i : ℕ). own_at (marks_of p).layout (i - from) (moved c.place-at.result (length c.args.first.now + length c.args.second.now) (marks_of p).own)) k
-    ∙ ap (λ (i : ℕ). own_at (marks_of p).layout (length n.main_text - from) (moved c.place-at.result i (marks_of p).own)) j
-    ∙ ap (λ (i : ℕ). own_at (marks_of p).layout (length n.main_text - from) (moved i (length both) (marks_of p).own)) c.place-at.ensures.value) m.templ m.ctor in
+    End tt refl (m.layout ∙ ap (λ (i : ℕ). layout_with End i (outline_of p).layout) j)
+    (m.own ∙ ap (λ (i : ℕ). own_at (outline_of p).layout (i - from) (moved c.place-at.result (length c.args.first.now + length c.args.second.now) (outline_of p).own)) k
+    ∙ ap (λ (i : ℕ). own_at (outline_of p).layout (length n.main_text - from) (moved c.place-at.result i (outline_of p).own)) j
+    ∙ ap (λ (i : ℕ). own_at (outline_of p).layout (length n.main_text - from) (moved i (length both) (outline_of p).own)) c.place-at.ensures.value) m.templ m.ctor in
     subst (λ (s : Shape). Lives n q s) (sym (appended_twice c.args.first.now c.args.second.now (shape b p))) lives

@@ -18,4 +18,4 @@ returns-clause-shape c =
     let q = c.settle.new.piece in
     Lives-settled c.args.self.now _ c.args.piece.now q at c.requires.living c.in_ok-settle.ensures.within
     (main ∙ c.in_ok-settle.ensures.main)
-    (subst (IsAt q at) (sym (ap length main)) c.in_ok-settle.ensures.stands) c.in_ok-settle.ensures.marks
+    (subst (IsAt q at) (sym (ap length main)) c.in_ok-settle.ensures.stands) c.in_ok-settle.ensures.outline

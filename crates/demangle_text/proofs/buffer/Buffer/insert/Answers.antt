@@ -1,6 +1,6 @@
--- The text with the bytes in it stands at the end, and its marks are those of the shape with the bytes.
+-- The text with the bytes in it stands at the end, and its outline is that of the shape with the bytes.
 use Rattle.std.proofs.Common.{◌≡◌, ◌-◌, ℕ, length, ap, ◌∙◌, subst, arith}
-use Rattle.demangle_text.specs.Pieces.{Store, IsAt, marks_of, own_at}
+use Rattle.demangle_text.specs.Pieces.{Store, IsAt, outline_of, own_at}
 use Rattle.demangle_text.specs.Shape.{moved}
 use Rattle.demangle_text.proofs.Tails.{Lives-inserted, IsEditOf-spliced, own-fits, layout-fits}
 use Rattle.demangle_text.proofs.buffer.Buffer.insert.Goals as goal
@@ -25,7 +25,7 @@ returns-clause-shape c =
     let k : c.len.result ≡ length n.main_text = c.len.ensures.value ∙ ap (λ (b : Store). length b.main_text) c.self.view_is in
     Lives-inserted c.args.self.now n p at c.args.bytes.now from c.requires.living c.in_ok-from.ensures.splice c.with_bytes.result (subst (IsAt c.with_bytes.result from) k m.stands)
     c.args.place c.requires.fits c.place-at.ensures.value m.layout
-    (m.own ∙ ap (λ (j : ℕ). own_at (marks_of p).layout (j - from) (moved at (length c.args.bytes.now) (marks_of p).own)) k) m.templ m.ctor
+    (m.own ∙ ap (λ (j : ℕ). own_at (outline_of p).layout (j - from) (moved at (length c.args.bytes.now) (outline_of p).own)) k) m.templ m.ctor
 
 pub returns-clause-edit_of : goal.returns-clause-edit_of
 returns-clause-edit_of c =

@@ -1,5 +1,5 @@
 use Rattle.std.proofs.Common.{◌-◌, length, ap, ◌∙◌, subst}
-use Rattle.demangle_text.specs.Pieces.{IsAt, whole_marks}
+use Rattle.demangle_text.specs.Pieces.{IsAt, whole_outline}
 use Rattle.demangle_text.proofs.Tails.{Lives-joined, IsJoinOf-joint}
 use Rattle.demangle_text.proofs.buffer.Buffer.join.Goals as goal
 
@@ -10,7 +10,7 @@ returns-clause-shape c =
     let k = c.len.ensures.value ∙ ap (λ b. length b.main_text) c.self.view_is in
     Lives-joined c.args.self.now n c.args.first c.args.second c.whole_at.result c.args.bytes.now from c.requires.first_living c.requires.second_living c.in_ok-from.ensures.joint
     (subst (IsAt c.whole_at.result from) k c.whole_at.ensures.stands)
-    (c.whole_at.ensures.marks ∙ ap (λ j. whole_marks (j - from)) k)
+    (c.whole_at.ensures.outline ∙ ap (λ j. whole_outline (j - from)) k)
 
 pub returns-clause-join_of : goal.returns-clause-join_of
 returns-clause-join_of c =

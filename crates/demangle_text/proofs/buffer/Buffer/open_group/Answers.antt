@@ -1,7 +1,7 @@
--- The text with the group in it stands at the end, and its marks are those of the declarator with the group.
+-- The text with the group in it stands at the end, and its outline is that of the declarator with the group.
 use Rattle.std.proofs.Common.{◌≡◌, ◌-◌, ◌+◌, ◌++◌, ◌∷◌, [], ℕ, List, length, take, sym, ap, ◌∙◌, subst, arith, append_assoc}
 use Rattle.std.proofs.lemmas.List.{length-append, length-take-le}
-use Rattle.demangle_text.specs.Pieces.{Store, IsAt, marks_of, own_at, place_at, layout_opened, piece_text}
+use Rattle.demangle_text.specs.Pieces.{Store, IsAt, outline_of, own_at, place_at, layout_opened, piece_text}
 use Rattle.demangle_text.specs.declared.shape.Place.TheVariants.{Suffix}
 use Rattle.demangle_text.specs.Shape.{moved, gap_after}
 use Rattle.demangle_text.specs.State.{IsLiving, IsEditOf}
@@ -22,8 +22,8 @@ slice_bounds-group_front-end c =
     let p = c.args.piece in
     let t = piece_text b.main_text b.side_text p in
     let long : length c.bytes.result.now ≡ length t = ap length (c.bytes.ensures.value ∙ text_is b p c.requires.living) in
-    let at : c.place-at.result ≡ place_at Suffix (marks_of p).layout (length t) = c.place-at.ensures.value ∙ ap (place_at Suffix (marks_of p).layout) (sym (length-text b p c.requires.living)) in
-    let within = suffix_within t (marks_of p).layout c.requires.living.marked.layout in
+    let at : c.place-at.result ≡ place_at Suffix (outline_of p).layout (length t) = c.place-at.ensures.value ∙ ap (place_at Suffix (outline_of p).layout) (sym (length-text b p c.requires.living)) in
+    let within = suffix_within t (outline_of p).layout c.requires.living.outlined.layout in
     sym (length-take-le c.place-at.result c.bytes.result.now (omega (arith, long, at, within)))
 
 pub with_group-requires-clause-own_fits : goal.with_group-requires-clause-own_fits
@@ -60,9 +60,9 @@ returns-clause-shape c =
     ap (λ (v : List ℕ). v ++ (bytes ++ 41 ∷ [])) gap ∙ append_assoc (gap_after (take at t)) (40 ∷ []) (bytes ++ 41 ∷ []) in
     Lives-opened b n p at all from c.requires.living c.in_ok-from.ensures.splice q (subst (IsAt q from) k m.stands)
     bytes c.requires.declared c.place-at.ensures.value is
-    (m.layout ∙ ap (λ (i : ℕ). layout_opened i (length bytes + 2) (marks_of p).layout) j)
-    (m.own ∙ ap (λ (i : ℕ). own_at (marks_of p).layout (i - from) (moved at by (marks_of p).own)) k
-    ∙ ap (λ (i : ℕ). own_at (marks_of p).layout (length n.main_text - from) (moved at i (marks_of p).own)) j)
+    (m.layout ∙ ap (λ (i : ℕ). layout_opened i (length bytes + 2) (outline_of p).layout) j)
+    (m.own ∙ ap (λ (i : ℕ). own_at (outline_of p).layout (i - from) (moved at by (outline_of p).own)) k
+    ∙ ap (λ (i : ℕ). own_at (outline_of p).layout (length n.main_text - from) (moved at i (outline_of p).own)) j)
     m.templ m.ctor
 
 pub returns-clause-edit_of : goal.returns-clause-edit_of
