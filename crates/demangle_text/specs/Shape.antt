@@ -13,8 +13,8 @@ pub data Form : Type 0 where
   -- an array or a function: `before`, the group if there is one, and `after`
   Declared : Kind → List ℕ → Option (List ℕ) → List ℕ → Form
 
--- a form, the last own name as a range of its text, and whether it ends in template arguments
--- or names a constructor
+-- a form, the last own name as a range of its text, whether it ends in template arguments, and whether it names a
+-- constructor, a destructor or a conversion
 pub record Shape : Type 0 where
   pub form : Form
   pub own : ℕ × ℕ

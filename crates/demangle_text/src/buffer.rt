@@ -237,7 +237,7 @@ impl Buffer {
     }
 
     /// A plain piece of the bytes, which go to the end of the main text. Its last own name is the
-    /// whole text, and both flags are off.
+    /// whole text, and both flags are off. After `AllocError` all is as it was.
     #[inline(always)]
     pub fn push(&mut self, bytes: &[u8]) -> Result<Piece, AllocError>
         ensures shape { IfOk result (λ p. Lives self.new p (plain_shape bytes.now)) }
@@ -261,7 +261,8 @@ impl Buffer {
         Piece::whole_at(0, 0)
     }
 
-    /// A new piece of the same shape, whose text goes to the end of the main text.
+    /// A new piece of the same shape, whose text goes to the end of the main text. After
+    /// `AllocError` all is as it was.
     #[inline(always)]
     pub fn copy(&mut self, piece: Piece) -> Result<Piece, AllocError>
         requires living { IsLiving self.old piece }

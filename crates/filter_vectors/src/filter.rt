@@ -31,11 +31,11 @@ fn assert_bytes(rt: &impl Abort, found: &[u8], expected: &[u8]) {
 fn assert_copied(rt: &impl Abort, alloc: Global, text: &[u8], expected: &[u8], most: usize)
     requires { 0 < most }
 {
-    let mut reader = MemorySource::new(text, most, 1000);
-    let mut writer = MemorySink::new(alloc, most, 1000);
-    assert_outcome(rt, filter(alloc, &mut reader, &mut writer), Ok(()));
-    assert_bytes(rt, &writer.bytes, expected);
-    assert!(rt; reader.rest.is_empty());
+    let mut source = MemorySource::new(text, most, 1000);
+    let mut sink = MemorySink::new(alloc, most, 1000);
+    assert_outcome(rt, filter(alloc, &mut source, &mut sink), Ok(()));
+    assert_bytes(rt, &sink.bytes, expected);
+    assert!(rt; source.rest.is_empty());
 }
 
 /// The filtered text of some bytes is as expected, whether the ends give and take one byte a call, two, some or all.
@@ -162,11 +162,11 @@ fn assert_put_by(
     requires takes_some { 0 < put }
 {
     let taken = Cell::new(0);
-    let mut reader = WatchingSource::new(text, most, &taken, expected);
-    let mut writer = CountingSink::new(&taken, put);
-    assert_outcome(rt, filter(alloc, &mut reader, &mut writer), Ok(()));
-    assert!(rt; reader.as_expected);
-    assert!(rt; reader.calls == expected.len());
+    let mut source = WatchingSource::new(text, most, &taken, expected);
+    let mut sink = CountingSink::new(&taken, put);
+    assert_outcome(rt, filter(alloc, &mut source, &mut sink), Ok(()));
+    assert!(rt; source.as_expected);
+    assert!(rt; source.calls == expected.len());
 }
 
 /// The same, whether the sink takes one byte a call or all.
@@ -194,45 +194,39 @@ fn whole_lines_are_put_before_the_source_is_asked(rt: HostRuntime) {
     assert_put_before_asked(&rt, rt.alloc(), text, 100, &[0, 8]);
 }
 
-/// The reader, whether it has failed, and whether it was called after that.
-fn assert_reader(rt: &impl Abort, reader: &MemorySource, failed: bool, called_after: bool) {
-    assert!(rt; reader.failed() == failed);
-    assert!(rt; reader.called_after == called_after);
+/// The source, whether it has failed, and whether it was called after that.
+fn assert_source(rt: &impl Abort, source: &MemorySource, failed: bool, called_after: bool) {
+    assert!(rt; source.failed() == failed);
+    assert!(rt; source.called_after == called_after);
 }
 
-/// The writer: what it took, whether it has failed, and whether it was called after that.
-fn assert_writer(
-    rt: &impl Abort,
-    writer: &MemorySink,
-    bytes: &[u8],
-    failed: bool,
-    called_after: bool,
-) {
-    assert_bytes(rt, &writer.bytes, bytes);
-    assert!(rt; writer.failed() == failed);
-    assert!(rt; writer.called_after == called_after);
+/// The sink: what it took, whether it has failed, and whether it was called after that.
+fn assert_sink(rt: &impl Abort, sink: &MemorySink, bytes: &[u8], failed: bool, called_after: bool) {
+    assert_bytes(rt, &sink.bytes, bytes);
+    assert!(rt; sink.failed() == failed);
+    assert!(rt; sink.called_after == called_after);
 }
 
 #[test]
-fn a_reader_that_fails(rt: HostRuntime) {
-    let mut reader = MemorySource::new(b"_Z3foov\n_Z3barv\n", 8, 1);
-    let mut writer = MemorySink::new(rt.alloc(), 100, 100);
-    let outcome = filter(rt.alloc(), &mut reader, &mut writer);
+fn a_source_that_fails(rt: HostRuntime) {
+    let mut source = MemorySource::new(b"_Z3foov\n_Z3barv\n", 8, 1);
+    let mut sink = MemorySink::new(rt.alloc(), 100, 100);
+    let outcome = filter(rt.alloc(), &mut source, &mut sink);
     assert_outcome(&rt, outcome, Err(FilterFault::Read));
     // The line before the fault is written.
-    assert_writer(&rt, &writer, b"foo\n", false, false);
-    // The reader wasn't called again.
-    assert_reader(&rt, &reader, true, false);
+    assert_sink(&rt, &sink, b"foo\n", false, false);
+    // The source wasn't called again.
+    assert_source(&rt, &source, true, false);
 }
 
 #[test]
-fn a_writer_that_fails(rt: HostRuntime) {
-    let mut reader = MemorySource::new(b"_Z3foov\nx\n", 100, 100);
-    let mut writer = MemorySink::new(rt.alloc(), 2, 1);
-    let outcome = filter(rt.alloc(), &mut reader, &mut writer);
+fn a_sink_that_fails(rt: HostRuntime) {
+    let mut source = MemorySource::new(b"_Z3foov\nx\n", 100, 100);
+    let mut sink = MemorySink::new(rt.alloc(), 2, 1);
+    let outcome = filter(rt.alloc(), &mut source, &mut sink);
     assert_outcome(&rt, outcome, Err(FilterFault::Write));
     // Neither end was called again.
-    assert_writer(&rt, &writer, b"fo", true, false);
-    assert_reader(&rt, &reader, false, false);
-    assert!(rt; reader.calls_left == 99);
+    assert_sink(&rt, &sink, b"fo", true, false);
+    assert_source(&rt, &source, false, false);
+    assert!(rt; source.calls_left == 99);
 }

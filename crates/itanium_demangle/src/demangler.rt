@@ -116,9 +116,9 @@ impl Demangler {
     /// Any text may be asked. After `_Z` or `__Z` a special name is read where `T` or `G` is next, else a name; the
     /// parameters of a function aren't (Itanium C++ ABI 5.1.2). The answer is the printing, and after it all that
     /// follows from a dot right after what was read. There is none where the grammar doesn't read the symbol with at
-    /// most `MAX_DEPTH` nested productions, or where the printing isn't UTF-8. Without such a prefix there is none
-    /// either, no memory is taken, and both counts are 0. An error comes only where memory is refused; then nothing is
-    /// kept, and the value serves on.
+    /// most `MAX_DEPTH` nested counted productions, or where the printing isn't UTF-8. Without such a prefix there is
+    /// none either, no memory is taken, and both counts are 0. An error comes only where memory is refused; then
+    /// nothing is kept, and the value serves on.
     #[tactic(auto, using(crate::proofs::Rules::answers))]
     pub fn prepare(&mut self, alloc: Global, symbol: &str) -> Result<bool, AllocError>
         ensures answer { IfOk result (λ _. IsAnswer symbol.now self.new.text) }
@@ -155,7 +155,8 @@ impl Demangler {
         Ok(answered)
     }
 
-    /// The answer of the last `prepare`, where it had one.
+    /// The answer of the last symbol that `prepare` or `demangle` was asked, lent until the next call. `None` where it
+    /// had none, after an error, and before the first.
     pub fn text(&self) -> Option<&str>
         ensures value { option_map (λ text. text.now) result ≡ self.now.text }
     {
@@ -165,8 +166,9 @@ impl Demangler {
         }
     }
 
-    /// Where the last `prepare` had an answer, the buffer that it stands in, lent until the next call: the answer is
-    /// its main text, and nothing else is in that; the components are its saved shapes. Elsewhere `None`.
+    /// Where the last `prepare` or `demangle` had an answer, the buffer that it stands in, lent until the next call:
+    /// the answer is its main text, and nothing else is in that; the components are its saved shapes. Elsewhere
+    /// `None`.
     pub fn buffer(&self) -> Option<&Buffer>
         ensures value { option_map (λ buffer. main_bytes buffer.now) result ≡ self.now.text }
         ensures components { IfSome result (λ buffer. map text (saved buffer.now) ≡ self.now.components) }
@@ -179,27 +181,27 @@ impl Demangler {
         }
     }
 
-    /// How many counted productions the last `prepare` entered: names, types, argument lists, packs, thunks and
-    /// expressions, also those of a symbol without an answer; 0 before the first, after an error, and of a text without
-    /// the prefix of a symbol. A production that is refused because `MAX_DEPTH` are open isn't entered.
+    /// How many counted productions the last `prepare` or `demangle` entered: names, types, argument lists, packs,
+    /// thunks and expressions, also those of a symbol without an answer; 0 before the first, after an error, and of a
+    /// text without the prefix of a symbol. A production that is refused because `MAX_DEPTH` are open isn't entered.
     pub fn entered(&self) -> usize
         ensures value { result ≡ self.now.entered }
     {
         self.entered
     }
 
-    /// The most components for substitutions that were saved at one moment of the last `prepare` (Itanium C++ ABI
-    /// 5.1.10), also of a symbol without an answer; 0 before the first, after an error, and of a text without the
-    /// prefix of a symbol.
+    /// The most components for substitutions that were saved at one moment of the last `prepare` or `demangle` (Itanium
+    /// C++ ABI 5.1.10), also of a symbol without an answer; 0 before the first, after an error, and of a text without
+    /// the prefix of a symbol.
     pub fn most_saved(&self) -> usize
         ensures value { result ≡ self.now.most_saved }
     {
         self.most_saved
     }
 
-    /// Where the last `prepare` had an answer, the text of the component with this index, from 0 on, of those that the
-    /// symbol leaves saved (Itanium C++ ABI 5.1.10): bytes, since a component needn't be UTF-8. Past the last one, and
-    /// where there is no answer, `None`.
+    /// Where the last `prepare` or `demangle` had an answer, the text of the component with this index, from 0 on, of
+    /// those that the symbol leaves saved (Itanium C++ ABI 5.1.10): bytes, since a component needn't be UTF-8. Past
+    /// the last one, and where there is no answer, `None`.
     pub fn component(&self, i: usize) -> Option<&[u8]>
         ensures value { option_map (λ text. text.now) result ≡ slice_get self.now.components i }
     {

@@ -88,6 +88,7 @@ HasComponents symbol (Some answer) components =
     → components ≡ map printing next.saved
 HasComponents symbol None components = components ≡ []
 
--- at most two productions are entered for each byte of the symbol, and at most one component is saved for each
+-- at most two counted productions are entered for each byte of the symbol, and at no moment are more components saved
+-- than it has bytes
 abbrev pub HasBounds : List ℕ → ℕ → ℕ → Type 0
 HasBounds symbol entered most_saved = (entered ≤ 2 * length symbol) × (most_saved ≤ length symbol)

@@ -726,7 +726,7 @@ mutual
         → TypesAs (types_case of_function p.rest) of_function x p ts q c
         → ParamsAs SomeParams of_function x p ts q c
 
-  -- one more type of a <bare-function-type>, or its end
+  -- one more type of a function's parameters, or their end
   pub data TypesAs : TypesCase → Bool → Context → Position → List Tree → Position → Cost → Type 0 where
     -- the end, which isn't taken
     end_of_types :

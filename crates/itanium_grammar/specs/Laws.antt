@@ -7,9 +7,9 @@ use Rattle.itanium_grammar.specs.Grammar.{Position, Cost, Symbol}
 use Rattle.itanium_syntax.specs.declared.context.Context.{Context}
 use Rattle.itanium_grammar.specs.Answer.{max_depth, IsReading, HasOneReading, IsAnswer}
 
--- what holds of the readings of all bytes
+-- what holds of readings
 pub record LawsOfReadings : Type 0 where
-  -- two readings of a symbol agree
+  -- two readings of a symbol within the depth agree
   pub one_reading : (symbol : List ℕ) → HasOneReading symbol
   -- a reading takes one byte at least
   pub takes :
@@ -17,7 +17,7 @@ pub record LawsOfReadings : Type 0 where
       → Symbol x p t q c
       → length q.rest < length p.rest
 
--- what holds of the answers of all symbols
+-- what holds of answers
 pub record LawsOfAnswers : Type 0 where
   -- a symbol has at most one answer
   pub one_answer :
@@ -25,7 +25,7 @@ pub record LawsOfAnswers : Type 0 where
       → IsAnswer symbol a
       → IsAnswer symbol b
       → a ≡ b
-  -- an underscore in front of the prefix changes nothing
+  -- an underscore in front of a symbol that begins with _Z changes nothing
   pub underscore :
       (symbol : List ℕ) (a : Option (List ℕ))
       → begins (codes "_Z") symbol ≡ true

@@ -1,5 +1,5 @@
-//! A reader for each production of the grammar. They call one another, and are proved as one. It is a part of
-//! `itanium_demangle`, and for no other use.
+//! A reader for each production of the grammar. They call one another, and are proved as one. It is for
+//! `itanium_demangle` alone.
 #![tactic(auto)]
 
 mod args;

@@ -252,7 +252,7 @@ pub(crate) fn read_other_first(
     Ok(())
 }
 
-/// `<nested-name> ::= N [<CV-qualifiers>] [<ref-qualifier>] <prefix> <unqualified-name> E`, after its `N`: its own
+/// `<nested-name> ::= N [<CV-qualifiers>] [<ref-qualifier>] <prefix> E | N H <prefix> E`, after its `N`: its own
 /// qualifiers are answered.
 #[tactic(auto, using(itanium_reader::proofs::Rules::nested_names))]
 #[cycle(reader)]
@@ -280,7 +280,7 @@ pub(crate) fn read_nested(
     Ok(quals)
 }
 
-/// `<prefix> <unqualified-name> E`, after the qualifiers of a `<nested-name>`.
+/// `<prefix> E`, after the qualifiers of a `<nested-name>`.
 #[tactic(auto, using(itanium_reader::proofs::Rules::buffers))]
 #[cycle(reader)]
 #[inline(never)]

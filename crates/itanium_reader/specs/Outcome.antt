@@ -21,7 +21,7 @@ state r = record {
 }
 
 -- the call gives what the parser gives: the piece that it found lives, with that shape; nothing is said where memory
--- ran out
+-- was refused
 abbrev pub Gives : Result (Unit {0}) Stop → Reader → Option (Shape × ParserState) → Type 0
 Gives (Ok u) after parsed =
     IsLiving after.buffer.value after.found

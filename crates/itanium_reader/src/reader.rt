@@ -21,8 +21,9 @@ use itanium_syntax::scalar::source_name;
 use itanium_syntax::types::{builtin_text, past_builtin};
 use std::alloc::{AllocError, Global};
 
-/// A reader of mangled bytes. Each production has a method that answers `Ok` where it was read: then `found` is the
-/// piece of its printing. It answers `Stop::Unread` where it isn't read, and `Stop::Memory` where memory is refused.
+/// A reader of mangled bytes. Each production has a function over it, or a method, that answers `Ok` where it was read:
+/// then `found` is the piece of its printing. It answers `Stop::Unread` where it isn't read, and `Stop::Memory` where
+/// memory is refused.
 #[derive(Drop)]
 pub struct Reader<'a> {
     pub rest: &'a [u8],

@@ -1,4 +1,4 @@
--- The cases of names. Of several cases the first one that fits holds.
+-- The cases of names (Itanium C++ ABI 5.1.2). Of several cases the first one that fits holds.
 use Rattle.std.specs.Prelude.{ℕ, List, Bool, true, false, ◌&&◌, ◌||◌, drop, codes, if◌then◌else◌, is_some}
 use Rattle.demangle_quals.specs.declared.quals.Quals.{Quals}
 use Rattle.demangle_quals.specs.Quals.{no_quals}
@@ -7,7 +7,7 @@ use Rattle.itanium_syntax.specs.Operators.{operator_here}
 use Rattle.itanium_syntax.specs.Cases.{SymbolCase, SpecialSymbol, NameSymbol, NameCase, NestedName, LocalName, UnscopedName, UnscopedCase, StdName, SubstitutionName, PlainName, FirstCase, ParameterFirst, StdFirst, SubstitutionFirst, NameFirst, ComponentCase, EndOfComponents, ArgsComponent, NameComponent, UnqualifiedCase, ConstructorName, DestructorName, FreeName, FreeCase, SourceName, UnnamedTypeName, LambdaName, ConversionName, LiteralOperatorName, OperatorName, NoName, TagCase, NoTag, NextTag, SubstitutionCase, AbbreviationSubstitution, ComponentSubstitution}
 use Rattle.itanium_syntax.specs.Types.{cv_quals, past_cv, reference_of, past_reference}
 
--- what follows _Z
+-- what follows the prefix of a symbol, and what an encoding begins with: a special name, or a name
 abbrev pub symbol_case : List ℕ → SymbolCase
 symbol_case bytes = if begins (codes "T") bytes || begins (codes "G") bytes then SpecialSymbol else NameSymbol
 

@@ -23,16 +23,16 @@ signed_number bytes =
 abbrev pub signed_part : List ℕ → Option (Signed × List ℕ)
 signed_part bytes = option_and_then (λ n. option_map (λ rest. (n.0, rest)) (past_underscore n.1)) (signed_number bytes)
 
--- <nv-offset> _ after its h
+-- <number> _ after its h
 abbrev pub plain_offset : List ℕ → Option (CallOffset × List ℕ)
 plain_offset bytes = option_map (λ n. (Plain n.0, n.1)) (signed_part bytes)
 
--- <v-offset> _ after its v
+-- <number> _ <number> _ after its v
 abbrev pub virtual_offset : List ℕ → Option (CallOffset × List ℕ)
 virtual_offset bytes =
     option_and_then (λ a. option_map (λ b. (Virtual a.0 b.0, b.1)) (signed_part a.1)) (signed_part bytes)
 
--- <call-offset> ::= h <nv-offset> _ | v <v-offset> _
+-- <call-offset> ::= h <number> _ | v <number> _ <number> _
 abbrev pub call_offset : List ℕ → Option (CallOffset × List ℕ)
 call_offset bytes =
     if begins (codes "h") bytes then plain_offset (drop 1 bytes) else

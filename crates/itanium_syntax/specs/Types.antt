@@ -1,4 +1,4 @@
--- The cases of types. Of several cases the first one that fits holds.
+-- The cases of types (Itanium C++ ABI 5.1.5). Of several cases the first one that fits holds.
 use Rattle.std.specs.Prelude.{ℕ, List, [], ◌∷◌, Bool, ◌&&◌, ◌||◌, ◌==◌, nat_lt, length, drop, codes, if◌then◌else◌, Option, Some, None}
 use Rattle.demangle_quals.specs.declared.quals.Quals.{Quals}
 use Rattle.demangle_quals.specs.declared.quals.Pointer.TheVariants as Pointer

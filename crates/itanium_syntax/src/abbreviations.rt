@@ -13,7 +13,7 @@ pub enum Abbreviation {
     Iostream,
 }
 
-/// Which name of std the letter after `S` stands for.
+/// Which name of std the letter after `S` stands for, or `None` where it stands for none.
 pub fn abbreviation_of(bytes: &[u8]) -> Option<Abbreviation>
     ensures value { result ≡ spec.abbreviation_of bytes.now }
 {

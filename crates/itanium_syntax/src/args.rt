@@ -1,4 +1,4 @@
-//! The cases of template arguments: which one the next bytes begin.
+//! The cases of template arguments (Itanium C++ ABI 5.1.5): which one the next bytes begin.
 ghost use Rattle.std.specs.Prelude.{◌≡◌};
 ghost use Rattle.itanium_syntax.specs.Args as spec;
 

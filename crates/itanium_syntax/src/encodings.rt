@@ -1,5 +1,5 @@
-//! The cases of encodings and of local names: which one the next bytes begin. Of several cases the first one that fits
-//! holds.
+//! The cases of encodings and of local names (Itanium C++ ABI 5.1, "General Structure" and "Scope Encoding"): which
+//! one the next bytes begin. Of several cases the first one that fits holds.
 ghost use Rattle.std.specs.Prelude.{◌≡◌};
 ghost use Rattle.itanium_syntax.specs.Encodings as spec;
 

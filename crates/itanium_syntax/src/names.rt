@@ -1,4 +1,5 @@
-//! The cases of names: which one the next bytes begin. Of several cases the first one that fits holds.
+//! The cases of names (Itanium C++ ABI 5.1.2): which one the next bytes begin. Of several cases the first one that
+//! fits holds.
 ghost use Rattle.std.specs.Prelude.{◌≡◌, ◌≤◌, length, codes, false};
 ghost use Rattle.demangle_quals.specs.Quals.{no_quals};
 ghost use Rattle.itanium_syntax.specs.Bytes.{begins};
@@ -8,7 +9,7 @@ use crate::operators::operator_here;
 use crate::types::{cv_quals, ref_qualifier};
 use demangle_quals::Quals;
 
-/// What follows the prefix of a symbol.
+/// What follows the prefix of a symbol, and what an encoding begins with: a special name, or a name.
 #[derive(Clone, Copy)]
 pub enum SymbolCase {
     SpecialSymbol,

@@ -39,7 +39,8 @@ fn with_digit(value: u64, base: u64, worth: u64) -> Option<u64>
     value.checked_mul(base)?.checked_add(worth)
 }
 
-/// The number that the digits in front write, and how many digits there are.
+/// The number that the digits in front write, and how many digits, so bytes, there are. `None` where none stands there
+/// or the number is past 2^64 - 1.
 #[inline(never)]
 pub fn numeral(radix: Radix, bytes: &[u8]) -> Option<(u64, usize)>
     ensures value { option_map (λ found. (found.0, drop found.1 bytes.now)) result ≡ spec.numeral radix bytes.now }
@@ -63,7 +64,7 @@ pub fn numeral(radix: Radix, bytes: &[u8]) -> Option<(u64, usize)>
 }
 
 /// The number that the decimal digits in front write, and how many digits there are: one digit or two, or more by the
-/// general way.
+/// general way. `None` where none stands there or the number is past 2^64 - 1.
 #[tactic(auto, unfolding(crate::specs::Scalars::front_digits, crate::specs::Scalars::weighted))]
 #[inline(always)]
 pub fn short_numeral(bytes: &[u8]) -> Option<(u64, usize)>
@@ -104,7 +105,8 @@ fn long_numeral(bytes: &[u8]) -> Option<(u64, usize)>
     }
 }
 
-/// `[<numeral>] _`: 0 where the numeral is left out, else the number that follows it, and what is after the `_`.
+/// `[<numeral>] _`: 0 where the numeral is left out, else the number that follows it, and what is after the `_`. `None`
+/// where no `_` ends it or the result is past 2^64 - 1.
 #[tactic(auto, unfolding(
 // The index, and the digits that write it.
 crate::specs::Scalars::index_of, crate::specs::Scalars::front_digits, crate::specs::Scalars::weighted))]
@@ -156,7 +158,7 @@ fn long_index(radix: Radix, bytes: &[u8]) -> Option<(usize, &[u8])>
 }
 
 /// `[<number>] _`: the number, which may be left out, and what is after the `_`. So an array has its dimension, and a
-/// local name the number of its default argument.
+/// local name the number of its default argument. `None` where no `_` ends it or the number is past 2^64 - 1.
 #[tactic(auto, unfolding(crate::specs::Scalars::optional_number, crate::specs::Scalars::number))]
 pub fn optional_number(bytes: &[u8]) -> Option<(Option<u64>, &[u8])>
     ensures value { option_map (λ found. (found.0, found.1.now)) result ≡ spec.optional_number bytes.now }
@@ -175,7 +177,7 @@ pub fn optional_number(bytes: &[u8]) -> Option<(Option<u64>, &[u8])>
 }
 
 /// `[<nonnegative number>] _` of an `<unnamed-type-name>`: 1 where the number is left out, else the number that follows
-/// it, and what is after the `_`.
+/// it, and what is after the `_`. `None` where no `_` ends it or the result is past 2^64 - 1.
 #[tactic(auto, unfolding(crate::specs::Scalars::unnamed_type_number))]
 pub fn unnamed_type_number(bytes: &[u8]) -> Option<(u64, &[u8])>
     ensures value { option_map (λ found. (found.0, found.1.now)) result ≡ spec.unnamed_type_number bytes.now }
@@ -191,7 +193,7 @@ pub fn unnamed_type_number(bytes: &[u8]) -> Option<(u64, &[u8])>
 }
 
 /// `[<nonnegative number>] _` of a `<closure-type-name>`: 1 where the number is left out, else the second number after
-/// it, and what is after the `_`.
+/// it, and what is after the `_`. `None` where no `_` ends it or the result is past 2^64 - 1.
 #[tactic(auto, unfolding(crate::specs::Scalars::lambda_number))]
 pub fn lambda_number(bytes: &[u8]) -> Option<(u64, &[u8])>
     ensures value { option_map (λ found. (found.0, found.1.now)) result ≡ spec.lambda_number bytes.now }

@@ -103,7 +103,8 @@ fn plain_offset(bytes: &[u8]) -> Option<(CallOffset, usize)>
     }
 }
 
-/// `<call-offset> ::= h <number> _ | v <number> _ <number> _`, and how many bytes it takes.
+/// `<call-offset> ::= h <number> _ | v <number> _ <number> _`, and how many bytes it takes. `None` where none stands
+/// there or a number is past 2^64 - 1.
 pub fn offset_here(bytes: &[u8]) -> Option<(CallOffset, usize)>
     ensures value { option_map (λ found. (found.0, drop found.1 bytes.now)) result ≡ spec.call_offset bytes.now }
     ensures taken { IfSome result (λ found. 0 < found.1) }
@@ -137,6 +138,7 @@ fn covariant_offsets(bytes: &[u8]) -> Option<(ThunkOffsets, usize)>
 }
 
 /// The offsets of a thunk, `<call-offset>` or `c <call-offset> <call-offset>` after its `T`, and what is after them.
+/// `None` where they don't stand there or a number is past 2^64 - 1.
 #[tactic(auto, unfolding(crate::specs::Offsets::thunk_offsets))]
 pub fn thunk_offsets(bytes: &[u8]) -> Option<(ThunkOffsets, &[u8])>
     ensures value { option_map (λ found. (found.0, found.1.now)) result ≡ spec.thunk_offsets bytes.now }

@@ -10,55 +10,55 @@ use crate::offsets::offset_here;
 pub use crate::offsets::{CallOffset, Signed};
 pub use crate::operators::{operator_arity, operator_text};
 
-/// `<number>` without a sign: as many decimal digits as stand at `pos`, at least one. The value, and the place after
+/// `<number>` without a sign: as many decimal digits as stand at `place`, at least one. The value, and the place after
 /// the digits, in bytes; `None` where no digit stands there or the value is past 2^64 - 1. (Itanium C++ ABI 5.1.2,
 /// "General Structure")
 #[inline(always)]
 #[tactic(auto, using(crate::proofs::Digits::dropped), unfolding(crate::specs::Scalars::number))]
-pub fn number(input: &[u8], pos: usize) -> Option<(u64, usize)>
-    requires place { pos ≤ length input.now }
+pub fn number(input: &[u8], place: usize) -> Option<(u64, usize)>
+    requires place { place ≤ length input.now }
     ensures value { option_map (λ found. (found.0, drop found.1 input.now)) result
-        ≡ spec.number (drop pos input.now) }
-    ensures after { IfSome result (λ found. pos < found.1) }
+        ≡ spec.number (drop place input.now) }
+    ensures after { IfSome result (λ found. place < found.1) }
     ensures within { IfSome result (λ found. found.1 ≤ length input.now) }
 {
-    match short_numeral(&input[pos..]) {
-        Some((value, count)) => Some((value, pos + count)),
+    match short_numeral(&input[place..]) {
+        Some((value, count)) => Some((value, place + count)),
         None => None,
     }
 }
 
-/// `<seq-id>`: as many digits in base 36, `0` to `9` and `A` to `Z`, as stand at `pos`, at least one. The value, and
+/// `<seq-id>`: as many digits in base 36, `0` to `9` and `A` to `Z`, as stand at `place`, at least one. The value, and
 /// the place after the digits, in bytes; `None` where no digit stands there or the value is past 2^64 - 1.
 /// (Itanium C++ ABI 5.1.10, "Compression")
 #[tactic(auto, using(crate::proofs::Digits::dropped), unfolding(crate::specs::Scalars::sequence_id))]
-pub fn sequence_id(input: &[u8], pos: usize) -> Option<(u64, usize)>
-    requires place { pos ≤ length input.now }
+pub fn sequence_id(input: &[u8], place: usize) -> Option<(u64, usize)>
+    requires place { place ≤ length input.now }
     ensures value { option_map (λ found. (found.0, drop found.1 input.now)) result
-        ≡ spec.sequence_id (drop pos input.now) }
-    ensures after { IfSome result (λ found. pos < found.1) }
+        ≡ spec.sequence_id (drop place input.now) }
+    ensures after { IfSome result (λ found. place < found.1) }
     ensures within { IfSome result (λ found. found.1 ≤ length input.now) }
 {
-    match numeral(Radix::Base36, &input[pos..]) {
-        Some((value, count)) => Some((value, pos + count)),
+    match numeral(Radix::Base36, &input[place..]) {
+        Some((value, count)) => Some((value, place + count)),
         None => None,
     }
 }
 
 /// `<source-name> ::= <positive length number> <identifier>`: the place of the identifier's first byte, and the place
-/// after its last, in bytes. `None` where no number stands at `pos`, it is 0 or past 2^64 - 1, or fewer bytes follow
+/// after its last, in bytes. `None` where no number stands at `place`, it is 0 or past 2^64 - 1, or fewer bytes follow
 /// it. (Itanium C++ ABI 5.1.2, "General Structure")
 #[inline(always)]
 #[tactic(auto, using(crate::proofs::Digits::dropped), unfolding(crate::specs::Scalars::source_name))]
-pub fn source_name(input: &[u8], pos: usize) -> Option<(usize, usize)>
-    requires place { pos ≤ length input.now }
+pub fn source_name(input: &[u8], place: usize) -> Option<(usize, usize)>
+    requires place { place ≤ length input.now }
     ensures value { option_map (λ found. (slice_range input.now found.0 found.1, drop found.1 input.now)) result
-        ≡ spec.source_name (drop pos input.now) }
-    ensures after { IfSome result (λ found. pos < found.0) }
+        ≡ spec.source_name (drop place input.now) }
+    ensures after { IfSome result (λ found. place < found.0) }
     ensures ordered { IfSome result (λ found. found.0 < found.1) }
     ensures within { IfSome result (λ found. found.1 ≤ length input.now) }
 {
-    let Some((len, first)) = number(input, pos) else {
+    let Some((len, first)) = number(input, place) else {
         return None;
     };
     if len == 0 || (len as usize) > input.len() - first {
@@ -68,19 +68,19 @@ pub fn source_name(input: &[u8], pos: usize) -> Option<(usize, usize)>
 }
 
 /// `<call-offset> ::= h <number> _ | v <number> _ <number> _`, where each number may have `n` in front for a minus: the
-/// offset, and the place after its last `_`, in bytes. Zero is never negative. `None` where none stands at `pos` or a
+/// offset, and the place after its last `_`, in bytes. Zero is never negative. `None` where none stands at `place` or a
 /// number is past 2^64 - 1. (Itanium C++ ABI 5.1.4, "Other Special
 /// Functions and Entities")
 #[tactic(auto, using(crate::proofs::Digits::dropped))]
-pub fn call_offset(input: &[u8], pos: usize) -> Option<(CallOffset, usize)>
-    requires place { pos ≤ length input.now }
+pub fn call_offset(input: &[u8], place: usize) -> Option<(CallOffset, usize)>
+    requires place { place ≤ length input.now }
     ensures value { option_map (λ found. (found.0, drop found.1 input.now)) result
-        ≡ offset_spec.call_offset (drop pos input.now) }
-    ensures after { IfSome result (λ found. pos < found.1) }
+        ≡ offset_spec.call_offset (drop place input.now) }
+    ensures after { IfSome result (λ found. place < found.1) }
     ensures within { IfSome result (λ found. found.1 ≤ length input.now) }
 {
-    match offset_here(&input[pos..]) {
-        Some((offset, count)) => Some((offset, pos + count)),
+    match offset_here(&input[place..]) {
+        Some((offset, count)) => Some((offset, place + count)),
         None => None,
     }
 }

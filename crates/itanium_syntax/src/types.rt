@@ -1,4 +1,5 @@
-//! The cases of types: which one the next bytes begin. Of several cases the first one that fits holds.
+//! The cases of types (Itanium C++ ABI 5.1.5): which one the next bytes begin. Of several cases the first one that
+//! fits holds.
 ghost use Rattle.std.specs.Prelude.{◌≡◌, ◌<◌, ◌≤◌, length};
 ghost use Rattle.itanium_syntax.specs.Types as spec;
 ghost use Rattle.itanium_syntax.specs.Bytes as bytes_spec;
@@ -110,7 +111,7 @@ pub fn params_case(bytes: &[u8]) -> ParamsCase
     }
 }
 
-/// Whether one more type of a `<bare-function-type>` stands there, or its end: `E`, or in a `<function-type>` a
+/// Whether one more type of a function's parameters stands there, or their end: `E`, or in a `<function-type>` a
 /// `<ref-qualifier>` in front of it.
 pub fn types_case(of_function: bool, bytes: &[u8]) -> TypesCase
     ensures case { result ≡ spec.types_case of_function bytes.now }

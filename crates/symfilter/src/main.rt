@@ -7,9 +7,9 @@ use symfilter_engine::{Tally, filter};
 
 fn main(rt: HostRuntime) -> ExitCode {
     // Neither end has a buffer of its own: the filter reads and writes whole chunks.
-    let mut reader = Tally::new(rt.stdin());
-    let mut writer = Tally::new(rt.stdout());
-    match filter(rt.alloc(), &mut reader, &mut writer) {
+    let mut source = Tally::new(rt.stdin());
+    let mut sink = Tally::new(rt.stdout());
+    match filter(rt.alloc(), &mut source, &mut sink) {
         Ok(()) => ExitCode::SUCCESS,
         Err(fault) => {
             let _ = eprintln!(rt; "{}", fault.line());

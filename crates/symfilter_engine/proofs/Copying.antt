@@ -111,7 +111,7 @@ end_copied kept end old new s s' s'' t t' so_far more inside same =
       filtered = so_far.filtered;
     })
 
--- the reader failed, and gave nothing
+-- the source failed, and gave nothing
 pub read_fault : (line : List ℕ) (s s' s'' t t' : Option (List ℕ))
     → HasCopied line s s' t t' → Keeps s' s'' → FiltersFront s s'' t t'
 read_fault line s s' s'' t t' so_far keeps =
@@ -121,7 +121,7 @@ read_fault line s s' s'' t t' so_far keeps =
       begins = filtered_begins so_far.read line t t' so_far.filtered;
     }
 
--- a reader at its end has no byte left
+-- a source at its end has no byte left
 pub at_end : (s s' : Option (List ℕ)) (read : List ℕ) → Consumes s s' read → IsAtEnd s' → IfSome s (λ _. s' ≡ Some [])
 at_end None s' read consumes ends = tt
 at_end (Some given) None read consumes ends = absurd consumes
@@ -147,13 +147,13 @@ last_fault line s s' t t' t'' so_far begins =
     record { read = so_far.read; consumed = so_far.consumed; begins = WritesBeginning-append so_far.read line t t' t'' so_far.filtered begins }
 
 -- the outcome, as the two faults' clauses say it
-pub read_outcome : {T : Type 0} (r : Result T FilterFault) (reader_failed writer_failed : Bool) → IsRunOutcome r reader_failed writer_failed → IsErrOf r Read ↔ IsTrue reader_failed
+pub read_outcome : {T : Type 0} (r : Result T FilterFault) (source_failed sink_failed : Bool) → IsRunOutcome r source_failed sink_failed → IsErrOf r Read ↔ IsTrue source_failed
 read_outcome (Ok v) f w h = (λ e. absurd (cc), λ t. absurd (false≢true (sym h.0 ∙ t)))
 read_outcome (Err Read) f w h = (λ e. h.0, λ t. refl)
 read_outcome (Err Write) f w h = (λ e. absurd (cc), λ t. absurd (false≢true (sym h.0 ∙ t)))
 read_outcome (Err Memory) f w h = (λ e. absurd (cc), λ t. absurd (false≢true (sym h.0 ∙ t)))
 
-pub write_outcome : {T : Type 0} (r : Result T FilterFault) (reader_failed writer_failed : Bool) → IsRunOutcome r reader_failed writer_failed → IsErrOf r Write ↔ IsTrue writer_failed
+pub write_outcome : {T : Type 0} (r : Result T FilterFault) (source_failed sink_failed : Bool) → IsRunOutcome r source_failed sink_failed → IsErrOf r Write ↔ IsTrue sink_failed
 write_outcome (Ok v) f w h = (λ e. absurd (cc), λ t. absurd (false≢true (sym h.1 ∙ t)))
 write_outcome (Err Read) f w h = (λ e. absurd (cc), λ t. absurd (false≢true (sym h.1 ∙ t)))
 write_outcome (Err Write) f w h = (λ e. h.1, λ t. refl)

@@ -9,23 +9,23 @@ words_of Read = codes "symfilter: read failed"
 words_of Write = codes "symfilter: write failed"
 words_of Memory = codes "symfilter: out of memory"
 
--- what reading ends with: `Read` exactly where the reader has failed, and never `Write`
+-- what reading ends with: `Read` exactly where the source has failed, and never `Write`
 abbrev pub IsReadOutcome : {T : Type 0} → Result T FilterFault → Bool → Type 0
 IsReadOutcome (Ok _) failed = failed ≡ false
 IsReadOutcome (Err Read) failed = failed ≡ true
 IsReadOutcome (Err Write) failed = ⊥
 IsReadOutcome (Err Memory) failed = failed ≡ false
 
--- what writing ends with: `Write` exactly where the writer has failed, and never `Read`
+-- what writing ends with: `Write` exactly where the sink has failed, and never `Read`
 abbrev pub IsWriteOutcome : {T : Type 0} → Result T FilterFault → Bool → Type 0
 IsWriteOutcome (Ok _) failed = failed ≡ false
 IsWriteOutcome (Err Read) failed = ⊥
 IsWriteOutcome (Err Write) failed = failed ≡ true
 IsWriteOutcome (Err Memory) failed = failed ≡ false
 
--- what a run ends with: `Read` exactly where the reader has failed, and `Write` exactly where the writer has
+-- what a run ends with: `Read` exactly where the source has failed, and `Write` exactly where the sink has
 abbrev pub IsRunOutcome : {T : Type 0} → Result T FilterFault → Bool → Bool → Type 0
-IsRunOutcome (Ok _) reader_failed writer_failed = (reader_failed ≡ false) × (writer_failed ≡ false)
-IsRunOutcome (Err Read) reader_failed writer_failed = (reader_failed ≡ true) × (writer_failed ≡ false)
-IsRunOutcome (Err Write) reader_failed writer_failed = (reader_failed ≡ false) × (writer_failed ≡ true)
-IsRunOutcome (Err Memory) reader_failed writer_failed = (reader_failed ≡ false) × (writer_failed ≡ false)
+IsRunOutcome (Ok _) source_failed sink_failed = (source_failed ≡ false) × (sink_failed ≡ false)
+IsRunOutcome (Err Read) source_failed sink_failed = (source_failed ≡ true) × (sink_failed ≡ false)
+IsRunOutcome (Err Write) source_failed sink_failed = (source_failed ≡ false) × (sink_failed ≡ true)
+IsRunOutcome (Err Memory) source_failed sink_failed = (source_failed ≡ false) × (sink_failed ≡ false)

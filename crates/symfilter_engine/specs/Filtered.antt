@@ -46,23 +46,23 @@ IsFront written text = (rest : List ℕ) × (text ≡ written ++ rest)
 abbrev pub IsBeginning : List ℕ → List ℕ → Type 0
 IsBeginning given written = (text : List ℕ) × IsFiltered given text × IsFront written text
 
--- the writer got the filtered text of what was given and nothing else, where its bytes are known
+-- the sink got the filtered text of what was given and nothing else, where its bytes are known
 abbrev pub WritesFiltered : List ℕ → Option (List ℕ) → Option (List ℕ) → Type 0
 WritesFiltered given before after =
     (text : List ℕ) × IsFiltered given text × Appends before after text
 
--- the writer got a beginning of the filtered text of what was given and nothing else, where its bytes are known
+-- the sink got a beginning of the filtered text of what was given and nothing else, where its bytes are known
 abbrev pub WritesBeginning : List ℕ → Option (List ℕ) → Option (List ℕ) → Type 0
 WritesBeginning given before after =
     (written : List ℕ) × IsBeginning given written × Appends before after written
 
--- the reader gave a front of its bytes, where they are known, and the writer got a beginning of its filtered text
+-- the source gave a front of its bytes, where they are known, and the sink got a beginning of its filtered text
 pub record FiltersFront (before after written_before written_after : Option (List ℕ)) : Type 0 where
   pub read : List ℕ
   pub consumed : Consumes before after read
   pub begins : WritesBeginning read written_before written_after
 
--- the reader gave whole lines and then these bytes, where its bytes are known, and the writer got the filtered text of
+-- the source gave whole lines and then these bytes, where its bytes are known, and the sink got the filtered text of
 -- the whole lines and nothing else
 pub record FiltersWholeLines (before after written_before written_after : Option (List ℕ)) : Type 0 where
   pub lines : List ℕ
@@ -72,7 +72,7 @@ pub record FiltersWholeLines (before after written_before written_after : Option
   pub filtered : AreLinesFiltered lines text
   pub written : Appends written_before written_after text
 
--- the reader gave whole lines and a part of one more, where its bytes are known, and the writer got the filtered text
+-- the source gave whole lines and a part of one more, where its bytes are known, and the sink got the filtered text
 -- of the whole lines and nothing else
 pub record FiltersLines (before after written_before written_after : Option (List ℕ)) : Type 0 where
   pub lines : List ℕ

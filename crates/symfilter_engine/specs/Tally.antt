@@ -2,7 +2,7 @@
 use Rattle.std.specs.Prelude.{ℕ, Bool}
 use Rattle.symfilter_engine.specs.declared.tally.Tally.{Tally}
 
--- the reader or writer of std
+-- the source or sink of std
 abbrev pub inner_of : {D : Type 0} → Tally D → D
 inner_of tally = tally.inner
 

@@ -7,11 +7,11 @@ use std::alloc::AllocError;
 /// What ended a run of the filter early.
 #[derive(Clone, Copy, Debug, PartialEq, Eq)]
 pub enum FilterFault {
-    /// The reader has failed.
+    /// The source has failed.
     Read = 1,
-    /// The writer has failed.
+    /// The sink has failed.
     Write = 2,
-    /// No memory was left.
+    /// Memory was refused.
     Memory = 3,
 }
 

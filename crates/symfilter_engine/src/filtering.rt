@@ -20,70 +20,70 @@ const CHUNK_LEN: usize = 131072;
 /// none or isn't UTF-8. A line goes up to the next line feed or the end; the line feed is written where there was one.
 /// Whenever it reads, all whole lines that were read before are written.
 ///
-/// It ends at the first fault and calls neither end after it: `Read` where the reader failed, `Write` where the writer
-/// did, `Memory` where memory ran out. What was written then is a beginning of what would have been: after `Read` the
-/// text of all whole lines that were read, and after `Memory` that of whole lines, with nothing of the next. That the
-/// next is the one that memory ran out for is so by the code alone, and no clause says it.
+/// It ends at the first fault and calls neither end after it: `Read` where the source failed, `Write` where the sink
+/// did, `Memory` where memory was refused. What was written then is a beginning of what would have been: after `Read`
+/// the text of all whole lines that were read, and after `Memory` that of whole lines, with nothing of the next. That
+/// the next is the one that memory was refused for is so by the code alone, and no clause says it.
 pub fn filter<R: Source, W: Sink>(
     alloc: Global,
-    reader: &mut R,
-    writer: &mut W,
+    source: &mut R,
+    sink: &mut W,
 ) -> Result<(), FilterFault>
-    requires reader_not_failed { R.failed reader.old ≡ false }
-    requires writer_not_failed { W.failed writer.old ≡ false }
-    ensures read { IsErrOf result FilterFault.Read ↔ IsTrue (R.failed reader.new) }
-    ensures write { IsErrOf result FilterFault.Write ↔ IsTrue (W.failed writer.new) }
+    requires source_not_failed { R.failed source.old ≡ false }
+    requires sink_not_failed { W.failed sink.old ≡ false }
+    ensures read { IsErrOf result FilterFault.Read ↔ IsTrue (R.failed source.new) }
+    ensures write { IsErrOf result FilterFault.Write ↔ IsTrue (W.failed sink.new) }
 
-    // What follows holds where the bytes of the reader are known, and the writer's.
-    ensures used_up { OnOk result (IfSome (R.remaining reader.old) (λ _.
-        R.remaining reader.new ≡ Some [])) }
-    ensures ok { OnOk result (IfSome (R.remaining reader.old) (λ given.
-        WritesFiltered given (W.taken writer.old) (W.taken writer.new))) }
+    // What follows holds where the bytes of the source are known, and the sink's.
+    ensures used_up { OnOk result (IfSome (R.remaining source.old) (λ _.
+        R.remaining source.new ≡ Some [])) }
+    ensures ok { OnOk result (IfSome (R.remaining source.old) (λ given.
+        WritesFiltered given (W.taken sink.old) (W.taken sink.new))) }
     ensures err { OnErr result (FiltersFront
-        (R.remaining reader.old) (R.remaining reader.new)
-        (W.taken writer.old) (W.taken writer.new)) }
+        (R.remaining source.old) (R.remaining source.new)
+        (W.taken sink.old) (W.taken sink.new)) }
 
-    // Any call of the reader may fail. So whenever it is asked, all whole lines that it gave are written.
+    // Any call of the source may fail. So whenever it is asked, all whole lines that it gave are written.
     ensures put { IsErrOf result FilterFault.Read → FiltersLines
-        (R.remaining reader.old) (R.remaining reader.new)
-        (W.taken writer.old) (W.taken writer.new) }
+        (R.remaining source.old) (R.remaining source.new)
+        (W.taken sink.old) (W.taken sink.new) }
 
-    // Where memory runs out, whole lines are written, and nothing of the next.
+    // Where memory is refused, whole lines are written, and nothing of the next.
     ensures memory { IsErrOf result FilterFault.Memory → FiltersWholeLines
-        (R.remaining reader.old) (R.remaining reader.new)
-        (W.taken writer.old) (W.taken writer.new) }
+        (R.remaining source.old) (R.remaining source.new)
+        (W.taken sink.old) (W.taken sink.new) }
 {
     let mut chunk = vec![in alloc; 0u8; CHUNK_LEN]?;
-    filter_by_chunks(alloc, reader, writer, &mut chunk)
+    filter_by_chunks(alloc, source, sink, &mut chunk)
 }
 
 /// Reads into the chunk to the end, and writes each line. The chunk holds what is left of a line that isn't whole yet.
 fn filter_by_chunks<R: Source, W: Sink>(
     alloc: Global,
-    reader: &mut R,
-    writer: &mut W,
+    source: &mut R,
+    sink: &mut W,
     chunk: &mut Vec<u8>,
 ) -> Result<(), FilterFault>
-    requires reader_not_failed { R.failed reader.old ≡ false }
-    requires writer_not_failed { W.failed writer.old ≡ false }
-    ensures outcome { IsRunOutcome result (R.failed reader.new) (W.failed writer.new) }
-    ensures used_up { OnOk result (IfSome (R.remaining reader.old) (λ _.
-        R.remaining reader.new ≡ Some [])) }
-    ensures ok { OnOk result (IfSome (R.remaining reader.old) (λ given.
-        WritesFiltered given (W.taken writer.old) (W.taken writer.new))) }
+    requires source_not_failed { R.failed source.old ≡ false }
+    requires sink_not_failed { W.failed sink.old ≡ false }
+    ensures outcome { IsRunOutcome result (R.failed source.new) (W.failed sink.new) }
+    ensures used_up { OnOk result (IfSome (R.remaining source.old) (λ _.
+        R.remaining source.new ≡ Some [])) }
+    ensures ok { OnOk result (IfSome (R.remaining source.old) (λ given.
+        WritesFiltered given (W.taken sink.old) (W.taken sink.new))) }
     ensures err { OnErr result (FiltersFront
-        (R.remaining reader.old) (R.remaining reader.new)
-        (W.taken writer.old) (W.taken writer.new)) }
+        (R.remaining source.old) (R.remaining source.new)
+        (W.taken sink.old) (W.taken sink.new)) }
     ensures put { IsErrOf result FilterFault.Read → FiltersLines
-        (R.remaining reader.old) (R.remaining reader.new)
-        (W.taken writer.old) (W.taken writer.new) }
+        (R.remaining source.old) (R.remaining source.new)
+        (W.taken sink.old) (W.taken sink.new) }
     ensures memory { IsErrOf result FilterFault.Memory → FiltersWholeLines
-        (R.remaining reader.old) (R.remaining reader.new)
-        (W.taken writer.old) (W.taken writer.new) }
+        (R.remaining source.old) (R.remaining source.new)
+        (W.taken sink.old) (W.taken sink.new) }
 {
     let mut demangler = Demangler::new();
-    let kept = copy_lines(alloc, &mut demangler, chunk, reader, writer)?;
-    write_last(alloc, &mut demangler, &chunk[..kept], writer)
+    let kept = copy_lines(alloc, &mut demangler, chunk, source, sink)?;
+    write_last(alloc, &mut demangler, &chunk[..kept], sink)
 }
 
 /// Writes each line that ends in a line feed, and answers how many bytes of a last one that doesn't are left at the
@@ -92,37 +92,37 @@ fn copy_lines<R: Source, W: Sink>(
     alloc: Global,
     demangler: &mut Demangler,
     chunk: &mut Vec<u8>,
-    reader: &mut R,
-    writer: &mut W,
+    source: &mut R,
+    sink: &mut W,
 ) -> Result<usize, FilterFault>
-    requires reader_not_failed { R.failed reader.old ≡ false }
-    requires writer_not_failed { W.failed writer.old ≡ false }
-    ensures outcome { IsRunOutcome result (R.failed reader.new) (W.failed writer.new) }
+    requires source_not_failed { R.failed source.old ≡ false }
+    requires sink_not_failed { W.failed sink.old ≡ false }
+    ensures outcome { IsRunOutcome result (R.failed source.new) (W.failed sink.new) }
     ensures bound { IfOk result (λ kept. kept ≤ length chunk.new.items) }
-    ensures at_end { OnOk result (IsAtEnd (R.remaining reader.new)) }
+    ensures at_end { OnOk result (IsAtEnd (R.remaining source.new)) }
     ensures unended { IfOk result (λ kept. HasNoLineFeed (take kept chunk.new.items)) }
     ensures ok { IfOk result (λ kept. HasCopied (take kept chunk.new.items)
-        (R.remaining reader.old) (R.remaining reader.new)
-        (W.taken writer.old) (W.taken writer.new)) }
+        (R.remaining source.old) (R.remaining source.new)
+        (W.taken sink.old) (W.taken sink.new)) }
     ensures err { OnErr result (FiltersFront
-        (R.remaining reader.old) (R.remaining reader.new)
-        (W.taken writer.old) (W.taken writer.new)) }
+        (R.remaining source.old) (R.remaining source.new)
+        (W.taken sink.old) (W.taken sink.new)) }
     ensures put { IsErrOf result FilterFault.Read → FiltersLines
-        (R.remaining reader.old) (R.remaining reader.new)
-        (W.taken writer.old) (W.taken writer.new) }
+        (R.remaining source.old) (R.remaining source.new)
+        (W.taken sink.old) (W.taken sink.new) }
     ensures memory { IsErrOf result FilterFault.Memory → FiltersWholeLines
-        (R.remaining reader.old) (R.remaining reader.new)
-        (W.taken writer.old) (W.taken writer.new) }
+        (R.remaining source.old) (R.remaining source.new)
+        (W.taken sink.old) (W.taken sink.new) }
 {
     let mut output = Gathered::new(alloc);
     let mut kept = 0;
     'turns: loop {
-        let end = read_more(reader, chunk, kept)?;
+        let end = read_more(source, chunk, kept)?;
         if end == kept {
             return Ok(kept);
         }
         let ended = ended_len(&chunk[..end], kept);
-        write_lines(alloc, demangler, &chunk[..ended], &mut output, writer)?;
+        write_lines(alloc, demangler, &chunk[..ended], &mut output, sink)?;
         move_rest(chunk, ended, end);
         kept = end - ended;
     }
@@ -143,21 +143,21 @@ fn make_room(chunk: &mut Vec<u8>, kept: usize) -> Result<(), AllocError>
 /// Reads after the first `kept` bytes of the chunk, which grows where it is full, and answers how many bytes stand
 /// there then: no more than before at the end alone.
 fn read_more<R: Source>(
-    reader: &mut R,
+    source: &mut R,
     chunk: &mut Vec<u8>,
     kept: usize,
 ) -> Result<usize, FilterFault>
-    requires not_failed { R.failed reader.old ≡ false }
+    requires not_failed { R.failed source.old ≡ false }
     requires inside { kept ≤ length chunk.old.items }
-    ensures outcome { IsReadOutcome result (R.failed reader.new) }
+    ensures outcome { IsReadOutcome result (R.failed source.new) }
     ensures ok { IfOk result (λ end. ReadsMore kept end chunk.old.items chunk.new.items
-        (R.remaining reader.old) (R.remaining reader.new)) }
+        (R.remaining source.old) (R.remaining source.new)) }
     ensures fewer { IfOk result (λ end.
-        kept < end → R.calls_left reader.new < R.calls_left reader.old) }
-    ensures err { OnErr result (Keeps (R.remaining reader.old) (R.remaining reader.new)) }
+        kept < end → R.calls_left source.new < R.calls_left source.old) }
+    ensures err { OnErr result (Keeps (R.remaining source.old) (R.remaining source.new)) }
 {
     make_room(chunk, kept)?;
-    match reader.take(&mut chunk[kept..]) {
+    match source.take(&mut chunk[kept..]) {
         Ok(count) => Ok(kept + count),
         Err(Failed) => Err(FilterFault::Read),
     }

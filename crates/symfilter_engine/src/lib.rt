@@ -1,5 +1,5 @@
-//! The engine of the filter: it copies lines from a reader to a writer, and a line that is a mangled symbol is written
-//! demangled. Whole lines are written before the reader is asked for more.
+//! The engine of the filter: it copies lines from a source to a sink, and a line that is a mangled symbol is written
+//! demangled. Whole lines are written before the source is asked for more.
 #![tactic(auto)]
 
 mod ends;

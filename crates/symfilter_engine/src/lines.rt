@@ -193,30 +193,30 @@ fn write_next<W: Sink>(
     lines: &[u8],
     known_utf8: bool,
     output: &mut Gathered,
-    writer: &mut W,
+    sink: &mut W,
 ) -> Result<usize, FilterFault>
-    requires not_failed { W.failed writer.old ≡ false }
+    requires not_failed { W.failed sink.old ≡ false }
     requires some { 0 < length lines.now }
     requires ended { EndsInLineFeed lines.now }
     requires known { IsTrue known_utf8 → IsUtf8 lines.now }
-    ensures outcome { IsWriteOutcome result (W.failed writer.new) }
+    ensures outcome { IsWriteOutcome result (W.failed sink.new) }
     ensures some { IfOk result (λ len. 0 < len) }
     ensures bound { IfOk result (λ len. len ≤ length lines.now) }
     ensures ok { IfOk result (λ len. WritesLines (take len lines.now)
-        (W.taken writer.old) (W.taken writer.new)) }
-    ensures err { OnErr result (WritesLinesFront lines.now (W.taken writer.old) (W.taken writer.new)) }
+        (W.taken sink.old) (W.taken sink.new)) }
+    ensures err { OnErr result (WritesLinesFront lines.now (W.taken sink.old) (W.taken sink.new)) }
     ensures memory { IsErrOf result FilterFault.Memory →
-        Keeps (W.taken writer.old) (W.taken writer.new) }
+        Keeps (W.taken sink.old) (W.taken sink.new) }
 {
     let ordinary = ordinary_len(lines);
     if ordinary >= LONG_LEN {
-        put_all(writer, &lines[..ordinary])?;
+        put_all(sink, &lines[..ordinary])?;
         return Ok(ordinary);
     }
     output.clear();
     let first = append_next(alloc, demangler, lines, known_utf8, output)?;
     let len = gather_lines(alloc, demangler, lines, known_utf8, first, output);
-    put_all(writer, output.as_slice())?;
+    put_all(sink, output.as_slice())?;
     Ok(len)
 }
 
@@ -226,20 +226,20 @@ pub(crate) fn write_lines<W: Sink>(
     demangler: &mut Demangler,
     lines: &[u8],
     output: &mut Gathered,
-    writer: &mut W,
+    sink: &mut W,
 ) -> Result<(), FilterFault>
-    requires not_failed { W.failed writer.old ≡ false }
+    requires not_failed { W.failed sink.old ≡ false }
     requires ended { EndsInLineFeed lines.now }
-    ensures outcome { IsWriteOutcome result (W.failed writer.new) }
-    ensures ok { OnOk result (HasFiltered lines.now [] (W.taken writer.old) (W.taken writer.new)) }
-    ensures err { OnErr result (WritesLinesFront lines.now (W.taken writer.old) (W.taken writer.new)) }
+    ensures outcome { IsWriteOutcome result (W.failed sink.new) }
+    ensures ok { OnOk result (HasFiltered lines.now [] (W.taken sink.old) (W.taken sink.new)) }
+    ensures err { OnErr result (WritesLinesFront lines.now (W.taken sink.old) (W.taken sink.new)) }
     ensures memory { IsErrOf result FilterFault.Memory →
-        WritesWholeLines lines.now (W.taken writer.old) (W.taken writer.new) }
+        WritesWholeLines lines.now (W.taken sink.old) (W.taken sink.new) }
 {
     let known_utf8 = str::from_utf8(lines).is_ok();
     let mut rest = lines;
     while !rest.is_empty() {
-        let len = write_next(alloc, demangler, rest, known_utf8, output, writer)?;
+        let len = write_next(alloc, demangler, rest, known_utf8, output, sink)?;
         rest = &rest[len..];
     }
     Ok(())
@@ -250,19 +250,19 @@ pub(crate) fn write_last<W: Sink>(
     alloc: Global,
     demangler: &mut Demangler,
     line: &[u8],
-    writer: &mut W,
+    sink: &mut W,
 ) -> Result<(), FilterFault>
-    requires not_failed { W.failed writer.old ≡ false }
+    requires not_failed { W.failed sink.old ≡ false }
     requires unended { HasNoLineFeed line.now }
-    ensures outcome { IsWriteOutcome result (W.failed writer.new) }
-    ensures ok { OnOk result (WritesFiltered line.now (W.taken writer.old) (W.taken writer.new)) }
-    ensures err { OnErr result (WritesBeginning line.now (W.taken writer.old) (W.taken writer.new)) }
+    ensures outcome { IsWriteOutcome result (W.failed sink.new) }
+    ensures ok { OnOk result (WritesFiltered line.now (W.taken sink.old) (W.taken sink.new)) }
+    ensures err { OnErr result (WritesBeginning line.now (W.taken sink.old) (W.taken sink.new)) }
     ensures memory { IsErrOf result FilterFault.Memory →
-        Keeps (W.taken writer.old) (W.taken writer.new) }
+        Keeps (W.taken sink.old) (W.taken sink.new) }
 {
     if line.is_empty() {
         return Ok(());
     }
     let answer = line_answer(alloc, demangler, line, false)?;
-    put_all(writer, answer)
+    put_all(sink, answer)
 }

@@ -8,16 +8,16 @@ use super::ends::{Failed, Sink};
 use super::fault::FilterFault;
 
 /// Writes all the bytes.
-pub(crate) fn put_all<W: Sink>(writer: &mut W, bytes: &[u8]) -> Result<(), FilterFault>
-    requires not_failed { W.failed writer.old ≡ false }
-    ensures outcome { IsWriteOutcome result (W.failed writer.new) }
-    ensures ok { OnOk result (Appends (W.taken writer.old) (W.taken writer.new) bytes.now) }
-    ensures fails { OnErr result (W.failed writer.new ≡ true) }
-    ensures err { OnErr result (WritesFront bytes.now (W.taken writer.old) (W.taken writer.new)) }
+pub(crate) fn put_all<W: Sink>(sink: &mut W, bytes: &[u8]) -> Result<(), FilterFault>
+    requires not_failed { W.failed sink.old ≡ false }
+    ensures outcome { IsWriteOutcome result (W.failed sink.new) }
+    ensures ok { OnOk result (Appends (W.taken sink.old) (W.taken sink.new) bytes.now) }
+    ensures fails { OnErr result (W.failed sink.new ≡ true) }
+    ensures err { OnErr result (WritesFront bytes.now (W.taken sink.old) (W.taken sink.new)) }
 {
     let mut rest = bytes;
     while !rest.is_empty() {
-        match writer.put(rest) {
+        match sink.put(rest) {
             Ok(count) => rest = &rest[count..],
             Err(Failed) => return Err(FilterFault::Write),
         }

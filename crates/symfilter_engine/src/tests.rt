@@ -2,7 +2,7 @@ use super::{Failed, FilterFault, Sink, Source, Tally, filter};
 use std::io;
 use std::io::{ErrorKind, Read, Write};
 
-/// The kinds of errors that a reader or writer of std fails with here: any is a failure.
+/// The kinds of errors that a source or sink of std fails with here: any is a failure.
 const KINDS: [ErrorKind; 6] = [
     ErrorKind::Interrupted,
     ErrorKind::WouldBlock,
@@ -12,7 +12,7 @@ const KINDS: [ErrorKind; 6] = [
     ErrorKind::Other,
 ];
 
-/// A reader and a writer of std that fails at its second call, and then goes on. Each other read gives a line, and each
+/// A source and a sink of std that fails at its second call, and then goes on. Each other read gives a line, and each
 /// other write takes one byte.
 #[derive(Drop)]
 struct FailsOnce {
@@ -55,59 +55,59 @@ impl Write for FailsOnce {
 
 #[test]
 fn a_tally_reads_and_writes(rt: HostRuntime) {
-    let mut reader = Tally::new(b"x\ny".as_slice());
+    let mut source = Tally::new(b"x\ny".as_slice());
     let mut bytes = Vec::new(rt.alloc());
-    let mut writer = Tally::new(&mut bytes);
-    assert_eq!(rt; filter(rt.alloc(), &mut reader, &mut writer), Ok(()));
+    let mut sink = Tally::new(&mut bytes);
+    assert_eq!(rt; filter(rt.alloc(), &mut source, &mut sink), Ok(()));
     assert_eq!(rt; bytes.as_slice(), b"x\ny".as_slice());
 }
 
 #[test]
 fn a_full_slice_is_a_failure(rt: HostRuntime) {
     let mut room = [0u8; 2];
-    let mut writer = Tally::new(room.as_mut_slice());
-    assert_eq!(rt; writer.put(b"abc"), Ok(2));
-    assert!(rt; !writer.failed());
-    assert_eq!(rt; writer.put(b"c"), Err(Failed));
-    assert!(rt; writer.failed());
+    let mut sink = Tally::new(room.as_mut_slice());
+    assert_eq!(rt; sink.put(b"abc"), Ok(2));
+    assert!(rt; !sink.failed());
+    assert_eq!(rt; sink.put(b"c"), Err(Failed));
+    assert!(rt; sink.failed());
 }
 
 #[test]
 fn any_error_of_a_reader_is_a_failure(rt: HostRuntime) {
     for kind in KINDS {
-        let mut reader = Tally::new(FailsOnce { kind, calls: 0 });
+        let mut source = Tally::new(FailsOnce { kind, calls: 0 });
         let mut line = [0u8; 7];
-        assert_eq!(rt; reader.take(&mut line), Ok(7));
-        assert!(rt; !Source::failed(&reader));
-        assert_eq!(rt; reader.take(&mut line), Err(Failed));
-        assert!(rt; Source::failed(&reader));
-        // The reader goes on, and it has failed all the same.
-        let _ = reader.take(&mut line);
-        assert!(rt; Source::failed(&reader));
+        assert_eq!(rt; source.take(&mut line), Ok(7));
+        assert!(rt; !Source::failed(&source));
+        assert_eq!(rt; source.take(&mut line), Err(Failed));
+        assert!(rt; Source::failed(&source));
+        // The source goes on, and it has failed all the same.
+        let _ = source.take(&mut line);
+        assert!(rt; Source::failed(&source));
     }
 }
 
 #[test]
 fn any_error_of_a_writer_is_a_failure(rt: HostRuntime) {
     for kind in KINDS {
-        let mut writer = Tally::new(FailsOnce { kind, calls: 0 });
-        assert_eq!(rt; writer.put(b"abc"), Ok(1));
-        assert!(rt; !Sink::failed(&writer));
-        assert_eq!(rt; writer.put(b"bc"), Err(Failed));
-        assert!(rt; Sink::failed(&writer));
-        // The writer goes on, and it has failed all the same.
-        let _ = writer.put(b"bc");
-        assert!(rt; Sink::failed(&writer));
+        let mut sink = Tally::new(FailsOnce { kind, calls: 0 });
+        assert_eq!(rt; sink.put(b"abc"), Ok(1));
+        assert!(rt; !Sink::failed(&sink));
+        assert_eq!(rt; sink.put(b"bc"), Err(Failed));
+        assert!(rt; Sink::failed(&sink));
+        // The sink goes on, and it has failed all the same.
+        let _ = sink.put(b"bc");
+        assert!(rt; Sink::failed(&sink));
     }
 }
 
 #[test]
-fn the_filter_ends_where_a_reader_fails_once(rt: HostRuntime) {
+fn the_filter_ends_where_a_source_fails_once(rt: HostRuntime) {
     for kind in KINDS {
         let mut inner = FailsOnce { kind, calls: 0 };
         let mut bytes = Vec::new(rt.alloc());
-        let mut writer = Tally::new(&mut bytes);
-        let outcome = filter(rt.alloc(), &mut Tally::new(&mut inner), &mut writer);
+        let mut sink = Tally::new(&mut bytes);
+        let outcome = filter(rt.alloc(), &mut Tally::new(&mut inner), &mut sink);
         assert_eq!(rt; outcome, Err(FilterFault::Read));
         assert_eq!(rt; bytes.as_slice(), b"foo\n".as_slice());
         assert_eq!(rt; inner.calls, 2);
@@ -115,11 +115,11 @@ fn the_filter_ends_where_a_reader_fails_once(rt: HostRuntime) {
 }
 
 #[test]
-fn the_filter_ends_where_a_writer_fails_once(rt: HostRuntime) {
+fn the_filter_ends_where_a_sink_fails_once(rt: HostRuntime) {
     for kind in KINDS {
         let mut inner = FailsOnce { kind, calls: 0 };
-        let mut reader = Tally::new(b"_Z3foo\nx\n".as_slice());
-        let outcome = filter(rt.alloc(), &mut reader, &mut Tally::new(&mut inner));
+        let mut source = Tally::new(b"_Z3foo\nx\n".as_slice());
+        let outcome = filter(rt.alloc(), &mut source, &mut Tally::new(&mut inner));
         assert_eq!(rt; outcome, Err(FilterFault::Write));
         assert_eq!(rt; inner.calls, 2);
     }

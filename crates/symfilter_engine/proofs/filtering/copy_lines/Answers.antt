@@ -8,8 +8,8 @@ use Rattle.symfilter_engine.proofs.filtering.copy_lines.Goals as goal
 
 pub turns-init : goal.turns-init
 turns-init g c = record {
-  reader_not_failed = c.requires.reader_not_failed;
-  writer_not_failed = c.requires.writer_not_failed;
+  source_not_failed = c.requires.source_not_failed;
+  sink_not_failed = c.requires.sink_not_failed;
   inside = search rules;
   unended = search rules;
   so_far = none_copied _ _ _ refl;
@@ -48,8 +48,8 @@ turns-preserved g c =
     let within : ended ≤ end = omega (arith, c.ended_len-ended.ensures.bound, length-take end c.deref.result.now) in
     let inside : end ≤ length all = c.in_ok-end.ensures.ok.inside in
     record {
-      reader_not_failed = c.in_ok-end.ensures.outcome;
-      writer_not_failed = c.in_ok-write_lines.ensures.outcome;
+      source_not_failed = c.in_ok-end.ensures.outcome;
+      sink_not_failed = c.in_ok-write_lines.ensures.outcome;
       inside = omega (arith, inside, c.move_rest.ensures.len);
       unended = All-same is_other _ _ (c.move_rest.ensures.moved ∙ ap (λ l. drop ended (take end l)) (sym c.deref.ensures.value)) c.ended_len-ended.ensures.unended;
       so_far = turn_copied _ end ended _ all _ _ _ _ _ _ _ _ c.turns.invariant.so_far c.in_ok-end.ensures.ok c.in_ok-write_lines.ensures.ok

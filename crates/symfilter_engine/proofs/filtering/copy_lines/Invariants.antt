@@ -6,12 +6,12 @@ use Rattle.symfilter_engine.proofs.filtering.copy_lines.Given as goal
 abbrev pub invariant-turns : goal.invariant-turns
 invariant-turns g l =
     record {
-      reader_not_failed : g.R.Source.failed l.reader ≡ false;
-      writer_not_failed : g.W.Sink.failed l.writer ≡ false;
+      source_not_failed : g.R.Source.failed l.source ≡ false;
+      sink_not_failed : g.W.Sink.failed l.sink ≡ false;
       inside : l.kept ≤ length l.chunk.items;
       unended : HasNoLineFeed (take l.kept l.chunk.items);
-      so_far : HasCopied (take l.kept l.chunk.items) (g.R.Source.remaining l.fn.reader) (g.R.Source.remaining l.reader) (g.W.Sink.taken l.fn.writer) (g.W.Sink.taken l.writer);
+      so_far : HasCopied (take l.kept l.chunk.items) (g.R.Source.remaining l.fn.source) (g.R.Source.remaining l.source) (g.W.Sink.taken l.fn.sink) (g.W.Sink.taken l.sink);
     }
 
 abbrev pub decreases-turns : goal.decreases-turns
-decreases-turns g l = g.R.Source.calls_left l.reader
+decreases-turns g l = g.R.Source.calls_left l.source

@@ -6,22 +6,22 @@ use Rattle.symfilter_engine.proofs.filtering.filter_by_chunks.Goals as goal
 
 pub returns-clause-ok : goal.returns-clause-ok
 returns-clause-ok g c =
-    let s = g.R.Source.remaining c.args.reader.now in
-    let s' = g.R.Source.remaining c.copy_lines.new.reader in
-    let t = g.W.Sink.taken c.args.writer.now in
-    let t' = g.W.Sink.taken c.copy_lines.new.writer in
-    let t'' = g.W.Sink.taken c.write_last.new.writer in
+    let s = g.R.Source.remaining c.args.source.now in
+    let s' = g.R.Source.remaining c.copy_lines.new.source in
+    let t = g.W.Sink.taken c.args.sink.now in
+    let t' = g.W.Sink.taken c.copy_lines.new.sink in
+    let t'' = g.W.Sink.taken c.write_last.new.sink in
     let kept = c.in_ok-kept.kept in
     on_ok_weaker _ (λ writes. last_copied (take kept c.copy_lines.new.chunk.items) s s' t t' t'' c.in_ok-kept.ensures.ok c.in_ok-kept.ensures.at_end
     (subst (λ l. WritesFiltered (take kept l) t' t'') c.deref.ensures.value writes)) c.write_last.ensures.ok
 
 pub returns-clause-err : goal.returns-clause-err
 returns-clause-err g c =
-    let s = g.R.Source.remaining c.args.reader.now in
-    let s' = g.R.Source.remaining c.copy_lines.new.reader in
-    let t = g.W.Sink.taken c.args.writer.now in
-    let t' = g.W.Sink.taken c.copy_lines.new.writer in
-    let t'' = g.W.Sink.taken c.write_last.new.writer in
+    let s = g.R.Source.remaining c.args.source.now in
+    let s' = g.R.Source.remaining c.copy_lines.new.source in
+    let t = g.W.Sink.taken c.args.sink.now in
+    let t' = g.W.Sink.taken c.copy_lines.new.sink in
+    let t'' = g.W.Sink.taken c.write_last.new.sink in
     let kept = c.in_ok-kept.kept in
     on_err_weaker _ (λ begins. last_fault (take kept c.copy_lines.new.chunk.items) s s' t t' t'' c.in_ok-kept.ensures.ok
     (subst (λ l. WritesBeginning (take kept l) t' t'') c.deref.ensures.value begins)) c.write_last.ensures.err

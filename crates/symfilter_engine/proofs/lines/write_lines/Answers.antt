@@ -26,6 +26,6 @@ loop-rest-preserved g c =
       not_failed = search rules;
       ended = subst EndsInLineFeed left (ended_after rest len c.loop-rest.invariant.ended);
       known = λ known. subst IsUtf8 left (utf8_after rest c.in_ok-len.ensures.ok.0 len c.in_ok-len.ensures.ok.1 (c.loop-rest.invariant.known known));
-      so_far = subst (λ l. HasFiltered c.args.lines.now l (g.W.Sink.taken c.args.writer.now) (g.W.Sink.taken c.write_next.new.writer)) left
+      so_far = subst (λ l. HasFiltered c.args.lines.now l (g.W.Sink.taken c.args.sink.now) (g.W.Sink.taken c.write_next.new.sink)) left
           (lines_filtered _ rest len _ _ _ c.loop-rest.invariant.so_far c.in_ok-len.ensures.ok);
     }

@@ -6,10 +6,10 @@ use Rattle.symfilter_engine.proofs.lines.write_lines.Given as goal
 abbrev pub invariant-loop-rest : goal.invariant-loop-rest
 invariant-loop-rest g l =
     record {
-      not_failed : g.W.Sink.failed l.writer ≡ false;
+      not_failed : g.W.Sink.failed l.sink ≡ false;
       ended : EndsInLineFeed l.rest;
       known : IsTrue l.known_utf8 → IsUtf8 l.rest;
-      so_far : HasFiltered l.lines l.rest (g.W.Sink.taken l.fn.writer) (g.W.Sink.taken l.writer);
+      so_far : HasFiltered l.lines l.rest (g.W.Sink.taken l.fn.sink) (g.W.Sink.taken l.sink);
     }
 
 abbrev pub decreases-loop-rest : goal.decreases-loop-rest

@@ -13,4 +13,4 @@ returns-in_err-first-clause-err g c = at_fault _ (lines_unwritten c.args.lines.n
 pub returns-in_err-put_all-2-clause-err : goal.returns-in_err-put_all-2-clause-err
 returns-in_err-put_all-2-clause-err g c =
     at_fault _ (lines_begin c.args.lines.now _ c.gather_lines-len.result _ _ c.gather_lines-len.ensures.filtered
-    (subst (λ l. WritesFront l (g.W.Sink.taken c.args.writer.now) (g.W.Sink.taken c.put_all-2.new.writer)) c.as_slice.ensures.value c.in_err-put_all-2.ensures.err))
+    (subst (λ l. WritesFront l (g.W.Sink.taken c.args.sink.now) (g.W.Sink.taken c.put_all-2.new.sink)) c.as_slice.ensures.value c.in_err-put_all-2.ensures.err))

@@ -5,8 +5,8 @@ use Rattle.symfilter_engine.proofs.output.put_all.Given as goal
 abbrev pub invariant-loop-rest : goal.invariant-loop-rest
 invariant-loop-rest g l =
     record {
-      not_failed : g.W.Sink.failed l.writer ≡ false;
-      so_far : WritesUpTo l.bytes l.rest (g.W.Sink.taken l.fn.writer) (g.W.Sink.taken l.writer);
+      not_failed : g.W.Sink.failed l.sink ≡ false;
+      so_far : WritesUpTo l.bytes l.rest (g.W.Sink.taken l.fn.sink) (g.W.Sink.taken l.sink);
     }
 
 abbrev pub decreases-loop-rest : goal.decreases-loop-rest
