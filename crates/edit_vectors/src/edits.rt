@@ -80,6 +80,38 @@ fn a_literal_stays_after_its_parenthesis_in_the_main_text(rt: HostRuntime) {
 
 #[test]
 #[tactic(auto, using(demangle_text::proofs::Laws::laws))]
+fn a_literal_grows_around_its_type_in_the_main_text(rt: HostRuntime) {
+    let mut buf = Buffer::new(rt.alloc());
+    let ty = push(&rt, &mut buf, b"A::B");
+    made(&rt, write_literal(&mut buf, ty, "n5"));
+    assert_eq!(&rt; buf.main_bytes(), b"(A::B)-5".as_slice());
+    drop(buf);
+}
+
+#[test]
+#[tactic(auto, using(demangle_text::proofs::Laws::laws))]
+fn an_operand_grows_in_the_main_text(rt: HostRuntime) {
+    let mut buf = Buffer::new(rt.alloc());
+    let name = push(&rt, &mut buf, b"A::g<int>");
+    subexpr(&mut buf, name, true).expect(&rt, "no memory");
+    assert_eq!(&rt; buf.main_bytes(), b"(A::g<int>)".as_slice());
+    drop(buf);
+}
+
+#[test]
+#[tactic(auto, using(demangle_text::proofs::Laws::laws))]
+fn a_group_opens_in_the_main_text(rt: HostRuntime) {
+    let mut buf = Buffer::new(rt.alloc());
+    let function = declared(&rt, &mut buf, b"int* ()", Kind::Function, 5);
+    let pointer = wrap_pointer(&mut buf, function, Pointer::Star).expect(&rt, "no memory");
+    assert_eq!(&rt; buf.main_bytes(), b"int* (*)()".as_slice());
+    wrap_pointer(&mut buf, pointer, Pointer::Star).expect(&rt, "no memory");
+    assert_eq!(&rt; buf.main_bytes(), b"int* (**)()".as_slice());
+    drop(buf);
+}
+
+#[test]
+#[tactic(auto, using(demangle_text::proofs::Laws::laws))]
 fn qualified_name(rt: HostRuntime) {
     let mut buf = Buffer::new(rt.alloc());
     let scope = push(&rt, &mut buf, b"Foo");

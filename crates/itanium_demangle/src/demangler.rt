@@ -167,8 +167,8 @@ impl Demangler {
     }
 
     /// Where the last `prepare` or `demangle` had an answer, the buffer that it stands in, lent until the next call:
-    /// the answer is its main text, and nothing else is in that; the components are its saved shapes. Elsewhere
-    /// `None`.
+    /// the answer is its main text, and nothing else is in that; the texts of its saved shapes are the components.
+    /// Elsewhere `None`.
     pub fn buffer(&self) -> Option<&Buffer>
         ensures value { option_map (λ buffer. main_bytes buffer.now) result ≡ self.now.text }
         ensures components { IfSome result (λ buffer. map text (saved buffer.now) ≡ self.now.components) }
