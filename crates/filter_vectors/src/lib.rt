@@ -1,4 +1,4 @@
-//! Tests of the filter between two ends in memory.
+//! Tests of the filter between two ends in memory, and over readers and writers of std.
 //!
 //! The expected texts come from the grammar's definition, and not from what the filter writes.
 #![tactic(auto)]
@@ -6,3 +6,5 @@
 #[cfg(test)]
 mod filter;
 pub mod memory;
+#[cfg(test)]
+mod tally;

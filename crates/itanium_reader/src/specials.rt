@@ -114,7 +114,7 @@ impl<'a> Reader<'a> {
     }
 
     /// The number of a reference temporary in front of its name, which was found.
-    pub fn print_temporary(&mut self, number: u64) -> Result<(), AllocError>
+    fn print_temporary(&mut self, number: u64) -> Result<(), AllocError>
         requires living { IsLiving self.old.buffer.value self.old.found }
         ensures shape { OnOk result (Lives self.new.buffer.value self.new.found
             (temporary_shape number (shape self.old.buffer.value self.old.found))) }
@@ -153,7 +153,7 @@ impl<'a> Reader<'a> {
     }
 
     /// The thunk with this offset of what was found.
-    pub fn print_single_thunk(&mut self, offset: CallOffset) -> Result<(), AllocError>
+    fn print_single_thunk(&mut self, offset: CallOffset) -> Result<(), AllocError>
         requires living { IsLiving self.old.buffer.value self.old.found }
         ensures shape { OnOk result (Lives self.new.buffer.value self.new.found
             (single_thunk_shape offset (shape self.old.buffer.value self.old.found))) }
@@ -173,7 +173,7 @@ impl<'a> Reader<'a> {
     }
 
     /// The thunk with these two offsets of what was found.
-    pub fn print_covariant_thunk(
+    fn print_covariant_thunk(
         &mut self,
         first: CallOffset,
         second: CallOffset,

@@ -15,6 +15,3 @@ pub use ends::{Failed, Sink, Source};
 pub use fault::FilterFault;
 pub use filtering::filter;
 pub use tally::Tally;
-
-#[cfg(test)]
-mod tests;

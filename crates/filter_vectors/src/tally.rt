@@ -1,0 +1,142 @@
+//! Tests of a `Tally` over readers and writers of std, and of the faults.
+
+use std::io;
+use std::io::{ErrorKind, Read, Write};
+use symfilter_engine::{Failed, FilterFault, Sink, Source, Tally, filter};
+
+/// The kinds of errors that a source or sink of std fails with here: any is a failure.
+const KINDS: [ErrorKind; 6] = [
+    ErrorKind::Interrupted,
+    ErrorKind::WouldBlock,
+    ErrorKind::TimedOut,
+    ErrorKind::UnexpectedEof,
+    ErrorKind::BrokenPipe,
+    ErrorKind::Other,
+];
+
+/// A source and a sink of std that fails at its second call, and then goes on. Each other read gives a line, and each
+/// other write takes one byte.
+#[derive(Drop)]
+struct FailsOnce {
+    kind: ErrorKind,
+    calls: u8,
+}
+
+impl FailsOnce {
+    fn called(&mut self) -> io::Result<()> {
+        self.calls = self.calls.saturating_add(1);
+        if self.calls == 2 {
+            return Err(self.kind.into());
+        }
+        Ok(())
+    }
+}
+
+impl Read for FailsOnce {
+    fn read(&mut self, buf: &mut [u8]) -> io::Result<usize> {
+        self.called()?;
+        let line = b"_Z3foo\n";
+        if buf.len() < line.len() {
+            return Ok(0);
+        }
+        buf[..line.len()].copy_from_slice(line);
+        Ok(line.len())
+    }
+}
+
+impl Write for FailsOnce {
+    fn write(&mut self, buf: &[u8]) -> io::Result<usize> {
+        self.called()?;
+        Ok(buf.len().min(1))
+    }
+
+    fn flush(&mut self) -> io::Result<()> {
+        Ok(())
+    }
+}
+
+#[test]
+fn a_tally_reads_and_writes(rt: HostRuntime) {
+    let mut source = Tally::new(b"x\ny".as_slice());
+    let mut bytes = Vec::new(rt.alloc());
+    let mut sink = Tally::new(&mut bytes);
+    assert_eq!(rt; filter(rt.alloc(), &mut source, &mut sink), Ok(()));
+    assert_eq!(rt; bytes.as_slice(), b"x\ny".as_slice());
+}
+
+#[test]
+fn a_full_slice_is_a_failure(rt: HostRuntime) {
+    let mut room = [0u8; 2];
+    let mut sink = Tally::new(room.as_mut_slice());
+    assert_eq!(rt; sink.put(b"abc"), Ok(2));
+    assert!(rt; !sink.failed());
+    assert_eq!(rt; sink.put(b"c"), Err(Failed));
+    assert!(rt; sink.failed());
+}
+
+#[test]
+fn any_error_of_a_reader_is_a_failure(rt: HostRuntime) {
+    for kind in KINDS {
+        let mut source = Tally::new(FailsOnce { kind, calls: 0 });
+        let mut line = [0u8; 7];
+        assert_eq!(rt; source.take(&mut line), Ok(7));
+        assert!(rt; !Source::failed(&source));
+        assert_eq!(rt; source.take(&mut line), Err(Failed));
+        assert!(rt; Source::failed(&source));
+        // The source goes on, and it has failed all the same.
+        let _ = source.take(&mut line);
+        assert!(rt; Source::failed(&source));
+    }
+}
+
+#[test]
+fn any_error_of_a_writer_is_a_failure(rt: HostRuntime) {
+    for kind in KINDS {
+        let mut sink = Tally::new(FailsOnce { kind, calls: 0 });
+        assert_eq!(rt; sink.put(b"abc"), Ok(1));
+        assert!(rt; !Sink::failed(&sink));
+        assert_eq!(rt; sink.put(b"bc"), Err(Failed));
+        assert!(rt; Sink::failed(&sink));
+        // The sink goes on, and it has failed all the same.
+        let _ = sink.put(b"bc");
+        assert!(rt; Sink::failed(&sink));
+    }
+}
+
+#[test]
+fn the_filter_ends_where_a_source_fails_once(rt: HostRuntime) {
+    for kind in KINDS {
+        let mut inner = FailsOnce { kind, calls: 0 };
+        let mut bytes = Vec::new(rt.alloc());
+        let mut sink = Tally::new(&mut bytes);
+        let outcome = filter(rt.alloc(), &mut Tally::new(&mut inner), &mut sink);
+        assert_eq!(rt; outcome, Err(FilterFault::Read));
+        assert_eq!(rt; bytes.as_slice(), b"foo\n".as_slice());
+        assert_eq!(rt; inner.calls, 2);
+    }
+}
+
+#[test]
+fn the_filter_ends_where_a_sink_fails_once(rt: HostRuntime) {
+    for kind in KINDS {
+        let mut inner = FailsOnce { kind, calls: 0 };
+        let mut source = Tally::new(b"_Z3foo\nx\n".as_slice());
+        let outcome = filter(rt.alloc(), &mut source, &mut Tally::new(&mut inner));
+        assert_eq!(rt; outcome, Err(FilterFault::Write));
+        assert_eq!(rt; inner.calls, 2);
+    }
+}
+
+#[test]
+fn the_words_of_the_faults(rt: HostRuntime) {
+    assert_eq!(rt; FilterFault::Read.line(), "symfilter: read failed");
+    assert_eq!(rt; FilterFault::Write.line(), "symfilter: write failed");
+    assert_eq!(rt; FilterFault::Memory.line(), "symfilter: out of memory");
+}
+
+#[test]
+fn the_numbers_of_the_faults(rt: HostRuntime) {
+    assert_eq!(rt; FilterFault::Read as u8, 1);
+    assert_eq!(rt; FilterFault::Write as u8, 2);
+    assert_eq!(rt; FilterFault::Memory as u8, 3);
+}
