@@ -20,8 +20,6 @@ mod names;
 #[cfg(test)]
 mod own_names;
 #[cfg(test)]
-mod sample;
-#[cfg(test)]
 mod scalars;
 #[cfg(test)]
 mod serving;
