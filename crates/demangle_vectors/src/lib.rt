@@ -16,6 +16,8 @@ mod lent;
 #[cfg(test)]
 mod local_names;
 #[cfg(test)]
+mod long;
+#[cfg(test)]
 mod names;
 #[cfg(test)]
 mod own_names;
