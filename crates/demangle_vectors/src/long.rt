@@ -1,5 +1,5 @@
-//! Symbols of 20,000 parts, up to 220 KB long. The answer of each is as long as its symbol, but for a factor. The time grows
-//! no faster either: that is measured, and not asked here, but no test would end if each part looked at all before it.
+//! Symbols of 20,000 parts, up to 220 KB long. The answer of each grows as the symbol does. That the time does too is
+//! measured, and not asked here; but these tests would take minutes if each part looked at all before it.
 
 use crate::tables::{assert_demangled, repeated};
 use itanium_demangle::Demangler;
