@@ -1,8 +1,9 @@
 -- Bytes by which the first pieces of a list end.
-use Rattle.std.proofs.Common.{◌≡◌, ℕ, ◌-◌, ◌<◌, ◌≤◌, arith, List, ◌++◌, length, map, take, drop, set, get_or, sym, ap, ◌∙◌, subst, inl, inr}
+use Rattle.std.proofs.Common.{◌≡◌, ℕ, ◌+◌, ◌-◌, ◌<◌, ◌≤◌, arith, List, ◌++◌, length, map, take, drop, set, get_or, sym, ap, ◌∙◌, subst, inl, inr}
 use Rattle.std.specs.List.{AllWithin, HoldsAt}
 use Rattle.std.proofs.lemmas.List.{get_or-take, get_or-drop, get_or-append_right, get_or-set_same, get_or-set_other, length-set, length-map, length-take, length-take-le, take-append-drop}
-use Rattle.std.proofs.lemmas.Bool.{cases_eq}
+use Rattle.std.proofs.lemmas.Bool.{cases_eq, cases_lt}
+use Rattle.std.proofs.lemmas.List.Elements.{AllWithin-more_set}
 use Rattle.demangle_text.specs.declared.shape.Piece.{Piece}
 use Rattle.demangle_text.specs.Pieces.{EndsBy, IsApart, AreReached, carried}
 use Rattle.demangle_text.proofs.Bounds.{carried-below}
@@ -22,6 +23,27 @@ reached-fewer ps rs c n le h = record {
   within = omega (arith, le, h.within);
   room = h.room;
   ends = λ i lt. h.ends i (omega (arith, lt, le));
+}
+
+-- what holds of the pieces before an index where another piece is put
+within-put : (P : Piece → Type 0) (ps : List Piece) (i n : ℕ) (p : Piece) → n ≤ i → AllWithin P ps 0 n → AllWithin P (set ps i p) 0 n
+within-put P ps i n p le h k d a b = subst P (sym (get_or-set_other ps i k p d (λ e. absurd (omega (arith, e, b, le))))) (h k d a b)
+
+-- a piece after the first ones, with a byte by which it and all before it end
+pub reached-put : (ps : List Piece) (rs : List ℕ) (i : ℕ) (p : Piece) (end : ℕ) → AreReached ps rs i → i < length rs → AllWithin (EndsBy end) ps 0 i → EndsBy end p → AreReached (set ps i p) (set rs i end) (i + 1)
+reached-put ps rs i p end h room all last = record {
+  within = omega (arith, room, length-set rs i end);
+  room = omega (arith, h.room, length-set rs i end, length-set ps i p);
+  ends = λ j lt. elim (cases_lt j i) [
+    | inl below ↦
+        subst (λ m. AllWithin (EndsBy m) (set ps i p) 0 (j + 1)) (sym (get_or-set_other rs i j end 0 (λ e. absurd (omega (arith, e, below)))))
+        (within-put (EndsBy (get_or rs j 0)) ps i (j + 1) p (omega (arith, below)) (h.ends j below))
+    | inr above ↦
+        let e : j ≡ i = omega (arith, lt, above) in
+        let here = AllWithin-more_set ps i p (omega (arith, room, h.room)) (EndsBy end) all last in
+        let is : get_or (set rs i end) j 0 ≡ end = ap (λ n. get_or (set rs i end) n 0) e ∙ get_or-set_same rs i end 0 room in
+        subst (λ m. AllWithin (EndsBy m) (set ps i p) 0 (j + 1)) (sym is) (subst (λ n. AllWithin (EndsBy end) (set ps i p) 0 (n + 1)) (sym e) here)
+  ];
 }
 
 -- a piece in the place of one, that ends by each byte by which that one ends

@@ -7,6 +7,7 @@ use Rattle.demangle_text.specs.declared.shape.Kind.TheVariants.{Array, Function}
 use Rattle.demangle_text.specs.declared.shape.Place.{Place}
 use Rattle.demangle_text.specs.declared.shape.Place.TheVariants.{Start, Close, Suffix, End}
 use Rattle.demangle_text.specs.declared.shape.Piece.{Piece}
+use Rattle.demangle_text.specs.declared.ranges.Kept.{Kept}
 use Rattle.demangle_text.specs.Shape.{Form, Plain, Declared, Shape}
 use Rattle.demangle_text.specs.Flags.{lies_aside, templ_by, ctor_by, grouped_by, kind_by, group_from}
 
@@ -204,6 +205,14 @@ pub record IsAside (main old_side new_side : List ℕ) (old_saved new_saved old_
 -- the piece lies in the side text, or ends by a byte of the main text
 abbrev pub EndsBy : ℕ → Piece → Type 0
 EndsBy end p = lies_aside p.flags ≡ false → p.to_byte ≤ end
+
+-- the pieces of a list
+abbrev pub pieces_of : List Kept → List Piece
+pieces_of kept = map (λ k. k.piece) kept
+
+-- the bytes that stand beside them
+abbrev pub reaches_of : List Kept → List ℕ
+reaches_of kept = map (λ k. k.reach) kept
 
 -- each of the first pieces of a list ends by the byte that stands at its index, and so do all before it
 pub record AreReached (pieces : List Piece) (reaches : List ℕ) (count : ℕ) : Type 0 where

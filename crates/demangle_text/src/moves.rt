@@ -75,6 +75,9 @@ pub(crate) fn evict(
     ensures apart { OnOk result (All (IsApart low from to) pieces.new) }
 {
     let first = pieces.count_by(low);
+    if first == pieces.len() {
+        return Ok(());
+    }
     evict_each(main, side, pieces, first, low, from, to)
 }
 

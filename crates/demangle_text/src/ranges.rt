@@ -2,7 +2,7 @@
 ghost use Rattle.std.specs.Prelude.{◌≡◌, ℕ, ◌+◌, ◌-◌, ◌^◌, ◌<◌, ◌≤◌, List, [], ◌∷◌, ◌++◌, length, take, slice_get};
 ghost use Rattle.std.specs.Prelude.{OnOk, OnErr, All, map, drop, slice_set, slice_index_or};
 ghost use Rattle.std.specs.List.{AllWithin, HoldsAt};
-ghost use Rattle.demangle_text.specs.Pieces.{EndsBy, IsApart, AreReached, carried};
+ghost use Rattle.demangle_text.specs.Pieces.{EndsBy, IsApart, AreReached, carried, pieces_of, reaches_of};
 
 use crate::shape::Piece;
 use std::alloc::{AllocError, Global};
@@ -11,11 +11,16 @@ use std::marker::Model;
 // How many pieces the first memory holds.
 const FIRST_ROOM: usize = 16;
 
+// A piece, with a byte of the main text by which it ends, and all that were kept before it.
+#[derive(Clone, Copy)]
+pub(crate) struct Kept {
+    piece: Piece,
+    reach: usize,
+}
+
 #[derive(Drop)]
 pub(crate) struct Ranges {
-    pieces: Vec<Piece>,
-    // For each kept piece a byte of the main text by which it ends, and all before it.
-    reaches: Vec<usize>,
+    kept: Vec<Kept>,
     count: usize,
 }
 
@@ -34,11 +39,11 @@ impl Model for Ranges {
 
     ghost Value = { List Piece };
 
-    ghost view = { λ r. take r.count r.pieces.items };
+    ghost use Rattle.demangle_text.specs.Pieces.{AreReached, pieces_of, reaches_of};
 
-    ghost use Rattle.demangle_text.specs.Pieces.{AreReached};
+    ghost view = { λ r. take r.count (pieces_of r.kept.items) };
 
-    ghost invariant = { λ r. AreReached r.pieces.items r.reaches.items r.count };
+    ghost invariant = { λ r. AreReached (pieces_of r.kept.items) (reaches_of r.kept.items) r.count };
 }
 
 impl Ranges {
@@ -46,8 +51,7 @@ impl Ranges {
         ensures empty { result ≡ [] }
     {
         Ranges {
-            pieces: Vec::new(alloc),
-            reaches: Vec::new(alloc),
+            kept: Vec::new(alloc),
             count: 0,
         }
     }
@@ -74,7 +78,7 @@ impl Ranges {
         ensures ends { AllWithin (EndsBy result) self.now 0 n }
         ensures none { n ≡ 0 → result ≡ 0 }
     {
-        if n == 0 { 0 } else { self.reaches[n - 1] }
+        if n == 0 { 0 } else { self.kept[n - 1].reach }
     }
 
     // How many of the first pieces a move of what lies after a byte of the main text leaves where they are.
@@ -104,7 +108,7 @@ impl Ranges {
         requires within { i < length self.now }
         ensures value { result ≡ slice_index_or self.now i result }
     {
-        self.pieces[i]
+        self.kept[i].piece
     }
 
     #[inline(always)]
@@ -112,7 +116,7 @@ impl Ranges {
         ensures value { result ≡ slice_get self.now i }
     {
         if i < self.count {
-            Some(self.pieces[i])
+            Some(self.kept[i].piece)
         } else {
             None
         }
@@ -125,7 +129,7 @@ impl Ranges {
         ensures value { result ≡ slice_get (drop start self.now) i }
     {
         if i < self.count - start {
-            Some(self.pieces[start + i])
+            Some(self.kept[start + i].piece)
         } else {
             None
         }
@@ -137,7 +141,7 @@ impl Ranges {
         requires ends { (end : ℕ) → HoldsAt (EndsBy end) self.old i → EndsBy end piece }
         ensures value { self.new ≡ slice_set self.old i piece }
     {
-        self.pieces[i] = piece;
+        self.kept[i].piece = piece;
     }
 
     // A piece at the end. It is read where it is kept, once there is room. All end by a byte of the main text.
@@ -149,15 +153,16 @@ impl Ranges {
         ensures err { OnErr result (self.new ≡ self.old) }
     {
         let at = self.count;
-        if at == self.reaches.len() {
-            more(&mut self.pieces, &mut self.reaches)?;
+        if at == self.kept.len() {
+            more(&mut self.kept)?;
         }
-        put(&mut self.pieces, &mut self.reaches, at, piece, end);
+        put(&mut self.kept, at, piece, end);
         self.count = at + 1;
         Ok(())
     }
 
     // Carries the pieces that lie in a block that is moved.
+    #[inline(always)]
     pub(crate) fn carry(&mut self, by: Move)
         requires ordered { All (λ p. p.from_byte ≤ p.to_byte) self.old }
         requires block { by.from ≤ by.end }
@@ -166,60 +171,51 @@ impl Ranges {
         ensures value { self.new ≡ map (carried by.low by.from by.dest) self.old }
     {
         let first = self.count_by(by.low);
+        if first == self.count {
+            return;
+        }
         let reach = self.reach(first);
-        carry_each(
-            &mut self.pieces,
-            &mut self.reaches,
-            first,
-            self.count,
-            reach,
-            by,
-        );
+        carry_each(&mut self.kept, first, self.count, reach, by);
     }
 }
 
 // Carries the pieces from the first that a move can reach, and says anew by what they end.
-fn carry_each(
-    pieces: &mut Vec<Piece>,
-    reaches: &mut Vec<usize>,
-    first: usize,
-    count: usize,
-    reach: usize,
-    by: Move,
-)
+fn carry_each(kept: &mut Vec<Kept>, first: usize, count: usize, reach: usize, by: Move)
     requires first { first ≤ count }
-    requires reached { AreReached pieces.old.items reaches.old.items count }
-    requires below { AllWithin (EndsBy by.low) pieces.old.items 0 first }
-    requires ends { AllWithin (EndsBy reach) pieces.old.items 0 first }
-    requires ordered { All (λ p. p.from_byte ≤ p.to_byte) (take count pieces.old.items) }
+    requires reached { AreReached (pieces_of kept.old.items) (reaches_of kept.old.items) count }
+    requires below { AllWithin (EndsBy by.low) (pieces_of kept.old.items) 0 first }
+    requires ends { AllWithin (EndsBy reach) (pieces_of kept.old.items) 0 first }
+    requires ordered { All (λ p. p.from_byte ≤ p.to_byte) (take count (pieces_of kept.old.items)) }
     requires block { by.from ≤ by.end }
-    requires apart { All (IsApart by.low by.from by.end) (take count pieces.old.items) }
+    requires apart { All (IsApart by.low by.from by.end) (take count (pieces_of kept.old.items)) }
     requires fits { by.dest + (by.end - by.from) < 2 ^ 64 }
-    ensures reached { AreReached pieces.new.items reaches.new.items count }
-    ensures value { take count pieces.new.items
-        ≡ map (carried by.low by.from by.dest) (take count pieces.old.items) }
+    ensures reached { AreReached (pieces_of kept.new.items) (reaches_of kept.new.items) count }
+    ensures value { take count (pieces_of kept.new.items)
+        ≡ map (carried by.low by.from by.dest) (take count (pieces_of kept.old.items)) }
 {
     let mut reach = reach;
     for i in first..count {
-        let piece = carry_one(pieces[i], &by);
+        let piece = carry_one(kept[i].piece, &by);
         reach = reached(reach, &piece);
-        put(pieces, reaches, i, &piece, reach);
+        put(kept, i, &piece, reach);
     }
 }
 
 // Puts a piece after the first ones. It and all before it end by a byte of the main text.
 #[inline(always)]
-fn put(pieces: &mut Vec<Piece>, reaches: &mut Vec<usize>, at: usize, piece: &Piece, end: usize)
-    requires reached { AreReached pieces.old.items reaches.old.items at }
-    requires room { at < length reaches.old.items }
-    requires ends { AllWithin (EndsBy end) pieces.old.items 0 at }
+fn put(kept: &mut Vec<Kept>, at: usize, piece: &Piece, end: usize)
+    requires reached { AreReached (pieces_of kept.old.items) (reaches_of kept.old.items) at }
+    requires room { at < length kept.old.items }
+    requires ends { AllWithin (EndsBy end) (pieces_of kept.old.items) 0 at }
     requires last { EndsBy end piece.now }
-    ensures reached { AreReached pieces.new.items reaches.new.items (at + 1) }
-    ensures value { pieces.new.items ≡ slice_set pieces.old.items at piece.now }
-    ensures long { length reaches.new.items ≡ length reaches.old.items }
+    ensures reached { AreReached (pieces_of kept.new.items) (reaches_of kept.new.items) (at + 1) }
+    ensures value { pieces_of kept.new.items ≡ slice_set (pieces_of kept.old.items) at piece.now }
+    ensures long { length kept.new.items ≡ length kept.old.items }
 {
-    pieces[at] = *piece;
-    reaches[at] = end;
+    kept[at] = Kept {
+        piece: *piece,
+        reach: end,
+    };
 }
 
 // A kept piece after the block was moved.
@@ -256,20 +252,18 @@ fn reached(end: usize, piece: &Piece) -> usize
 // More room, filled up with pieces of no bytes.
 #[cold]
 #[inline(never)]
-fn more(pieces: &mut Vec<Piece>, reaches: &mut Vec<usize>) -> Result<(), AllocError>
-    requires within { length reaches.old.items ≤ length pieces.old.items }
-    ensures pieces { take (length pieces.old.items) pieces.new.items ≡ pieces.old.items }
-    ensures reaches { take (length reaches.old.items) reaches.new.items ≡ reaches.old.items }
-    ensures longer { length reaches.old.items ≤ length reaches.new.items }
-    ensures within { length reaches.new.items ≤ length pieces.new.items }
-    ensures room { OnOk result (length reaches.old.items < length reaches.new.items) }
+fn more(kept: &mut Vec<Kept>) -> Result<(), AllocError>
+    ensures pieces { take (length kept.old.items) (pieces_of kept.new.items) ≡ pieces_of kept.old.items }
+    ensures reaches { take (length kept.old.items) (reaches_of kept.new.items) ≡ reaches_of kept.old.items }
+    ensures within { length kept.old.items ≤ length kept.new.items }
+    ensures room { OnOk result (length kept.old.items < length kept.new.items) }
 {
-    let Some(twice) = reaches.len().checked_mul(2) else {
+    let Some(want) = kept.len().checked_mul(2) else {
         return Err(AllocError);
     };
-    let want = twice.max(FIRST_ROOM);
-    if pieces.len() < want {
-        pieces.resize(want, Piece::whole_at(0, 0))?;
-    }
-    reaches.resize(want, 0)
+    let none = Kept {
+        piece: Piece::whole_at(0, 0),
+        reach: 0,
+    };
+    kept.resize(want.max(FIRST_ROOM), none)
 }
