@@ -41,7 +41,8 @@ fn assert_too_deep(rt: &impl Abort, alloc: Global, symbol: &str, entered: usize)
     assert_entered(rt, alloc, symbol, None, entered);
 }
 
-/// k local names, and `f` inside the innermost: depth k + 1. Each has a name after its encoding too, so 2k + 1 are read.
+/// k local names, and `f` inside the innermost: depth k + 1. Each has a name after its encoding too, so where they are
+/// read 2k + 1 are entered.
 #[test]
 fn names(rt: HostRuntime) {
     let symbol = nested(&rt, rt.alloc(), ["_Z", "Z", "1f", "E1x", ""], 127);
@@ -61,8 +62,8 @@ fn types(rt: HostRuntime) {
     assert_too_deep(&rt, rt.alloc(), &deeper, 128);
 }
 
-/// 42 names with a list each, pointers and `int`. Each name but the first is a type too, so with p pointers the depth is
-/// 2 + 3 * 41 + p + 1. Between two lists that close stands a space.
+/// 42 names with a list each, pointers and `int`. Each name but the first is a type too, so with p pointers the depth
+/// is 2 + 3 * 41 + p + 1. Between two lists that close stands a space.
 #[test]
 fn lists(rt: HostRuntime) {
     let symbol = nested(&rt, rt.alloc(), ["_Z", "1fI", "PPi", "E", ""], 42);
@@ -107,8 +108,8 @@ fn expressions(rt: HostRuntime) {
     assert_too_deep(&rt, rt.alloc(), &deeper, 128);
 }
 
-/// A name and its list; then 31 times a literal, its type, the type's name and that one's list; then pointers and `int`.
-/// With p pointers the depth is 2 + 4 * 31 + p + 1.
+/// A name and its list; then 31 times a literal, its type, the type's name and that one's list; then pointers and
+/// `int`. With p pointers the depth is 2 + 4 * 31 + p + 1.
 #[test]
 fn names_in_types_in_lists_in_expressions(rt: HostRuntime) {
     let symbol = nested(&rt, rt.alloc(), ["_Z1fI", "XL1AI", "Pi", "E1EE", "E"], 31);
@@ -160,9 +161,9 @@ fn a_return_type(rt: HostRuntime) {
     assert_too_deep(&rt, rt.alloc(), &deeper, 131);
 }
 
-/// 63 local names; each has the next one as its return type, and the last one pointers to `int`. There is no type around
-/// the first, so with p pointers the depth is 63 + 62 + p + 1. Each has the two of `f<>`, which are 126 in all, and 63
-/// names after the encodings are entered only where all of them are read.
+/// 63 local names; each has the next one as its return type, and the last one pointers to `int`. There is no type
+/// around the first, so with p pointers the depth is 63 + 62 + p + 1. Beside these each enters the two of `f<>`, which
+/// are 126 in all. The 63 names after the encodings are entered only where all of them are read.
 #[test]
 fn return_types_in_return_types(rt: HostRuntime) {
     let symbol = nested(&rt, rt.alloc(), ["_Z", "Z1fIE", "PPi", "vE1x", ""], 63);
@@ -172,8 +173,8 @@ fn return_types_in_return_types(rt: HostRuntime) {
 }
 
 /// k local names; each is the entity of a default argument of the one before it, which isn't printed, and the last one
-/// has the entity `x`: depth k + 1. The name `f` of each is as deep as its entity. So where k is 128, all local names and
-/// 127 of these are entered.
+/// has the entity `x`: depth k + 1. The name `f` of each is as deep as its entity. So where k is 128, all local names
+/// are entered and 127 of these.
 #[test]
 fn entities_of_default_arguments(rt: HostRuntime) {
     let symbol = repeated(&rt, rt.alloc(), "_Z", "Z1fvEd_", 127, "1x");
