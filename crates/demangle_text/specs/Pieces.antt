@@ -1,6 +1,7 @@
 -- How a piece lies in the two texts of a buffer.
 use Rattle.std.specs.Prelude.{◌≡◌, ℕ, Bool, min, max, true, false, ◌+◌, ◌-◌, ◌<◌, ◌≤◌, List, [], ◌∷◌, ◌++◌, length}
 use Rattle.std.specs.Prelude.{take, drop, slice_range, slice_index, nat_le, Option, Some, None, All, map}
+use Rattle.std.specs.List.{AllWithin}
 use Rattle.demangle_text.specs.declared.shape.Kind.{Kind}
 use Rattle.demangle_text.specs.declared.shape.Kind.TheVariants.{Array, Function}
 use Rattle.demangle_text.specs.declared.shape.Place.{Place}
@@ -204,10 +205,11 @@ pub record IsAside (main old_side new_side : List ℕ) (old_saved new_saved old_
 abbrev pub EndsBy : ℕ → Piece → Type 0
 EndsBy end p = lies_aside p.flags ≡ false → p.to_byte ≤ end
 
--- the first pieces of a list are there, and end by a byte
-pub record IsBounded (pieces : List Piece) (count end : ℕ) : Type 0 where
-  pub within : count ≤ length pieces
-  pub ends : All (EndsBy end) (take count pieces)
+-- each of the first pieces of a list ends by the byte that stands at its index, and so do all before it
+pub record AreReached (pieces : List Piece) (reaches : List ℕ) (count : ℕ) : Type 0 where
+  pub within : count ≤ length reaches
+  pub room : length reaches ≤ length pieces
+  pub ends : (i : ℕ) → i < count → AllWithin (EndsBy (slice_index reaches i)) pieces 0 (i + 1)
 
 -- where a place lies after the block that begins at `from` was moved to `dest`: what ends by `low` stays
 abbrev pub carried_from : Bool → Bool → ℕ → ℕ → ℕ → ℕ

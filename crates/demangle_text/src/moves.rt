@@ -1,11 +1,12 @@
 //! What a move of bytes in the main text does to the pieces that are kept.
 ghost use Rattle.std.specs.Prelude.{◌≡◌, ℕ, ◌+◌, ◌-◌, ◌^◌, ◌<◌, ◌≤◌, ◌++◌, length, slice_range, All, map, IfOk, OnOk};
 ghost use Rattle.std.specs.Prelude.{OnErr, true, false};
+ghost use Rattle.std.specs.List.{AllWithin};
 ghost use Rattle.demangle_text.specs.Flags.{lies_aside};
-ghost use Rattle.demangle_text.specs.Pieces.{IsPiece, IsApart, IsAside, Extends, shape_in, outline_of, carried};
+ghost use Rattle.demangle_text.specs.Pieces.{IsPiece, IsApart, IsAside, EndsBy, Extends, shape_in, outline_of, carried};
 
 use crate::flags::in_side;
-use crate::ranges::Ranges;
+use crate::ranges::{Move, Ranges};
 use crate::shape::Piece;
 use crate::text::Text;
 use std::alloc::AllocError;
@@ -45,6 +46,7 @@ fn evict_one(
     ensures lies { IfOk result (IsPiece main.now side.new) }
     ensures shape { IfOk result (λ p. shape_in main.now side.new p ≡ shape_in main.now side.old piece) }
     ensures apart { IfOk result (IsApart low from to) }
+    ensures ends { IfOk result (λ p. (end : ℕ) → EndsBy end piece → EndsBy end p) }
 {
     if piece.is_aside() || piece.to_byte <= low {
         return Ok(piece);
@@ -72,29 +74,30 @@ pub(crate) fn evict(
     ensures long { length pieces.new ≡ length pieces.old }
     ensures apart { OnOk result (All (IsApart low from to) pieces.new) }
 {
-    if pieces.end_by(low) {
-        return Ok(());
-    }
-    evict_each(main, side, pieces, low, from, to)
+    let first = pieces.count_by(low);
+    evict_each(main, side, pieces, first, low, from, to)
 }
 
-// The same, piece by piece.
+// The same from the first piece on that a move can reach, piece by piece.
 fn evict_each(
     main: &[u8],
     side: &mut Text,
     pieces: &mut Ranges,
+    first: usize,
     low: usize,
     from: usize,
     to: usize,
 ) -> Result<(), AllocError>
     requires lie { All (IsPiece main.now side.old) pieces.old }
+    requires first { first ≤ length pieces.old }
+    requires below { AllWithin (EndsBy low) pieces.old 0 first }
     ensures side { Extends side.old side.new }
     ensures lie { All (IsPiece main.now side.new) pieces.new }
     ensures shapes { map (shape_in main.now side.new) pieces.new ≡ map (shape_in main.now side.old) pieces.old }
     ensures long { length pieces.new ≡ length pieces.old }
     ensures apart { OnOk result (All (IsApart low from to) pieces.new) }
 {
-    for i in 0..pieces.len() {
+    for i in first..pieces.len() {
         let piece = evict_one(main, side, pieces.at(i), low, from, to)?;
         pieces.set(i, piece);
     }
@@ -121,25 +124,7 @@ pub(crate) fn set_apart(
     evict(main, side, args, low, from, to)
 }
 
-// A kept piece after the block was moved to `dest`.
-fn carry_one(piece: Piece, low: usize, from: usize, to: usize, dest: usize) -> Piece
-    requires ordered { piece.from_byte ≤ piece.to_byte }
-    requires block { from ≤ to }
-    requires apart { IsApart low from to piece }
-    requires fits { dest + (to - from) < 2 ^ 64 }
-    ensures value { result ≡ carried low from dest piece }
-{
-    if piece.is_aside() || piece.to_byte <= low {
-        return piece;
-    }
-    Piece {
-        from_byte: dest + (piece.from_byte - from),
-        to_byte: dest + (piece.to_byte - from),
-        ..piece
-    }
-}
-
-// Carries all pieces of a list that lie in the block.
+// Carries all pieces of a list that lie in the block, which was moved to `dest`.
 #[inline(always)]
 pub(crate) fn carry(pieces: &mut Ranges, low: usize, from: usize, to: usize, dest: usize)
     requires ordered { All (λ p. p.from_byte ≤ p.to_byte) pieces.old }
@@ -148,23 +133,10 @@ pub(crate) fn carry(pieces: &mut Ranges, low: usize, from: usize, to: usize, des
     requires fits { dest + (to - from) < 2 ^ 64 }
     ensures value { pieces.new ≡ map (carried low from dest) pieces.old }
 {
-    if pieces.end_by(low) {
-        return;
-    }
-    carry_each(pieces, low, from, to, dest);
-}
-
-// The same, piece by piece.
-fn carry_each(pieces: &mut Ranges, low: usize, from: usize, to: usize, dest: usize)
-    requires ordered { All (λ p. p.from_byte ≤ p.to_byte) pieces.old }
-    requires block { from ≤ to }
-    requires apart { All (IsApart low from to) pieces.old }
-    requires fits { dest + (to - from) < 2 ^ 64 }
-    ensures value { pieces.new ≡ map (carried low from dest) pieces.old }
-{
-    for i in 0..pieces.len() {
-        let piece = carry_one(pieces.at(i), low, from, to, dest);
-        pieces.set(i, piece);
-    }
-    pieces.bound(low.max(dest + (to - from)));
+    pieces.carry(Move {
+        low: low,
+        from: from,
+        end: to,
+        dest: dest,
+    });
 }

@@ -1,7 +1,8 @@
 //! A list of pieces that grows: the front of a vector that is as long as what is reserved.
-ghost use Rattle.std.specs.Prelude.{◌≡◌, ℕ, ◌+◌, ◌-◌, ◌<◌, ◌≤◌, List, [], ◌∷◌, ◌++◌, length, take, slice_get, OnOk};
-ghost use Rattle.std.specs.Prelude.{OnErr, All, true, drop, slice_set, slice_index_or};
-ghost use Rattle.demangle_text.specs.Pieces.{EndsBy};
+ghost use Rattle.std.specs.Prelude.{◌≡◌, ℕ, ◌+◌, ◌-◌, ◌^◌, ◌<◌, ◌≤◌, List, [], ◌∷◌, ◌++◌, length, take, slice_get};
+ghost use Rattle.std.specs.Prelude.{OnOk, OnErr, All, map, drop, slice_set, slice_index_or};
+ghost use Rattle.std.specs.List.{AllWithin, HoldsAt};
+ghost use Rattle.demangle_text.specs.Pieces.{EndsBy, IsApart, AreReached, carried};
 
 use crate::shape::Piece;
 use std::alloc::{AllocError, Global};
@@ -13,9 +14,18 @@ const FIRST_ROOM: usize = 16;
 #[derive(Drop)]
 pub(crate) struct Ranges {
     pieces: Vec<Piece>,
+    // For each kept piece a byte of the main text by which it ends, and all before it.
+    reaches: Vec<usize>,
     count: usize,
-    // Those in the main text end by this byte.
-    end: usize,
+}
+
+// A block of the main text, and where it goes. What ends by `low` stays.
+#[derive(Clone, Copy)]
+pub(crate) struct Move {
+    pub(crate) low: usize,
+    pub(crate) from: usize,
+    pub(crate) end: usize,
+    pub(crate) dest: usize,
 }
 
 impl Model for Ranges {
@@ -26,9 +36,9 @@ impl Model for Ranges {
 
     ghost view = { λ r. take r.count r.pieces.items };
 
-    ghost use Rattle.demangle_text.specs.Pieces.{IsBounded};
+    ghost use Rattle.demangle_text.specs.Pieces.{AreReached};
 
-    ghost invariant = { λ r. IsBounded r.pieces.items r.count r.end };
+    ghost invariant = { λ r. AreReached r.pieces.items r.reaches.items r.count };
 }
 
 impl Ranges {
@@ -37,8 +47,8 @@ impl Ranges {
     {
         Ranges {
             pieces: Vec::new(alloc),
+            reaches: Vec::new(alloc),
             count: 0,
-            end: 0,
         }
     }
 
@@ -55,26 +65,29 @@ impl Ranges {
         ensures empty { self.new ≡ [] }
     {
         self.count = 0;
-        self.end = 0;
     }
 
-    // Whether no piece reaches past a byte of the main text, as far as is known.
+    // A byte of the main text by which the first n pieces end.
     #[inline(always)]
-    pub(crate) fn end_by(&self, at: usize) -> bool
-        ensures ends { result ≡ true → All (EndsBy at) self.now }
+    fn reach(&self, n: usize) -> usize
+        requires within { n ≤ length self.now }
+        ensures ends { AllWithin (EndsBy result) self.now 0 n }
+        ensures none { n ≡ 0 → result ≡ 0 }
     {
-        self.end <= at
+        if n == 0 { 0 } else { self.reaches[n - 1] }
     }
 
-    // Makes known that no piece reaches past a byte of the main text.
+    // How many of the first pieces a move of what lies after a byte of the main text leaves where they are.
     #[inline(always)]
-    pub(crate) fn bound(&mut self, end: usize)
-        requires ends { All (EndsBy end) self.old }
-        ensures same { self.new ≡ self.old }
+    pub(crate) fn count_by(&self, low: usize) -> usize
+        ensures within { result ≤ length self.now }
+        ensures ends { AllWithin (EndsBy low) self.now 0 result }
     {
-        if end < self.end {
-            self.end = end;
+        let mut n = self.count;
+        while low < self.reach(n) {
+            n -= 1;
         }
+        n
     }
 
     // The first n pieces are kept.
@@ -118,12 +131,13 @@ impl Ranges {
         }
     }
 
+    // A piece in the place of one. It ends by each byte by which that one ends.
     pub(crate) fn set(&mut self, i: usize, piece: Piece)
         requires within { i < length self.old }
+        requires ends { (end : ℕ) → HoldsAt (EndsBy end) self.old i → EndsBy end piece }
         ensures value { self.new ≡ slice_set self.old i piece }
     {
         self.pieces[i] = piece;
-        self.end = reached(self.end, &piece);
     }
 
     // A piece at the end. It is read where it is kept, once there is room. All end by a byte of the main text.
@@ -135,13 +149,94 @@ impl Ranges {
         ensures err { OnErr result (self.new ≡ self.old) }
     {
         let at = self.count;
-        if at == self.pieces.len() {
-            more(&mut self.pieces)?;
+        if at == self.reaches.len() {
+            more(&mut self.pieces, &mut self.reaches)?;
         }
-        self.pieces[at] = *piece;
+        put(&mut self.pieces, &mut self.reaches, at, piece, end);
         self.count = at + 1;
-        self.end = end;
         Ok(())
+    }
+
+    // Carries the pieces that lie in a block that is moved.
+    pub(crate) fn carry(&mut self, by: Move)
+        requires ordered { All (λ p. p.from_byte ≤ p.to_byte) self.old }
+        requires block { by.from ≤ by.end }
+        requires apart { All (IsApart by.low by.from by.end) self.old }
+        requires fits { by.dest + (by.end - by.from) < 2 ^ 64 }
+        ensures value { self.new ≡ map (carried by.low by.from by.dest) self.old }
+    {
+        let first = self.count_by(by.low);
+        let reach = self.reach(first);
+        carry_each(
+            &mut self.pieces,
+            &mut self.reaches,
+            first,
+            self.count,
+            reach,
+            by,
+        );
+    }
+}
+
+// Carries the pieces from the first that a move can reach, and says anew by what they end.
+fn carry_each(
+    pieces: &mut Vec<Piece>,
+    reaches: &mut Vec<usize>,
+    first: usize,
+    count: usize,
+    reach: usize,
+    by: Move,
+)
+    requires first { first ≤ count }
+    requires reached { AreReached pieces.old.items reaches.old.items count }
+    requires below { AllWithin (EndsBy by.low) pieces.old.items 0 first }
+    requires ends { AllWithin (EndsBy reach) pieces.old.items 0 first }
+    requires ordered { All (λ p. p.from_byte ≤ p.to_byte) (take count pieces.old.items) }
+    requires block { by.from ≤ by.end }
+    requires apart { All (IsApart by.low by.from by.end) (take count pieces.old.items) }
+    requires fits { by.dest + (by.end - by.from) < 2 ^ 64 }
+    ensures reached { AreReached pieces.new.items reaches.new.items count }
+    ensures value { take count pieces.new.items
+        ≡ map (carried by.low by.from by.dest) (take count pieces.old.items) }
+{
+    let mut reach = reach;
+    for i in first..count {
+        let piece = carry_one(pieces[i], &by);
+        reach = reached(reach, &piece);
+        put(pieces, reaches, i, &piece, reach);
+    }
+}
+
+// Puts a piece after the first ones. It and all before it end by a byte of the main text.
+#[inline(always)]
+fn put(pieces: &mut Vec<Piece>, reaches: &mut Vec<usize>, at: usize, piece: &Piece, end: usize)
+    requires reached { AreReached pieces.old.items reaches.old.items at }
+    requires room { at < length reaches.old.items }
+    requires ends { AllWithin (EndsBy end) pieces.old.items 0 at }
+    requires last { EndsBy end piece.now }
+    ensures reached { AreReached pieces.new.items reaches.new.items (at + 1) }
+    ensures value { pieces.new.items ≡ slice_set pieces.old.items at piece.now }
+    ensures long { length reaches.new.items ≡ length reaches.old.items }
+{
+    pieces[at] = *piece;
+    reaches[at] = end;
+}
+
+// A kept piece after the block was moved.
+fn carry_one(piece: Piece, by: &Move) -> Piece
+    requires ordered { piece.from_byte ≤ piece.to_byte }
+    requires block { by.now.from ≤ by.now.end }
+    requires apart { IsApart by.now.low by.now.from by.now.end piece }
+    requires fits { by.now.dest + (by.now.end - by.now.from) < 2 ^ 64 }
+    ensures value { result ≡ carried by.now.low by.now.from by.now.dest piece }
+{
+    if piece.is_aside() || piece.to_byte <= by.low {
+        return piece;
+    }
+    Piece {
+        from_byte: by.dest + (piece.from_byte - by.from),
+        to_byte: by.dest + (piece.to_byte - by.from),
+        ..piece
     }
 }
 
@@ -161,13 +256,20 @@ fn reached(end: usize, piece: &Piece) -> usize
 // More room, filled up with pieces of no bytes.
 #[cold]
 #[inline(never)]
-fn more(pieces: &mut Vec<Piece>) -> Result<(), AllocError>
-    ensures front { take (length pieces.old.items) pieces.new.items ≡ pieces.old.items }
-    ensures within { length pieces.old.items ≤ length pieces.new.items }
-    ensures room { OnOk result (length pieces.old.items < length pieces.new.items) }
+fn more(pieces: &mut Vec<Piece>, reaches: &mut Vec<usize>) -> Result<(), AllocError>
+    requires within { length reaches.old.items ≤ length pieces.old.items }
+    ensures pieces { take (length pieces.old.items) pieces.new.items ≡ pieces.old.items }
+    ensures reaches { take (length reaches.old.items) reaches.new.items ≡ reaches.old.items }
+    ensures longer { length reaches.old.items ≤ length reaches.new.items }
+    ensures within { length reaches.new.items ≤ length pieces.new.items }
+    ensures room { OnOk result (length reaches.old.items < length reaches.new.items) }
 {
-    let Some(want) = pieces.len().checked_mul(2) else {
+    let Some(twice) = reaches.len().checked_mul(2) else {
         return Err(AllocError);
     };
-    pieces.resize(want.max(FIRST_ROOM), Piece::whole_at(0, 0))
+    let want = twice.max(FIRST_ROOM);
+    if pieces.len() < want {
+        pieces.resize(want, Piece::whole_at(0, 0))?;
+    }
+    reaches.resize(want, 0)
 }

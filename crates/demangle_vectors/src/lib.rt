@@ -22,6 +22,8 @@ mod limits;
 #[cfg(test)]
 mod local_names;
 #[cfg(test)]
+mod long;
+#[cfg(test)]
 mod names;
 #[cfg(test)]
 mod own_names;

@@ -1,9 +1,22 @@
-use Rattle.std.proofs.Common.{◌<◌, length, ◌∙◌, arith}
+use Rattle.std.proofs.Common.{◌<◌, length, ◌∙◌, refl, sym, subst, rules, arith}
 use Rattle.std.proofs.lemmas.List.{length-set}
 use Rattle.std.proofs.lemmas.List.Elements.{AllWithin-more_set}
-use Rattle.demangle_text.specs.Pieces.{IsApart}
+use Rattle.demangle_text.specs.Pieces.{IsApart, EndsBy}
 use Rattle.demangle_text.proofs.States.{All-extends, replaced_lie, replaced_shapes, shapes-extends, Extends-trans}
+use Rattle.demangle_text.proofs.Reaches.{within-apart}
 use Rattle.demangle_text.proofs.moves.evict_each.Goals as goal
+
+pub loop-i-init : goal.loop-i-init
+loop-i-init c = record {
+  side = search rules;
+  lie = c.requires.lie;
+  shapes = refl;
+  long = refl;
+  apart = within-apart c.args.pieces.now c.args.low c.args.from c.args.to c.args.first c.requires.below;
+}
+
+pub set-requires-clause-ends : goal.set-requires-clause-ends
+set-requires-clause-ends c = λ end h. c.in_ok-piece.ensures.ends end (subst (EndsBy end) (sym c.at.ensures.value) (h c.at.result))
 
 pub returns-in_err-piece-clause-lie : goal.returns-in_err-piece-clause-lie
 returns-in_err-piece-clause-lie c = All-extends c.args.main.now c.loop-i.side _ c.evict_one.ensures.side c.loop-i.pieces c.loop-i.invariant.lie

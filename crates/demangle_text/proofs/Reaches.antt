@@ -1,0 +1,49 @@
+-- Bytes by which the first pieces of a list end.
+use Rattle.std.proofs.Common.{◌≡◌, ℕ, ◌-◌, ◌<◌, ◌≤◌, arith, List, ◌++◌, length, map, take, drop, set, get_or, sym, ap, ◌∙◌, subst, inl, inr}
+use Rattle.std.specs.List.{AllWithin, HoldsAt}
+use Rattle.std.proofs.lemmas.List.{get_or-take, get_or-drop, get_or-append_right, get_or-set_same, get_or-set_other, length-set, length-map, length-take, length-take-le, take-append-drop}
+use Rattle.std.proofs.lemmas.Bool.{cases_eq}
+use Rattle.demangle_text.specs.declared.shape.Piece.{Piece}
+use Rattle.demangle_text.specs.Pieces.{EndsBy, IsApart, AreReached, carried}
+use Rattle.demangle_text.proofs.Bounds.{carried-below}
+
+within-length : {X : Type 0} (n : ℕ) (xs : List X) (k : ℕ) → k < length (take n xs) → k < n
+within-length n xs k lt = omega (arith, lt, length-take n xs)
+
+pub within-ends : (xs : List Piece) (a b n : ℕ) → a ≤ b → AllWithin (EndsBy a) xs 0 n → AllWithin (EndsBy b) xs 0 n
+within-ends xs a b n le h k d low lt home = omega (arith, h k d low lt home, le)
+
+-- what ends by the byte isn't reached by a move of what lies after it
+pub within-apart : (xs : List Piece) (low from to n : ℕ) → AllWithin (EndsBy low) xs 0 n → AllWithin (IsApart low from to) xs 0 n
+within-apart xs low from to n h k d a b home above = absurd (omega (arith, h k d a b home, above))
+
+pub reached-fewer : (ps : List Piece) (rs : List ℕ) (c n : ℕ) → n ≤ c → AreReached ps rs c → AreReached ps rs n
+reached-fewer ps rs c n le h = record {
+  within = omega (arith, le, h.within);
+  room = h.room;
+  ends = λ i lt. h.ends i (omega (arith, lt, le));
+}
+
+-- a piece in the place of one, that ends by each byte by which that one ends
+pub reached-set : (ps : List Piece) (rs : List ℕ) (c i : ℕ) (p : Piece) → AreReached ps rs c → i < length ps → ((end : ℕ) → HoldsAt (EndsBy end) ps i → EndsBy end p) → AreReached (set ps i p) rs c
+reached-set ps rs c i p h there ends = record {
+  within = h.within;
+  room = omega (arith, h.room, length-set ps i p);
+  ends = λ j lt k d a b. elim (cases_eq k i) [
+    | inl e ↦
+        let is : get_or (set ps i p) k d ≡ p = ap (λ n. get_or (set ps i p) n d) e ∙ get_or-set_same ps i p d there in
+        subst (EndsBy (get_or rs j 0)) (sym is) (ends (get_or rs j 0) (λ o. subst (λ n. EndsBy (get_or rs j 0) (get_or ps n o)) e (h.ends j lt k o a b)))
+    | inr n ↦ subst (EndsBy (get_or rs j 0)) (sym (get_or-set_other ps i k p d n)) (h.ends j lt k d a b)
+  ];
+}
+
+-- where a list is written over up to an index, the element there is the old one
+pub over_at : (f : Piece → Piece) (xs ys : List Piece) (i : ℕ) (d : Piece) → i < length xs → ys ≡ map f (take i xs) ++ drop i xs → get_or ys i d ≡ get_or xs i d
+over_at f xs ys i d lt e =
+    let long : length (map f (take i xs)) ≡ i = length-map (take i xs) f ∙ length-take-le i xs (omega (arith, lt)) in
+    ap (λ v. get_or v i d) e ∙ get_or-append_right (map f (take i xs)) (drop i xs) i i d long (omega arith) ∙ get_or-drop i xs (i - i) d ∙ ap (λ n. get_or xs n d) (omega arith)
+
+-- the first pieces stay, since they end by the byte
+pub over_start : (low from dest : ℕ) (xs : List Piece) (n : ℕ) → AllWithin (EndsBy low) xs 0 n → xs ≡ map (carried low from dest) (take n xs) ++ drop n xs
+over_start low from dest xs n h =
+    sym (take-append-drop n xs) ∙ ap (λ v. v ++ drop n xs) (carried-below low from dest (take n xs) (λ k d lt. subst (EndsBy low) (sym (get_or-take n xs k d (within-length n xs k lt))) (h k d (omega arith) (within-length n xs k lt))))
