@@ -4,7 +4,6 @@
 //! The symbols of the tables are of compiled programs or made at random. Their rows were made from the definition of
 //! the grammar, by an independent model of it in another language. None is what this program answers.
 
-use crate::tables::repeated;
 use itanium_demangle::{Demangler, demangle_owned};
 use std::alloc::Global;
 use std::process::Abort;
@@ -648,19 +647,6 @@ fn expressions_are_counted(rt: HostRuntime) {
 fn thunks_are_counted(rt: HostRuntime) {
     let mut kept = Demangler::new();
     assert_costs(&rt, rt.alloc(), &mut kept, &[("_ZTh0_1fv", 2, 0, &[])]);
-    drop(kept);
-}
-
-/// The counts of a symbol that nests one production too many: 128 are entered, and the one that is refused isn't.
-#[test]
-fn refused_productions_are_not_entered(rt: HostRuntime) {
-    let mut kept = Demangler::new();
-    let pointers = repeated(&rt, rt.alloc(), "_Z1fI", "P", 126, "iEvv");
-    assert_prepared(&rt, rt.alloc(), &mut kept, &pointers, false);
-    assert_counts(&rt, &kept, 128, 1, "pointers");
-    let thunks = repeated(&rt, rt.alloc(), "_Z", "Th0_", 256, "1f");
-    assert_prepared(&rt, rt.alloc(), &mut kept, &thunks, false);
-    assert_counts(&rt, &kept, 128, 0, "thunks");
     drop(kept);
 }
 

@@ -1,6 +1,6 @@
 //! Literals, external names and expressions.
 
-use crate::tables::{assert_answers, assert_refused, assert_rows, assert_unread, repeated};
+use crate::tables::{assert_answers, assert_refused, assert_rows, assert_unread};
 use itanium_demangle::Demangler;
 
 #[test]
@@ -112,16 +112,6 @@ fn no_expressions(rt: HostRuntime) {
         "_Z1fIXplLi1EEEvv",
     ];
     assert_unread(&rt, rt.alloc(), symbols);
-}
-
-#[test]
-fn nested_expressions(rt: HostRuntime) {
-    let deepest = repeated(&rt, rt.alloc(), "_Z1fIX", "ng", 124, "Li1EEE");
-    let opened = repeated(&rt, rt.alloc(), "f<", "-(", 124, "1");
-    let answer = repeated(&rt, rt.alloc(), &opened, ")", 124, ">");
-    assert_answers(&rt, rt.alloc(), &[(&deepest, &answer)]);
-    let deeper = repeated(&rt, rt.alloc(), "_Z1fIX", "ng", 125, "Li1EEE");
-    assert_unread(&rt, rt.alloc(), &[&deeper]);
 }
 
 #[test]

@@ -10,9 +10,15 @@ mod counts;
 #[cfg(test)]
 mod declarators;
 #[cfg(test)]
+mod depth;
+#[cfg(test)]
+mod doubling;
+#[cfg(test)]
 mod expressions;
 #[cfg(test)]
 mod lent;
+#[cfg(test)]
+mod limits;
 #[cfg(test)]
 mod local_names;
 #[cfg(test)]

@@ -81,8 +81,25 @@ fn packs(rt: HostRuntime) {
             "_Z1fIJN3Foo3BarENS1_3BazERKS2_EEvv",
             "f<Foo::Bar, Foo::Bar::Baz, Foo::Bar::Baz const&>",
         ),
-        ("_Z1fIJM1DKFvN1N1TEOEEEvv", "f<void (D::*)(N::T) const &&>"),
+    ];
+    assert_answers(&rt, rt.alloc(), rows);
+}
+
+#[test]
+fn members_in_packs(rt: HostRuntime) {
+    let rows = &[
+        ("_Z1fIJM1DKFvN1N1TEEEEvv", "f<void (D::*)(N::T) const>"),
+        ("_Z1fIJM1DVFvN1N1TEEEEvv", "f<void (D::*)(N::T) volatile>"),
+        (
+            "_Z1fIJM1DVKFvN1N1TEEEEvv",
+            "f<void (D::*)(N::T) const volatile>",
+        ),
+        (
+            "_Z1fIJM1DKFvKN1N1TEEEEvv",
+            "f<void (D::*)(N::T const) const>",
+        ),
         ("_Z1fIJM1DFvN1N1TEREEEvv", "f<void (D::*)(N::T) &>"),
+        ("_Z1fIJM1DKFvN1N1TEOEEEvv", "f<void (D::*)(N::T) const &&>"),
     ];
     assert_answers(&rt, rt.alloc(), rows);
 }

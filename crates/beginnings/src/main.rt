@@ -1,0 +1,25 @@
+//! Asks the demangler symbols that were made to break it, and what is left of them when they are cut.
+//!
+//! A line of standard input is a symbol: each beginning of it is asked that ends between two characters. Or it is a
+//! record, with tabs between its fields: a symbol, the line that the filter writes for it, and where that is an answer,
+//! `entered`, `most_saved` and each component that is left. Then the symbol is asked, and its record must be the same.
+//! In a line `\t` stands for a tab.
+//!
+//! All is asked of a new value and of one that has answered all before it. One line for each failure is written, then
+//! `N passed, M failed`; with failures it ends with status 1. It takes no arguments.
+#![tactic(auto)]
+
+mod asked;
+mod record;
+
+use asked::Asked;
+use std::io::{self, BufRead, BufReader};
+use std::process::ExitCode;
+
+fn main(rt: HostRuntime) -> io::Result<ExitCode> {
+    let mut asked = Asked::new();
+    for line in BufReader::new(rt.alloc(), rt.reader())?.lines(rt.alloc()) {
+        asked.ask_line(&rt, line?.as_str())?;
+    }
+    asked.end(&rt)
+}
