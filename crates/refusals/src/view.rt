@@ -19,7 +19,8 @@ struct PieceView {
     ctor: bool,
 }
 
-/// The shapes of two pieces, of the first saved one and of the first argument of the last scope, and how many there are.
+/// The shapes of two pieces, of the first saved one and of the first two arguments of the last scope; how many shapes
+/// are saved and how many scopes are open; how long the main text is.
 #[derive(Clone, Copy, PartialEq, Eq)]
 pub struct BufferView {
     one: PieceView,
