@@ -4,7 +4,11 @@
 #![tactic(auto)]
 
 #[cfg(test)]
+mod failing;
+#[cfg(test)]
 mod filter;
 pub mod memory;
 #[cfg(test)]
 mod tally;
+#[cfg(test)]
+mod turns;

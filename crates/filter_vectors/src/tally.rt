@@ -55,6 +55,30 @@ impl Write for FailsOnce {
     }
 }
 
+/// A sink of std that takes two bytes, nothing at its second call, and then all.
+#[derive(Drop)]
+struct TakesNothingOnce {
+    bytes: Vec<u8>,
+    calls: u8,
+}
+
+impl Write for TakesNothingOnce {
+    fn write(&mut self, buf: &[u8]) -> io::Result<usize> {
+        self.calls = self.calls.saturating_add(1);
+        let count = match self.calls {
+            1 => buf.len().min(2),
+            2 => 0,
+            _ => buf.len(),
+        };
+        self.bytes.extend_from_slice(&buf[..count])?;
+        Ok(count)
+    }
+
+    fn flush(&mut self) -> io::Result<()> {
+        Ok(())
+    }
+}
+
 #[test]
 fn a_tally_reads_and_writes(rt: HostRuntime) {
     let mut source = Tally::new(b"x\ny".as_slice());
@@ -125,6 +149,20 @@ fn the_filter_ends_where_a_sink_fails_once(rt: HostRuntime) {
         assert_eq!(rt; outcome, Err(FilterFault::Write));
         assert_eq!(rt; inner.calls, 2);
     }
+}
+
+#[test]
+fn the_filter_ends_where_a_sink_takes_nothing(rt: HostRuntime) {
+    let mut inner = TakesNothingOnce {
+        bytes: Vec::new(rt.alloc()),
+        calls: 0,
+    };
+    let mut source = Tally::new(b"_Z3foo\nx\n".as_slice());
+    let outcome = filter(rt.alloc(), &mut source, &mut Tally::new(&mut inner));
+    assert_eq!(rt; outcome, Err(FilterFault::Write));
+    assert_eq!(rt; inner.bytes.as_slice(), b"fo".as_slice());
+    assert_eq!(rt; inner.calls, 2);
+    drop(inner);
 }
 
 #[test]

@@ -1,0 +1,88 @@
+//! What a buffer shows of two pieces, of what is saved and of the last scope.
+ghost use Rattle.demangle_text.specs.State.{IsLiving};
+
+use demangle_text::{Buffer, Kind, Piece};
+
+/// No piece that is looked at is longer.
+const TEXT_LEN: usize = 16;
+
+/// A shape: its text, at most 16 bytes of it, and how the text is cut.
+#[derive(Clone, Copy, PartialEq, Eq)]
+struct PieceView {
+    text: [u8; TEXT_LEN],
+    len: usize,
+    own: (usize, usize),
+    kind: Option<Kind>,
+    after: Option<usize>,
+    group: bool,
+    templ: bool,
+    ctor: bool,
+}
+
+/// The shapes of two pieces, of the first saved one and of the first two arguments of the last scope; how many shapes
+/// are saved and how many scopes are open; how long the main text is.
+#[derive(Clone, Copy, PartialEq, Eq)]
+pub struct BufferView {
+    one: PieceView,
+    other: PieceView,
+    saved: Option<PieceView>,
+    saved_len: usize,
+    arg: Option<PieceView>,
+    next_arg: Option<PieceView>,
+    scopes: usize,
+    main_len: usize,
+}
+
+/// The first bytes of a text.
+fn front(text: &[u8]) -> [u8; TEXT_LEN] {
+    let mut room = [0u8; TEXT_LEN];
+    let len = text.len().min(TEXT_LEN);
+    room[..len].copy_from_slice(&text[..len]);
+    room
+}
+
+fn piece_view(buf: &Buffer, piece: Piece) -> PieceView
+    requires living { IsLiving buf.now piece }
+{
+    PieceView {
+        text: front(buf.bytes(piece)),
+        len: buf.len(piece),
+        own: buf.own_range(piece),
+        kind: buf.kind(piece),
+        after: buf.after_at(piece),
+        group: buf.has_group(piece),
+        templ: buf.templ(piece),
+        ctor: buf.ctor(piece),
+    }
+}
+
+fn saved_view(buf: &Buffer, i: usize) -> Option<PieceView> {
+    match buf.saved(i) {
+        Some(piece) => Some(piece_view(buf, piece)),
+        None => None,
+    }
+}
+
+fn arg_view(buf: &Buffer, i: usize) -> Option<PieceView> {
+    match buf.arg(i) {
+        Some(piece) => Some(piece_view(buf, piece)),
+        None => None,
+    }
+}
+
+/// Looks at the buffer, and at two pieces that live.
+pub fn view_of(buf: &Buffer, one: Piece, other: Piece) -> BufferView
+    requires one { IsLiving buf.now one }
+    requires other { IsLiving buf.now other }
+{
+    BufferView {
+        one: piece_view(buf, one),
+        other: piece_view(buf, other),
+        saved: saved_view(buf, 0),
+        saved_len: buf.saved_len(),
+        arg: arg_view(buf, 0),
+        next_arg: arg_view(buf, 1),
+        scopes: buf.scopes(),
+        main_len: buf.main_bytes().len(),
+    }
+}
