@@ -192,7 +192,7 @@ const OWN_NAMES: [Row; 10] = [
         3,
         &["operator?:", "operator?:::{unnamed type#1}"],
     ),
-    ("_ZNUt1_1AE.cold", 1, 2, &["{unnamed type#2}"]),
+    ("_ZNUt1_1AE.cold", 1, 2, &["{unnamed type#3}"]),
     ("_ZNrVKOStUlE25_E", 1, 1, &[]),
     ("_ZUlE0_B1fIEDv4_f", 2, 1, &["{lambda()#2}[abi:f]"]),
     (
@@ -407,8 +407,12 @@ const EXPRESSIONS: [Row; 10] = [
 ];
 
 /// Special names.
-const SPECIALS: [Row; 10] = [
+const SPECIALS: [Row; 14] = [
     ("_ZTFDnDv4_f", 1, 0, &[]),
+    ("_ZTCin8_1A", 3, 1, &["A"]),
+    ("_ZTC1f1_S_", 3, 1, &["f"]),
+    ("_ZTCM1Ai0_i", 5, 2, &["A", "int A::*"]),
+    ("_ZTCN1TE1_l", 3, 1, &["T"]),
     (
         "_ZTIA_A2_KPFavE",
         6,

@@ -53,25 +53,26 @@ fn dimensions(rt: HostRuntime) {
     assert_unread(&rt, rt.alloc(), symbols);
 }
 
-/// `Ut` and a number is one more than the number.
+/// `Ut` and a number is two more than the number.
 #[test]
 fn unnamed_types(rt: HostRuntime) {
     let rows = &[
         (
-            "_ZN1AUt18446744073709551614_E",
+            "_ZN1AUt18446744073709551613_E",
             "A::{unnamed type#18446744073709551615}",
         ),
         (
-            "_ZN1AUt0018446744073709551614_E",
+            "_ZN1AUt0018446744073709551613_E",
             "A::{unnamed type#18446744073709551615}",
         ),
-        ("_ZN1AUt00_E", "A::{unnamed type#1}"),
-        ("_ZN1AUt0000000000000000000000001_E", "A::{unnamed type#2}"),
+        ("_ZN1AUt00_E", "A::{unnamed type#2}"),
+        ("_ZN1AUt0000000000000000000000001_E", "A::{unnamed type#3}"),
     ];
     assert_answers(&rt, rt.alloc(), rows);
     let symbols = &[
+        "_ZN1AUt18446744073709551614_E",
+        "_ZN1AUt0018446744073709551614_E",
         "_ZN1AUt18446744073709551615_E",
-        "_ZN1AUt0018446744073709551615_E",
         "_ZN1AUt18446744073709551616_E",
     ];
     assert_unread(&rt, rt.alloc(), symbols);
@@ -179,6 +180,32 @@ fn offsets(rt: HostRuntime) {
         "_ZTh18446744073709551616_1f",
         "_ZThn18446744073709551616_1f",
         "_ZTh0018446744073709551616_1f",
+    ];
+    assert_unread(&rt, rt.alloc(), symbols);
+}
+
+/// The offset of a construction vtable isn't printed.
+#[test]
+fn base_offsets(rt: HostRuntime) {
+    let rows = &[
+        (
+            "_ZTC1A18446744073709551615_1B",
+            "construction vtable for B-in-A",
+        ),
+        (
+            "_ZTC1An18446744073709551615_1B",
+            "construction vtable for B-in-A",
+        ),
+        (
+            "_ZTC1A0018446744073709551615_1B",
+            "construction vtable for B-in-A",
+        ),
+    ];
+    assert_answers(&rt, rt.alloc(), rows);
+    let symbols = &[
+        "_ZTC1A18446744073709551616_1B",
+        "_ZTC1An18446744073709551616_1B",
+        "_ZTC1A0018446744073709551616_1B",
     ];
     assert_unread(&rt, rt.alloc(), symbols);
 }

@@ -25,6 +25,9 @@ fn operators(rt: HostRuntime) {
 fn unnamed_types_and_lambdas(rt: HostRuntime) {
     let rows = &[
         ("_ZN3FooUt_3barEv", "Foo::{unnamed type#1}::bar"),
+        ("_ZN1AUt_E", "A::{unnamed type#1}"),
+        ("_ZN1AUt0_E", "A::{unnamed type#2}"),
+        ("_Z1fIN1AUt0_ES0_Evv", "f<A::{unnamed type#2}, A>"),
         ("_ZN1AUlvE0_E", "A::{lambda()#2}"),
         ("_ZN1AUlE_E", "A::{lambda()#1}"),
         ("_ZN3FooUlvE_3barEv", "Foo::{lambda()#1}::bar"),

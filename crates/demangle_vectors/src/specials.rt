@@ -72,21 +72,40 @@ fn reference_temporaries(rt: HostRuntime) {
 #[test]
 fn construction_vtables(rt: HostRuntime) {
     let rows = &[
-        ("_ZTCM1Ai1B", "construction vtable for int A::*-in-B"),
-        ("_ZTC1ES_v", "construction vtable for E-in-E"),
-        ("_ZTC2abl", "construction vtable for ab-in-long"),
-        ("_ZTC1TOu1f", "construction vtable for T-in-f&&"),
-        ("_ZTCA_1x2ab", "construction vtable for x []-in-ab"),
+        ("_ZTC1A16_1B", "construction vtable for B-in-A"),
+        ("_ZTC1An8_1B", "construction vtable for B-in-A"),
+        ("_ZTC1A0016_1B", "construction vtable for B-in-A"),
+        ("_ZTC1An0_1B", "construction vtable for B-in-A"),
+        ("_ZTCM1Ai0_1B", "construction vtable for B-in-int A::*"),
+        ("_ZTC1AIiE0_S_", "construction vtable for A-in-A<int>"),
+        ("_ZTC1E0_S_v", "construction vtable for E-in-E"),
+        ("_ZTC2ab0_l", "construction vtable for long-in-ab"),
+        ("_ZTC1T8_Ou1f", "construction vtable for f&&-in-T"),
+        ("_ZTCA_1xn16_2ab", "construction vtable for ab-in-x []"),
         (
-            "_ZTCRKP1xRA_1x",
-            "construction vtable for x* const&-in-x (&) []",
+            "_ZTCRKP1x0_RA_1x",
+            "construction vtable for x (&) []-in-x* const&",
         ),
         (
-            "_ZTCRDpbS0_.cold",
+            "_ZTCRDpb0_S0_.cold",
             "construction vtable for bool...&-in-bool...&.cold",
+        ),
+        (
+            "_ZZTC1A0_1BEs",
+            "construction vtable for B-in-A::string literal",
         ),
     ];
     assert_answers(&rt, rt.alloc(), rows);
+    let symbols = &[
+        "_ZTCM1Ai1B",
+        "_ZTC1A1B",
+        "_ZTC1A_1B",
+        "_ZTC1A0",
+        "_ZTC1A01B",
+        "_ZTC1A0_",
+        "_ZTC1An_1B",
+    ];
+    assert_unread(&rt, rt.alloc(), symbols);
 }
 
 #[test]
@@ -154,8 +173,8 @@ fn thunks_of_special_names(rt: HostRuntime) {
             "{virtual override thunk({virtual offset(-5, 1)}, reference temporary #0 for c&)}",
         ),
         (
-            "_ZThn007_TCA_1As",
-            "{virtual override thunk({offset(-7)}, construction vtable for A []-in-short)}",
+            "_ZThn007_TCA_1A0_s",
+            "{virtual override thunk({offset(-7)}, construction vtable for short-in-A [])}",
         ),
         (
             "_ZThn1_Thn10_NUlN1BC2C2EE28_E",

@@ -183,9 +183,9 @@ module _ (d : ℕ) (kinds : TypesComplete d) (bares : BareNamesComplete d) (thun
       rw (names_complete d bares _ _ _ _ _ a deep e m) (same_read (sym (shape-worded (special_text p.rest) t (special_close p.rest))) refl refl refl refl)
   special_as_complete (temporary_special {t = t} {number = k} a found) deep e m =
       rw (names_complete d bares _ _ _ _ _ a deep e m, found) (same_read (sym (shape-temporary_of k t)) refl refl refl refl)
-  special_as_complete (construction_special {t = t} {u = u} {c = c} a b) deep e m =
-      rw (kinds _ _ _ _ _ a (omega arith) e m, kinds _ _ _ _ _ b (omega arith) (e + c.count) (max m c.peak))
-      (same_read (sym (shape-construction_of t u)) refl refl (omega arith) (omega arith))
+  special_as_complete (construction_special {t = t} {u = u} {c = c} a found b) deep e m =
+      rw (kinds _ _ _ _ _ a (omega arith) e m, found, kinds _ _ _ _ _ b (omega arith) (e + c.count) (max m c.peak))
+      (same_read (sym (shape-construction_of u t)) refl refl (omega arith) (omega arith))
   special_as_complete (thunk_special a) deep e m = thunks _ _ _ _ _ a deep e m
 
   pub special_complete : {x : Context} {p q : Position} {t : Tree} {c : Cost} → SpecialAs (special_case p.rest) x p t q c → c.depth ≤ d → (e m : ℕ)

@@ -6,10 +6,10 @@ use Rattle.std.proofs.lemmas.Str.{IsUtf8-from_is_utf8, is_utf8-from_IsUtf8}
 use Rattle.std.specs.Prelude.{option_map}
 use Rattle.std.proofs.lemmas.Option.{some_pair_parts}
 use Rattle.demangle_text.specs.Shape.{Shape, text}
-use Rattle.itanium_syntax.specs.Scalars.{front_digits, weighted, number, index_of, unnamed_type_number, lambda_number, optional_number, source_name}
+use Rattle.itanium_syntax.specs.Scalars.{front_digits, weighted, number, index_of, ordinal, optional_number, source_name}
 use Rattle.itanium_grammar.specs.Answer.{after_prefix, start, outside, suffix, max_depth, IsAnswer}
 use Rattle.itanium_syntax.specs.Expressions.{literal_value}
-use Rattle.itanium_syntax.specs.Offsets.{thunk_offsets}
+use Rattle.itanium_syntax.specs.Offsets.{thunk_offsets, past_base_offset}
 use Rattle.itanium_reader.specs.Parser.{ParserState, begun, loop, component_turn, tag_turn, list_turn, typed_turn, types_turn, parse_unqualified, parse_substitution, parse_parameter, parse_nested, parse_bare_name, parse_encoding, parse_local, parse_thunk, parse_special, parse_primary, parse_expression, parse_argument, parse_name, parse_symbol}
 use Rattle.itanium_demangle.specs.Examples.{WorkedSymbols, e_acute}
 use Rattle.itanium_demangle.proofs.Symbols.{found_reading, found_none, no_prefix, not_read, printed}
@@ -44,7 +44,7 @@ not_text symbol inside answer prefix is = go (parse_symbol max_depth outside (be
         printed symbol inside 0 0 s after None prefix (found_reading max_depth outside (start inside) 0 0 s after e) (λ u. let yes = is_utf8-from_IsUtf8 (text s) u in cc)
 
 pub worked_symbols : WorkedSymbols
-unfolding parse_symbol parse_name parse_bare_name parse_encoding parse_local parse_thunk parse_special parse_primary parse_expression parse_argument literal_value thunk_offsets parse_nested loop component_turn tag_turn list_turn typed_turn types_turn parse_unqualified parse_substitution parse_parameter source_name number index_of unnamed_type_number lambda_number optional_number front_digits weighted digits is_utf8 chars lib.Utf8.encode
+unfolding parse_symbol parse_name parse_bare_name parse_encoding parse_local parse_thunk parse_special parse_primary parse_expression parse_argument literal_value thunk_offsets past_base_offset parse_nested loop component_turn tag_turn list_turn typed_turn types_turn parse_unqualified parse_substitution parse_parameter source_name number index_of ordinal optional_number front_digits weighted digits is_utf8 chars lib.Utf8.encode
 worked_symbols = record {
   nested = some_answer (codes "_ZN3Foo3barEv") (codes "N3Foo3barEv") (codes "Foo::bar") refl refl;
   reference_qualified = some_answer (codes "_ZNO3Foo3barEv") (codes "NO3Foo3barEv") (codes "Foo::bar &&") refl refl;
@@ -81,6 +81,7 @@ worked_symbols = record {
   expansion = some_answer (codes "_Z1fIDpiEvv") (codes "1fIDpiEvv") (codes "f<int...>") refl refl;
   literal_operator = some_answer (codes "_Zli4_fooe") (codes "li4_fooe") (codes "operator\"\" _foo") refl refl;
   unnamed_type = some_answer (codes "_ZN3FooUt_3barEv") (codes "N3FooUt_3barEv") (codes "Foo::{unnamed type#1}::bar") refl refl;
+  second_unnamed_type = some_answer (codes "_ZN1AUt0_E") (codes "N1AUt0_E") (codes "A::{unnamed type#2}") refl refl;
   tag_of_a_destructor = some_answer (codes "_ZN3FooD0B8nn180100Ev") (codes "N3FooD0B8nn180100Ev") (codes "Foo::~Foo[abi:nn180100]") refl refl;
   local_name = some_answer (codes "_ZZ1fvE1x") (codes "Z1fvE1x") (codes "f()::x") refl refl;
   string_literal = some_answer (codes "_ZZ1fvEss") (codes "Z1fvEss") (codes "f()::string literal") refl refl;
@@ -106,6 +107,8 @@ worked_symbols = record {
   cast_literal = some_answer (codes "_ZN3FooIiLm4EE3barEv") (codes "N3FooIiLm4EE3barEv") (codes "Foo<int, (unsigned long)4>::bar") refl refl;
   vtable_and_suffix = some_answer (codes "_ZTV3Foo.llvm.1") (codes "TV3Foo.llvm.1") (codes "{vtable(Foo)}.llvm.1") refl refl;
   guard_variable = some_answer (codes "_ZGVZ1fvE1x") (codes "GVZ1fvE1x") (codes "guard variable for f()::x") refl refl;
+  construction_vtable = some_answer (codes "_ZTC1A16_1B") (codes "TC1A16_1B") (codes "construction vtable for B-in-A") refl refl;
+  no_offset = no_reading (codes "_ZTC1A1B") (codes "TC1A1B") refl refl;
   thunk = some_answer (codes "_ZTh0_1fv") (codes "Th0_1fv") (codes "{virtual override thunk({offset(0)}, f)}") refl refl;
   covariant_thunk = some_answer (codes "_ZTcv0_n16_h8_N3Foo3barEv") (codes "Tcv0_n16_h8_N3Foo3barEv") (codes "{virtual override thunk({virtual offset(0, -16)}, {offset(8)}, Foo::bar)}") refl refl;
   negative_offset = some_answer (codes "_ZThn8_N3Foo3barEv") (codes "Thn8_N3Foo3barEv") (codes "{virtual override thunk({offset(-8)}, Foo::bar)}") refl refl;

@@ -5,9 +5,9 @@ use Rattle.std.specs.Prelude.{option_map, slice_get, is_some}
 use Rattle.demangle_text.specs.Shape.{Shape, plain_shape}
 use Rattle.itanium_syntax.specs.declared.context.Context.{Context}
 use Rattle.itanium_syntax.specs.declared.numerals.Radix.TheVariants.{Decimal, Base36}
-use Rattle.itanium_syntax.specs.Scalars.{optional_number, source_name, index_of, unnamed_type_number, lambda_number}
+use Rattle.itanium_syntax.specs.Scalars.{optional_number, source_name, index_of, ordinal}
 use Rattle.itanium_syntax.specs.Abbreviations.{abbreviation_of}
-use Rattle.itanium_syntax.specs.Offsets.{thunk_offsets}
+use Rattle.itanium_syntax.specs.Offsets.{thunk_offsets, past_base_offset}
 use Rattle.itanium_syntax.specs.Specials.{special_case}
 use Rattle.itanium_syntax.specs.Names.{source_text, symbol_case, name_case, unscoped_case, first_case, component_case, unqualified_case, free_case, tag_case, substitution_case, past_internal, past_name_quals, saves_first}
 use Rattle.itanium_syntax.specs.Args.{attached_case}
@@ -138,7 +138,7 @@ module _ (d : ℕ) (complete : TypesComplete d) (lists_are : ArgsComplete d) (ki
       let w : Within (FreeAs SourceName x p) d = record { tree = _; next = _; cost = _; reading = source_free found; deep = omega arith } in
       record { within = w; is = same_Some _ _ (sym is ∙ free_complete d lists_are complete w.reading w.deep e m) })
   free_sound UnnamedTypeName x p e m y is =
-      option_and_then_some _ (unnamed_type_number (drop 2 p.rest)) y is (λ b found _.
+      option_and_then_some _ (ordinal (drop 2 p.rest)) y is (λ b found _.
       let w : Within (FreeAs UnnamedTypeName x p) d = record { tree = _; next = _; cost = _; reading = unnamed_type_free found; deep = omega arith } in
       record { within = w; is = same_Some _ _ (sym is ∙ free_complete d lists_are complete w.reading w.deep e m) })
   free_sound LambdaName x p e m y is =
@@ -146,7 +146,7 @@ module _ (d : ℕ) (complete : TypesComplete d) (lists_are : ArgsComplete d) (ki
       let listed = typed_params_sound d complete kinds (params_case (drop 2 p.rest)) (inside_lambda x) (plain_shape (codes "{lambda(")) (skip 2 p) e m z params in
       let o = listed.within in
       let there = rw listed.is at ends in
-      option_and_then_some _ (lambda_number (drop 1 o.next.rest)) y there (λ b found _.
+      option_and_then_some _ (ordinal (drop 1 o.next.rest)) y there (λ b found _.
       let w : Within (FreeAs LambdaName x p) d = record { tree = _; next = _; cost = _; reading = lambda_free o.reading found; deep = omega (arith, o.deep) } in
       record { within = w; is = same_Some _ _ (sym is ∙ free_complete d lists_are complete w.reading w.deep e m) }))
   free_sound ConversionName x p e m y is =
@@ -364,9 +364,10 @@ module _ (d : ℕ) (complete : TypesComplete d) (bares_are : BareNamesComplete d
       let found = kinds x (skip 2 p) e m z read in
       let i = found.within in
       let there = rw found.is at more in
-      option_and_then_some _ (parse_type d x (state_at i.next (e + i.cost.count) (max m i.cost.peak))) y there (λ w other _.
-      let o = (kinds x i.next (e + i.cost.count) (max m i.cost.peak) w other).within in
-      record { tree = _; next = _; cost = _; reading = construction_special i.reading o.reading; deep = omega (arith, i.deep, o.deep) }))
+      option_and_then_some _ (past_base_offset i.next.rest) y there (λ r offset second.
+      option_and_then_some _ (parse_type d x (state_at (at r i.next) (e + i.cost.count) (max m i.cost.peak))) y second (λ w other _.
+      let o = (kinds x (at r i.next) (e + i.cost.count) (max m i.cost.peak) w other).within in
+      record { tree = _; next = _; cost = _; reading = construction_special i.reading offset o.reading; deep = omega (arith, i.deep, o.deep) })))
   special_as_sound ThunkSpecial x p e m y is =
       let i = (thunks x p e m y is).within in record { tree = _; next = _; cost = _; reading = thunk_special i.reading; deep = i.deep }
   special_as_sound NoSpecial x p e m y is = cc

@@ -47,6 +47,7 @@ pub record WorkedSymbols : Type 0 where
   pub expansion : IsAnswer (codes "_Z1fIDpiEvv") (Some (codes "f<int...>"))
   pub literal_operator : IsAnswer (codes "_Zli4_fooe") (Some (codes "operator\"\" _foo"))
   pub unnamed_type : IsAnswer (codes "_ZN3FooUt_3barEv") (Some (codes "Foo::{unnamed type#1}::bar"))
+  pub second_unnamed_type : IsAnswer (codes "_ZN1AUt0_E") (Some (codes "A::{unnamed type#2}"))
   pub tag_of_a_destructor : IsAnswer (codes "_ZN3FooD0B8nn180100Ev") (Some (codes "Foo::~Foo[abi:nn180100]"))
   pub local_name : IsAnswer (codes "_ZZ1fvE1x") (Some (codes "f()::x"))
   pub string_literal : IsAnswer (codes "_ZZ1fvEss") (Some (codes "f()::string literal"))
@@ -74,6 +75,8 @@ pub record WorkedSymbols : Type 0 where
   pub cast_literal : IsAnswer (codes "_ZN3FooIiLm4EE3barEv") (Some (codes "Foo<int, (unsigned long)4>::bar"))
   pub vtable_and_suffix : IsAnswer (codes "_ZTV3Foo.llvm.1") (Some (codes "{vtable(Foo)}.llvm.1"))
   pub guard_variable : IsAnswer (codes "_ZGVZ1fvE1x") (Some (codes "guard variable for f()::x"))
+  pub construction_vtable : IsAnswer (codes "_ZTC1A16_1B") (Some (codes "construction vtable for B-in-A"))
+  pub no_offset : IsAnswer (codes "_ZTC1A1B") None
   pub thunk : IsAnswer (codes "_ZTh0_1fv") (Some (codes "{virtual override thunk({offset(0)}, f)}"))
   pub covariant_thunk :
       IsAnswer (codes "_ZTcv0_n16_h8_N3Foo3barEv")

@@ -7,7 +7,7 @@ use Rattle.itanium_grammar.specs.Cases.{SymbolCase, SpecialCase, LiteralCase, Ex
 use Rattle.itanium_syntax.specs.Names.{first_case, component_case, unqualified_case}
 use Rattle.itanium_syntax.specs.Args.{args_case}
 use Rattle.itanium_syntax.specs.Types.{type_case, past_reference}
-use Rattle.itanium_syntax.proofs.Fronts.{IsAfter, Takes, after_none, after_drop, after_then, takes_then, after_takes, takes_takes, takes_drop, internal_after, initializer_after, cv_after, quals_after, reference_after, builtin_after, builtin_shorter, abbreviation_takes, index_takes, source_takes, optional_number_takes, constructor_some, destructor_some, std_shorter, components_end_shorter, arguments_end_shorter, unnamed_type_takes, lambda_takes, operator_takes, literal_value_takes, thunk_offsets_after}
+use Rattle.itanium_syntax.proofs.Fronts.{IsAfter, Takes, after_none, after_drop, after_then, takes_then, after_takes, takes_takes, takes_drop, internal_after, initializer_after, cv_after, quals_after, reference_after, builtin_after, builtin_shorter, abbreviation_takes, index_takes, source_takes, optional_number_takes, constructor_some, destructor_some, std_shorter, components_end_shorter, arguments_end_shorter, ordinal_takes, operator_takes, literal_value_takes, thunk_offsets_after, base_offset_takes}
 use Rattle.itanium_grammar.specs.Tree.{Tree, Operand}
 use Rattle.itanium_grammar.specs.Grammar.{Position, Cost, SpecialAs, Thunk, special_encoding, type_special, name_special, temporary_special, construction_special, thunk_special, thunk, special_symbol, Expression, ExpressionAs, OperandOf, LiteralAs, expression_argument, literal_argument, external_name, value_literal, expression, operand_of, pre_expression, address_expression, unary_expression, post_expression, binary_expression, greater_expression, conditional_expression, parameter_expression, literal_expression, SubstitutionAs, Substitution, Parameter, TaggedAs, UnqualifiedAs, Unqualified, FirstAs, Name, NameAs, Local, EntityAs, Encoding, EncodingAs, ReturnAs, SignatureAs, UnscopedAs, AttachedAs, Nested, Components, ComponentsAs, Args, Arguments, ArgumentsAs, ArgumentAs, TypeOf, TypeAs, CvAs, Function, ParamsAs, TypesAs, TypeAttachedAs, SymbolAs, Symbol, abbreviation_substitution, component_substitution, substitution, parameter, no_tag, next_tag, source_free, unnamed_type_free, lambda_free, conversion_free, literal_operator_free, operator_free, FreeAs, free_component, constructor_component, destructor_component, unqualified, parameter_first, std_first, substitution_first, name_first, name, nested_name, local_name, local, string_literal_entity, default_argument_entity, name_entity, encoding, name_encoding, no_return_type, some_return_type, no_signature, some_signature, unscoped_name, std_name, substitution_name, global_name, none_attached, args_attached, nested, components, end_of_components, args_component, name_component, args, arguments, end_of_arguments, one_more_argument, pack_argument, type_argument, Pack, PackedAs, pack, end_of_pack, one_more_packed, expansion_type, type, builtin_type, vendor_type, array_type, function_type, member_type, pointer_type, cv_type, elaborated_type, parameter_type, substitution_type, name_type, cv_function, cv_other, function, no_params, some_params, end_of_types, one_more_type, none_attached_to_type, args_attached_to_type, name_symbol, symbol}
 
@@ -56,7 +56,8 @@ mutual
   special_takes (name_special {p = p} a) = after_takes (after_drop 2 p.rest) (name_takes a)
   special_takes (temporary_special {p = p} {q = q} {number = k} {rest = r} a found) =
       takes_takes (after_takes (after_drop 2 p.rest) (name_takes a)) (index_takes Base36 q.rest (k, r) found)
-  special_takes (construction_special {p = p} a b) = after_takes (after_drop 2 p.rest) (takes_takes (type_takes a) (type_takes b))
+  special_takes (construction_special {p = p} {q = q} {rest = r} a found b) =
+      after_takes (after_drop 2 p.rest) (takes_takes (type_takes a) (takes_takes (base_offset_takes q.rest r found) (type_takes b)))
   special_takes (thunk_special a) = thunk_takes a
 
   pub thunk_takes : {x : Context} {p q : Position} {t : Tree} {c : Cost} → Thunk x p t q c → Takes q.rest p.rest
@@ -86,10 +87,10 @@ mutual
 
   free_takes : {case : FreeCase} {x : Context} {p q : Position} {t : Tree} {c : Cost} → FreeAs case x p t q c → Takes q.rest p.rest
   free_takes (source_free {p = p} {bytes = b} {rest = r} found) = source_takes p.rest (b, r) found
-  free_takes (unnamed_type_free {p = p} {k = k} {rest = r} found) = after_takes (after_drop 2 p.rest) (unnamed_type_takes (drop 2 p.rest) (k, r) found)
+  free_takes (unnamed_type_free {p = p} {k = k} {rest = r} found) = after_takes (after_drop 2 p.rest) (ordinal_takes (drop 2 p.rest) (k, r) found)
   free_takes (lambda_free {p = p} {q = q} {k = k} {rest = r} params found) =
       let front = after_then (after_then (after_drop 2 p.rest) (params_after params)) (after_drop 1 q.rest) in
-      after_takes front (lambda_takes (drop 1 q.rest) (k, r) found)
+      after_takes front (ordinal_takes (drop 1 q.rest) (k, r) found)
   free_takes (conversion_free {p = p} a) = after_takes (after_drop 2 p.rest) (type_takes a)
   free_takes (literal_operator_free {p = p} {bytes = b} {rest = r} found) = after_takes (after_drop 2 p.rest) (source_takes (drop 2 p.rest) (b, r) found)
   free_takes (operator_free {p = p} {text = o} found) = operator_takes p.rest o found

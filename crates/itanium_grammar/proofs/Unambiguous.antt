@@ -5,10 +5,11 @@ use Rattle.demangle_quals.specs.declared.quals.Quals.{Quals}
 use Rattle.itanium_syntax.specs.declared.context.Context.{Context}
 use Rattle.itanium_grammar.specs.Cases.{SymbolCase, SpecialCase, LiteralCase, ExpressionCase, NameCase, ReturnCase, SignatureCase, EntityCase, UnscopedCase, AttachedCase, FirstCase, ComponentCase, UnqualifiedCase, FreeCase, TagCase, SubstitutionCase, ArgsCase, ArgumentCase, TypeCase, CvCase, ParamsCase, TypesCase}
 use Rattle.itanium_syntax.specs.Names.{symbol_case, source_text, tag_case, past_name_quals, name_quals, saves_first, first_case}
-use Rattle.itanium_syntax.specs.Scalars.{lambda_number, index_of}
+use Rattle.itanium_syntax.specs.Scalars.{ordinal, index_of}
 use Rattle.itanium_syntax.specs.declared.numerals.Radix.TheVariants.{Base36}
 use Rattle.itanium_syntax.specs.Context.{inside_local}
 use Rattle.itanium_syntax.specs.Expressions.{is_external, literal_value, expression_text}
+use Rattle.itanium_syntax.specs.Offsets.{past_base_offset}
 use Rattle.itanium_syntax.specs.Specials.{special_text, special_close}
 use Rattle.itanium_syntax.specs.Encodings.{return_case, signature_case, entity_case}
 use Rattle.itanium_syntax.specs.Args.{attached_case, args_case}
@@ -126,10 +127,11 @@ mutual
       let same = one_name a b in
       let found = some_pair_parts _ _ _ _ (sym e ∙ ap (λ o. index_of Base36 o.rest) same.next ∙ g) in
       record { tree = ap₂ temporary_of found.0 same.tree; next = ap₂ at found.1 same.next; cost = same.cost }
-  one_special (construction_special {x = x} a b) (construction_special {r = r} {u = v} {d = d} f h) =
+  one_special (construction_special {x = x} a e b) (construction_special {r = r} {u = v} {d = d} f g h) =
       let first = one_type a f in
-      let same = one_type b (subst (λ o. TypeOf x o v r d) (sym first.next) h) in
-      record { tree = ap₂ construction_of first.tree same.tree; next = same.next; cost = ap₂ both first.cost same.cost }
+      let left = same_Some _ _ (sym e ∙ ap (λ o. past_base_offset o.rest) first.next ∙ g) in
+      let same = one_type b (subst (λ o. TypeOf x o v r d) (sym (ap₂ at left first.next)) h) in
+      record { tree = ap₂ construction_of same.tree first.tree; next = same.next; cost = ap₂ both first.cost same.cost }
   one_special (thunk_special a) (thunk_special b) = one_thunk a b
 
   one_thunk : {x : Context} {p q r : Position} {t u : Tree} {c d : Cost} → Thunk x p t q c → Thunk x p u r d → Same t u q r c d
@@ -180,7 +182,7 @@ mutual
   one_free (unnamed_type_free {p = p} e) (unnamed_type_free g) = same_text unnamed_text p (some_pair_parts _ _ _ _ (sym e ∙ g))
   one_free (lambda_free a e) (lambda_free b g) =
       let params = one_params a b in
-      let found = some_pair_parts _ _ _ _ (sym e ∙ ap (λ o. lambda_number (drop 1 o.rest)) params.next ∙ g) in
+      let found = some_pair_parts _ _ _ _ (sym e ∙ ap (λ o. ordinal (drop 1 o.rest)) params.next ∙ g) in
       record {
         tree = λ j. lambda_of (trees (params.tree j)) (found.0 j);
         next = λ j. at (found.1 j) (params.next j);

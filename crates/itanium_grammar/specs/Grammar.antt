@@ -11,7 +11,7 @@ use Rattle.itanium_syntax.specs.declared.abbreviations.Abbreviation.{Abbreviatio
 use Rattle.itanium_syntax.specs.declared.context.Context.{Context}
 use Rattle.itanium_syntax.specs.declared.numerals.Radix.TheVariants.{Decimal, Base36}
 use Rattle.itanium_grammar.specs.Cases.{SymbolCase, SpecialSymbol, NameSymbol, SpecialCase, TypeSpecial, NameSpecial, TemporarySpecial, ConstructionSpecial, ThunkSpecial, NameCase, NestedName, LocalName, UnscopedName, ReturnCase, NoReturnType, SomeReturnType, SignatureCase, NoSignature, SomeSignature, EntityCase, StringLiteralEntity, DefaultArgumentEntity, NameEntity, UnscopedCase, StdName, SubstitutionName, PlainName, AttachedCase, NoneAttached, ArgsAttached, FirstCase, ParameterFirst, StdFirst, SubstitutionFirst, NameFirst, ComponentCase, EndOfComponents, ArgsComponent, NameComponent, UnqualifiedCase, ConstructorName, DestructorName, FreeName, FreeCase, SourceName, UnnamedTypeName, LambdaName, ConversionName, LiteralOperatorName, OperatorName, TagCase, NoTag, NextTag, SubstitutionCase, AbbreviationSubstitution, ComponentSubstitution, ArgsCase, EndOfArguments, NextArgument, ArgumentCase, ExpressionArgument, PackArgument, LiteralArgument, TypeArgument, LiteralCase, ExternalName, ValueLiteral, ExpressionCase, PreExpression, AddressExpression, UnaryExpression, PostExpression, BinaryExpression, GreaterExpression, ConditionalExpression, ParameterExpression, LiteralExpression, TypeCase, BuiltinType, ExpansionType, VendorType, ArrayType, FunctionType, MemberType, PointerType, CvType, ElaboratedType, ParameterType, SubstitutionType, NameType, CvCase, CvFunction, CvOther, PlainFunction, ParamsCase, NoParams, SomeParams, TypesCase, EndOfTypes, NextType}
-use Rattle.itanium_syntax.specs.Scalars.{source_name, index_of, unnamed_type_number, lambda_number, optional_number}
+use Rattle.itanium_syntax.specs.Scalars.{source_name, index_of, ordinal, optional_number}
 use Rattle.itanium_syntax.specs.Operators.{operator_here}
 use Rattle.itanium_syntax.specs.Abbreviations.{abbreviation_of}
 use Rattle.itanium_syntax.specs.Context.{opens_scope, inside_type, inside_pack, inside_lambda, inside_local, inside_encoding}
@@ -19,7 +19,7 @@ use Rattle.itanium_syntax.specs.Names.{symbol_case, name_case, unscoped_case, fi
 use Rattle.itanium_syntax.specs.Bytes.{begins}
 use Rattle.itanium_syntax.specs.Expressions.{is_external, literal_case, literal_value, expression_text, expression_case}
 use Rattle.itanium_syntax.specs.declared.offsets.ThunkOffsets.{ThunkOffsets}
-use Rattle.itanium_syntax.specs.Offsets.{thunk_offsets}
+use Rattle.itanium_syntax.specs.Offsets.{thunk_offsets, past_base_offset}
 use Rattle.itanium_syntax.specs.Specials.{special_case, special_text, special_close}
 use Rattle.itanium_syntax.specs.Encodings.{return_case, signature_case, entity_case}
 use Rattle.itanium_syntax.specs.Args.{attached_case, args_case, argument_case}
@@ -249,12 +249,13 @@ mutual
         → Name false x (skip 2 p) t q c
         → index_of Base36 q.rest ≡ Some (number, rest)
         → SpecialAs TemporarySpecial x p (temporary_of number t) (at rest q) c
-    -- TC <type> <type>: the ABI's offset number between them isn't read
+    -- TC <type> <offset number> _ <base type>: the vtable of the base in the type; the number isn't printed
     construction_special :
-        {x : Context} {p q r : Position} {t u : Tree} {c d : Cost}
+        {x : Context} {p q r : Position} {t u : Tree} {c d : Cost} {rest : List ℕ}
         → TypeOf x (skip 2 p) t q c
-        → TypeOf x q u r d
-        → SpecialAs ConstructionSpecial x p (construction_of t u) r (both c d)
+        → past_base_offset q.rest ≡ Some rest
+        → TypeOf x (at rest q) u r d
+        → SpecialAs ConstructionSpecial x p (construction_of u t) r (both c d)
     -- a thunk
     thunk_special :
         {x : Context} {p q : Position} {t : Tree} {c : Cost}
@@ -350,13 +351,13 @@ mutual
     -- <unnamed-type-name> ::= Ut [<nonnegative number>] _
     unnamed_type_free :
         {x : Context} {p : Position} {k : ℕ} {rest : List ℕ}
-        → unnamed_type_number (drop 2 p.rest) ≡ Some (k, rest)
+        → ordinal (drop 2 p.rest) ≡ Some (k, rest)
         → FreeAs UnnamedTypeName x p (plain_text (unnamed_text k)) (at rest p) nothing
     -- <closure-type-name> ::= Ul <lambda-sig> E [<nonnegative number>] _
     lambda_free :
         {x : Context} {p q : Position} {ts : List Tree} {c : Cost} {k : ℕ} {rest : List ℕ}
         → ParamsAs (params_case (drop 2 p.rest)) false (inside_lambda x) (skip 2 p) ts q c
-        → lambda_number (drop 1 q.rest) ≡ Some (k, rest)
+        → ordinal (drop 1 q.rest) ≡ Some (k, rest)
         → FreeAs LambdaName x p (lambda_of (trees ts) k) (at rest q) c
     -- <operator-name> ::= cv <type>
     conversion_free :

@@ -10,7 +10,7 @@ use crate::types::{framed_type, read_type};
 use itanium_reader::{Reader, Stop};
 use itanium_syntax::context::Context;
 use itanium_syntax::names::{SymbolCase, symbol_case};
-use itanium_syntax::offsets::thunk_offsets;
+use itanium_syntax::offsets::{past_base_offset, thunk_offsets};
 use itanium_syntax::specials::{SpecialCase, special_case, special_close, special_text};
 
 /// `TV <type>`, `TT <type>`, `TI <type>`, `TS <type>` and `TF <type>`
@@ -84,7 +84,7 @@ pub(crate) fn read_temporary(
     reader.end_temporary()
 }
 
-/// `TC <type> <type>`
+/// `TC <type> <offset number> _ <base type>`
 #[tactic(auto, using(itanium_reader::proofs::Rules::buffers))]
 #[cycle(reader)]
 pub(crate) fn read_construction(
@@ -102,9 +102,13 @@ pub(crate) fn read_construction(
 {
     reader.skip(2);
     read_type(reader, depth, context)?;
-    let base = reader.found;
+    let class = reader.found;
+    let Some(rest) = past_base_offset(reader.rest) else {
+        return Err(Stop::Unread);
+    };
+    reader.rest = rest;
     framed_type(reader, depth, context)?;
-    reader.print_construction(base)?;
+    reader.print_construction(class)?;
     Ok(())
 }
 

@@ -12,14 +12,14 @@ use Rattle.demangle_edit.specs.Expressions.{literal_step, operand_shape, address
 use Rattle.demangle_edit.specs.Built.{listed_more, arguments_closed, lambda_closed, params_opened, params_closed}
 use Rattle.itanium_syntax.specs.declared.context.Context.{Context}
 use Rattle.itanium_syntax.specs.declared.numerals.Radix.TheVariants.{Decimal, Base36}
-use Rattle.itanium_syntax.specs.Scalars.{source_name, index_of, unnamed_type_number, lambda_number, optional_number}
+use Rattle.itanium_syntax.specs.Scalars.{source_name, index_of, ordinal, optional_number}
 use Rattle.itanium_syntax.specs.Operators.{operator_here}
 use Rattle.itanium_syntax.specs.Abbreviations.{abbreviation_of}
 use Rattle.itanium_syntax.specs.Context.{opens_scope, inside_type, inside_pack, inside_lambda, inside_local, inside_encoding}
 use Rattle.itanium_syntax.specs.Names.{symbol_case, name_case, unscoped_case, first_case, component_case, unqualified_case, free_case, tag_case, past_internal, past_initializer_letter, source_text, name_quals, past_name_quals, saves_first, substitution_case}
 use Rattle.itanium_syntax.specs.Bytes.{begins}
 use Rattle.itanium_syntax.specs.Expressions.{is_external, literal_case, literal_value, expression_text, expression_case}
-use Rattle.itanium_syntax.specs.Offsets.{thunk_offsets}
+use Rattle.itanium_syntax.specs.Offsets.{thunk_offsets, past_base_offset}
 use Rattle.itanium_syntax.specs.Specials.{special_case, special_text, special_close}
 use Rattle.itanium_syntax.specs.Encodings.{return_case, signature_case, entity_case, shows_words}
 use Rattle.itanium_syntax.specs.Args.{attached_case, args_case, argument_case}
@@ -186,7 +186,7 @@ typed_params_as SomeParams type list s = parse_typed type list s
 
 -- what is after the parameters of a lambda
 abbrev pub lambda_end : Shape → Parses Shape
-lambda_end list s = lambda_number (drop 1 s.rest) >>= λ found. Some (lambda_closed found.0 list, at found.1 s)
+lambda_end list s = ordinal (drop 1 s.rest) >>= λ found. Some (lambda_closed found.0 list, at found.1 s)
 
 -- <closure-type-name> after its Ul
 abbrev pub parse_lambda : Parses Shape → Parses Shape
@@ -196,7 +196,7 @@ parse_lambda type s =
 -- <unnamed-type-name> after its Ut
 abbrev pub parse_unnamed_type : Parses Shape
 parse_unnamed_type s =
-    unnamed_type_number s.rest >>= λ found. Some (plain_shape (unnamed_text found.0), at found.1 s)
+    ordinal s.rest >>= λ found. Some (plain_shape (unnamed_text found.0), at found.1 s)
 
 -- a conversion after its cv
 abbrev pub parse_conversion : Parses Shape → Parses Shape
@@ -380,10 +380,13 @@ temporary_end name s = index_of Base36 s.rest >>= λ found. Some (temporary_shap
 abbrev pub parse_temporary : Parses Shape → Parses Shape
 parse_temporary name s = name (skip 2 s) >>= λ t. temporary_end t.0 t.1
 
--- TC <type> <type>
+-- TC <type> <offset number> _ <base type>
 abbrev pub parse_construction : Parses Shape → Parses Shape
 parse_construction type s =
-    type (skip 2 s) >>= λ t. type t.1 >>= λ u. Some (construction_shape t.0 u.0, u.1)
+    type (skip 2 s) >>= λ t.
+    past_base_offset t.1.rest >>= λ rest.
+    type (at rest t.1) >>= λ u.
+    Some (construction_shape u.0 t.0, u.1)
 
 -- <special-name>, by what it begins with
 abbrev pub special_as : SpecialCase → Parses Shape → Parses Shape → Parses Shape → Parses Shape

@@ -15,7 +15,7 @@ use demangle_edit::{
 };
 use demangle_text::{Piece, Place};
 use itanium_syntax::names::{TagCase, past_initializer_letter, source_text, tag_case};
-use itanium_syntax::numerals::{lambda_number, unnamed_type_number};
+use itanium_syntax::numerals::ordinal;
 use itanium_syntax::operators::operator_here;
 use itanium_syntax::scalar::source_name;
 use std::alloc::AllocError;
@@ -255,7 +255,7 @@ impl<'a> Reader<'a> {
         ensures bounds { Bounds 2 result (state self.old) (state self.new) }
         ensures saved { SavedBounds 1 result (state self.old) (state self.new) }
     {
-        let Some((number, rest)) = unnamed_type_number(self.rest) else {
+        let Some((number, rest)) = ordinal(self.rest) else {
             return Err(Stop::Unread);
         };
         self.rest = rest;
@@ -310,7 +310,7 @@ impl<'a> Reader<'a> {
         ensures saved { SavedBounds 1 result (state self.old) (state self.new) }
     {
         self.skip(1);
-        let Some((number, rest)) = lambda_number(self.rest) else {
+        let Some((number, rest)) = ordinal(self.rest) else {
             return Err(Stop::Unread);
         };
         self.rest = rest;

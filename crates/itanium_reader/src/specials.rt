@@ -132,16 +132,16 @@ impl<'a> Reader<'a> {
         Ok(())
     }
 
-    /// The construction vtable of a type in the type that was found.
-    pub fn print_construction(&mut self, base: Piece) -> Result<(), AllocError>
-        requires base { IsLiving self.old.buffer.value base }
+    /// The construction vtable of the base that was found, in its type.
+    pub fn print_construction(&mut self, class: Piece) -> Result<(), AllocError>
+        requires class { IsLiving self.old.buffer.value class }
         requires living { IsLiving self.old.buffer.value self.old.found }
         ensures shape { OnOk result (Lives self.new.buffer.value self.new.found
-            (construction_shape (shape self.old.buffer.value base) (shape self.old.buffer.value self.old.found))) }
+            (construction_shape (shape self.old.buffer.value self.old.found) (shape self.old.buffer.value class))) }
         ensures state { OnOk result (state self.new ≡ state self.old) }
         ensures run { OnOk result (IsRun self.old.buffer.value self.new.buffer.value) }
     {
-        let class = self.found;
+        let base = self.found;
         let parts = [
             Glue::Text(b"construction vtable for "),
             Glue::Piece(base),

@@ -3,7 +3,7 @@ use Rattle.std.proofs.Common.{◌≡◌, ◌<◌, ◌≤◌, ℕ, suc, ◌+◌, 
 use Rattle.std.specs.Prelude.{◌==◌, ◌||◌, option_map}
 use Rattle.std.proofs.lemmas.List.{drop-drop}
 use Rattle.std.proofs.lemmas.Grind.{common_steps}
-use Rattle.std.proofs.lemmas.Option.{cond_some, option_and_then_some, some_pair_parts}
+use Rattle.std.proofs.lemmas.Option.{cond_some, option_and_then_some, some_pair_parts, same_Some}
 use Rattle.demangle_quals.specs.declared.quals.Pointer.{Pointer}
 use Rattle.itanium_syntax.specs.declared.abbreviations.Abbreviation.{Abbreviation}
 use Rattle.itanium_syntax.specs.declared.numerals.Radix.{Radix}
@@ -20,13 +20,13 @@ use Rattle.itanium_syntax.specs.declared.offsets.CallOffset.{CallOffset}
 use Rattle.itanium_syntax.specs.declared.offsets.CallOffset.TheVariants.{Plain, Virtual}
 use Rattle.itanium_syntax.specs.declared.offsets.ThunkOffsets.{ThunkOffsets}
 use Rattle.itanium_syntax.specs.declared.offsets.ThunkOffsets.TheVariants.{Single, Covariant}
-use Rattle.itanium_syntax.specs.Offsets.{with_sign, signed_number, signed_part, plain_offset, virtual_offset, call_offset, covariant_offsets, thunk_offsets}
+use Rattle.itanium_syntax.specs.Offsets.{with_sign, signed_number, signed_part, plain_offset, virtual_offset, call_offset, covariant_offsets, thunk_offsets, past_base_offset}
 use Rattle.itanium_syntax.specs.Specials.{special_case}
 use Rattle.itanium_syntax.specs.Encodings.{entity_case}
 use Rattle.itanium_syntax.specs.Args.{attached_case, args_case, argument_case}
 use Rattle.itanium_syntax.specs.Types.{type_case, types_case, cv_case, params_case, past_builtin, past_cv, past_reference}
 use Rattle.itanium_syntax.specs.Operators.{operator_here}
-use Rattle.itanium_syntax.specs.Scalars.{front_digits, digit_then, digit_of, weighted, base, numeral, number, source_name, past_underscore, next_number, index_by, index_of, unnamed_by, unnamed_type_number, lambda_number, optional_number_by, optional_number}
+use Rattle.itanium_syntax.specs.Scalars.{front_digits, digit_then, digit_of, weighted, base, numeral, number, source_name, past_underscore, next_number, index_by, index_of, ordinal, optional_number_by, optional_number}
 
 -- the rest lies after a front of the bytes
 pub record IsAfter (rest bytes : List ℕ) : Type 0 where
@@ -354,17 +354,9 @@ index_takes r bytes found e = go (past_underscore bytes) refl e
         option_and_then_some _ (next_number n.0) found more (λ i next there.
         takes_takes (numeral_takes r bytes n read) (after_number n i (past_underscore n.1) refl there)))
 
-pub unnamed_type_takes : (bytes : List ℕ) (found : ℕ × List ℕ) → unnamed_type_number bytes ≡ Some found → Takes found.1 bytes
-unfolding unnamed_type_number
-unnamed_type_takes bytes found e = go (past_underscore bytes) refl e
-  where
-    go : (o : Option (List ℕ)) → past_underscore bytes ≡ o → unnamed_by bytes o ≡ Some found → Takes found.1 bytes
-    go (Some rest) f g = let is : rest ≡ found.1 = (some_pair_parts 1 found.0 rest found.1 g).1 in rw (← is) (underscore_takes bytes rest f)
-    go None f g = index_takes Decimal bytes found g
-
-pub lambda_takes : (bytes : List ℕ) (found : ℕ × List ℕ) → lambda_number bytes ≡ Some found → Takes found.1 bytes
-unfolding lambda_number
-lambda_takes bytes found e = option_and_then_some _ (index_of Decimal bytes) found e (λ n read made. go n read (next_number n.0) made)
+pub ordinal_takes : (bytes : List ℕ) (found : ℕ × List ℕ) → ordinal bytes ≡ Some found → Takes found.1 bytes
+unfolding ordinal
+ordinal_takes bytes found e = option_and_then_some _ (index_of Decimal bytes) found e (λ n read made. go n read (next_number n.0) made)
   where
     go : (n : ℕ × List ℕ) → index_of Decimal bytes ≡ Some n → (o : Option ℕ) → option_map (λ k. (k, n.1)) o ≡ Some found → Takes found.1 bytes
     go n read None g = cc
@@ -464,3 +456,11 @@ thunk_offsets_after bytes found e = go (begins (codes "c") bytes) e
     go : (c : Bool) → (if c then covariant_offsets (drop 1 bytes) else option_map (λ a. (Single a.0, a.1)) (call_offset bytes)) ≡ Some found → IsAfter found.1 bytes
     go true f = (after_takes (after_drop 1 bytes) (covariant_offsets_takes (drop 1 bytes) found f)).after
     go false f = (single (call_offset bytes) refl f).after
+
+pub base_offset_takes : (bytes rest : List ℕ) → past_base_offset bytes ≡ Some rest → Takes rest bytes
+unfolding past_base_offset
+base_offset_takes bytes rest e = go (signed_part bytes) refl e
+  where
+    go : (o : Option (Signed × List ℕ)) → signed_part bytes ≡ o → option_map (λ n. n.1) o ≡ Some rest → Takes rest bytes
+    go None f g = cc
+    go (Some n) f g = let is : n.1 ≡ rest = same_Some _ _ g in rw (← is) (signed_part_takes bytes n f)

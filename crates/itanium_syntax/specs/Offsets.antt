@@ -1,4 +1,4 @@
--- Call offsets of thunks (Itanium C++ ABI 5.1.4).
+-- Call offsets of thunks, and the offset of a construction vtable (Itanium C++ ABI 5.1.4).
 use Rattle.std.specs.Prelude.{ℕ, List, Bool, not, ◌&&◌, ◌==◌, drop, codes, if◌then◌else◌, Option, None, option_and_then, option_map}
 use Rattle.itanium_syntax.specs.declared.numerals.Radix.TheVariants.{Decimal}
 use Rattle.itanium_syntax.specs.declared.offsets.Signed.{Signed}
@@ -48,3 +48,7 @@ unfoldable pub thunk_offsets : List ℕ → Option (ThunkOffsets × List ℕ)
 thunk_offsets bytes =
     if begins (codes "c") bytes then covariant_offsets (drop 1 bytes)
     else option_map (λ a. (Single a.0, a.1)) (call_offset bytes)
+
+-- <offset number> _ of a construction vtable: what is after it; the number isn't printed
+unfoldable pub past_base_offset : List ℕ → Option (List ℕ)
+past_base_offset bytes = option_map (λ n. n.1) (signed_part bytes)

@@ -70,18 +70,10 @@ index_by r bytes None =
 unfoldable pub index_of : Radix → List ℕ → Option (ℕ × List ℕ)
 index_of r bytes = index_by r bytes (past_underscore bytes)
 
--- after the `_` of an unnamed type without a number; else the number that follows it
-abbrev pub unnamed_by : List ℕ → Option (List ℕ) → Option (ℕ × List ℕ)
-unnamed_by bytes (Some rest) = Some (1, rest)
-unnamed_by bytes None = index_of Decimal bytes
-
--- [<nonnegative number>] _ of an <unnamed-type-name>: 1 where the number is left out, else the number that follows it
-unfoldable pub unnamed_type_number : List ℕ → Option (ℕ × List ℕ)
-unnamed_type_number bytes = unnamed_by bytes (past_underscore bytes)
-
--- [<nonnegative number>] _ of a <closure-type-name>: 1 where the number is left out, else the second number after it
-unfoldable pub lambda_number : List ℕ → Option (ℕ × List ℕ)
-lambda_number bytes = option_and_then (λ n. option_map (λ k. (k, n.1)) (next_number n.0)) (index_of Decimal bytes)
+-- [<nonnegative number>] _ of an <unnamed-type-name> or a <closure-type-name>: 1 where the number is left out, else
+-- the second number after it
+unfoldable pub ordinal : List ℕ → Option (ℕ × List ℕ)
+ordinal bytes = option_and_then (λ n. option_map (λ k. (k, n.1)) (next_number n.0)) (index_of Decimal bytes)
 
 -- after the `_` where the number is left out; else the number and `_`
 abbrev pub optional_number_by : List ℕ → Option (List ℕ) → Option (Option ℕ × List ℕ)

@@ -176,27 +176,12 @@ pub fn optional_number(bytes: &[u8]) -> Option<(Option<u64>, &[u8])>
     }
 }
 
-/// `[<nonnegative number>] _` of an `<unnamed-type-name>`: 1 where the number is left out, else the number that follows
-/// it, and what is after the `_`. `None` where no `_` ends it or the result is past 2^64 - 1.
-#[tactic(auto, unfolding(crate::specs::Scalars::unnamed_type_number))]
-pub fn unnamed_type_number(bytes: &[u8]) -> Option<(u64, &[u8])>
-    ensures value { option_map (λ found. (found.0, found.1.now)) result ≡ spec.unnamed_type_number bytes.now }
-    ensures shorter { IfSome result (λ found. length found.1.now < length bytes.now) }
-{
-    if let [b'_', rest @ ..] = bytes {
-        return Some((1, rest));
-    }
-    match index_of(Radix::Decimal, bytes) {
-        Some((number, rest)) => Some((number as u64, rest)),
-        None => None,
-    }
-}
-
-/// `[<nonnegative number>] _` of a `<closure-type-name>`: 1 where the number is left out, else the second number after
-/// it, and what is after the `_`. `None` where no `_` ends it or the result is past 2^64 - 1.
-#[tactic(auto, unfolding(crate::specs::Scalars::lambda_number))]
-pub fn lambda_number(bytes: &[u8]) -> Option<(u64, &[u8])>
-    ensures value { option_map (λ found. (found.0, found.1.now)) result ≡ spec.lambda_number bytes.now }
+/// `[<nonnegative number>] _` of an `<unnamed-type-name>` or a `<closure-type-name>`: 1 where the number is left out,
+/// else the second number after it, and what is after the `_`. `None` where no `_` ends it or the result is past
+/// 2^64 - 1.
+#[tactic(auto, unfolding(crate::specs::Scalars::ordinal))]
+pub fn ordinal(bytes: &[u8]) -> Option<(u64, &[u8])>
+    ensures value { option_map (λ found. (found.0, found.1.now)) result ≡ spec.ordinal bytes.now }
     ensures shorter { IfSome result (λ found. length found.1.now < length bytes.now) }
 {
     let Some((number, rest)) = index_of(Radix::Decimal, bytes) else {

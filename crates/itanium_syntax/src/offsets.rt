@@ -1,4 +1,5 @@
-//! Call offsets of thunks (Itanium C++ ABI 5.1.4, "Other Special Functions and Entities").
+//! Call offsets of thunks, and the offset of a construction vtable (Itanium C++ ABI 5.1.4, "Other Special Functions and
+//! Entities").
 ghost use Rattle.std.specs.Prelude.{◌≡◌, ◌<◌, ◌≤◌, IfSome, option_map, length, drop};
 ghost use Rattle.itanium_syntax.specs.Offsets as spec;
 
@@ -154,4 +155,17 @@ pub fn thunk_offsets(bytes: &[u8]) -> Option<(ThunkOffsets, &[u8])>
             None => None,
         },
     }
+}
+
+/// `<offset number> _` of a construction vtable: what is after it. `None` where it doesn't stand there or the number is
+/// past 2^64 - 1 on either side of 0.
+#[tactic(auto, unfolding(crate::specs::Offsets::past_base_offset))]
+pub fn past_base_offset(bytes: &[u8]) -> Option<&[u8]>
+    ensures value { option_map (λ rest. rest.now) result ≡ spec.past_base_offset bytes.now }
+    ensures shorter { IfSome result (λ rest. length rest.now < length bytes.now) }
+{
+    let Some((_, count)) = signed_part(bytes) else {
+        return None;
+    };
+    Some(&bytes[count..])
 }
