@@ -1,8 +1,8 @@
 -- The shapes of names.
-use Rattle.std.specs.Prelude.{ℕ, List, [], ◌++◌, length, codes, Bool, true, false, if◌then◌else◌, nat_eq}
+use Rattle.std.specs.Prelude.{ℕ, List, [], ◌++◌, length, codes, decimal, Bool, true, false, if◌then◌else◌, nat_eq}
 use Rattle.std.specs.List.{ends_with}
 use Rattle.demangle_text.specs.declared.shape.Place.TheVariants.{Start}
-use Rattle.demangle_text.specs.Shape.{Shape, Plain, text, flattened, inserted, appended, own_shape, flagged}
+use Rattle.demangle_text.specs.Shape.{Shape, Plain, text, plain_shape, flattened, inserted, appended, own_shape, flagged}
 use Rattle.demangle_quals.specs.declared.quals.Quals.{Quals}
 use Rattle.demangle_quals.specs.Quals.{words_text, reference_text, has_quals}
 use Rattle.demangle_edit.specs.Lists.{params_text}
@@ -10,6 +10,19 @@ use Rattle.demangle_edit.specs.Lists.{params_text}
 -- the leaf as a plain text, with its scope and `::` in front
 abbrev pub qualified : Shape → Shape → Shape
 qualified scope leaf = inserted Start (text scope ++ codes "::") (flattened leaf)
+
+-- the text of a scope with `::{default arg#k}::` after it, k being the number of a default argument
+abbrev pub default_arg_opened : Shape → ℕ → Shape
+default_arg_opened scope number =
+    plain_shape (text scope ++ (codes "::{default arg#" ++ (decimal number ++ codes "}::")))
+
+-- the entity as a plain text, with the text in front that opens its default argument
+abbrev pub default_arg_closed : Shape → Shape → Shape
+default_arg_closed opened entity = inserted Start (text opened) (flattened entity)
+
+-- the entity as a plain text, in the default argument of a scope with this number
+abbrev pub default_arg_shape : Shape → ℕ → Shape → Shape
+default_arg_shape scope number entity = default_arg_closed (default_arg_opened scope number) entity
 
 -- the constructor of a scope, or its destructor: the last own name is all after the `::`
 abbrev pub qualified_ctor : Shape → Bool → Shape

@@ -25,8 +25,8 @@ pub use crate::lists::{
     glue, list_next, open_arguments, open_params, separate,
 };
 pub use crate::names::{
-    apply_name_qualifiers, attach_template_args, format_params, qualify, qualify_ctor,
-    qualify_text, tag,
+    apply_name_qualifiers, attach_template_args, close_default_arg, default_arg, format_params,
+    open_default_arg, qualify, qualify_ctor, qualify_text, tag,
 };
 pub use crate::parts::Glue;
 pub use crate::types::{

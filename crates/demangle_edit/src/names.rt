@@ -4,9 +4,10 @@ ghost use Rattle.demangle_text.specs.Shape.{plain_shape};
 ghost use Rattle.demangle_text.specs.State.{IsLiving, shape, Lives, IsEdit};
 ghost use Rattle.demangle_edit.specs.Names.{qualified, qualified_ctor, angle_gap, attached, tagged};
 ghost use Rattle.demangle_edit.specs.Names.{encoding_shape, with_name_qualifiers};
+ghost use Rattle.demangle_edit.specs.Names.{default_arg_opened, default_arg_closed, default_arg_shape};
 
 use crate::appends::append_piece;
-use crate::lists::{close_params, list_more, open_params};
+use crate::lists::{append_number, close_params, list_more, open_params};
 use demangle_quals::{Quals, reference_bytes};
 use demangle_text::{Buffer, Piece};
 use std::alloc::AllocError;
@@ -51,6 +52,69 @@ pub fn qualify_text(buf: &mut Buffer, scope: Piece, text: &[u8]) -> Result<Piece
     let end = buf.len(whole);
     let named = buf.own_at(whole, before + 2, end);
     Ok(buf.with_flags(named, false, false))
+}
+
+/// What stands in front of an entity in a default argument of a scope: `scope::{default arg#k}::`, k being its number,
+/// as a plain piece, all of which is its last own name, with no flag set.
+///
+/// An error comes where memory is refused, and then only `clear` of the buffer is promised.
+#[tactic(auto, using(demangle_text::proofs::Laws::laws, crate::proofs::Insertions::insertions))]
+pub fn open_default_arg(buf: &mut Buffer, scope: Piece, number: u64) -> Result<Piece, AllocError>
+    requires scope { IsLiving buf.old scope }
+    ensures shape { IfOk result (λ p. Lives buf.new p (default_arg_opened (shape buf.old scope) number)) }
+    ensures edit { OnOk result (IsEdit buf.old buf.new) }
+{
+    let plain = buf.plain(scope);
+    let opened = buf.append(plain, b"::{default arg#")?;
+    let numbered = append_number(buf, opened, number)?;
+    let whole = buf.append(numbered, b"}::")?;
+    let all = buf.whole(whole);
+    Ok(buf.with_flags(all, false, false))
+}
+
+/// The entity after what opens its default argument, as a plain piece with the last own name and the flags of the
+/// entity.
+///
+/// An error comes where memory is refused, and then only `clear` of the buffer is promised.
+#[tactic(auto, using(demangle_text::proofs::Laws::laws))]
+pub fn close_default_arg(buf: &mut Buffer, opened: Piece, entity: Piece) -> Result<Piece, AllocError>
+    requires opened { IsLiving buf.old opened }
+    requires entity { IsLiving buf.old entity }
+    ensures shape { IfOk result (λ p. Lives buf.new p
+        (default_arg_closed (shape buf.old opened) (shape buf.old entity))) }
+    ensures edit { OnOk result (IsEdit buf.old buf.new) }
+{
+    let before = buf.len(opened);
+    let (from, to) = buf.own_range(entity);
+    let (templ, ctor) = (buf.templ(entity), buf.ctor(entity));
+    let whole = buf.join(opened, b"", entity)?;
+    // The check learns here that the length fits 64 bits, and so does each place in the text.
+    let _len = buf.len(whole);
+    let named = buf.own_at(whole, before + from, before + to);
+    Ok(buf.with_flags(named, templ, ctor))
+}
+
+/// The entity in a default argument of a scope, `scope::{default arg#k}::entity` with k for its number, as a plain
+/// piece with the last own name and the flags of the entity.
+///
+/// An error comes where memory is refused, and then only `clear` of the buffer is promised.
+#[tactic(auto, using(demangle_text::proofs::Laws::laws))]
+pub fn default_arg(
+    buf: &mut Buffer,
+    scope: Piece,
+    number: u64,
+    entity: Piece,
+) -> Result<Piece, AllocError>
+    requires scope { IsLiving buf.old scope }
+    requires entity { IsLiving buf.old entity }
+    ensures shape { IfOk result (λ p. Lives buf.new p
+        (default_arg_shape (shape buf.old scope) number (shape buf.old entity))) }
+    ensures edit { OnOk result (IsEdit buf.old buf.new) }
+{
+    let mark = buf.open();
+    let opened = open_default_arg(buf, scope, number)?;
+    let whole = close_default_arg(buf, opened, entity)?;
+    buf.close(mark, whole)
 }
 
 /// The constructor of a scope, `scope::name` with the last own name of the scope, or its

@@ -223,8 +223,8 @@ module _ (d : ℕ) (kinds : TypesComplete d) (bares : BareNamesComplete d) (thun
   entity_complete : {case : EntityCase} {waits : Bool} {x : Context} {t u : Tree} {p q : Position} {c : Cost} → EntityAs case waits x t p u q c → c.depth ≤ d → (e m : ℕ)
       → entity_as case (parse_bare_name d x) (shape_of t) (state_at p e m) ≡ given bare_of u q c e m
   entity_complete (string_literal_entity {t = t}) deep e m = same_read (bare-string_literal_of t) refl refl (omega arith) (omega arith)
-  entity_complete (default_argument_entity {t = t} found a) deep e m =
-      rw (found, bares false _ _ _ _ _ a deep e m) (same_read (bare-default_argument_of t) refl refl refl refl)
+  entity_complete (default_argument_entity {waits = waits} {t = t} {u = u} {number = k} found a) deep e m =
+      rw (found, bares waits _ _ _ _ _ a deep e m) (same_read (ap (λ s. (s, own_quals u)) (sym (bare-default_argument_of t k u))) refl refl refl refl)
   entity_complete (name_entity {waits = waits} {t = t} {u = u} a) deep e m =
       rw (bares waits _ _ _ _ _ a deep e m) (same_read (ap (λ s. (s, own_quals u)) (sym (bare-local_in t u))) refl refl refl refl)
 

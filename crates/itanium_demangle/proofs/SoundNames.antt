@@ -418,11 +418,10 @@ module _ (d : ℕ) (complete : TypesComplete d) (bares_are : BareNamesComplete d
       → entity_as case (parse_bare_name d x) (shape_of t) (state_at p e m) ≡ Some y → Within (EntityAs case waits x t p) d
   entity_sound StringLiteralEntity waits x t p e m y is = record { tree = _; next = _; cost = _; reading = string_literal_entity; deep = omega arith }
   entity_sound DefaultArgumentEntity waits x t p e m y is =
-      option_and_then_some _ (optional_number (drop 2 p.rest)) y is (λ n number more.
-      option_and_then_some _ (dropped (parse_bare_name d x (state_at (at n.1 p) e m))) y more (λ after named _.
-      option_and_then_some _ (parse_bare_name d x (state_at (at n.1 p) e m)) after named (λ z read _.
-      let i = (bares false x (at n.1 p) e m z read).within in
-      record { tree = _; next = _; cost = _; reading = default_argument_entity number i.reading; deep = i.deep })))
+      option_and_then_some _ (ordinal (drop 2 p.rest)) y is (λ n number more.
+      option_and_then_some _ (parse_bare_name d x (state_at (at n.1 p) e m)) y more (λ z read _.
+      let i = (bares waits x (at n.1 p) e m z read).within in
+      record { tree = _; next = _; cost = _; reading = default_argument_entity number i.reading; deep = i.deep }))
   entity_sound NameEntity waits x t p e m y is =
       option_and_then_some _ (parse_bare_name d x (state_at (skip 1 p) e m)) y is (λ z read _.
       let i = (bares waits x (skip 1 p) e m z read).within in

@@ -2,10 +2,11 @@
 use Rattle.std.proofs.Common.{◌≡◌, ℕ, ◌+◌, Bool, true, false, List, [], ◌++◌, length, drop, refl, ap, ap₂, ◌∙◌, sym, codes, if◌then◌else◌, arith, Option, Some, None}
 use Rattle.std.proofs.lemmas.List.{append_assoc, length-append}
 use Rattle.std.proofs.lemmas.Bool.Decides.{nat_tests}
-use Rattle.demangle_text.specs.Shape.{Shape, Plain, text, flattened, appended, moved}
+use Rattle.demangle_text.specs.declared.shape.Place.TheVariants.{Start}
+use Rattle.demangle_text.specs.Shape.{Shape, Plain, text, flattened, inserted, appended, moved}
 use Rattle.demangle_quals.specs.declared.quals.Quals.{Quals}
 use Rattle.demangle_quals.specs.Quals.{no_quals, has_quals, words_text, reference_text}
-use Rattle.demangle_edit.specs.Names.{qualified, with_name_qualifiers}
+use Rattle.demangle_edit.specs.Names.{qualified, default_arg_opened, default_arg_shape, with_name_qualifiers}
 use Rattle.itanium_syntax.specs.declared.context.Context.{Context}
 use Rattle.itanium_syntax.specs.Names.{name_case}
 use Rattle.itanium_syntax.specs.Encodings.{return_case, shows_words}
@@ -61,21 +62,24 @@ pub bare-string_literal_of : (encoding : Tree) → ◌≡◌ {A = Shape × Quals
 unfolding shape_as
 bare-string_literal_of encoding = refl
 
-pub bare-default_argument_of : (encoding : Tree) → ◌≡◌ {A = Shape × Quals} (shape_of encoding, no_quals) (bare_shape (default_argument_of encoding), own_quals (default_argument_of encoding))
+pub bare-default_argument_of : (encoding : Tree) (number : ℕ) (entity : Tree) → bare_shape (default_argument_of encoding number entity) ≡ default_arg_shape (shape_of encoding) number (bare_shape entity)
 unfolding shape_as
-bare-default_argument_of encoding = refl
+bare-default_argument_of encoding number entity = refl
 
 pub bare-local_in : (encoding entity : Tree) → bare_shape (local_in encoding entity) ≡ qualified (shape_of encoding) (bare_shape entity)
 unfolding shape_as
 bare-local_in encoding entity = refl
 
--- the qualifiers of an entity before or after its encoding is put in front
+-- an entity as a plain text, with a text in front
+abbrev put_in_front : List ℕ → Shape → Shape
+put_in_front front entity = inserted Start front (flattened entity)
+
+-- the qualifiers of an entity before or after a text is put in front
 moved_both : (n at k : ℕ) (own : ℕ × ℕ) → moved 0 n (moved at k own) ≡ moved (n + at) k (moved 0 n own)
 moved_both n at k (from, to) = grind (arith, nat_tests)
 
-entity_words : (encoding entity : Shape) (words : List ℕ) → qualified encoding (appended words (flattened entity)) ≡ appended words (flattened (qualified encoding entity))
-entity_words encoding entity words =
-    let front = text encoding ++ codes "::" in
+entity_words : (front : List ℕ) (entity : Shape) (words : List ℕ) → put_in_front front (appended words (flattened entity)) ≡ appended words (flattened (put_in_front front entity))
+entity_words front entity words =
     λ j. record {
       form = Plain (sym (append_assoc front (text entity) words) j);
       own = (moved_both (length front) (length (text entity)) (length words) entity.own ∙ ap (λ n. moved n (length words) (moved 0 (length front) entity.own)) (sym (length-append front (text entity)))) j;
@@ -83,13 +87,13 @@ entity_words encoding entity words =
       ctor = entity.ctor;
     }
 
-entity_quals : (encoding entity : Shape) (quals : Quals)
-    → qualified encoding (with_name_qualifiers entity quals true) ≡ with_name_qualifiers (qualified encoding entity) quals true
-entity_quals encoding entity quals = go (has_quals quals)
+entity_quals : (front : List ℕ) (entity : Shape) (quals : Quals)
+    → put_in_front front (with_name_qualifiers entity quals true) ≡ with_name_qualifiers (put_in_front front entity) quals true
+entity_quals front entity quals = go (has_quals quals)
   where
-    go : (b : Bool) → qualified encoding (if b then appended (words_text quals ++ reference_text quals.reference) (flattened entity) else entity)
-        ≡ (if b then appended (words_text quals ++ reference_text quals.reference) (flattened (qualified encoding entity)) else qualified encoding entity)
-    go true = entity_words encoding entity (words_text quals ++ reference_text quals.reference)
+    go : (b : Bool) → put_in_front front (if b then appended (words_text quals ++ reference_text quals.reference) (flattened entity) else entity)
+        ≡ (if b then appended (words_text quals ++ reference_text quals.reference) (flattened (put_in_front front entity)) else put_in_front front entity)
+    go true = entity_words front entity (words_text quals ++ reference_text quals.reference)
     go false = refl
 
 shown_inside : (case : NameCase) → shows_words case true ≡ true
@@ -114,9 +118,12 @@ mutual
   whole_entity : {case : EntityCase} {waits : Bool} {x : Context} {t u : Tree} {p q : Position} {c : Cost} → EntityAs case waits x t p u q c → x.shown ≡ true
       → with_name_qualifiers (bare_shape u) (own_quals u) true ≡ shape_of u
   whole_entity string_literal_entity on = refl
-  whole_entity (default_argument_entity found a) on = refl
+  whole_entity (default_argument_entity {t = t} {u = u} {number = k} {rest = r} found a) on =
+      sym (entity_quals (text (default_arg_opened (shape_of t) k)) (bare_shape u) (own_quals u))
+      ∙ ap (λ (b : Bool). default_arg_shape (shape_of t) k (with_name_qualifiers (bare_shape u) (own_quals u) b)) (sym (ap (shows_words (name_case r)) on ∙ shown_inside (name_case r)))
+      ∙ ap (default_arg_shape (shape_of t) k) (whole_name a)
   whole_entity (name_entity {t = t} {u = u} {p = p} a) on =
-      sym (entity_quals (shape_of t) (bare_shape u) (own_quals u))
+      sym (entity_quals (text (shape_of t) ++ codes "::") (bare_shape u) (own_quals u))
       ∙ ap (λ (b : Bool). qualified (shape_of t) (with_name_qualifiers (bare_shape u) (own_quals u) b)) (sym (ap (shows_words (name_case (drop 1 p.rest))) on ∙ shown_inside (name_case (drop 1 p.rest))))
       ∙ ap (qualified (shape_of t)) (whole_name a)
 

@@ -41,7 +41,7 @@ mutual
   entity_after : {case : EntityCase} {waits : Bool} {x : Context} {t u : Tree} {p q : Position} {c : Cost} → EntityAs case waits x t p u q c → IsAfter q.rest p.rest
   entity_after (string_literal_entity {p = p}) = after_drop 2 p.rest
   entity_after (default_argument_entity {p = p} {number = n} {rest = r} found a) =
-      after_then (after_drop 2 p.rest) (takes_takes (optional_number_takes (drop 2 p.rest) (n, r) found) (name_takes a)).after
+      after_then (after_drop 2 p.rest) (takes_takes (ordinal_takes (drop 2 p.rest) (n, r) found) (name_takes a)).after
   entity_after (name_entity {p = p} a) = after_then (after_drop 1 p.rest) (name_takes a).after
 
   pub encoding_takes : {x : Context} {p q : Position} {t : Tree} {c : Cost} → Encoding x p t q c → Takes q.rest p.rest

@@ -101,10 +101,10 @@ mutual
   one_entity : {case : EntityCase} {waits : Bool} {x : Context} {t u v : Tree} {p q r : Position} {c d : Cost}
       → EntityAs case waits x t p u q c → EntityAs case waits x t p v r d → Same u v q r c d
   one_entity string_literal_entity string_literal_entity = record { tree = refl; next = refl; cost = refl }
-  one_entity (default_argument_entity {x = x} {t = t} {p = p} e a) (default_argument_entity {u = v} {q = r} {c = d} g b) =
+  one_entity (default_argument_entity {waits = waits} {x = x} {t = t} {p = p} e a) (default_argument_entity {u = v} {q = r} {c = d} g b) =
       let found = some_pair_parts _ _ _ _ (sym g ∙ e) in
-      let same = one_name a (subst (λ o. Name false x (at o p) v r d) found.1 b) in
-      record { tree = refl; next = same.next; cost = same.cost }
+      let same = one_name a (subst (λ o. Name waits x (at o p) v r d) found.1 b) in
+      record { tree = ap₂ (default_argument_of t) (sym found.0) same.tree; next = same.next; cost = same.cost }
   one_entity (name_entity {t = t} a) (name_entity b) = same_made (local_in t) (one_name a b)
 
   one_encoding : {x : Context} {p q r : Position} {t u : Tree} {c d : Cost} → Encoding x p t q c → Encoding x p u r d → Same t u q r c d

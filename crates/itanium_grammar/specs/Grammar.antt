@@ -197,12 +197,12 @@ mutual
     string_literal_entity :
         {waits : Bool} {x : Context} {t : Tree} {p : Position}
         → EntityAs StringLiteralEntity waits x t p (string_literal_of t) (skip 2 p) nothing
-    -- E d [<number>] _ <name>: the name isn't printed
+    -- E d [<number>] _ <name>
     default_argument_entity :
-        {waits : Bool} {x : Context} {t u : Tree} {p q : Position} {c : Cost} {number : Option ℕ} {rest : List ℕ}
-        → optional_number (drop 2 p.rest) ≡ Some (number, rest)
-        → Name false x (at rest p) u q c
-        → EntityAs DefaultArgumentEntity waits x t p (default_argument_of t) q c
+        {waits : Bool} {x : Context} {t u : Tree} {p q : Position} {c : Cost} {number : ℕ} {rest : List ℕ}
+        → ordinal (drop 2 p.rest) ≡ Some (number, rest)
+        → Name waits x (at rest p) u q c
+        → EntityAs DefaultArgumentEntity waits x t p (default_argument_of t number u) q c
     -- E <name>
     name_entity :
         {waits : Bool} {x : Context} {t u : Tree} {p q : Position} {c : Cost}

@@ -10,7 +10,7 @@ use Rattle.std.specs.List.{concat}
 use Rattle.demangle_edit.specs.Lists.{glued}
 use Rattle.demangle_edit.specs.Expressions.{literal_shape, operand_shape, address_shape}
 use Rattle.demangle_edit.specs.Built.{arguments_shape, pack_shape, lambda_shape}
-use Rattle.demangle_edit.specs.Names.{qualified, qualified_ctor, attached, tagged, with_name_qualifiers, encoding_shape}
+use Rattle.demangle_edit.specs.Names.{qualified, default_arg_shape, qualified_ctor, attached, tagged, with_name_qualifiers, encoding_shape}
 use Rattle.itanium_syntax.specs.declared.offsets.Signed.{Signed}
 use Rattle.itanium_syntax.specs.declared.offsets.CallOffset.{CallOffset}
 use Rattle.itanium_syntax.specs.declared.offsets.CallOffset.TheVariants.{Plain, Virtual}
@@ -45,8 +45,8 @@ mutual
     local_in : Tree → Tree → Tree
     -- the string literal of an encoding
     string_literal_of : Tree → Tree
-    -- an entity in a default argument of an encoding: it is printed as the encoding
-    default_argument_of : Tree → Tree
+    -- an entity in a default argument of an encoding, with its number: encoding::{default arg#k}::entity
+    default_argument_of : Tree → ℕ → Tree → Tree
     -- the encoding of a name without parameters
     encoding_of : Tree → Tree
     -- the encoding of a name with its parameters
@@ -190,10 +190,11 @@ thunk_shape (Single o) t = single_thunk_shape o t
 thunk_shape (Covariant o p) t = covariant_thunk_shape o p t
 
 -- the qualifiers of a name that follow its parameters where it has some: those of a nested name, and those of the
--- entity of a local name
+-- entity of a local name, also in a default argument
 abbrev pub own_quals : Tree → Quals
 own_quals (nested_of name quals shown) = quals
 own_quals (local_in encoding entity) = own_quals entity
+own_quals (default_argument_of encoding number entity) = own_quals entity
 own_quals t = no_quals
 
 -- the shape that the tree prints; where its own qualifiers wait, without them
@@ -211,7 +212,8 @@ unfoldable mutual
       if waits then shape_as false name else with_name_qualifiers (shape_as false name) quals shown
   shape_as waits (local_in encoding entity) = qualified (shape_as false encoding) (shape_as waits entity)
   shape_as waits (string_literal_of encoding) = appended (codes "::string literal") (shape_as false encoding)
-  shape_as waits (default_argument_of encoding) = shape_as false encoding
+  shape_as waits (default_argument_of encoding number entity) =
+      default_arg_shape (shape_as false encoding) number (shape_as waits entity)
   shape_as waits (encoding_of name) = with_name_qualifiers (shape_as true name) (own_quals name) true
   shape_as waits (function_encoding name params) =
       encoding_shape (shape_as true name) (shape_each params) (own_quals name)

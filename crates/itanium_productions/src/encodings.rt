@@ -9,7 +9,9 @@ ghost use Rattle.itanium_reader.specs.Outcome.{state, Gives, GivesBareName, Leav
 use crate::names::read_bare_name;
 use crate::specials::read_special;
 use crate::types::{read_type, read_typed_params};
-use demangle_edit::{Quals, apply_name_qualifiers, close_params, open_params, qualify};
+use demangle_edit::{
+    Quals, apply_name_qualifiers, close_default_arg, close_params, open_default_arg, open_params, qualify,
+};
 use demangle_text::Piece;
 use itanium_reader::{Reader, Stop};
 use itanium_syntax::context::Context;
@@ -17,7 +19,7 @@ use itanium_syntax::encodings::{
     EntityCase, ReturnCase, SignatureCase, entity_case, return_case, signature_case,
 };
 use itanium_syntax::names::{SymbolCase, symbol_case};
-use itanium_syntax::numerals::optional_number;
+use itanium_syntax::numerals::ordinal;
 
 /// A `<name>` without its own qualifiers, which are answered, in a frame of its own: what lived keeps its shape.
 #[tactic(auto, using(itanium_reader::proofs::Rules::buffers))]
@@ -37,23 +39,6 @@ pub(crate) fn framed_bare_name(
     let quals = read_bare_name(reader, depth, context)?;
     reader.buffer.close_in_place(mark, &mut reader.found)?;
     Ok(quals)
-}
-
-/// A `<name>` that isn't printed: what it saved and the scopes that it left stay, and it leaves no text.
-#[tactic(auto, using(itanium_reader::proofs::Rules::buffers))]
-#[cycle(reader)]
-pub(crate) fn drop_name(reader: &mut Reader, depth: usize, context: Context) -> Result<(), Stop>
-    requires room { HasRoom 1 (state reader.old) }
-    ensures reads { Leaves result reader.new (spec.dropped (spec.parse_bare_name depth context (state reader.old))) }
-    ensures kept { OnOk result (SameFrame reader.old.buffer.value reader.new.buffer.value) }
-    ensures bounds { Bounds 1 result (state reader.old) (state reader.new) }
-    ensures saved { SavedBounds 1 result (state reader.old) (state reader.new) }
-{
-    let mark = reader.buffer.open();
-    read_bare_name(reader, depth, context)?;
-    let empty = reader.buffer.push(b"")?;
-    reader.buffer.close(mark, empty)?;
-    Ok(())
 }
 
 /// A `<type>` that isn't printed: what it saved and the scopes that it left stay, and it leaves no text.
@@ -176,13 +161,14 @@ pub(crate) fn read_entity(
         }
         EntityCase::DefaultArgumentEntity => {
             reader.skip(2);
-            let Some((_, rest)) = optional_number(reader.rest) else {
+            let Some((number, rest)) = ordinal(reader.rest) else {
                 return Err(Stop::Unread);
             };
             reader.rest = rest;
-            drop_name(reader, depth, context)?;
-            reader.found = encoding;
-            Ok(Quals::none())
+            let opened = open_default_arg(&mut reader.buffer, encoding, number)?;
+            let quals = framed_bare_name(reader, depth, context)?;
+            reader.found = close_default_arg(&mut reader.buffer, opened, reader.found)?;
+            Ok(quals)
         }
         EntityCase::NameEntity => {
             reader.skip(1);

@@ -6,7 +6,7 @@ use Rattle.demangle_text.specs.State.{last_args, with_arg}
 use Rattle.demangle_quals.specs.declared.quals.Quals.{Quals}
 use Rattle.demangle_quals.specs.declared.quals.Pointer.{Pointer}
 use Rattle.demangle_quals.specs.Quals.{no_quals}
-use Rattle.demangle_edit.specs.Names.{qualified, qualified_ctor, attached, tagged, with_name_qualifiers}
+use Rattle.demangle_edit.specs.Names.{qualified, default_arg_shape, qualified_ctor, attached, tagged, with_name_qualifiers}
 use Rattle.demangle_edit.specs.Types.{pointer_shape, cv_shape, array_step, member_pointer_step, function_step, expansion_shape}
 use Rattle.demangle_edit.specs.Expressions.{literal_step, operand_shape, address_shape}
 use Rattle.demangle_edit.specs.Built.{listed_more, arguments_closed, lambda_closed, params_opened, params_closed}
@@ -431,8 +431,8 @@ abbrev pub entity_as : EntityCase → ParsesBareName → Shape → ParsesBareNam
 entity_as StringLiteralEntity bare encoding s =
     Some ((appended (codes "::string literal") encoding, no_quals), skip 2 s)
 entity_as DefaultArgumentEntity bare encoding s =
-    optional_number (drop 2 s.rest) >>= λ found. dropped (bare (at found.1 s)) >>= λ after.
-    Some ((encoding, no_quals), after)
+    ordinal (drop 2 s.rest) >>= λ found. bare (at found.1 s) >>= λ entity.
+    Some ((default_arg_shape encoding found.0 entity.0.0, entity.0.1), entity.1)
 entity_as NameEntity bare encoding s =
     bare (skip 1 s) >>= λ entity. Some ((qualified encoding entity.0.0, entity.0.1), entity.1)
 entity_as NoEntity bare encoding s = None

@@ -17,9 +17,6 @@ decreases-names::read_name l = 16 * l.depth + 1
 abbrev pub decreases-encodings::framed_bare_name : goal.decreases-encodings::framed_bare_name
 decreases-encodings::framed_bare_name l = 16 * l.depth + 1
 
-abbrev pub decreases-encodings::drop_name : goal.decreases-encodings::drop_name
-decreases-encodings::drop_name l = 16 * l.depth + 1
-
 abbrev pub decreases-encodings::drop_type : goal.decreases-encodings::drop_type
 decreases-encodings::drop_type l = 16 * l.depth + 1
 
