@@ -4,6 +4,9 @@
 //! older keeps its shape, and so do the saved components and the arguments of the scopes. After an `AllocError` `clear`
 //! of the buffer is the only call that is promised.
 //!
+//! An entity in a default argument is put together from pieces (`default_arg`), or what opens it is made before the
+//! entity is read, and `close_default_arg` joins the two after it. Both give the same shape.
+//!
 //! A list after a name is put together from pieces (`attach_template_args`, `format_params`), or built as it is
 //! read: what opens it, then for each text `separate` before it is read and `list_next` after it (`join` of the
 //! buffer in a list that `begin_arguments` began), then what closes it. Both give the same shape.

@@ -172,13 +172,14 @@ fn return_types_in_return_types(rt: HostRuntime) {
     assert_too_deep(&rt, rt.alloc(), &deeper, 254);
 }
 
-/// k local names; each is the entity of a default argument of the one before it, which isn't printed, and the last one
-/// has the entity `x`: depth k + 1. The name `f` of each is as deep as its entity. So where k is 128, all local names
+/// k local names; each is the entity of a default argument of the one before it, and the last one has the entity `x`:
+/// depth k + 1. The name `f` of each is as deep as its entity. So where k is 128, all local names
 /// are entered and 127 of these.
 #[test]
 fn entities_of_default_arguments(rt: HostRuntime) {
     let symbol = repeated(&rt, rt.alloc(), "_Z", "Z1fvEd_", 127, "1x");
-    assert_read(&rt, rt.alloc(), &symbol, "f()", 255);
+    let answer = repeated(&rt, rt.alloc(), "", "f()::{default arg#1}::", 127, "x");
+    assert_read(&rt, rt.alloc(), &symbol, &answer, 255);
     let deeper = repeated(&rt, rt.alloc(), "_Z", "Z1fvEd_", 128, "1x");
     assert_too_deep(&rt, rt.alloc(), &deeper, 255);
 }

@@ -41,8 +41,11 @@ fn no_literals(rt: HostRuntime) {
 
 #[test]
 fn values_are_utf8(rt: HostRuntime) {
-    // A name that is read and not printed has a literal, whose type is cut inside `é` or after it.
-    let rows = &[("_ZZ1fvEd_1gIL12_GLOBAL__NéEE", "f()")];
+    // The type of a literal is cut inside `é` or after it.
+    let rows = &[(
+        "_ZZ1fvEd_1gIL12_GLOBAL__NéEE",
+        "f()::{default arg#1}::g<((anonymous namespace))>",
+    )];
     assert_answers(&rt, rt.alloc(), rows);
     let symbols = &["_ZZ1fvEd_1gIL11_GLOBAL__NéEE"];
     assert_unread(&rt, rt.alloc(), symbols);

@@ -233,15 +233,28 @@ fn virtual_offsets(rt: HostRuntime) {
     assert_unread(&rt, rt.alloc(), symbols);
 }
 
-/// The number of a default argument is no index, and isn't printed.
+/// `d` and a number is two more than the number.
 #[test]
 fn default_arguments(rt: HostRuntime) {
     let rows = &[
-        ("_ZZ1fvEd18446744073709551615_1x", "f()"),
-        ("_ZZ1fvEd0018446744073709551615_1x", "f()"),
+        (
+            "_ZZ1fvEd18446744073709551613_1x",
+            "f()::{default arg#18446744073709551615}::x",
+        ),
+        (
+            "_ZZ1fvEd0018446744073709551613_1x",
+            "f()::{default arg#18446744073709551615}::x",
+        ),
+        ("_ZZ1fvEd00_1x", "f()::{default arg#2}::x"),
     ];
     assert_answers(&rt, rt.alloc(), rows);
-    assert_unread(&rt, rt.alloc(), &["_ZZ1fvEd18446744073709551616_1x"]);
+    let symbols = &[
+        "_ZZ1fvEd18446744073709551614_1x",
+        "_ZZ1fvEd0018446744073709551614_1x",
+        "_ZZ1fvEd18446744073709551615_1x",
+        "_ZZ1fvEd18446744073709551616_1x",
+    ];
+    assert_unread(&rt, rt.alloc(), symbols);
 }
 
 /// The digits of a literal are no number: they are printed as they stand.

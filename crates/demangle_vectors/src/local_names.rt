@@ -1,6 +1,6 @@
 //! Local names, and the encodings in them: parameters, return types that aren't printed, and own qualifiers.
 
-use crate::tables::{assert_answers, assert_refused, assert_rows};
+use crate::tables::{assert_answers, assert_refused, assert_rows, assert_unread};
 use itanium_demangle::Demangler;
 
 #[test]
@@ -52,15 +52,65 @@ fn own_qualifiers(rt: HostRuntime) {
 }
 
 #[test]
-fn string_literals_and_default_arguments(rt: HostRuntime) {
+fn string_literals(rt: HostRuntime) {
+    // The second `s` is ignored with the rest.
+    let rows = &[("_ZZ1fvEss", "f()::string literal")];
+    assert_answers(&rt, rt.alloc(), rows);
+}
+
+#[test]
+fn default_arguments(rt: HostRuntime) {
     let rows = &[
-        // The second `s` is ignored with the rest.
-        ("_ZZ1fvEss", "f()::string literal"),
-        ("_ZUlZ1fvEd_1xE_", "{lambda(f())#1}"),
-        // The name is cut inside `é`, and isn't printed.
-        ("_ZZ1fvEd_1é", "f()"),
+        ("_ZZ1fvEd_1x", "f()::{default arg#1}::x"),
+        ("_ZZ1fvEd0_1x", "f()::{default arg#2}::x"),
+        ("_ZUlZ1fvEd_1xE_", "{lambda(f()::{default arg#1}::x)#1}"),
         // What the name saved is there.
-        ("_Z1fIZ1gvEd_N1A1BES0_Evv", "f<g(), A>"),
+        (
+            "_Z1fIZ1gvEd_N1A1BES0_Evv",
+            "f<g()::{default arg#1}::A::B, A>",
+        ),
+        (
+            "_ZZN1A1fEvEd_NS_C1Ev",
+            "A::f()::{default arg#1}::A::A",
+        ),
+        ("_ZZ1fvEd_cvi", "f()::{default arg#1}::operator int"),
+        (
+            "_ZZ1fvEd_Z1gvEd0_1x",
+            "f()::{default arg#1}::g()::{default arg#2}::x",
+        ),
+        (
+            "_ZZ1fvEd_Z1gvEs",
+            "f()::{default arg#1}::g()::string literal",
+        ),
+    ];
+    assert_answers(&rt, rt.alloc(), rows);
+    // The name is cut inside `é`.
+    assert_unread(&rt, rt.alloc(), &["_ZZ1fvEd_1é"]);
+}
+
+/// The flags and the own qualifiers of a default argument are those of its entity.
+#[test]
+fn encodings_of_default_arguments(rt: HostRuntime) {
+    let rows = &[
+        (
+            "_ZZ1fiEd_NKUlvE_clEv",
+            "f(int)::{default arg#1}::{lambda()#1}::operator() const",
+        ),
+        (
+            "_ZZZ1fvEd_NK1A1gEvE1x",
+            "f()::{default arg#1}::A::g() const::x",
+        ),
+        (
+            "_Z1fIL_ZZ1gvEd_NKUlvE_clEvEE",
+            "f<g()::{default arg#1}::{lambda()#1}::operator()() const>",
+        ),
+        // The entity is a template: a return type stands there, and the parameter names its argument.
+        (
+            "_ZZZ1gvEd_1aIcEvT_E1x",
+            "g()::{default arg#1}::a<char>(char)::x",
+        ),
+        // The entity is none, and the encoding is.
+        ("_ZZZ1gIcEvEd_1aiE1x", "g<char>::{default arg#1}::a(int)::x"),
     ];
     assert_answers(&rt, rt.alloc(), rows);
 }

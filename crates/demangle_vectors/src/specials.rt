@@ -120,12 +120,14 @@ fn thunks(rt: HostRuntime) {
             "_ZThn8_N17GenTraceElemCBObjD1Ev",
             "{virtual override thunk({offset(-8)}, GenTraceElemCBObj::~GenTraceElemCBObj)}",
         ),
-        // A default argument is printed as its encoding.
         (
             "_ZTh0_Z1fvEd_1x",
-            "{virtual override thunk({offset(0)}, f())}",
+            "{virtual override thunk({offset(0)}, f()::{default arg#1}::x)}",
         ),
-        ("_ZTh0_Z1fEd_1x", "{virtual override thunk({offset(0)}, f)}"),
+        (
+            "_ZTh0_Z1fEd_1x",
+            "{virtual override thunk({offset(0)}, f::{default arg#1}::x)}",
+        ),
         (
             "_ZTv1_0_2n1",
             "{virtual override thunk({virtual offset(1, 0)}, n1)}",
@@ -211,12 +213,16 @@ fn special_names_as_encodings(rt: HostRuntime) {
         ("_ZZTV2n1ESt1B", "{vtable(n1)}::std::B"),
         ("_ZZGV1fEN1A3fooC3Ev", "guard variable for f::A::foo::foo"),
         (
+            "_ZGVZ1fvEd_1x",
+            "guard variable for f()::{default arg#1}::x",
+        ),
+        (
             "_ZZTSA2_3fooEs",
             "typeinfo name for foo [2]::string literal",
         ),
         (
             "_ZZTTA28_Dp2abEd_11long doubleIL_ZStUt0_ES2_SdS1_SoE",
-            "{vtt(ab... [28])}",
+            "{vtt(ab... [28])}::{default arg#1}::long double<std::{unnamed type#2}, long double, std::basic_iostream<char, std::char_traits<char> >, ab... [28], std::ostream>",
         ),
         (
             "_ZZTchn2_h0_NdeEEUt_v",

@@ -7,9 +7,9 @@ use crate::pieces::{
 };
 use demangle_edit::{
     Glue, Pointer, Quals, Reference, address, append_number, apply_name_qualifiers,
-    attach_template_args, begin_arguments, close_arguments, close_lambda, close_params,
-    collapse_ref, end_arguments, expand, format_params, function_type, glue, list_next,
-    open_arguments, open_params, qualify, qualify_ctor, qualify_text, separate, subexpr, tag,
+    attach_template_args, begin_arguments, close_arguments, close_default_arg, close_lambda, close_params,
+    collapse_ref, default_arg, end_arguments, expand, format_params, function_type, glue, list_next,
+    open_arguments, open_default_arg, open_params, qualify, qualify_ctor, qualify_text, separate, subexpr, tag,
     wrap_array, wrap_cv, wrap_member_pointer, wrap_pointer, write_literal, write_literal_of,
     write_opened_literal,
 };
@@ -43,6 +43,27 @@ fn a_name_grows_in_the_main_text(rt: HostRuntime) {
     assert_eq!(&rt; buf.main_bytes(), b"A::B*".as_slice());
     address(&mut buf, pointer).expect(&rt, "no memory");
     assert_eq!(&rt; buf.main_bytes(), b"&A::B*".as_slice());
+    drop(buf);
+}
+
+#[test]
+#[tactic(auto, using(demangle_text::proofs::Laws::laws))]
+fn a_default_argument_grows_in_the_main_text(rt: HostRuntime) {
+    let mut buf = Buffer::new(rt.alloc());
+    let scope = push(&rt, &mut buf, b"f()");
+    open_default_arg(&mut buf, scope, 1).expect(&rt, "no memory");
+    assert_eq!(&rt; buf.main_bytes(), b"f()::{default arg#1}::".as_slice());
+    drop(buf);
+}
+
+#[test]
+#[tactic(auto, using(demangle_text::proofs::Laws::laws))]
+fn an_entity_stays_after_what_opens_its_default_argument(rt: HostRuntime) {
+    let mut buf = Buffer::new(rt.alloc());
+    let opened = push(&rt, &mut buf, b"f()::{default arg#1}::");
+    let entity = push(&rt, &mut buf, b"x");
+    close_default_arg(&mut buf, opened, entity).expect(&rt, "no memory");
+    assert_eq!(&rt; buf.main_bytes(), b"f()::{default arg#1}::x".as_slice());
     drop(buf);
 }
 
@@ -107,6 +128,18 @@ fn a_group_opens_in_the_main_text(rt: HostRuntime) {
     assert_eq!(&rt; buf.main_bytes(), b"int* (*)()".as_slice());
     wrap_pointer(&mut buf, pointer, Pointer::Star).expect(&rt, "no memory");
     assert_eq!(&rt; buf.main_bytes(), b"int* (**)()".as_slice());
+    drop(buf);
+}
+
+#[test]
+#[tactic(auto, using(demangle_text::proofs::Laws::laws))]
+fn entity_of_a_default_argument(rt: HostRuntime) {
+    let mut buf = Buffer::new(rt.alloc());
+    let scope = push(&rt, &mut buf, b"f()");
+    let entity = named(&rt, &mut buf, b"bar<int>", 0, 3, true, false);
+    let name = default_arg(&mut buf, scope, 10, entity).expect(&rt, "no memory");
+    assert_named(&rt, &buf, name, b"f()::{default arg#10}::bar<int>", 23, 26);
+    assert_flags(&rt, &buf, name, true, false);
     drop(buf);
 }
 

@@ -55,7 +55,8 @@ pub record WorkedSymbols : Type 0 where
   pub return_type_alone : IsAnswer (codes "_ZZ1fIiEvE1x") (Some (codes "f<int>::x"))
   pub encoding_without_parameters : IsAnswer (codes "_ZZ1fE1x") (Some (codes "f::x"))
   pub scope_of_an_encoding : IsAnswer (codes "_Z1fIJZ1gIcEvE1xT_EEvv") (Some (codes "f<g<char>::x, char>"))
-  pub default_argument : IsAnswer (codes "_Z1fIZ1gvEd_N1A1BES0_Evv") (Some (codes "f<g(), A>"))
+  pub default_argument : IsAnswer (codes "_Z1fIZ1gvEd_N1A1BES0_Evv")
+      (Some (codes "f<g()::{default arg#1}::A::B, A>"))
   pub qualifiers_after_parameters : IsAnswer (codes "_ZZNK3Foo3barEvE3baz") (Some (codes "Foo::bar() const::baz"))
   pub qualifiers_of_an_entity :
       IsAnswer (codes "_ZZN3Foo3barEvENKUlvE_clEv")

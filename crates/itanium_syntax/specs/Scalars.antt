@@ -70,8 +70,8 @@ index_by r bytes None =
 unfoldable pub index_of : Radix → List ℕ → Option (ℕ × List ℕ)
 index_of r bytes = index_by r bytes (past_underscore bytes)
 
--- [<nonnegative number>] _ of an <unnamed-type-name> or a <closure-type-name>: 1 where the number is left out, else
--- the second number after it
+-- [<nonnegative number>] _ of an <unnamed-type-name>, a <closure-type-name> or a default argument: 1 where the number
+-- is left out, else the second number after it
 unfoldable pub ordinal : List ℕ → Option (ℕ × List ℕ)
 ordinal bytes = option_and_then (λ n. option_map (λ k. (k, n.1)) (next_number n.0)) (index_of Decimal bytes)
 
@@ -81,6 +81,6 @@ optional_number_by bytes (Some rest) = Some (None, rest)
 optional_number_by bytes None =
     option_and_then (λ n. option_map (λ rest. (Some n.0, rest)) (past_underscore n.1)) (number bytes)
 
--- [<number>] _: the dimension of an array or the number of a default argument, which may be left out
+-- [<number>] _: the dimension of an array, which may be left out
 unfoldable pub optional_number : List ℕ → Option (Option ℕ × List ℕ)
 optional_number bytes = optional_number_by bytes (past_underscore bytes)

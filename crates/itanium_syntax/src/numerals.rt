@@ -157,8 +157,8 @@ fn long_index(radix: Radix, bytes: &[u8]) -> Option<(usize, &[u8])>
     }
 }
 
-/// `[<number>] _`: the number, which may be left out, and what is after the `_`. So an array has its dimension, and a
-/// local name the number of its default argument. `None` where no `_` ends it or the number is past 2^64 - 1.
+/// `[<number>] _`: the number, which may be left out, and what is after the `_`. So an array has its dimension. `None`
+/// where no `_` ends it or the number is past 2^64 - 1.
 #[tactic(auto, unfolding(crate::specs::Scalars::optional_number, crate::specs::Scalars::number))]
 pub fn optional_number(bytes: &[u8]) -> Option<(Option<u64>, &[u8])>
     ensures value { option_map (λ found. (found.0, found.1.now)) result ≡ spec.optional_number bytes.now }
@@ -176,9 +176,9 @@ pub fn optional_number(bytes: &[u8]) -> Option<(Option<u64>, &[u8])>
     }
 }
 
-/// `[<nonnegative number>] _` of an `<unnamed-type-name>` or a `<closure-type-name>`: 1 where the number is left out,
-/// else the second number after it, and what is after the `_`. `None` where no `_` ends it or the result is past
-/// 2^64 - 1.
+/// `[<nonnegative number>] _` of an `<unnamed-type-name>`, a `<closure-type-name>` or a default argument: 1 where the
+/// number is left out, else the second number after it, and what is after the `_`. `None` where no `_` ends it or the
+/// result is past 2^64 - 1.
 #[tactic(auto, unfolding(crate::specs::Scalars::ordinal))]
 pub fn ordinal(bytes: &[u8]) -> Option<(u64, &[u8])>
     ensures value { option_map (λ found. (found.0, found.1.now)) result ≡ spec.ordinal bytes.now }
