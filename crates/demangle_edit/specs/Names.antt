@@ -2,7 +2,7 @@
 use Rattle.std.specs.Prelude.{ℕ, List, [], ◌++◌, length, codes, decimal, Bool, true, false, if◌then◌else◌, nat_eq}
 use Rattle.std.specs.List.{ends_with}
 use Rattle.demangle_text.specs.declared.shape.Place.TheVariants.{Start}
-use Rattle.demangle_text.specs.Shape.{Shape, Plain, text, plain_shape, flattened, inserted, appended, own_shape, flagged}
+use Rattle.demangle_text.specs.Shape.{Shape, Plain, text, flattened, inserted, appended, own_shape, flagged}
 use Rattle.demangle_quals.specs.declared.quals.Quals.{Quals}
 use Rattle.demangle_quals.specs.Quals.{words_text, reference_text, has_quals}
 use Rattle.demangle_edit.specs.Lists.{params_text}
@@ -11,10 +11,10 @@ use Rattle.demangle_edit.specs.Lists.{params_text}
 abbrev pub qualified : Shape → Shape → Shape
 qualified scope leaf = inserted Start (text scope ++ codes "::") (flattened leaf)
 
--- the text of a scope with `::{default arg#k}::` after it, k being the number of a default argument
+-- the scope as a plain text, with `::{default arg#k}::` after it, k being the number of a default argument
 abbrev pub default_arg_opened : Shape → ℕ → Shape
 default_arg_opened scope number =
-    plain_shape (text scope ++ (codes "::{default arg#" ++ (decimal number ++ codes "}::")))
+    appended (codes "::{default arg#" ++ (decimal number ++ codes "}::")) (flattened scope)
 
 -- the entity as a plain text, with the text in front that opens its default argument
 abbrev pub default_arg_closed : Shape → Shape → Shape

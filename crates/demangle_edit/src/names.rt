@@ -54,8 +54,8 @@ pub fn qualify_text(buf: &mut Buffer, scope: Piece, text: &[u8]) -> Result<Piece
     Ok(buf.with_flags(named, false, false))
 }
 
-/// What stands in front of an entity in a default argument of a scope: `scope::{default arg#k}::`, k being its number,
-/// as a plain piece, all of which is its last own name, with no flag set.
+/// What stands in front of an entity in a default argument of a scope, `scope::{default arg#k}::` with k for its number,
+/// as a plain piece with the last own name and the flags of the scope.
 ///
 /// An error comes where memory is refused, and then only `clear` of the buffer is promised.
 #[tactic(auto, using(demangle_text::proofs::Laws::laws, crate::proofs::Insertions::insertions))]
@@ -67,9 +67,7 @@ pub fn open_default_arg(buf: &mut Buffer, scope: Piece, number: u64) -> Result<P
     let plain = buf.plain(scope);
     let opened = buf.append(plain, b"::{default arg#")?;
     let numbered = append_number(buf, opened, number)?;
-    let whole = buf.append(numbered, b"}::")?;
-    let all = buf.whole(whole);
-    Ok(buf.with_flags(all, false, false))
+    buf.append(numbered, b"}::")
 }
 
 /// The entity after what opens its default argument, as a plain piece with the last own name and the flags of the
