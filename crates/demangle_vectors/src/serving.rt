@@ -1,6 +1,6 @@
 //! One value that serves symbol after symbol.
 
-use crate::tables::{assert_demangled, assert_text};
+use crate::tables::{assert_demangled, assert_refused, assert_rows, assert_text, assert_unread};
 use itanium_demangle::{Demangler, MAX_DEPTH};
 use std::alloc::Global;
 use std::process::Abort;
@@ -162,4 +162,51 @@ fn the_print_of_a_value(rt: HostRuntime) {
 #[test]
 fn the_greatest_depth(rt: HostRuntime) {
     assert_eq!(rt; MAX_DEPTH, 128);
+}
+
+#[test]
+fn a_pack_is_over_when_its_symbol_is(rt: HostRuntime) {
+    let mut kept = Demangler::new();
+    let before = &[("_Z1fIiJEEvv", "f<int, >"), ("_Z1fIDpiEvv", "f<int...>")];
+    assert_rows(&rt, rt.alloc(), &mut kept, before);
+    assert_refused(&rt, rt.alloc(), &mut kept, &["_Z1fIJDp"]);
+    assert_rows(&rt, rt.alloc(), &mut kept, &[("_Z1fIDpiEvv", "f<int...>")]);
+    drop(kept);
+}
+
+#[test]
+fn a_local_name_is_over_when_its_symbol_is(rt: HostRuntime) {
+    let mut kept = Demangler::new();
+    let rows = &[
+        ("_ZZNK3Foo3barEvE3baz", "Foo::bar() const::baz"),
+        // Outside a local name the words of qualifiers aren't shown.
+        ("_ZNK3Foo3barEv", "Foo::bar"),
+    ];
+    assert_rows(&rt, rt.alloc(), &mut kept, rows);
+    assert_refused(&rt, rt.alloc(), &mut kept, &["_ZZNK3Foo"]);
+    assert_rows(
+        &rt,
+        rt.alloc(),
+        &mut kept,
+        &[("_ZNK3Foo3barEv", "Foo::bar")],
+    );
+    drop(kept);
+}
+
+#[test]
+fn an_external_name_is_over_when_its_symbol_is(rt: HostRuntime) {
+    let mut kept = Demangler::new();
+    let rows = &[
+        ("_Z1fIL_ZNK1A1gEvEEvv", "f<A::g() const>"),
+        ("_ZNK1A1gEv", "A::g"),
+    ];
+    assert_rows(&rt, rt.alloc(), &mut kept, rows);
+    assert_refused(&rt, rt.alloc(), &mut kept, &["_Z1fIL_ZNK1A"]);
+    assert_rows(&rt, rt.alloc(), &mut kept, &[("_ZNK1A1gEv", "A::g")]);
+    drop(kept);
+}
+
+#[test]
+fn texts_without_a_prefix(rt: HostRuntime) {
+    assert_unread(&rt, rt.alloc(), &["", "_", "malloc", "_RNvC3foo3bar"]);
 }
