@@ -1,7 +1,7 @@
 //! Edits that make literals and operands of expressions (Itanium C++ ABI 5.1, "Expressions").
 ghost use Rattle.std.specs.Prelude.{◌≡◌, codes, [], IfOk, OnOk};
 ghost use Rattle.demangle_text.specs.Shape.{text, plain_shape, appended, whole_shape};
-ghost use Rattle.demangle_text.specs.State.{IsLiving, shape, Lives, IsEdit, KeepsAll, main_bytes};
+ghost use Rattle.demangle_text.specs.State.{IsLiving, shape, Lives, IsEdit, KeepsAll, main_bytes, StaysInPlace};
 ghost use Rattle.demangle_edit.specs.Answers.{Answers, OnNone};
 ghost use Rattle.demangle_edit.specs.Expressions as spec;
 
@@ -94,6 +94,7 @@ fn parenthesize(buf: &mut Buffer, piece: Piece) -> Result<Piece, AllocError>
     requires piece { IsLiving buf.old piece }
     ensures shape { IfOk result (λ p. Lives buf.new p (spec.parenthesized (shape buf.old piece))) }
     ensures edit { OnOk result (IsEdit buf.old buf.new) }
+    ensures in_place { IfOk result (λ p. StaysInPlace buf.old buf.new piece p) }
 {
     let plain = buf.plain(piece);
     let opened = buf.insert(plain, Place::Start, b"(")?;
@@ -289,6 +290,7 @@ pub fn subexpr(buf: &mut Buffer, piece: Piece, paren: bool) -> Result<Piece, All
     ensures shape { IfOk result (λ p. Lives buf.new p
         (spec.operand_shape paren (shape buf.old piece))) }
     ensures edit { OnOk result (IsEdit buf.old buf.new) }
+    ensures in_place { IfOk result (λ p. StaysInPlace buf.old buf.new piece p) }
 {
     if !paren {
         return Ok(piece);
@@ -305,6 +307,7 @@ pub fn address(buf: &mut Buffer, piece: Piece) -> Result<Piece, AllocError>
     requires piece { IsLiving buf.old piece }
     ensures shape { IfOk result (λ p. Lives buf.new p (spec.address_shape (shape buf.old piece))) }
     ensures edit { OnOk result (IsEdit buf.old buf.new) }
+    ensures in_place { IfOk result (λ p. StaysInPlace buf.old buf.new piece p) }
 {
     buf.insert(piece, Place::Start, b"&")
 }

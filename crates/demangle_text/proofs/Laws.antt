@@ -135,10 +135,6 @@ StaysInPlace-main old new p same = record {
   stays = λ at inner there. (subst (λ (t : List ℕ). Stands p at (length t)) (sym same) there, ap (take at) same);
 }
 
--- what is answered for a piece with no edit
-pub StaysInPlace-as : (b : Store) (p q : Piece) → StandsAs p q → StaysInPlace b b p q
-StaysInPlace-as b p q as_piece = record { stays = λ at inner there. (as_piece at (length (main_bytes b)) there, refl) }
-
 -- an edit of a buffer
 pub StaysInPlace-edit : (old new : Store) (p q : Piece) (n : ℕ) → IsEditOf old new p q n → StaysInPlace old new p q
 StaysInPlace-edit old new p q n e = record {
@@ -250,9 +246,6 @@ pub ruleset runs = (IsRun-edit, IsRun-same, SameFrame-keeps, SameFrame-trans, Is
 
 -- the laws for the callers of a buffer
 pub ruleset laws = (Lives-keeps, IsEdit-keeps, KeepsAll-trans, IsEdit-trans, Opens-edit, Opens-keeps, KeepsAll-closed)
-
--- the laws for callers that ask where an answer stands
-pub ruleset places = (StaysInPlace-same, StaysInPlace-main, StaysInPlace-as, StaysInPlace-edit, StaysInPlace-trans, StaysInPlace-of, StaysInPlace-named, JoinsInPlace-join, JoinsInPlace-named, JoinsInPlace-trans, Appends-edit, Appends-named, Appends-close, StaysInPlace-joined)
 
 -- the law for callers that hold a piece made of an older one
 pub ruleset ages = (IsAsOld-older)
