@@ -4,6 +4,9 @@
 //! older keeps its shape, and so do the saved components and the arguments of the scopes. After an `AllocError` `clear`
 //! of the buffer is the only call that is promised.
 //!
+//! An edit of a piece that stands up to the end of the main text, from that mark or later, is done where it stands. Of
+//! any other the text is copied to the end first. But for the byte that `&` takes from `&&`, no other text is left there.
+//!
 //! A list after a name is put together from pieces (`attach_template_args`, `format_params`), or built as it is
 //! read: what opens it, then for each text `separate` before it is read and `list_next` after it (`join` of the
 //! buffer in a list that `begin_arguments` began), then what closes it. Both give the same shape.

@@ -3,7 +3,8 @@
 ghost use Rattle.std.specs.Prelude.{◌≡◌, ◌≢◌, ◌++◌, All, map, codes, is_some, false, IfOk, OnOk};
 ghost use Rattle.demangle_text.specs.Shape.{CanInsert, IsPlain, IsDeclared, text, plain_shape, inserted};
 ghost use Rattle.demangle_text.specs.Shape.{kind_of, group_of, gap_after, front_text};
-ghost use Rattle.demangle_text.specs.State.{IsLiving, shape, Lives, IsEdit, KeepsAll, main_bytes, StaysInPlace};
+ghost use Rattle.demangle_text.specs.State.{IsLiving, shape, Lives, IsEdit, KeepsAll, main_bytes};
+ghost use Rattle.demangle_text.specs.State.{StaysInPlace, JoinsInPlace, Appends};
 ghost use Rattle.demangle_edit.specs.Answers.{Answers, IfFound, OnNone};
 ghost use Rattle.demangle_edit.specs.Types.{pointed, collapse_step, pointer_shape, cv_place, cv_shape};
 ghost use Rattle.demangle_edit.specs.Types.{is_cut, is_shortened};
@@ -251,6 +252,7 @@ fn append_member(buf: &mut Buffer, class: Piece, member: Piece) -> Result<Piece,
     ensures shape { IfOk result (λ p. Lives buf.new p
         (member_pointer_shape (shape buf.old class) (shape buf.old member))) }
     ensures edit { OnOk result (IsEdit buf.old buf.new) }
+    ensures in_place { IfOk result (λ p. JoinsInPlace buf.old buf.new member class p) }
 {
     let gap = gap_before_member(buf.bytes(member));
     let begun = append_piece(buf, member, gap, class)?;
@@ -305,6 +307,7 @@ fn join_member(
         (text (shape buf.old front) ++ (gap_after (text (shape buf.old front)) ++ codes "(")
         ++ text (shape buf.old class) ++ codes "::*)" ++ text (shape buf.old after)))) }
     ensures kept { OnOk result (KeepsAll buf.old buf.new) }
+    ensures appends { IfOk result (λ p. Appends buf.old buf.new p) }
 {
     let opening = group_opening(buf.bytes(front));
     let mark = buf.open();
@@ -322,6 +325,7 @@ fn open_member(buf: &mut Buffer, class: Piece, member: Piece) -> Result<Piece, A
     ensures shape { IfOk result (λ p. Lives buf.new p
         (member_pointer_shape (shape buf.old class) (shape buf.old member))) }
     ensures edit { OnOk result (IsEdit buf.old buf.new) }
+    ensures appends { IfOk result (λ p. Appends buf.old buf.new p) }
 {
     let (templ, ctor) = (buf.templ(member), buf.ctor(member));
     let class_len = buf.len(class);
@@ -353,6 +357,10 @@ pub fn wrap_member_pointer(
     ensures edit { OnOk result (IsEdit buf.old buf.new) }
     ensures none { OnNone result (KeepsAll buf.old buf.new) }
     ensures none_main { OnNone result (main_bytes buf.new ≡ main_bytes buf.old) }
+    ensures in_place { kind_of (shape buf.old member).form ≡ None
+        → IfFound result (λ p. JoinsInPlace buf.old buf.new member class p) }
+    ensures appends { kind_of (shape buf.old member).form ≡ Some Kind.Function
+        → IfFound result (λ p. Appends buf.old buf.new p) }
 {
     match buf.kind(member) {
         None => {

@@ -125,17 +125,7 @@ SameFrame-closed old mid new m o c = record {
 pub Lives-same : (old new : Store) (p : Piece) (s : Shape) → SameFrame old new → Lives old p s → Lives new p s
 Lives-same old new p s u h = Lives-trans old new p s h (u.pieces p)
 
--- what is left as it is stays where it is
-pub StaysInPlace-same : (b : Store) (p : Piece) → StaysInPlace b b p p
-StaysInPlace-same b p = record { stays = λ at inner there. (there, refl) }
-
--- and so it does where the main text stays
-pub StaysInPlace-main : (old new : Store) (p : Piece) → main_bytes new ≡ main_bytes old → StaysInPlace old new p p
-StaysInPlace-main old new p same = record {
-  stays = λ at inner there. (subst (λ (t : List ℕ). Stands p at (length t)) (sym same) there, ap (take at) same);
-}
-
--- an edit of a buffer
+-- an edit of a buffer leaves a piece where it stands
 pub StaysInPlace-edit : (old new : Store) (p q : Piece) (n : ℕ) → IsEditOf old new p q n → StaysInPlace old new p q
 StaysInPlace-edit old new p q n e = record {
   stays = λ at inner there.
