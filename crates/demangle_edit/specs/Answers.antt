@@ -12,6 +12,12 @@ Answers (Ok (Some p)) new found = IsLiving new p × (found ≡ Some (shape new p
 Answers (Ok None) new found = found ≡ None
 Answers (Err e) new found = Unit {0}
 
+-- a fact for the piece that a call answers
+abbrev pub IfFound : Result (Option Piece) AllocError → (Piece → Type 0) → Type 0
+IfFound (Ok (Some p)) P = P p
+IfFound (Ok None) P = Unit {0}
+IfFound (Err e) P = Unit {0}
+
 -- a fact for the answer of no piece
 abbrev pub OnNone : Result (Option Piece) AllocError → Type 0 → Type 0
 OnNone (Ok (Some p)) P = Unit {0}

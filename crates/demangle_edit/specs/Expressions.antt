@@ -3,7 +3,10 @@ use Rattle.std.specs.Prelude.{ℕ, List, [], ◌++◌, drop, codes, nat_eq, byte
 use Rattle.std.specs.Prelude.{Bool, true, not, ◌&&◌, ◌||◌, if◌then◌else◌, Option, Some, None}
 use Rattle.std.specs.List.{starts_with}
 use Rattle.demangle_text.specs.declared.shape.Place.TheVariants.{Start}
+use Rattle.demangle_text.specs.declared.shape.Piece.{Piece}
+use Rattle.demangle_text.specs.declared.buffer.Buffer.{Buffer}
 use Rattle.demangle_text.specs.Shape.{Shape, text, plain_shape, inserted}
+use Rattle.demangle_text.specs.State.{StaysInPlace, JoinsInPlace, Appends}
 use Rattle.demangle_edit.specs.declared.expressions.LiteralForm.{LiteralForm}
 use Rattle.demangle_edit.specs.declared.expressions.LiteralForm.TheVariants.{Boolean, Null, Integer, Float, Cast}
 
@@ -55,6 +58,22 @@ literal_text Null type value = codes "nullptr"
 literal_text Integer type value = value_text value
 literal_text Float type value = float_text value
 literal_text Cast type value = codes "(" ++ type ++ codes ")" ++ value_text value
+
+-- where a literal is put, by its form: around its type, where that is shown, and else after the main text
+abbrev pub IsPut : LiteralForm → Buffer → Buffer → Piece → Piece → Type 0
+IsPut Boolean old new type literal = Appends old new literal
+IsPut Null old new type literal = Appends old new literal
+IsPut Integer old new type literal = Appends old new literal
+IsPut Float old new type literal = Appends old new literal
+IsPut Cast old new type literal = StaysInPlace old new type literal
+
+-- the same of one that may begin with a parenthesis that is there
+abbrev pub IsPutAfter : LiteralForm → Buffer → Buffer → Piece → Piece → Piece → Type 0
+IsPutAfter Boolean old new paren type literal = Appends old new literal
+IsPutAfter Null old new paren type literal = Appends old new literal
+IsPutAfter Integer old new paren type literal = Appends old new literal
+IsPutAfter Float old new paren type literal = Appends old new literal
+IsPutAfter Cast old new paren type literal = JoinsInPlace old new paren type literal
 
 -- the literal of the type with this value
 abbrev pub literal_shape : Shape → List ℕ → Shape

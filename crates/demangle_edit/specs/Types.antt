@@ -30,6 +30,16 @@ collapse_step rvalue s =
     then Some (if not rvalue && ends_with nat_eq (text s) (codes "&&") then shortened 1 s else s)
     else None
 
+-- whether that reference takes a byte of the type away
+abbrev pub is_cut : Bool → Shape → Bool
+is_cut rvalue s = not rvalue && (is_plain s.form && ends_with nat_eq (text s) (codes "&&"))
+
+-- whether a pointer or a reference takes a byte of the type away: `&` takes one of `&&`
+abbrev pub is_shortened : Pointer → Shape → Bool
+is_shortened Star s = false
+is_shortened Left s = is_cut false s
+is_shortened Right s = false
+
 -- a pointer or a reference to the type
 abbrev pub pointer_shape : Pointer → Shape → Shape
 pointer_shape Star s = pointed (pointer_text Star) s

@@ -1,7 +1,7 @@
 //! A text with another after it.
 ghost use Rattle.std.specs.Prelude.{◌≡◌, ◌+◌, ◌^◌, ◌<◌, ◌≤◌, ◌++◌, IfOk, OnOk};
 ghost use Rattle.demangle_text.specs.Shape.{text, moved, appended, flattened};
-ghost use Rattle.demangle_text.specs.State.{IsLiving, shape, Lives, IsEdit};
+ghost use Rattle.demangle_text.specs.State.{IsLiving, shape, Lives, IsEdit, JoinsInPlace};
 
 use demangle_text::{Buffer, Piece};
 use std::alloc::AllocError;
@@ -36,6 +36,7 @@ pub fn append_piece(
     ensures shape { IfOk result (λ p. Lives buf.new p (appended
         (between.now ++ text (shape buf.old second)) (flattened (shape buf.old first)))) }
     ensures edit { OnOk result (IsEdit buf.old buf.new) }
+    ensures in_place { IfOk result (λ p. JoinsInPlace buf.old buf.new first second p) }
 {
     let before = buf.len(first);
     let own = buf.own_range(first);

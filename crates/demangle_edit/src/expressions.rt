@@ -2,7 +2,8 @@
 ghost use Rattle.std.specs.Prelude.{◌≡◌, codes, [], IfOk, OnOk};
 ghost use Rattle.demangle_text.specs.Shape.{text, plain_shape, appended, whole_shape};
 ghost use Rattle.demangle_text.specs.State.{IsLiving, shape, Lives, IsEdit, KeepsAll, main_bytes};
-ghost use Rattle.demangle_edit.specs.Answers.{Answers, OnNone};
+ghost use Rattle.demangle_text.specs.State.{StaysInPlace, JoinsInPlace, Appends};
+ghost use Rattle.demangle_edit.specs.Answers.{Answers, IfFound, OnNone};
 ghost use Rattle.demangle_edit.specs.Expressions as spec;
 
 use demangle_text::{Buffer, Piece, Place};
@@ -94,6 +95,7 @@ fn parenthesize(buf: &mut Buffer, piece: Piece) -> Result<Piece, AllocError>
     requires piece { IsLiving buf.old piece }
     ensures shape { IfOk result (λ p. Lives buf.new p (spec.parenthesized (shape buf.old piece))) }
     ensures edit { OnOk result (IsEdit buf.old buf.new) }
+    ensures in_place { IfOk result (λ p. StaysInPlace buf.old buf.new piece p) }
 {
     let plain = buf.plain(piece);
     let opened = buf.insert(plain, Place::Start, b"(")?;
@@ -109,6 +111,7 @@ fn append_value(buf: &mut Buffer, piece: Piece, value: &[u8]) -> Result<Piece, A
     ensures shape { IfOk result (λ p. Lives buf.new p
         (whole_shape (appended (spec.value_text value.now) (shape buf.old piece)))) }
     ensures edit { OnOk result (IsEdit buf.old buf.new) }
+    ensures in_place { IfOk result (λ p. StaysInPlace buf.old buf.new piece p) }
 {
     let signed = buf.append(piece, sign_bytes(value))?;
     let all = buf.append(signed, digit_bytes(value))?;
@@ -120,6 +123,7 @@ fn append_value(buf: &mut Buffer, piece: Piece, value: &[u8]) -> Result<Piece, A
 fn push_float(buf: &mut Buffer, value: &[u8]) -> Result<Piece, AllocError>
     ensures shape { IfOk result (λ p. Lives buf.new p (plain_shape (spec.float_text value.now))) }
     ensures edit { OnOk result (IsEdit buf.old buf.new) }
+    ensures appends { IfOk result (λ p. Appends buf.old buf.new p) }
 {
     let signed = buf.push(sign_bytes(value))?;
     let opened = buf.append(signed, b"[")?;
@@ -136,6 +140,7 @@ fn print_cast(buf: &mut Buffer, paren: Piece, ty: Piece, value: &[u8]) -> Result
     ensures shape { IfOk result (λ p. Lives buf.new p
         (plain_shape (spec.literal_text LiteralForm.Cast (text (shape buf.old ty)) value.now))) }
     ensures edit { OnOk result (IsEdit buf.old buf.new) }
+    ensures in_place { IfOk result (λ p. JoinsInPlace buf.old buf.new paren ty p) }
 {
     let opened = buf.join(paren, b"", ty)?;
     let closed = buf.append(opened, b")")?;
@@ -149,6 +154,7 @@ fn print_untyped(buf: &mut Buffer, form: LiteralForm, value: &[u8]) -> Result<Pi
     requires untyped { form ≡ LiteralForm.Cast → ⊥ }
     ensures shape { IfOk result (λ p. Lives buf.new p (plain_shape (spec.literal_text form [] value.now))) }
     ensures edit { OnOk result (IsEdit buf.old buf.new) }
+    ensures appends { IfOk result (λ p. Appends buf.old buf.new p) }
 {
     match form {
         LiteralForm::Boolean => buf.push(boolean_bytes(value)),
@@ -174,6 +180,7 @@ fn print_literal(
     ensures shape { IfOk result (λ p. Lives buf.new p
         (plain_shape (spec.literal_text form (text (shape buf.old ty)) value.now))) }
     ensures edit { OnOk result (IsEdit buf.old buf.new) }
+    ensures put { IfOk result (spec.IsPut form buf.old buf.new ty) }
 {
     match form {
         LiteralForm::Cast => {
@@ -194,6 +201,7 @@ fn print_literal_of(
 ) -> Result<Piece, AllocError>
     ensures shape { IfOk result (λ p. Lives buf.new p (plain_shape (spec.literal_text form ty.now value.now))) }
     ensures edit { OnOk result (IsEdit buf.old buf.new) }
+    ensures appends { IfOk result (λ p. Appends buf.old buf.new p) }
 {
     match form {
         LiteralForm::Cast => {
@@ -222,6 +230,8 @@ pub fn write_literal(buf: &mut Buffer, ty: Piece, value: &str) -> Result<Option<
     ensures edit { OnOk result (IsEdit buf.old buf.new) }
     ensures none { OnNone result (KeepsAll buf.old buf.new) }
     ensures none_main { OnNone result (main_bytes buf.new ≡ main_bytes buf.old) }
+    ensures put { IfFound result (spec.IsPut
+        (spec.literal_form (text (shape buf.old ty)) (spec.is_minus value.now)) buf.old buf.new ty) }
 {
     let bytes = value.as_bytes();
     let form = literal_form(buf.bytes(ty), is_minus(bytes));
@@ -243,6 +253,7 @@ pub fn write_literal_of(
     ensures edit { OnOk result (IsEdit buf.old buf.new) }
     ensures none { OnNone result (KeepsAll buf.old buf.new) }
     ensures none_main { OnNone result (main_bytes buf.new ≡ main_bytes buf.old) }
+    ensures appends { IfFound result (λ p. Appends buf.old buf.new p) }
 {
     let bytes = value.as_bytes();
     let form = literal_form(ty, is_minus(bytes));
@@ -268,6 +279,8 @@ pub fn write_opened_literal(
     ensures edit { OnOk result (IsEdit buf.old buf.new) }
     ensures none { OnNone result (KeepsAll buf.old buf.new) }
     ensures none_main { OnNone result (main_bytes buf.new ≡ main_bytes buf.old) }
+    ensures put { IfFound result (spec.IsPutAfter
+        (spec.literal_form (text (shape buf.old ty)) (spec.is_minus value.now)) buf.old buf.new paren ty) }
 {
     let bytes = value.as_bytes();
     match literal_form(buf.bytes(ty), is_minus(bytes)) {
@@ -289,6 +302,7 @@ pub fn subexpr(buf: &mut Buffer, piece: Piece, paren: bool) -> Result<Piece, All
     ensures shape { IfOk result (λ p. Lives buf.new p
         (spec.operand_shape paren (shape buf.old piece))) }
     ensures edit { OnOk result (IsEdit buf.old buf.new) }
+    ensures in_place { IfOk result (λ p. StaysInPlace buf.old buf.new piece p) }
 {
     if !paren {
         return Ok(piece);
@@ -305,6 +319,7 @@ pub fn address(buf: &mut Buffer, piece: Piece) -> Result<Piece, AllocError>
     requires piece { IsLiving buf.old piece }
     ensures shape { IfOk result (λ p. Lives buf.new p (spec.address_shape (shape buf.old piece))) }
     ensures edit { OnOk result (IsEdit buf.old buf.new) }
+    ensures in_place { IfOk result (λ p. StaysInPlace buf.old buf.new piece p) }
 {
     buf.insert(piece, Place::Start, b"&")
 }

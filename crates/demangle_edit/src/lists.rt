@@ -2,6 +2,7 @@
 ghost use Rattle.std.specs.Prelude.{◌≡◌, ◌≤◌, ◌++◌, All, map, decimal, IfOk, OnOk};
 ghost use Rattle.demangle_text.specs.Shape.{text, text_len, plain_shape, appended};
 ghost use Rattle.demangle_text.specs.State.{IsLiving, shape, Lives, IsEdit, KeepsAll};
+ghost use Rattle.demangle_text.specs.State.{StaysInPlace, JoinsInPlace, Appends};
 ghost use Rattle.demangle_edit.specs.Lists.{glued, part_text, IsLivingPart};
 ghost use Rattle.demangle_edit.specs.Built.{separator, separated, followed, listed_more};
 ghost use Rattle.demangle_edit.specs.Built.{arguments_opened, arguments_closed};
@@ -45,6 +46,7 @@ pub fn glue(buf: &mut Buffer, parts: &[Glue]) -> Result<Piece, AllocError>
     ensures shape { IfOk result (λ p. Lives buf.new p
         (glued (map (part_text (shape buf.old)) parts.now))) }
     ensures edit { OnOk result (IsEdit buf.old buf.new) }
+    ensures appends { IfOk result (λ p. Appends buf.old buf.new p) }
 {
     let mark = buf.open();
     let mut all = buf.push(b"")?;
@@ -61,6 +63,7 @@ pub(crate) fn list_pieces(buf: &mut Buffer, pieces: &[Piece]) -> Result<Piece, A
     ensures shape { IfOk result (λ p. Lives buf.new p
         (pack_shape (map (shape buf.old) pieces.now))) }
     ensures kept { OnOk result (KeepsAll buf.old buf.new) }
+    ensures appends { IfOk result (λ p. Appends buf.old buf.new p) }
 {
     let mark = buf.open();
     let mut list = buf.push(b"")?;
@@ -110,6 +113,7 @@ pub fn separate(buf: &mut Buffer, list: Piece, first: bool) -> Result<Piece, All
     requires list { IsLiving buf.old list }
     ensures shape { IfOk result (λ p. Lives buf.new p (separated first (shape buf.old list))) }
     ensures edit { OnOk result (IsEdit buf.old buf.new) }
+    ensures in_place { IfOk result (λ p. StaysInPlace buf.old buf.new list p) }
 {
     let plain = buf.plain(list);
     buf.append(plain, separator_bytes(first))
@@ -127,6 +131,7 @@ pub fn list_next(buf: &mut Buffer, list: Piece, next: Piece) -> Result<Piece, Al
     ensures shape { IfOk result (λ p. Lives buf.new p
         (followed (shape buf.old list) (shape buf.old next))) }
     ensures edit { OnOk result (IsEdit buf.old buf.new) }
+    ensures in_place { IfOk result (λ p. JoinsInPlace buf.old buf.new list next p) }
 {
     append_piece(buf, list, b"", next)
 }
@@ -143,6 +148,7 @@ pub fn open_arguments(buf: &mut Buffer, name: Piece) -> Result<Piece, AllocError
     requires name { IsLiving buf.old name }
     ensures shape { IfOk result (λ p. Lives buf.new p (arguments_opened (shape buf.old name))) }
     ensures edit { OnOk result (IsEdit buf.old buf.new) }
+    ensures in_place { IfOk result (λ p. StaysInPlace buf.old buf.new name p) }
 {
     let ctor = buf.ctor(name);
     let opening: &[u8] = if buf.bytes(name).ends_with(b"<") {
@@ -164,6 +170,7 @@ pub fn close_arguments(buf: &mut Buffer, list: Piece) -> Result<Piece, AllocErro
     requires list { IsLiving buf.old list }
     ensures shape { IfOk result (λ p. Lives buf.new p (arguments_closed (shape buf.old list))) }
     ensures edit { OnOk result (IsEdit buf.old buf.new) }
+    ensures in_place { IfOk result (λ p. StaysInPlace buf.old buf.new list p) }
 {
     let end: &[u8] = if buf.bytes(list).ends_with(b">") {
         b" >"
@@ -183,6 +190,7 @@ pub fn begin_arguments(buf: &mut Buffer, name: Piece) -> Result<Piece, AllocErro
     requires name { IsLiving buf.old name }
     ensures shape { IfOk result (λ p. Lives buf.new p (arguments_begun (shape buf.old name))) }
     ensures edit { OnOk result (IsEdit buf.old buf.new) }
+    ensures in_place { IfOk result (λ p. StaysInPlace buf.old buf.new name p) }
 {
     let opened = open_arguments(buf, name)?;
     let unflagged = buf.with_flags(opened, false, false);
@@ -210,6 +218,7 @@ pub fn end_arguments(
     requires front { len ≤ text_len (shape buf.old list) }
     ensures shape { IfOk result (λ p. Lives buf.new p (arguments_ended len own ctor (shape buf.old list))) }
     ensures edit { OnOk result (IsEdit buf.old buf.new) }
+    ensures in_place { IfOk result (λ p. StaysInPlace buf.old buf.new list p) }
 {
     let closed = close_arguments(buf, list)?;
     let all = buf.len(closed);
@@ -229,6 +238,7 @@ pub fn open_params(buf: &mut Buffer, name: Piece) -> Result<Piece, AllocError>
     requires name { IsLiving buf.old name }
     ensures shape { IfOk result (λ p. Lives buf.new p (params_opened (shape buf.old name))) }
     ensures edit { OnOk result (IsEdit buf.old buf.new) }
+    ensures in_place { IfOk result (λ p. StaysInPlace buf.old buf.new name p) }
 {
     let ctor = buf.ctor(name);
     let plain = buf.plain(name);
@@ -245,6 +255,7 @@ pub fn close_params(buf: &mut Buffer, list: Piece, quals: Quals) -> Result<Piece
     requires list { IsLiving buf.old list }
     ensures shape { IfOk result (λ p. Lives buf.new p (params_closed quals (shape buf.old list))) }
     ensures edit { OnOk result (IsEdit buf.old buf.new) }
+    ensures in_place { IfOk result (λ p. StaysInPlace buf.old buf.new list p) }
 {
     let closed = buf.append(list, b")")?;
     let worded = buf.append(closed, quals.words())?;
@@ -260,6 +271,7 @@ pub fn append_number(buf: &mut Buffer, piece: Piece, number: u64) -> Result<Piec
     ensures shape { IfOk result (λ p. Lives buf.new p
         (appended (decimal number) (shape buf.old piece))) }
     ensures edit { OnOk result (IsEdit buf.old buf.new) }
+    ensures in_place { IfOk result (λ p. StaysInPlace buf.old buf.new piece p) }
 {
     let mut room = [0; MOST_DIGITS];
     let digits = number_bytes(&mut room, number);
@@ -275,6 +287,7 @@ pub fn close_lambda(buf: &mut Buffer, list: Piece, number: u64) -> Result<Piece,
     requires list { IsLiving buf.old list }
     ensures shape { IfOk result (λ p. Lives buf.new p (lambda_closed number (shape buf.old list))) }
     ensures edit { OnOk result (IsEdit buf.old buf.new) }
+    ensures in_place { IfOk result (λ p. StaysInPlace buf.old buf.new list p) }
 {
     let closed = buf.append(list, b")#")?;
     let numbered = append_number(buf, closed, number)?;

@@ -1,7 +1,7 @@
 //! Edits that make a name out of names (Itanium C++ ABI 5.1.2).
 ghost use Rattle.std.specs.Prelude.{◌≡◌, All, map, IfOk, OnOk};
 ghost use Rattle.demangle_text.specs.Shape.{plain_shape};
-ghost use Rattle.demangle_text.specs.State.{IsLiving, shape, Lives, IsEdit};
+ghost use Rattle.demangle_text.specs.State.{IsLiving, shape, Lives, IsEdit, StaysInPlace, JoinsInPlace, Appends};
 ghost use Rattle.demangle_edit.specs.Names.{qualified, qualified_ctor, angle_gap, attached, tagged};
 ghost use Rattle.demangle_edit.specs.Names.{encoding_shape, with_name_qualifiers};
 ghost use Rattle.demangle_edit.specs.Names.{default_arg_opened, default_arg_closed, default_arg_shape};
@@ -23,6 +23,7 @@ pub fn qualify(buf: &mut Buffer, scope: Piece, leaf: Piece) -> Result<Piece, All
     ensures shape { IfOk result (λ p. Lives buf.new p
         (qualified (shape buf.old scope) (shape buf.old leaf))) }
     ensures edit { OnOk result (IsEdit buf.old buf.new) }
+    ensures in_place { IfOk result (λ p. JoinsInPlace buf.old buf.new scope leaf p) }
 {
     let before = buf.len(scope);
     let (from, to) = buf.own_range(leaf);
@@ -45,6 +46,7 @@ pub fn qualify_text(buf: &mut Buffer, scope: Piece, text: &[u8]) -> Result<Piece
     ensures shape { IfOk result (λ p. Lives buf.new p
         (qualified (shape buf.old scope) (plain_shape text.now))) }
     ensures edit { OnOk result (IsEdit buf.old buf.new) }
+    ensures in_place { IfOk result (λ p. StaysInPlace buf.old buf.new scope p) }
 {
     let before = buf.len(scope);
     let plain = buf.plain(scope);
@@ -63,6 +65,7 @@ pub fn open_default_arg(buf: &mut Buffer, scope: Piece, number: u64) -> Result<P
     requires scope { IsLiving buf.old scope }
     ensures shape { IfOk result (λ p. Lives buf.new p (default_arg_opened (shape buf.old scope) number)) }
     ensures edit { OnOk result (IsEdit buf.old buf.new) }
+    ensures in_place { IfOk result (λ p. StaysInPlace buf.old buf.new scope p) }
 {
     let plain = buf.plain(scope);
     let opened = buf.append(plain, b"::{default arg#")?;
@@ -81,6 +84,7 @@ pub fn close_default_arg(buf: &mut Buffer, opened: Piece, entity: Piece) -> Resu
     ensures shape { IfOk result (λ p. Lives buf.new p
         (default_arg_closed (shape buf.old opened) (shape buf.old entity))) }
     ensures edit { OnOk result (IsEdit buf.old buf.new) }
+    ensures in_place { IfOk result (λ p. JoinsInPlace buf.old buf.new opened entity p) }
 {
     let before = buf.len(opened);
     let (from, to) = buf.own_range(entity);
@@ -108,11 +112,12 @@ pub fn default_arg(
     ensures shape { IfOk result (λ p. Lives buf.new p
         (default_arg_shape (shape buf.old scope) number (shape buf.old entity))) }
     ensures edit { OnOk result (IsEdit buf.old buf.new) }
+    ensures appends { IfOk result (λ p. Appends buf.old buf.new p) }
 {
     let mark = buf.open();
     let opened = open_default_arg(buf, scope, number)?;
-    let whole = close_default_arg(buf, opened, entity)?;
-    buf.close(mark, whole)
+    let named = close_default_arg(buf, opened, entity)?;
+    buf.close(mark, named)
 }
 
 /// The constructor of a scope, `scope::name` with the last own name of the scope, or its
@@ -126,6 +131,7 @@ pub fn qualify_ctor(buf: &mut Buffer, scope: Piece, destructor: bool) -> Result<
     ensures shape { IfOk result (λ p. Lives buf.new p
         (qualified_ctor (shape buf.old scope) destructor)) }
     ensures edit { OnOk result (IsEdit buf.old buf.new) }
+    ensures in_place { IfOk result (λ p. StaysInPlace buf.old buf.new scope p) }
 {
     let before = buf.len(scope);
     let name = buf.plain(scope);
@@ -157,6 +163,7 @@ pub fn attach_template_args(buf: &mut Buffer, name: Piece, args: Piece) -> Resul
     ensures shape { IfOk result (λ p. Lives buf.new p
         (attached (shape buf.old name) (shape buf.old args))) }
     ensures edit { OnOk result (IsEdit buf.old buf.new) }
+    ensures in_place { IfOk result (λ p. JoinsInPlace buf.old buf.new name args p) }
 {
     let ctor = buf.ctor(name);
     let gap = gap_before_args(buf.bytes(name));
@@ -181,6 +188,7 @@ pub fn format_params(
     ensures shape { IfOk result (λ p. Lives buf.new p
         (encoding_shape (shape buf.old name) (map (shape buf.old) params.now) quals)) }
     ensures edit { OnOk result (IsEdit buf.old buf.new) }
+    ensures appends { IfOk result (λ p. Appends buf.old buf.new p) }
 {
     let mark = buf.open();
     let mut list = open_params(buf, name)?;
@@ -200,6 +208,7 @@ pub fn tag(buf: &mut Buffer, name: Piece, text: &[u8]) -> Result<Piece, AllocErr
     requires name { IsLiving buf.old name }
     ensures shape { IfOk result (λ p. Lives buf.new p (tagged (shape buf.old name) text.now)) }
     ensures edit { OnOk result (IsEdit buf.old buf.new) }
+    ensures in_place { IfOk result (λ p. StaysInPlace buf.old buf.new name p) }
 {
     let plain = buf.plain(name);
     let opened = buf.append(plain, b"[abi:")?;
@@ -223,6 +232,7 @@ pub fn apply_name_qualifiers(
     ensures shape { IfOk result (λ p. Lives buf.new p
         (with_name_qualifiers (shape buf.old name) quals shown)) }
     ensures edit { OnOk result (IsEdit buf.old buf.new) }
+    ensures in_place { IfOk result (λ p. StaysInPlace buf.old buf.new name p) }
 {
     if !quals.is_set() {
         return Ok(name);

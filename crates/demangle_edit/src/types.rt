@@ -4,8 +4,10 @@ ghost use Rattle.std.specs.Prelude.{◌≡◌, ◌≢◌, ◌++◌, All, map, co
 ghost use Rattle.demangle_text.specs.Shape.{CanInsert, IsPlain, IsDeclared, text, plain_shape, inserted};
 ghost use Rattle.demangle_text.specs.Shape.{kind_of, group_of, gap_after, front_text};
 ghost use Rattle.demangle_text.specs.State.{IsLiving, shape, Lives, IsEdit, KeepsAll, main_bytes};
-ghost use Rattle.demangle_edit.specs.Answers.{Answers, OnNone};
+ghost use Rattle.demangle_text.specs.State.{StaysInPlace, JoinsInPlace, Appends};
+ghost use Rattle.demangle_edit.specs.Answers.{Answers, IfFound, OnNone};
 ghost use Rattle.demangle_edit.specs.Types.{pointed, collapse_step, pointer_shape, cv_place, cv_shape};
+ghost use Rattle.demangle_edit.specs.Types.{is_cut, is_shortened};
 ghost use Rattle.demangle_edit.specs.Types.{function_step, expansion_shape};
 ghost use Rattle.demangle_edit.specs.Types.{dimension_digits, array_shape, array_step};
 ghost use Rattle.demangle_edit.specs.Types.{member_gap, after_text, member_pointer_shape, member_pointer_step};
@@ -23,6 +25,7 @@ fn wrap_token(buf: &mut Buffer, inner: Piece, token: &[u8]) -> Result<Piece, All
     requires inner { IsLiving buf.old inner }
     ensures shape { IfOk result (λ p. Lives buf.new p (pointed token.now (shape buf.old inner))) }
     ensures edit { OnOk result (IsEdit buf.old buf.new) }
+    ensures in_place { IfOk result (λ p. StaysInPlace buf.old buf.new inner p) }
 {
     if buf.kind(inner).is_none() {
         buf.append(inner, token)
@@ -43,6 +46,8 @@ pub fn wrap_pointer(buf: &mut Buffer, inner: Piece, kind: Pointer) -> Result<Pie
     requires inner { IsLiving buf.old inner }
     ensures shape { IfOk result (λ p. Lives buf.new p (pointer_shape kind (shape buf.old inner))) }
     ensures edit { OnOk result (IsEdit buf.old buf.new) }
+    ensures in_place { is_shortened kind (shape buf.old inner) ≡ false
+        → IfOk result (λ p. StaysInPlace buf.old buf.new inner p) }
 {
     match kind {
         Pointer::Star => wrap_token(buf, inner, b"*"),
@@ -74,6 +79,8 @@ pub fn collapse_ref(
     ensures edit { OnOk result (IsEdit buf.old buf.new) }
     ensures none { OnNone result (KeepsAll buf.old buf.new) }
     ensures none_main { OnNone result (main_bytes buf.new ≡ main_bytes buf.old) }
+    ensures in_place { is_cut rvalue (shape buf.old inner) ≡ false
+        → IfFound result (λ p. StaysInPlace buf.old buf.new inner p) }
 {
     if buf.kind(inner).is_some() || !buf.bytes(inner).ends_with(b"&") {
         return Ok(None);
@@ -115,6 +122,7 @@ pub fn wrap_cv(buf: &mut Buffer, inner: Piece, quals: Quals) -> Result<Piece, Al
     requires inner { IsLiving buf.old inner }
     ensures shape { IfOk result (λ p. Lives buf.new p (cv_shape quals (shape buf.old inner))) }
     ensures edit { OnOk result (IsEdit buf.old buf.new) }
+    ensures in_place { IfOk result (λ p. StaysInPlace buf.old buf.new inner p) }
 {
     let place = words_place(buf, inner);
     buf.insert(inner, place, quals.words())
@@ -135,6 +143,7 @@ fn insert_dimension(
     ensures shape { IfOk result (λ p. Lives buf.new p
         (inserted place (opening.now ++ (dimension_digits dimension ++ codes "]")) (shape buf.old piece))) }
     ensures edit { OnOk result (IsEdit buf.old buf.new) }
+    ensures in_place { IfOk result (λ p. StaysInPlace buf.old buf.new piece p) }
 {
     let mut room = [0; MOST_DIGITS];
     let digits = dimension_bytes(&mut room, dimension);
@@ -154,6 +163,7 @@ fn first_dimension(
     requires plain { IsPlain (shape buf.old elem).form }
     ensures shape { IfOk result (λ p. Lives buf.new p (array_shape dimension (shape buf.old elem))) }
     ensures edit { OnOk result (IsEdit buf.old buf.new) }
+    ensures in_place { IfOk result (λ p. StaysInPlace buf.old buf.new elem p) }
 {
     let at = buf.len(elem);
     let longer = insert_dimension(buf, elem, Place::End, b" [", dimension)?;
@@ -174,6 +184,7 @@ fn outer_dimension(
     requires group { is_some (group_of (shape buf.old elem).form) ≡ false }
     ensures shape { IfOk result (λ p. Lives buf.new p (array_shape dimension (shape buf.old elem))) }
     ensures edit { OnOk result (IsEdit buf.old buf.new) }
+    ensures in_place { IfOk result (λ p. StaysInPlace buf.old buf.new elem p) }
 {
     let at = buf.after_at(elem).unwrap();
     let len = buf.len(elem);
@@ -202,6 +213,7 @@ pub fn wrap_array(
     ensures edit { OnOk result (IsEdit buf.old buf.new) }
     ensures none { OnNone result (KeepsAll buf.old buf.new) }
     ensures none_main { OnNone result (main_bytes buf.new ≡ main_bytes buf.old) }
+    ensures in_place { IfFound result (λ p. StaysInPlace buf.old buf.new elem p) }
 {
     let Some(kind) = buf.kind(elem) else {
         let array = first_dimension(buf, elem, dimension)?;
@@ -240,6 +252,7 @@ fn append_member(buf: &mut Buffer, class: Piece, member: Piece) -> Result<Piece,
     ensures shape { IfOk result (λ p. Lives buf.new p
         (member_pointer_shape (shape buf.old class) (shape buf.old member))) }
     ensures edit { OnOk result (IsEdit buf.old buf.new) }
+    ensures in_place { IfOk result (λ p. JoinsInPlace buf.old buf.new member class p) }
 {
     let gap = gap_before_member(buf.bytes(member));
     let begun = append_piece(buf, member, gap, class)?;
@@ -294,6 +307,7 @@ fn join_member(
         (text (shape buf.old front) ++ (gap_after (text (shape buf.old front)) ++ codes "(")
         ++ text (shape buf.old class) ++ codes "::*)" ++ text (shape buf.old after)))) }
     ensures kept { OnOk result (KeepsAll buf.old buf.new) }
+    ensures appends { IfOk result (λ p. Appends buf.old buf.new p) }
 {
     let opening = group_opening(buf.bytes(front));
     let mark = buf.open();
@@ -311,6 +325,7 @@ fn open_member(buf: &mut Buffer, class: Piece, member: Piece) -> Result<Piece, A
     ensures shape { IfOk result (λ p. Lives buf.new p
         (member_pointer_shape (shape buf.old class) (shape buf.old member))) }
     ensures edit { OnOk result (IsEdit buf.old buf.new) }
+    ensures appends { IfOk result (λ p. Appends buf.old buf.new p) }
 {
     let (templ, ctor) = (buf.templ(member), buf.ctor(member));
     let class_len = buf.len(class);
@@ -342,6 +357,10 @@ pub fn wrap_member_pointer(
     ensures edit { OnOk result (IsEdit buf.old buf.new) }
     ensures none { OnNone result (KeepsAll buf.old buf.new) }
     ensures none_main { OnNone result (main_bytes buf.new ≡ main_bytes buf.old) }
+    ensures in_place { kind_of (shape buf.old member).form ≡ None
+        → IfFound result (λ p. JoinsInPlace buf.old buf.new member class p) }
+    ensures appends { kind_of (shape buf.old member).form ≡ Some Kind.Function
+        → IfFound result (λ p. Appends buf.old buf.new p) }
 {
     match buf.kind(member) {
         None => {
@@ -376,6 +395,7 @@ pub fn function_type(
     ensures edit { OnOk result (IsEdit buf.old buf.new) }
     ensures none { OnNone result (KeepsAll buf.old buf.new) }
     ensures none_main { OnNone result (main_bytes buf.new ≡ main_bytes buf.old) }
+    ensures in_place { IfFound result (λ p. StaysInPlace buf.old buf.new ret p) }
 {
     if buf.kind(ret).is_some() {
         return Ok(None);
@@ -399,6 +419,7 @@ pub fn expand(buf: &mut Buffer, inner: Piece) -> Result<Piece, AllocError>
     requires inner { IsLiving buf.old inner }
     ensures shape { IfOk result (λ p. Lives buf.new p (expansion_shape (shape buf.old inner))) }
     ensures edit { OnOk result (IsEdit buf.old buf.new) }
+    ensures in_place { IfOk result (λ p. StaysInPlace buf.old buf.new inner p) }
 {
     buf.append(inner, b"...")
 }

@@ -6,10 +6,10 @@ use Rattle.std.proofs.lemmas.List.Edits.{length-between}
 use Rattle.std.proofs.lemmas.List.Elements.{All-head, All-tail, All-nil, All-cons}
 use Rattle.demangle_text.specs.declared.shape.Piece.{Piece}
 use Rattle.demangle_text.specs.Pieces.{Store, IsStore, IsPiece, IsApart, outline_of, shape_of, shape_in, home_bytes, IsAside, carried, carried_from}
-use Rattle.demangle_text.specs.State.{IsLiving, shape, Lives, IsOlder, Frame, frame, IsEdit, saved, scopes, parts_at, IsBelow, KeepsAll}
+use Rattle.demangle_text.specs.State.{IsLiving, shape, Lives, IsOlder, Frame, frame, frame_start, main_bytes, IsEdit, saved, scopes, parts_at, IsBelow, KeepsAll}
 use Rattle.demangle_text.proofs.States.{KeepsAll-elsewhere}
 use Rattle.demangle_text.proofs.Laws.{IsEdit-trans, IsEdit-keeps}
-use Rattle.demangle_text.proofs.Texts.{Moves, part-below, part-moved}
+use Rattle.demangle_text.proofs.Texts.{Moves, part-below, part-moved, front_below}
 use Rattle.demangle_text.specs.Flags.{lies_aside}
 
 module _ (main new side : List ℕ) (low from to dest : ℕ) (m : Moves main new low from to dest) where
@@ -104,7 +104,7 @@ module _ (s t : Store) (low from to dest : ℕ) (m : Moves s.main_text t.main_te
       }
 
   IsEdit-moved : IsStore s → IsEdit s t
-  unfolding IsLiving shape saved scopes frame IsOlder Frame
+  unfolding IsLiving shape saved scopes main_bytes frame frame_start IsOlder Frame
   IsEdit-moved i = record {
     pieces = λ p h o. Lives-below p h (λ e. le_trans _ _ _ (below_main (s.frame_main, s.frame_side) (lies_aside p.flags) p.to_byte o e) inner);
     frame_same = cc;
@@ -112,6 +112,7 @@ module _ (s t : Store) (low from to dest : ℕ) (m : Moves s.main_text t.main_te
       saved_same = rw (by_side, by_saved) (shapes-carried s.main_text t.main_text s.side_text low from to dest m s.saved_pieces i.saved_lie saved_apart);
       scopes_same = rw (by_side, by_args, by_starts) (ap (parts_at s.scope_starts) (shapes-carried s.main_text t.main_text s.side_text low from to dest m s.arg_pieces i.args_lie args_apart));
     };
+    front = front_below s.main_text t.main_text s.frame_main low inner m.below;
   }
 
 -- bytes are inserted: all after them moves on

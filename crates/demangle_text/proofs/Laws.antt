@@ -1,10 +1,14 @@
--- Laws of a run of calls. No line here looks into a buffer: they follow from the words of `State` alone.
-use Rattle.std.proofs.Common.{sym, ◌∙◌, subst}
+-- Laws of a run of calls. No line here looks into a buffer: they follow from the words of `State`, and from that a piece
+-- stands at one place.
+use Rattle.std.proofs.Common.{◌≡◌, ◌≤◌, ℕ, List, ◌++◌, length, take, sym, ap, refl, ◌∙◌, subst, Result, Ok, Err, IfOk, OnOk}
+use Rattle.std.proofs.lemmas.List.{take-take, take_at}
 use Rattle.demangle_text.specs.declared.shape.Piece.{Piece}
 use Rattle.demangle_text.specs.declared.shape.Mark.{Mark}
 use Rattle.demangle_text.specs.Shape.{Shape}
 use Rattle.demangle_text.specs.Pieces.{Store}
-use Rattle.demangle_text.specs.State.{Frame, IsLiving, IsOlder, IsAsOld, shape, Lives, SameLists, SameFrame, KeepsAll, IsEdit, Opens, Closes, IsRun, IsSince}
+use Rattle.demangle_text.specs.State.{Frame, frame, frame_start, inside, main_bytes, IsLiving, IsOlder, IsAsOld, shape, Lives, SameLists, SameFrame, KeepsFront, KeepsAll, IsEdit, Opens, Closes, IsRun, IsSince}
+use Rattle.demangle_text.specs.State.{Stands, StandsAs, IsEditOf, IsJoinOf, StaysInPlace, JoinsInPlace, Appends}
+use Rattle.demangle_text.proofs.States.{Stands-begins, Stands-ordered}
 
 -- a piece as old as one that is older than a frame is older than the frame too
 pub IsAsOld-older : (p q : Piece) (f : Frame) → IsAsOld p q → IsOlder p f → IsOlder q f
@@ -26,13 +30,19 @@ SameLists-trans old mid new a b = record { saved_same = b.saved_same ∙ a.saved
 
 -- nothing changed, so it is an edit
 pub IsEdit-keeps : (old new : Store) → KeepsAll old new → IsEdit old new
-IsEdit-keeps old new u = record { pieces = λ p h _. u.pieces p h; frame_same = u.frame_same; lists = u.lists }
+IsEdit-keeps old new u = record { pieces = λ p h _. u.pieces p h; frame_same = u.frame_same; lists = u.lists; front = u.front }
+
+-- the main text before a mark that stays the innermost one, over two steps
+KeepsFront-trans : (old mid new : Store) → frame mid ≡ frame old → KeepsFront old mid → KeepsFront mid new → KeepsFront old new
+KeepsFront-trans old mid new same a b =
+    subst (λ (f : Frame). take (frame_start f) (main_bytes new) ≡ take (frame_start f) (main_bytes mid)) same b ∙ a
 
 pub KeepsAll-trans : (old mid new : Store) → KeepsAll old mid → KeepsAll mid new → KeepsAll old new
 KeepsAll-trans old mid new a b = record {
   pieces = λ p h. Lives-trans mid new p (shape old p) (a.pieces p h) (b.pieces p);
   frame_same = b.frame_same ∙ a.frame_same;
   lists = SameLists-trans old mid new a.lists b.lists;
+  front = KeepsFront-trans old mid new a.frame_same a.front b.front;
 }
 
 -- one edit after another
@@ -41,6 +51,7 @@ IsEdit-trans old mid new a b = record {
   pieces = λ p h o. Lives-trans mid new p (shape old p) (a.pieces p h o) (λ l. b.pieces p l (subst (IsOlder p) (sym a.frame_same) o));
   frame_same = b.frame_same ∙ a.frame_same;
   lists = SameLists-trans old mid new a.lists b.lists;
+  front = KeepsFront-trans old mid new a.frame_same a.front b.front;
 }
 
 -- an edit inside a mark
@@ -51,6 +62,10 @@ Opens-edit old mid new m o e = record {
   inside_is = e.frame_same ∙ o.inside_is;
   outside_is = o.outside_is;
   lists = SameLists-trans old mid new o.lists e.lists;
+  nested = o.nested;
+  front =
+      subst (λ (f : Frame). take (frame_start f) (main_bytes new) ≡ take (frame_start f) (main_bytes mid)) o.inside_is e.front
+      ∙ o.front;
 }
 
 pub Opens-keeps : (old mid new : Store) (m : Mark) → Opens old mid m → KeepsAll mid new → Opens old new m
@@ -62,6 +77,9 @@ KeepsAll-closed old mid new m o c = record {
   pieces = λ p h. Lives-trans mid new p (shape old p) (o.pieces p h) (λ l. c.pieces p l (o.older p h));
   frame_same = c.outside_is ∙ o.outside_is;
   lists = SameLists-trans old mid new o.lists c.lists;
+  front =
+      let low = frame_start (frame old) in
+      sym (take-take low (frame_start (inside m)) (main_bytes new) o.nested) ∙ ap (take low) (c.front ∙ o.front);
 }
 
 -- runs, which may change the lists
@@ -106,6 +124,112 @@ SameFrame-closed old mid new m o c = record {
 
 pub Lives-same : (old new : Store) (p : Piece) (s : Shape) → SameFrame old new → Lives old p s → Lives new p s
 Lives-same old new p s u h = Lives-trans old new p s h (u.pieces p)
+
+-- an edit of a buffer leaves a piece where it stands
+pub StaysInPlace-edit : (old new : Store) (p q : Piece) (n : ℕ) → IsEditOf old new p q n → StaysInPlace old new p q
+StaysInPlace-edit old new p q n e = record {
+  stays = λ at inner there.
+      let stands = (e.in_place at inner there).0 in
+      let len = length (main_bytes new) in
+      let same = Stands-begins q e.ends.from len at len e.ends.stands stands in
+      (stands, subst (λ (k : ℕ). take k (main_bytes new) ≡ take k (main_bytes old)) same e.ends.front);
+}
+
+-- one edit after another
+pub StaysInPlace-trans : (old mid new : Store) (p q r : Piece) → IsEdit old mid → StaysInPlace old mid p q → StaysInPlace mid new q r → StaysInPlace old new p r
+StaysInPlace-trans old mid new p q r e a b = record {
+  stays = λ at inner there.
+      let one = a.stays at inner there in
+      let two = b.stays at (subst (λ (f : Frame). frame_start f ≤ at) (sym e.frame_same) inner) one.0 in
+      (two.0, two.1 ∙ one.1);
+}
+
+-- an edit of what is answered for a piece with no edit
+pub StaysInPlace-of : (old new : Store) (p q r : Piece) → StandsAs p q → StaysInPlace old new q r → StaysInPlace old new p r
+StaysInPlace-of old new p q r as_piece a = record {
+  stays = λ at inner there. a.stays at inner (as_piece at (length (main_bytes old)) there);
+}
+
+-- and what is answered with no edit for a piece after one
+pub StaysInPlace-named : (old new : Store) (p q r : Piece) → StaysInPlace old new p q → StandsAs q r → StaysInPlace old new p r
+StaysInPlace-named old new p q r a as_piece = record {
+  stays = λ at inner there.
+      let one = a.stays at inner there in
+      (as_piece at (length (main_bytes new)) one.0, one.1);
+}
+
+-- a join of a buffer
+pub JoinsInPlace-join : (old new : Store) (p q r : Piece) (n : ℕ) → IsJoinOf old new p q r n → JoinsInPlace old new p q r
+JoinsInPlace-join old new p q r n j = record {
+  stays = λ from middle inner first second.
+      let stands = (j.in_place from middle inner first second).0 in
+      let len = length (main_bytes new) in
+      let same = Stands-begins r j.ends.from len from len j.ends.stands stands in
+      (stands, subst (λ (k : ℕ). take k (main_bytes new) ≡ take k (main_bytes old)) same j.ends.front);
+}
+
+-- and what is answered with no edit after it
+pub JoinsInPlace-named : (old new : Store) (p q r s : Piece) → JoinsInPlace old new p q r → StandsAs r s → JoinsInPlace old new p q s
+JoinsInPlace-named old new p q r s a as_piece = record {
+  stays = λ from middle inner first second.
+      let one = a.stays from middle inner first second in
+      (as_piece from (length (main_bytes new)) one.0, one.1);
+}
+
+-- and an edit after it
+pub JoinsInPlace-trans : (old mid new : Store) (p q r s : Piece) → IsEdit old mid → JoinsInPlace old mid p q r → StaysInPlace mid new r s → JoinsInPlace old new p q s
+JoinsInPlace-trans old mid new p q r s e a b = record {
+  stays = λ from middle inner first second.
+      let one = a.stays from middle inner first second in
+      let two = b.stays from (subst (λ (f : Frame). frame_start f ≤ from) (sym e.frame_same) inner) one.0 in
+      (two.0, two.1 ∙ one.1);
+}
+
+-- a text that is pushed
+pub Appends-push : (old new : Store) (p : Piece) (bytes : List ℕ) → frame_start (frame old) ≤ length (main_bytes old)
+    → main_bytes new ≡ main_bytes old ++ bytes → Stands p (length (main_bytes old)) (length (main_bytes new)) → Appends old new p
+Appends-push old new p bytes inner main stands = record {
+  front = ap (take (length (main_bytes old))) main ∙ take_at (main_bytes old) bytes (length (main_bytes old)) refl;
+  inner = inner;
+  stands = stands;
+}
+
+-- and edited afterwards
+pub Appends-edit : (old mid new : Store) (p q : Piece) → IsEdit old mid → Appends old mid p → StaysInPlace mid new p q → Appends old new q
+Appends-edit old mid new p q e a s =
+    let len = length (main_bytes old) in
+    let k = s.stays len (subst (λ (f : Frame). frame_start f ≤ len) (sym e.frame_same) a.inner) a.stands in
+    record { front = k.1 ∙ a.front; inner = a.inner; stands = k.0 }
+
+-- and what is answered with no edit for it
+pub Appends-named : (old new : Store) (p q : Piece) → Appends old new p → StandsAs p q → Appends old new q
+Appends-named old new p q a as_piece =
+    record { front = a.front; inner = a.inner; stands = as_piece (length (main_bytes old)) (length (main_bytes new)) a.stands }
+
+-- a text inside a mark at the end of the main text, which is closed again
+pub Appends-closed : (old mid new : Store) (m : Mark) (p : Piece) → frame_start (inside m) ≡ length (main_bytes old) → Opens old mid m → Closes mid new m
+    → Stands p (frame_start (inside m)) (length (main_bytes new)) → Appends old new p
+Appends-closed old mid new m p starts o c stands = record {
+  front = subst (λ (k : ℕ). take k (main_bytes new) ≡ main_bytes old) starts (c.front ∙ o.front);
+  inner = subst (λ (k : ℕ). frame_start (frame old) ≤ k) starts o.nested;
+  stands = subst (λ (k : ℕ). Stands p k (length (main_bytes new))) starts stands;
+}
+
+-- the same of the call that closes it
+pub Appends-close : {E : Type 0} (old mid new : Store) (m : Mark) (r : Result Piece E) → frame_start (inside m) ≡ length (main_bytes old) → Opens old mid m
+    → OnOk r (Closes mid new m) → IfOk r (λ p. Stands p (frame_start (inside m)) (length (main_bytes new))) → IfOk r (λ p. Appends old new p)
+Appends-close old mid new m (Ok p) starts o c stands = Appends-closed old mid new m p starts o c stands
+Appends-close old mid new m (Err e) starts o c stands = tt
+
+-- a piece that stood at the end of the main text, joined to what was put there
+pub StaysInPlace-joined : (old mid new : Store) (p q r : Piece) → IsLiving old p → frame mid ≡ frame old → Appends old mid q → JoinsInPlace mid new p q r → StaysInPlace old new p r
+StaysInPlace-joined old mid new p q r lies same a j = record {
+  stays = λ at inner there.
+      let len = length (main_bytes old) in
+      let one = j.stays at len (subst (λ (f : Frame). frame_start f ≤ at) (sym same) inner) there a.stands in
+      let ordered = Stands-ordered old p at len lies there in
+      (one.0, one.1 ∙ sym (take-take at len (main_bytes mid) ordered) ∙ ap (take at) a.front);
+}
 
 -- the laws for the readers
 pub ruleset runs = (IsRun-edit, IsRun-same, SameFrame-keeps, SameFrame-trans, IsRun-trans, IsSince-opens, IsSince-run, SameFrame-closed, Lives-same)

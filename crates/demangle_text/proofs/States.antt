@@ -1,13 +1,13 @@
 -- What stays when a buffer's texts grow, and when the texts that it keeps lie elsewhere.
-use Rattle.std.proofs.Common.{◌≡◌, ℕ, ◌-◌, ◌<◌, ◌≤◌, Bool, true, false, List, [], ◌++◌, length, drop, slice_range, All, map, refl, sym, ap, ◌∙◌, subst, arith, Result, Ok, Err, OnErr, append_assoc, set, get_or}
+use Rattle.std.proofs.Common.{◌≡◌, ℕ, ◌-◌, ◌<◌, ◌≤◌, Bool, true, false, List, [], ◌++◌, length, take, drop, slice_range, All, map, refl, sym, ap, ◌∙◌, subst, arith, Result, Ok, Err, OnErr, append_assoc, set, get_or}
 use Rattle.std.proofs.Math.Seq.{map-set_same}
 use Rattle.std.proofs.lemmas.List.Elements.{All-set, All-get_or, All-weaker}
-use Rattle.std.proofs.lemmas.List.{length-append, length-drop, append-nil, drop_at, take_all}
+use Rattle.std.proofs.lemmas.List.{length-append, length-drop, append-nil, drop_at, take_all, take-append-le}
 use Rattle.demangle_text.specs.declared.shape.Piece.{Piece}
 use Rattle.demangle_text.specs.declared.shape.Mark.{Mark}
 use Rattle.demangle_text.specs.Shape.{text}
 use Rattle.demangle_text.specs.Pieces.{Store, IsStore, IsPiece, IsAt, IsOutlined, outline_of, shape_of, shape_in, piece_text, home_bytes, Extends}
-use Rattle.demangle_text.specs.State.{IsLiving, shape, saved, scopes, frame, inside, outside, Frame, IsOlder, KeepsAll, IsEdit, Closes, Lives, parts_at}
+use Rattle.demangle_text.specs.State.{IsLiving, shape, saved, scopes, main_bytes, Stands, frame, frame_start, inside, outside, Frame, IsBelow, IsOlder, KeepsAll, IsEdit, Opens, Closes, Lives, parts_at}
 use Rattle.demangle_text.proofs.Forms.{text-form_of}
 use Rattle.demangle_text.proofs.Texts.{part-append, map_same}
 use Rattle.demangle_text.specs.Flags.{lies_aside}
@@ -78,7 +78,7 @@ abbrev grown : Store → List ℕ → List ℕ → Store
 grown s m n = record s { main_text = s.main_text ++ m; side_text = s.side_text ++ n }
 
 KeepsAll-grown : (s : Store) (m n : List ℕ) → IsStore s → KeepsAll s (grown s m n)
-unfolding IsLiving shape saved scopes frame
+unfolding IsLiving shape saved scopes main_bytes frame frame_start Frame
 KeepsAll-grown s m n i =
     let same = (λ (p : Piece) (h : IsPiece s.main_text s.side_text p). shape_in-grown s.main_text s.side_text m n p h) in
     let f = shape_in (s.main_text ++ m) (s.side_text ++ n) in
@@ -90,6 +90,7 @@ KeepsAll-grown s m n i =
         saved_same = map_same (IsPiece s.main_text s.side_text) f g same s.saved_pieces i.saved_lie;
         scopes_same = ap (parts_at s.scope_starts) (map_same (IsPiece s.main_text s.side_text) f g same s.arg_pieces i.args_lie);
       };
+      front = take-append-le s.frame_main s.main_text m i.main_frame;
     }
 
 IsStore-grown : (s : Store) (m n : List ℕ) → IsStore s → IsStore (grown s m n)
@@ -119,7 +120,7 @@ pub KeepsAll-elsewhere : (s t : Store) → t.main_text ≡ s.main_text → Exten
     → map (shape_in t.main_text t.side_text) t.saved_pieces ≡ map (shape_in s.main_text s.side_text) s.saved_pieces
     → map (shape_in t.main_text t.side_text) t.arg_pieces ≡ map (shape_in s.main_text s.side_text) s.arg_pieces
     → t.scope_starts ≡ s.scope_starts → t.frame_main ≡ s.frame_main → t.frame_side ≡ s.frame_side → KeepsAll s t
-unfolding IsLiving shape saved scopes frame
+unfolding IsLiving shape saved scopes main_bytes frame frame_start Frame
 KeepsAll-elsewhere s t by_main by_side by_saved by_args by_starts by_frame_main by_frame_side =
     record {
       pieces = λ p h. record {
@@ -128,6 +129,7 @@ KeepsAll-elsewhere s t by_main by_side by_saved by_args by_starts by_frame_main 
       };
       frame_same = cc;
       lists = record { saved_same = by_saved; scopes_same = cc };
+      front = ap (take s.frame_main) by_main;
     }
 
 -- a piece of the main text that ends it, by its text
@@ -150,16 +152,46 @@ Lives-grown s t p stands outlined =
     let there : IsAt p p.from_byte (length (s.main_text ++ t)) = record { in_main = stands.in_main; begins = refl; ends = stands.ends } in
     Lives-at_end (longer s t) p t there (omega (arith, stands.begins, length-append s.main_text t)) (drop_at s.main_text t p.from_byte (sym stands.begins)) outlined
 
+-- what lives lies before the ends of both texts
+below_ends : (main side : List ℕ) (f : ℕ × ℕ) (h : Bool) (n : ℕ) → f.0 ≡ length main → f.1 ≡ length side → n ≤ length (home_bytes main side h) → IsBelow f h n
+below_ends main side f false n by_main by_side within = subst (λ (k : ℕ). n ≤ k) (sym by_main) within
+below_ends main side f true n by_main by_side within = subst (λ (k : ℕ). n ≤ k) (sym by_side) within
+
+-- a mark is opened at the ends of both texts
+pub Opens-here : (s : Store) (m : Mark) → IsStore s → m.inside_main ≡ length s.main_text → m.inside_side ≡ length s.side_text
+    → m.outside_main ≡ s.frame_main → m.outside_side ≡ s.frame_side → Opens s (record s { frame_main = m.inside_main; frame_side = m.inside_side }) m
+unfolding IsLiving shape saved scopes main_bytes frame frame_start inside outside IsOlder Frame
+Opens-here s m i by_main by_side outer_main outer_side = record {
+  pieces = λ p h. record { living = h; shape_is = refl };
+  older = λ p h. below_ends s.main_text s.side_text (m.inside_main, m.inside_side) (lies_aside p.flags) p.to_byte by_main by_side h.within;
+  inside_is = refl;
+  outside_is = λ j. (outer_main j, outer_side j);
+  lists = record { saved_same = refl; scopes_same = refl };
+  nested = omega (arith, by_main, i.main_frame);
+  front = take_all m.inside_main s.main_text (omega (arith, by_main));
+}
+
 -- a mark is closed after an edit inside it
 pub Closes-edit : (s t : Store) (m : Mark) → frame s ≡ inside m → IsEdit s t → Closes s (record t { frame_main = m.outside_main; frame_side = m.outside_side }) m
-unfolding IsLiving shape saved scopes frame outside Frame
+unfolding IsLiving shape saved scopes main_bytes frame outside Frame
 Closes-edit s t m innermost e = record {
   pieces = λ p h o.
       let k = e.pieces p h (subst (IsOlder p) (sym innermost) o) in
       record { living = k.living; shape_is = k.shape_is };
   outside_is = refl;
   lists = record { saved_same = e.lists.saved_same; scopes_same = e.lists.scopes_same };
+  front = subst (λ (f : Frame). take (frame_start f) t.main_text ≡ take (frame_start f) s.main_text) innermost e.front;
 }
+
+-- a piece stands at one place
+pub Stands-begins : (p : Piece) (from to at end : ℕ) → Stands p from to → Stands p at end → from ≡ at
+unfolding Stands
+Stands-begins p from to at end one two = sym one.begins ∙ two.begins
+
+-- and what lives ends no earlier than it begins
+pub Stands-ordered : (s : Store) (p : Piece) (from to : ℕ) → IsLiving s p → Stands p from to → from ≤ to
+unfolding IsLiving Stands
+Stands-ordered s p from to lies stands = omega (arith, lies.ordered, stands.begins, stands.ends)
 
 -- a fact at the exit of a `?`
 pub on_err_from : {T E Q : Type 0} (r : Result T E) → Q → OnErr r Q
@@ -189,6 +221,7 @@ unchanged s new by_main by_side by_saved by_args by_starts by_frame_main by_fram
       pieces = λ p h. record { living = h; shape_is = refl };
       frame_same = refl;
       lists = record { saved_same = refl; scopes_same = refl };
+      front = refl;
     })
 
 -- the lemmas for the calls of a buffer

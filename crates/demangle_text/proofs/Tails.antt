@@ -12,7 +12,7 @@ use Rattle.demangle_text.specs.declared.shape.Place.{Place}
 use Rattle.demangle_text.specs.declared.shape.Place.TheVariants.{Suffix}
 use Rattle.demangle_text.proofs.Inserts.{Inserts, length-inserted, shape-inserted, IsOutlined-inserted}
 use Rattle.demangle_text.proofs.Groups.{Groups, group_text, layout_end_within, shape-opened, IsOutlined-opened}
-use Rattle.demangle_text.proofs.Texts.{part-part}
+use Rattle.demangle_text.proofs.Texts.{part-part, front_below}
 use Rattle.demangle_text.proofs.States.{Lives-at_end, text_is}
 use Rattle.demangle_text.specs.Flags.{lies_aside, templ_by, ctor_by}
 
@@ -67,10 +67,6 @@ IsSplice-added s t p bytes h ordered is =
     let none : drop k main ≡ [] = drop_all k main all in
     IsSplice-inserted s t p (p.to_byte - p.from_byte) bytes h ordered (omega arith)
     (is ∙ ap (λ (v : List ℕ). main ++ v) (sym (append-nil bytes)) ∙ ap (λ (v : List ℕ). main ++ (bytes ++ v)) (sym none) ∙ ap (λ (v : List ℕ). v ++ (bytes ++ drop k main)) (sym front))
-
--- no byte before a place changes, nor one before an earlier place
-front_below : (old new : List ℕ) (low from : ℕ) → low ≤ from → take from new ≡ take from old → take low new ≡ take low old
-front_below old new low from below same = sym (take-take low from new below) ∙ ap (take low) same ∙ take-take low from old below
 
 -- an edit that spliced bytes into the text of a piece
 pub IsEditOf-spliced : (b n : Store) (p q : Piece) (at from : ℕ) (bytes : List ℕ) → IsSplice b n p at bytes from → IsAt q from (length n.main_text) → IsEditOf b n p q (length bytes)

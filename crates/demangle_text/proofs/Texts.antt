@@ -35,6 +35,10 @@ part-below t u low a b ordered within lt lu e =
     let two : slice_range t a b ≡ slice_range (take low t) a b = ap (λ (v : List ℕ). slice_range v a b) (sym (take-append-drop low t)) ∙ part-append (take low t) (drop low t) a b ordered (omega arith) in
     one ∙ ap (λ (v : List ℕ). slice_range v a b) e ∙ sym two
 
+-- no byte before a place changes, nor one before an earlier place
+pub front_below : (old new : List ℕ) (low from : ℕ) → low ≤ from → take from new ≡ take from old → take low new ≡ take low old
+front_below old new low from below same = sym (take-take low from new below) ∙ ap (take low) same ∙ take-take low from old below
+
 -- a block of a text lies elsewhere in another, which begins with the same bytes
 pub record Moves (old new : List ℕ) (low from to dest : ℕ) : Type 0 where
   pub low_old : low ≤ length old

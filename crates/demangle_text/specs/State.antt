@@ -102,17 +102,24 @@ pub record SameFrame (old new : Store) : Type 0 where
   pub pieces : KeepsPieces old new
   pub frame_same : frame new ≡ frame old
 
--- pieces, innermost mark and both lists stay
+-- no byte of the main text before the innermost mark changes
+abbrev pub KeepsFront : Store → Store → Type 0
+KeepsFront old new = take (frame_start (frame old)) (main_bytes new) ≡ take (frame_start (frame old)) (main_bytes old)
+
+-- pieces, innermost mark, both lists and the main text before that mark stay
 pub record KeepsAll (old new : Store) : Type 0 where
   pub pieces : KeepsPieces old new
   pub frame_same : frame new ≡ frame old
   pub lists : SameLists old new
+  pub front : KeepsFront old new
 
--- a step inside the innermost mark: what was made before it keeps its shape, and both lists stay
+-- a step inside the innermost mark: what was made before it keeps its shape, both lists stay, and so does the main text
+-- before it
 pub record IsEdit (old new : Store) : Type 0 where
   pub pieces : KeepsOlder (frame old) old new
   pub frame_same : frame new ≡ frame old
   pub lists : SameLists old new
+  pub front : KeepsFront old new
 
 -- a run of calls inside the innermost mark: what was made before it keeps its shape, the lists may have changed
 pub record IsRun (old new : Store) : Type 0 where
@@ -126,23 +133,23 @@ pub record IsSince (old new : Store) (m : Mark) : Type 0 where
   pub inside_is : frame new ≡ inside m
   pub outside_is : outside m ≡ frame old
 
--- a mark is opened: each living piece is older than it
+-- a mark is opened: each living piece is older than it, it stands at the mark outside it or later, and the main text
+-- before it is all that there was
 pub record Opens (old new : Store) (m : Mark) : Type 0 where
   pub pieces : KeepsPieces old new
   pub older : (p : Piece) → IsLiving old p → IsOlder p (inside m)
   pub inside_is : frame new ≡ inside m
   pub outside_is : outside m ≡ frame old
   pub lists : SameLists old new
+  pub nested : frame_start (frame old) ≤ frame_start (inside m)
+  pub front : take (frame_start (inside m)) (main_bytes new) ≡ main_bytes old
 
--- a mark is closed: what was made before it keeps its shape
+-- a mark is closed: what was made before it keeps its shape, and the main text before it stays
 pub record Closes (old new : Store) (m : Mark) : Type 0 where
   pub pieces : KeepsOlder (inside m) old new
   pub outside_is : frame new ≡ outside m
   pub lists : SameLists old new
-
--- no byte of the main text before the innermost mark changes
-abbrev pub KeepsFront : Store → Store → Type 0
-KeepsFront old new = take (frame_start (frame old)) (main_bytes new) ≡ take (frame_start (frame old)) (main_bytes old)
+  pub front : take (frame_start (inside m)) (main_bytes new) ≡ take (frame_start (inside m)) (main_bytes old)
 
 -- the piece stands up to the end of the main text, from the innermost mark or later, and no byte before it changes
 pub record EndsMain (old new : Store) (p : Piece) : Type 0 where
@@ -182,6 +189,25 @@ pub record IsJoinOf (old new : Store) (first second answer : Piece) (n : ℕ) : 
 -- what is answered for a piece stands where the piece does
 abbrev pub StandsAs : Piece → Piece → Type 0
 StandsAs p q = (from to : ℕ) → Stands p from to → Stands q from to
+
+-- where the piece stands up to the end of the main text, from the innermost mark or later, the answer stands from the
+-- same byte up to the end, and no byte before it changes
+pub record StaysInPlace (old new : Store) (piece answer : Piece) : Type 0 where
+  pub stays : (at : ℕ) → frame_start (frame old) ≤ at → Stands piece at (length (main_bytes old))
+      → Stands answer at (length (main_bytes new)) × (take at (main_bytes new) ≡ take at (main_bytes old))
+
+-- where the first piece stands from the innermost mark or later, and the second from its end up to the end of the main
+-- text, the answer stands from the start of the first up to the end, and no byte before it changes
+pub record JoinsInPlace (old new : Store) (first second answer : Piece) : Type 0 where
+  pub stays : (from middle : ℕ) → frame_start (frame old) ≤ from → Stands first from middle
+      → Stands second middle (length (main_bytes old))
+      → Stands answer from (length (main_bytes new)) × (take from (main_bytes new) ≡ take from (main_bytes old))
+
+-- the main text becomes all that it was and then the text of the answer, which stands at the innermost mark or later
+pub record Appends (old new : Store) (answer : Piece) : Type 0 where
+  pub front : take (length (main_bytes old)) (main_bytes new) ≡ main_bytes old
+  pub inner : frame_start (frame old) ≤ length (main_bytes old)
+  pub stands : Stands answer (length (main_bytes old)) (length (main_bytes new))
 
 -- the arguments of the last scope
 abbrev pub last_args : List (List Shape) → List Shape

@@ -244,6 +244,7 @@ impl Buffer {
         ensures kept { KeepsAll self.old self.new }
         ensures main { OnOk result (main_bytes self.new ≡ main_bytes self.old ++ bytes.now) }
         ensures main_err { OnErr result (main_bytes self.new ≡ main_bytes self.old) }
+        ensures mark { frame_start (frame self.old) ≤ length (main_bytes self.old) }
         ensures stands { IfOk result (λ p. Stands p (length (main_bytes self.old)) (length (main_bytes self.new))) }
     {
         let from = self.main.len();

@@ -109,6 +109,144 @@ fn a_literal_grows_around_its_type_in_the_main_text(rt: HostRuntime) {
     drop(buf);
 }
 
+// After the literal of the type with this value the main text, in which the type stood alone, is this.
+#[tactic(auto, using(demangle_text::proofs::Laws::laws))]
+fn assert_literal_put(rt: &impl Abort, alloc: Global, ty: &str, value: &str, expected: &str) {
+    let mut buf = Buffer::new(alloc);
+    let ty = push(rt, &mut buf, ty.as_bytes());
+    made(rt, write_literal(&mut buf, ty, value));
+    assert_eq!(rt; buf.main_bytes(), expected.as_bytes());
+    drop(buf);
+}
+
+// So it is after the literal of a type that is a text and no piece, of which nothing stood there.
+#[tactic(auto, using(demangle_text::proofs::Laws::laws))]
+fn assert_literal_of_put(rt: &impl Abort, alloc: Global, ty: &str, value: &str, expected: &str) {
+    let mut buf = Buffer::new(alloc);
+    made(rt, write_literal_of(&mut buf, ty.as_bytes(), value));
+    assert_eq!(rt; buf.main_bytes(), expected.as_bytes());
+    drop(buf);
+}
+
+// And after that of a type that stood after its parenthesis.
+#[tactic(auto, using(demangle_text::proofs::Laws::laws))]
+fn assert_opened_literal_put(
+    rt: &impl Abort,
+    alloc: Global,
+    ty: &str,
+    value: &str,
+    expected: &str,
+) {
+    let mut buf = Buffer::new(alloc);
+    let paren = buf.push(b"(").expect(rt, "no memory");
+    let ty = buf.push(ty.as_bytes()).expect(rt, "no memory");
+    made(rt, write_opened_literal(&mut buf, paren, ty, value));
+    assert_eq!(rt; buf.main_bytes(), expected.as_bytes());
+    drop(buf);
+}
+
+#[test]
+fn literals_go_to_the_end_of_the_main_text(rt: HostRuntime) {
+    let rows = &[
+        ("bool", "1", "booltrue", "true", "(booltrue"),
+        (
+            "std::nullptr_t",
+            "0",
+            "std::nullptr_tnullptr",
+            "nullptr",
+            "(std::nullptr_tnullptr",
+        ),
+        ("int", "n5", "int-5", "-5", "(int-5"),
+        ("float", "n3f", "float-[3f]", "-[3f]", "(float-[3f]"),
+        ("char", "n49", "(char)-49", "(char)-49", "(char)-49"),
+    ];
+    for (ty, value, typed, of_text, opened) in rows {
+        assert_literal_put(&rt, rt.alloc(), ty, value, typed);
+        assert_literal_of_put(&rt, rt.alloc(), ty, value, of_text);
+        assert_opened_literal_put(&rt, rt.alloc(), ty, value, opened);
+    }
+}
+
+#[test]
+#[tactic(auto, using(demangle_text::proofs::Laws::laws))]
+fn a_byte_of_a_reference_stays_in_the_main_text(rt: HostRuntime) {
+    let mut buf = Buffer::new(rt.alloc());
+    let right = push(&rt, &mut buf, b"A&&");
+    wrap_pointer(&mut buf, right, Pointer::Left).expect(&rt, "no memory");
+    assert_eq!(&rt; buf.main_bytes(), b"A&&".as_slice());
+    drop(buf);
+}
+
+#[test]
+#[tactic(auto, using(demangle_text::proofs::Laws::laws))]
+fn a_collapsed_reference_puts_nothing_into_the_main_text(rt: HostRuntime) {
+    let mut buf = Buffer::new(rt.alloc());
+    let right = push(&rt, &mut buf, b"A&&");
+    let same = made(&rt, collapse_ref(&mut buf, right, true));
+    assert_eq!(&rt; buf.main_bytes(), b"A&&".as_slice());
+    made(&rt, collapse_ref(&mut buf, same, false));
+    assert_eq!(&rt; buf.main_bytes(), b"A&&".as_slice());
+    drop(buf);
+}
+
+#[test]
+#[tactic(auto, using(demangle_text::proofs::Laws::laws))]
+fn a_class_grows_on_its_member_in_the_main_text(rt: HostRuntime) {
+    let mut buf = Buffer::new(rt.alloc());
+    let member = push(&rt, &mut buf, b"int");
+    let class = push(&rt, &mut buf, b"A");
+    made(&rt, wrap_member_pointer(&mut buf, class, member));
+    assert_eq!(&rt; buf.main_bytes(), b"int A::*".as_slice());
+    drop(buf);
+}
+
+#[test]
+#[tactic(auto, using(demangle_text::proofs::Laws::laws))]
+fn a_member_goes_after_its_class_in_the_main_text(rt: HostRuntime) {
+    let mut buf = Buffer::new(rt.alloc());
+    let class = push(&rt, &mut buf, b"A");
+    let member = push(&rt, &mut buf, b"int");
+    made(&rt, wrap_member_pointer(&mut buf, class, member));
+    assert_eq!(&rt; buf.main_bytes(), b"Aintint A::*".as_slice());
+    drop(buf);
+}
+
+#[test]
+#[tactic(auto, using(demangle_text::proofs::Laws::laws))]
+fn a_member_function_goes_after_its_class_in_the_main_text(rt: HostRuntime) {
+    let mut buf = Buffer::new(rt.alloc());
+    let class = push(&rt, &mut buf, b"A");
+    let member = declared(&rt, &mut buf, b"void () const", Kind::Function, 5);
+    made(&rt, wrap_member_pointer(&mut buf, class, member));
+    assert_eq!(&rt;
+        buf.main_bytes(),
+        b"Avoid () constvoid (A::*)() const".as_slice()
+    );
+    drop(buf);
+}
+
+#[test]
+#[tactic(auto, using(demangle_text::proofs::Laws::laws))]
+fn parts_go_to_the_end_of_the_main_text(rt: HostRuntime) {
+    let mut buf = Buffer::new(rt.alloc());
+    let first = push(&rt, &mut buf, b"A");
+    let parts = [Glue::Text(b"vtable for "), Glue::Piece(first)];
+    glue(&mut buf, parts.as_slice()).expect(&rt, "no memory");
+    assert_eq!(&rt; buf.main_bytes(), b"Avtable for A".as_slice());
+    drop(buf);
+}
+
+#[test]
+#[tactic(auto, using(demangle_text::proofs::Laws::laws))]
+fn a_function_grows_on_what_it_returns_in_the_main_text(rt: HostRuntime) {
+    let mut buf = Buffer::new(rt.alloc());
+    let char = push(&rt, &mut buf, b"char");
+    let ret = push(&rt, &mut buf, b"void");
+    made(&rt, function_type(&mut buf, ret, &[char], CONSTANT));
+    assert_eq!(&rt; buf.main_bytes(), b"charvoid (char) const".as_slice());
+    drop(buf);
+}
+
 #[test]
 #[tactic(auto, using(demangle_text::proofs::Laws::laws))]
 fn an_operand_grows_in_the_main_text(rt: HostRuntime) {

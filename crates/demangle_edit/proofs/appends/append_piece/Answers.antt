@@ -1,6 +1,7 @@
 use Rattle.std.proofs.Common.{◌∙◌}
 use Rattle.demangle_text.specs.State.{shape}
 use Rattle.demangle_edit.proofs.Insertions.{piece_after}
+use Rattle.demangle_text.proofs.Laws.{JoinsInPlace-join, JoinsInPlace-named}
 use Rattle.demangle_edit.proofs.appends.append_piece.Goals as goal
 
 pub returns-clause-shape : goal.returns-clause-shape
@@ -11,3 +12,10 @@ returns-clause-shape c =
     c.in_ok-whole.ensures.shape.shape_is c.len-before.ensures.value c.len-len.ensures.value c.own_range-own.ensures.own
     c.range_before-from.ensures.value c.templ-templ.ensures.value c.ctor-ctor.ensures.value c.own_at-named.ensures.shape.shape_is in
     record { living = c.with_flags.ensures.shape.living; shape_is = c.with_flags.ensures.shape.shape_is ∙ is }
+
+-- two pieces that stand one after the other stay there
+pub returns-clause-in_place : goal.returns-clause-in_place
+returns-clause-in_place c =
+    let joined = JoinsInPlace-join _ _ _ _ _ _ c.in_ok-whole.ensures.join_of in
+    let at_named = JoinsInPlace-named _ _ _ _ _ c.own_at-named.result joined c.own_at-named.ensures.stands in
+    JoinsInPlace-named _ _ _ _ _ c.with_flags.result at_named c.with_flags.ensures.stands

@@ -4,6 +4,8 @@ use Rattle.demangle_text.specs.declared.shape.Place.TheVariants.{End}
 use Rattle.demangle_text.specs.Shape.{Shape, appended}
 use Rattle.demangle_text.specs.State.{shape, Lives}
 use Rattle.demangle_edit.proofs.Insertions.{inserted_thrice}
+use Rattle.std.proofs.lemmas.Result.{IfOk-weaker}
+use Rattle.demangle_text.proofs.Laws.{IsEdit-trans, StaysInPlace-edit, StaysInPlace-trans}
 use Rattle.demangle_edit.proofs.lists.close_params.Goals as goal
 
 pub returns-clause-shape : goal.returns-clause-shape
@@ -16,3 +18,10 @@ returns-clause-shape c =
     ∙ ap (λ (w : List ℕ). appended (codes ")" ++ (w ++ reference)) s) c.words.ensures.value
     ∙ ap (λ (r : List ℕ). appended (codes ")" ++ (words_text c.args.quals ++ r)) s) c.reference_bytes.ensures.value in
     subst (λ (t : Shape). IfOk c.append-3.result (λ p. Lives c.append-3.new.self p t)) is c.append-3.ensures.shape
+
+-- the piece stays where it stands
+pub returns-clause-in_place : goal.returns-clause-in_place
+returns-clause-in_place c =
+    let at_closed = StaysInPlace-edit _ _ _ _ _ c.in_ok-closed.ensures.edit_of in
+    let at_worded = StaysInPlace-trans _ _ _ _ _ _ c.in_ok-closed.ensures.edit at_closed (StaysInPlace-edit _ _ _ _ _ c.in_ok-worded.ensures.edit_of) in
+    IfOk-weaker c.append-3.result _ _ (λ p k. StaysInPlace-trans _ _ _ _ _ _ (IsEdit-trans _ _ _ c.in_ok-closed.ensures.edit c.in_ok-worded.ensures.edit) at_worded (StaysInPlace-edit _ _ _ _ _ k)) c.append-3.ensures.edit_of

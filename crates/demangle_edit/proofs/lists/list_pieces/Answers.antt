@@ -3,7 +3,7 @@ use Rattle.std.proofs.lemmas.List.{take_all}
 use Rattle.demangle_text.specs.declared.shape.Piece.{Piece}
 use Rattle.demangle_text.specs.Shape.{Shape, plain_shape, whole_shape}
 use Rattle.demangle_text.specs.State.{shape, Lives}
-use Rattle.demangle_text.proofs.Laws.{Opens-edit}
+use Rattle.demangle_text.proofs.Laws.{Opens-edit, Appends-close}
 use Rattle.demangle_edit.specs.Built.{listed_each}
 use Rattle.demangle_edit.proofs.Built.{piece_more, pack_built}
 use Rattle.demangle_edit.proofs.lists.list_pieces.Goals as goal
@@ -23,3 +23,8 @@ returns-clause-shape c =
     ∙ ap (λ (ps : List Piece). whole_shape (listed_each true (plain_shape []) (map (shape old) ps))) all
     ∙ pack_built (map (shape old) c.args.pieces.now) in
     subst (λ (s : Shape). IfOk c.close.result (λ p. Lives c.close.new.self p s)) is c.close.ensures.shape
+
+pub returns-clause-appends : goal.returns-clause-appends
+returns-clause-appends c =
+    Appends-close c.args.buf.now c.loop-i.buf c.close.new.self c.open-mark.result c.close.result
+    c.open-mark.ensures.mark c.loop-i.invariant.run c.close.ensures.closed c.close.ensures.stands

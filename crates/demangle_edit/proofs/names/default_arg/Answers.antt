@@ -12,5 +12,5 @@ returns-clause-shape c =
     let scope = opens.pieces c.args.scope c.requires.scope in
     let entity = (Opens-edit _ _ _ _ opens c.in_ok-opened.ensures.edit).pieces c.args.entity c.requires.entity in
     let opened = c.in_ok-opened.ensures.shape.shape_is ∙ ap (λ (s : Shape). default_arg_opened s c.args.number) scope.shape_is in
-    let is = c.in_ok-whole.ensures.shape.shape_is ∙ ap₂ default_arg_closed opened entity.shape_is in
+    let is = c.in_ok-named.ensures.shape.shape_is ∙ ap₂ default_arg_closed opened entity.shape_is in
     subst (λ (s : Shape). IfOk c.close.result (λ p. Lives c.close.new.self p s)) is c.close.ensures.shape

@@ -3,7 +3,7 @@ use Rattle.std.proofs.lemmas.List.{take_all}
 use Rattle.demangle_text.specs.declared.shape.Piece.{Piece}
 use Rattle.demangle_text.specs.Shape.{Shape}
 use Rattle.demangle_text.specs.State.{shape, Lives}
-use Rattle.demangle_text.proofs.Laws.{Opens-edit}
+use Rattle.demangle_text.proofs.Laws.{Opens-edit, Appends-close}
 use Rattle.demangle_edit.specs.Built.{listed_each, params_opened, params_closed}
 use Rattle.demangle_edit.proofs.Built.{piece_more, params_built}
 use Rattle.demangle_edit.proofs.names.format_params.Goals as goal
@@ -25,3 +25,9 @@ returns-clause-shape c =
     ∙ ap (λ (ps : List Piece). params_closed quals (listed_each true (params_opened name) (map (shape old) ps))) all
     ∙ params_built name (map (shape old) c.args.params.now) quals in
     subst (λ (s : Shape). IfOk c.close.result (λ p. Lives c.close.new.self p s)) is c.close.ensures.shape
+
+pub returns-clause-appends : goal.returns-clause-appends
+returns-clause-appends c =
+    let run = Opens-edit _ _ _ _ c.loop-i.invariant.run c.in_ok-whole.ensures.edit in
+    Appends-close c.args.buf.now c.close_params.new.buf c.close.new.self c.open-mark.result c.close.result
+    c.open-mark.ensures.mark run c.close.ensures.closed c.close.ensures.stands

@@ -1,6 +1,7 @@
 use Rattle.std.proofs.Common.{◌≡◌, false, map, codes, sym, ap, ◌∙◌, is_some}
 use Rattle.demangle_text.specs.Shape.{Shape, joined, kind_of}
 use Rattle.demangle_text.specs.State.{shape}
+use Rattle.demangle_text.proofs.Laws.{IsEdit-keeps, IsEdit-trans, JoinsInPlace-join, StaysInPlace-joined, StaysInPlace-edit, StaysInPlace-trans, StaysInPlace-named}
 use Rattle.demangle_edit.proofs.Cuts.{function_shape_is, function_found}
 use Rattle.demangle_edit.proofs.types.function_type.Goals as goal
 
@@ -16,3 +17,17 @@ returns-clause-shape c =
     c.in_ok-whole.ensures.shape.shape_is c.declare.ensures.shape.shape_is c.words.ensures.value c.reference_bytes.ensures.value c.len-before.ensures.value in
     let flat : is_some (kind_of ret.form) ≡ false = sym (ap is_some c.kind.ensures.value) ∙ sym c.is_some.ensures ∙ c.if-is_some.false in
     (c.declare.ensures.shape.living, function_found ret _ (map (shape old) c.args.params.now) c.args.quals flat is)
+
+-- the parameters go right after what is returned, where that stands at the end
+pub returns-clause-in_place : goal.returns-clause-in_place
+returns-clause-in_place c =
+    let old = c.args.buf.now in
+    let kept = c.in_ok-list.ensures.kept in
+    let joined = IsEdit-trans _ _ _ (IsEdit-keeps _ _ kept) c.in_ok-begun.ensures.edit in
+    let closed = IsEdit-trans _ _ _ joined c.in_ok-closed.ensures.edit in
+    let worded = IsEdit-trans _ _ _ closed c.in_ok-worded.ensures.edit in
+    let at_join = StaysInPlace-joined old _ _ _ _ _ c.requires.ret kept.frame_same c.in_ok-list.ensures.appends (JoinsInPlace-join _ _ _ _ _ _ c.in_ok-begun.ensures.join_of) in
+    let at_closed = StaysInPlace-trans _ _ _ _ _ _ joined at_join (StaysInPlace-edit _ _ _ _ _ c.in_ok-closed.ensures.edit_of) in
+    let at_worded = StaysInPlace-trans _ _ _ _ _ _ closed at_closed (StaysInPlace-edit _ _ _ _ _ c.in_ok-worded.ensures.edit_of) in
+    let at_whole = StaysInPlace-trans _ _ _ _ _ _ worded at_worded (StaysInPlace-edit _ _ _ _ _ c.in_ok-whole.ensures.edit_of) in
+    StaysInPlace-named _ _ _ _ _ at_whole c.declare.ensures.stands

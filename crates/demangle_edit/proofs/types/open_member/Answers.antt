@@ -2,6 +2,7 @@ use Rattle.std.proofs.Common.{◌++◌, ◌-◌, ℕ, List, codes, ap, ◌∙◌
 use Rattle.demangle_text.specs.Shape.{text, text_len, plain_shape, front_text, gap_after}
 use Rattle.demangle_text.specs.State.{shape}
 use Rattle.demangle_edit.proofs.Members.{member_pointer_shape_is, closes_at}
+use Rattle.demangle_text.proofs.Laws.{Appends-named}
 use Rattle.demangle_edit.proofs.types.open_member.Goals as goal
 
 -- the class stands in a group
@@ -28,3 +29,9 @@ returns-clause-shape c =
     (c.len-after_len.ensures.value ∙ ap text_len c.cut_declarator.ensures.after.shape_is) (ap (λ (n : ℕ). n - c.len-after_len.result) c.len.ensures.value) refl
     c.declare_group-declared.ensures.shape.shape_is c.templ-templ.ensures.value c.ctor-ctor.ensures.value in
     record { living = c.with_flags.ensures.shape.living; shape_is = c.with_flags.ensures.shape.shape_is ∙ is }
+
+-- the text is put at the end
+pub returns-clause-appends : goal.returns-clause-appends
+returns-clause-appends c =
+    let declared = Appends-named _ _ _ c.declare_group-declared.result c.in_ok-whole.ensures.appends c.declare_group-declared.ensures.stands in
+    Appends-named _ _ _ c.with_flags.result declared c.with_flags.ensures.stands

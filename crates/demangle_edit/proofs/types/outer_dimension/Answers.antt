@@ -2,6 +2,7 @@ use Rattle.std.proofs.Common.{◌≡◌, ◌+◌, ◌-◌, min, Some, sym, ◌�
 use Rattle.demangle_text.specs.Shape.{after_of}
 use Rattle.demangle_text.specs.State.{shape}
 use Rattle.demangle_edit.proofs.Arrays.{outer_fits, outer_shape}
+use Rattle.demangle_text.proofs.Laws.{StaysInPlace-of, StaysInPlace-named}
 use Rattle.demangle_edit.proofs.types.outer_dimension.Goals as goal
 
 pub declare-requires-clause-within : goal.declare-requires-clause-within
@@ -21,3 +22,10 @@ returns-clause-shape c =
     c.plain-flat.ensures.shape.shape_is c.declare-cut.ensures.shape.shape_is c.in_ok-longer.ensures.shape.shape_is c.plain-whole.ensures.shape.shape_is
     c.declare.ensures.shape.shape_is in
     record { living = c.declare.ensures.shape.living; shape_is = is }
+
+-- the piece stays where it stands
+pub returns-clause-in_place : goal.returns-clause-in_place
+returns-clause-in_place c =
+    let at_longer = StaysInPlace-of _ _ c.args.elem c.plain-flat.result _ c.plain-flat.ensures.stands (StaysInPlace-of _ _ c.plain-flat.result c.declare-cut.result _ c.declare-cut.ensures.stands c.in_ok-longer.ensures.in_place) in
+    let at_whole = StaysInPlace-named _ _ _ _ c.plain-whole.result at_longer c.plain-whole.ensures.stands in
+    StaysInPlace-named _ _ _ _ c.declare.result at_whole c.declare.ensures.stands

@@ -1,7 +1,8 @@
 use Rattle.std.proofs.Common.{ℕ, List, ◌++◌, take, ap, sym, ◌∙◌, subst, length}
 use Rattle.demangle_text.specs.Pieces.{Store, IsAt}
-use Rattle.demangle_text.specs.State.{main_bytes, frame_start, inside, Frame}
-use Rattle.demangle_text.proofs.States.{text_is}
+use Rattle.demangle_text.specs.State.{main_bytes, frame_start, inside, Frame, IsEdit}
+use Rattle.demangle_text.specs.View.{store_of}
+use Rattle.demangle_text.proofs.States.{text_is, Closes-edit}
 use Rattle.demangle_text.proofs.Tails.{Lives-settled}
 use Rattle.demangle_text.proofs.buffer.Buffer.close_in_place.Goals as goal
 
@@ -19,3 +20,8 @@ returns-clause-shape c =
     Lives-settled c.args.self.now _ c.args.piece.now q at c.requires.living c.in_ok-settle.ensures.within
     (main ∙ c.in_ok-settle.ensures.main)
     (subst (IsAt q at) (sym (ap length main)) c.in_ok-settle.ensures.stands) c.in_ok-settle.ensures.outline
+
+pub returns-clause-closed : goal.returns-clause-closed
+returns-clause-closed c =
+    let edit = subst (λ (b : Store). IsEdit c.args.self.now b) (sym c.self.view_is) c.in_ok-settle.ensures.edit in
+    Closes-edit c.args.self.now (store_of c.self.inside) c.args.mark c.requires.innermost edit
