@@ -107,7 +107,7 @@ mutual
       record { tree = ap₂ (default_argument_of t) (sym found.0) same.tree; next = same.next; cost = same.cost }
   one_entity (name_entity {t = t} a) (name_entity b) = same_made (local_in t) (one_name a b)
 
-  one_encoding : {x : Context} {p q r : Position} {t u : Tree} {c d : Cost} → Encoding x p t q c → Encoding x p u r d → Same t u q r c d
+  pub one_encoding : {x : Context} {p q r : Position} {t u : Tree} {c d : Cost} → Encoding x p t q c → Encoding x p u r d → Same t u q r c d
   one_encoding (encoding a) (encoding b) = one_encoding_as a b
 
   one_encoding_as : {case : SymbolCase} {x : Context} {p q r : Position} {t u : Tree} {c d : Cost} → EncodingAs case x p t q c → EncodingAs case x p u r d
@@ -119,7 +119,7 @@ mutual
       let same = one_signature g (along (λ t o. SignatureAs (signature_case o.rest) x t o u s e) (sym first.tree) (sym mid.0) k) in
       record { tree = same.tree; next = same.next; cost = ap₂ both first.cost (ap₂ both mid.1 same.cost) }
 
-  one_special : {case : SpecialCase} {x : Context} {p q r : Position} {t u : Tree} {c d : Cost}
+  pub one_special : {case : SpecialCase} {x : Context} {p q r : Position} {t u : Tree} {c d : Cost}
       → SpecialAs case x p t q c → SpecialAs case x p u r d → Same t u q r c d
   one_special (type_special {p = p} a) (type_special b) = same_made (λ t. worded (special_text p.rest) t (special_close p.rest)) (one_type a b)
   one_special (name_special {p = p} a) (name_special b) = same_made (λ t. worded (special_text p.rest) t (special_close p.rest)) (one_name a b)
@@ -134,7 +134,7 @@ mutual
       record { tree = ap₂ construction_of same.tree first.tree; next = same.next; cost = ap₂ both first.cost same.cost }
   one_special (thunk_special a) (thunk_special b) = one_thunk a b
 
-  one_thunk : {x : Context} {p q r : Position} {t u : Tree} {c d : Cost} → Thunk x p t q c → Thunk x p u r d → Same t u q r c d
+  pub one_thunk : {x : Context} {p q r : Position} {t u : Tree} {c d : Cost} → Thunk x p t q c → Thunk x p u r d → Same t u q r c d
   one_thunk (thunk {x = x} {p = p} e a) (thunk {q = r} {t = u} {c = d} g b) =
       let found = some_pair_parts _ _ _ _ (sym g ∙ e) in
       let same = one_symbol_as a (subst (λ v. SymbolAs (symbol_case v) x (at v p) u r d) found.1 b) in
@@ -260,14 +260,14 @@ mutual
       let same = one_arguments b (subst (λ v. Arguments x o k v us r d) (ap₂ (put o k) (sym first.tree) (sym first.next)) h) in
       record { tree = ap₂ (λ t ts. t ∷ ts) first.tree same.tree; next = same.next; cost = ap₂ both first.cost same.cost }
 
-  one_argument : {case : ArgumentCase} {x : Context} {p q r : Position} {t u : Tree} {c d : Cost}
+  pub one_argument : {case : ArgumentCase} {x : Context} {p q r : Position} {t u : Tree} {c d : Cost}
       → ArgumentAs case x p t q c → ArgumentAs case x p u r d → Same t u q r c d
   one_argument (expression_argument a end) (expression_argument b other) = same_skipped (one_expression a b)
   one_argument (pack_argument a) (pack_argument b) = one_pack a b
   one_argument (literal_argument a) (literal_argument b) = one_literal a b
   one_argument (type_argument a) (type_argument b) = one_type a b
 
-  one_literal : {case : LiteralCase} {x : Context} {p q r : Position} {t u : Tree} {c d : Cost}
+  pub one_literal : {case : LiteralCase} {x : Context} {p q r : Position} {t u : Tree} {c d : Cost}
       → LiteralAs case x p t q c → LiteralAs case x p u r d → Same t u q r c d
   one_literal (external_name a end) (external_name b other) = same_skipped (one_encoding a b)
   one_literal (value_literal a e has) (value_literal b g also) =
@@ -307,7 +307,7 @@ mutual
   one_expression_as (parameter_expression a) (parameter_expression b) = let same = one_parameter a b in record { tree = same.0; next = same.1; cost = refl }
   one_expression_as (literal_expression a) (literal_expression b) = one_literal a b
 
-  one_pack : {x : Context} {p q r : Position} {t u : Tree} {c d : Cost} → Pack x p t q c → Pack x p u r d → Same t u q r c d
+  pub one_pack : {x : Context} {p q r : Position} {t u : Tree} {c d : Cost} → Pack x p t q c → Pack x p u r d → Same t u q r c d
   one_pack (pack a) (pack b) =
       let same = one_packed a b in
       same_counted printing (record { tree = ap (λ ts. pack_of (trees ts)) same.tree; next = same.next; cost = same.cost })

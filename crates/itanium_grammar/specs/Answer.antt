@@ -1,8 +1,9 @@
 -- What a symbol's answer is.
 use Rattle.std.specs.Prelude.{◌≡◌, ◌≤◌, ℕ, ◌*◌, ◌++◌, List, [], map, length, Option, Some, None, drop, codes, false, if◌then◌else◌}
 use Rattle.std.specs.Str.{IsUtf8}
+use Rattle.demangle_text.specs.Shape.{Shape}
 use Rattle.itanium_syntax.specs.declared.context.Context.{Context}
-use Rattle.itanium_grammar.specs.Tree.{Tree, printing}
+use Rattle.itanium_grammar.specs.Tree.{Tree, shape_of, printing}
 use Rattle.itanium_syntax.specs.Bytes.{begins}
 use Rattle.itanium_grammar.specs.Grammar.{Position, Cost, Symbol}
 
@@ -87,6 +88,16 @@ HasComponents symbol (Some answer) components =
     → cost.depth ≤ max_depth
     → components ≡ map printing next.saved
 HasComponents symbol None components = components ≡ []
+
+-- the same of shapes: where there is an answer, these are the shapes of the trees that every reading within the depth
+-- leaves saved; elsewhere there are none
+abbrev pub HasSaved : List ℕ → Option (List ℕ) → List Shape → Type 0
+HasSaved symbol (Some answer) shapes =
+    (tree : Tree) (next : Position) (cost : Cost)
+    → IsReading symbol tree next cost
+    → cost.depth ≤ max_depth
+    → shapes ≡ map shape_of next.saved
+HasSaved symbol None shapes = shapes ≡ []
 
 -- at most two counted productions are entered for each byte of the symbol, and at no moment are more components saved
 -- than it has bytes
