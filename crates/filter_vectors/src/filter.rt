@@ -1,7 +1,7 @@
 //! The filter over bytes in memory.
 ghost use Rattle.std.specs.Prelude.{◌<◌};
 
-use crate::memory::{CountingSink, MemorySink, MemorySource, WatchingSource};
+use crate::memory::{CountingSink, MemorySink, MemorySource, WatchingSource, filter_in_memory};
 use std::alloc::Global;
 use std::cell::Cell;
 use std::process::Abort;
@@ -195,23 +195,23 @@ fn whole_lines_are_put_before_the_source_is_asked(rt: HostRuntime) {
 }
 
 /// The source, whether it has failed, and whether it was called after that.
-fn assert_source(rt: &impl Abort, source: &MemorySource, failed: bool, called_after: bool) {
+fn assert_source(rt: &impl Abort, source: &MemorySource, failed: bool, called_late: bool) {
     assert!(rt; source.failed() == failed);
-    assert!(rt; source.called_after == called_after);
+    assert!(rt; source.called_late == called_late);
 }
 
 /// The sink: what it took, whether it has failed, and whether it was called after that.
-fn assert_sink(rt: &impl Abort, sink: &MemorySink, bytes: &[u8], failed: bool, called_after: bool) {
+fn assert_sink(rt: &impl Abort, sink: &MemorySink, bytes: &[u8], failed: bool, called_late: bool) {
     assert_bytes(rt, &sink.bytes, bytes);
     assert!(rt; sink.failed() == failed);
-    assert!(rt; sink.called_after == called_after);
+    assert!(rt; sink.called_late == called_late);
 }
 
 #[test]
 fn a_source_that_fails(rt: HostRuntime) {
     let mut source = MemorySource::new(b"_Z3foov\n_Z3barv\n", 8, 1);
     let mut sink = MemorySink::new(rt.alloc(), 100, 100);
-    let outcome = filter(rt.alloc(), &mut source, &mut sink);
+    let outcome = filter_in_memory(rt.alloc(), &mut source, &mut sink);
     assert_outcome(&rt, outcome, Err(FilterFault::Read));
     // The line before the fault is written.
     assert_sink(&rt, &sink, b"foo\n", false, false);
@@ -223,7 +223,7 @@ fn a_source_that_fails(rt: HostRuntime) {
 fn a_sink_that_fails(rt: HostRuntime) {
     let mut source = MemorySource::new(b"_Z3foov\nx\n", 100, 100);
     let mut sink = MemorySink::new(rt.alloc(), 2, 1);
-    let outcome = filter(rt.alloc(), &mut source, &mut sink);
+    let outcome = filter_in_memory(rt.alloc(), &mut source, &mut sink);
     assert_outcome(&rt, outcome, Err(FilterFault::Write));
     // Neither end was called again.
     assert_sink(&rt, &sink, b"fo", true, false);

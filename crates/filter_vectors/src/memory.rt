@@ -1,9 +1,17 @@
 //! A source and a sink of the filter over bytes in memory.
-ghost use Rattle.std.specs.Prelude.{◌≡◌, ◌<◌, false, length, Some};
+ghost use Rattle.std.specs.Prelude.{◌≡◌, ◌<◌, true, false, length, Some};
 
 use std::alloc::Global;
 use std::cell::Cell;
-use symfilter_engine::{Failed, Sink, Source};
+use symfilter_engine::{Failed, FilterFault, Sink, Source, filter};
+
+/// Whether an end was called once it had failed, with one call more.
+fn is_late(failed: bool, called_late: bool) -> bool
+    ensures in_time { failed ≡ false → result ≡ called_late }
+    ensures late { failed ≡ true → result ≡ true }
+{
+    failed || called_late
+}
 
 /// Bytes in memory, of which each call gives at most `most`. It fails once `calls_left` calls were made, and keeps
 /// whether it was called after that.
@@ -13,7 +21,7 @@ pub struct MemorySource<'a> {
     most: usize,
     pub calls_left: usize,
     failed: bool,
-    pub called_after: bool,
+    pub called_late: bool,
     ghost gives_some: { 0 < most },
 }
 
@@ -28,7 +36,7 @@ impl<'a> MemorySource<'a> {
             most,
             calls_left,
             failed: false,
-            called_after: false,
+            called_late: false,
         }
     }
 }
@@ -38,6 +46,8 @@ impl Source for MemorySource<'_> {
 
     ghost failed = { λ source. source.failed };
 
+    ghost called_late = { λ source. Some source.called_late };
+
     ghost calls_left = { λ source. length source.rest.now };
 
     fn failed(&self) -> bool {
@@ -45,9 +55,7 @@ impl Source for MemorySource<'_> {
     }
 
     fn take(&mut self, into: &mut [u8]) -> Result<usize, Failed> {
-        if self.failed {
-            self.called_after = true;
-        }
+        self.called_late = is_late(self.failed, self.called_late);
         if self.calls_left == 0 {
             self.failed = true;
             return Err(Failed);
@@ -69,7 +77,7 @@ pub struct MemorySink {
     most: usize,
     pub calls_left: usize,
     failed: bool,
-    pub called_after: bool,
+    pub called_late: bool,
     ghost takes_some: { 0 < most },
 }
 
@@ -84,7 +92,7 @@ impl MemorySink {
             most,
             calls_left,
             failed: false,
-            called_after: false,
+            called_late: false,
         }
     }
 }
@@ -94,14 +102,14 @@ impl Sink for MemorySink {
 
     ghost failed = { λ sink. sink.failed };
 
+    ghost called_late = { λ sink. Some sink.called_late };
+
     fn failed(&self) -> bool {
         self.failed
     }
 
     fn put(&mut self, bytes: &[u8]) -> Result<usize, Failed> {
-        if self.failed {
-            self.called_after = true;
-        }
+        self.called_late = is_late(self.failed, self.called_late);
         let count = bytes.len().min(self.most);
         if self.calls_left > 0 && self.bytes.extend_from_slice(&bytes[..count]).is_ok() {
             self.calls_left -= 1;
@@ -110,6 +118,20 @@ impl Sink for MemorySink {
         self.failed = true;
         Err(Failed)
     }
+}
+
+/// Filters from memory into memory. Neither end is called once it has failed.
+pub fn filter_in_memory(
+    alloc: Global,
+    source: &mut MemorySource,
+    sink: &mut MemorySink,
+) -> Result<(), FilterFault>
+    requires source_not_failed { source.old.failed ≡ false }
+    requires sink_not_failed { sink.old.failed ≡ false }
+    ensures source_in_time { source.new.called_late ≡ source.old.called_late }
+    ensures sink_in_time { sink.new.called_late ≡ sink.old.called_late }
+{
+    filter(alloc, source, sink)
 }
 
 /// Bytes in memory, of which each call gives at most `most`. At each call it looks how many bytes the sink has taken,

@@ -1,7 +1,10 @@
 //! Tests of a `Tally` over readers and writers of std, and of the faults.
+ghost use Rattle.std.specs.Prelude.{◌≤◌, IfOk};
 
+use std::cell::Cell;
 use std::io;
 use std::io::{ErrorKind, Read, Write};
+use std::process::Abort;
 use symfilter_engine::{Failed, FilterFault, Sink, Source, Tally, filter};
 
 /// The kinds of errors that a source or sink of std fails with here: any is a failure.
@@ -77,6 +80,177 @@ impl Write for TakesNothingOnce {
     fn flush(&mut self) -> io::Result<()> {
         Ok(())
     }
+}
+
+/// No call has this number.
+const NEVER: usize = 0;
+
+/// So many calls of a `Tally` are looked at.
+const CALLS: usize = 5;
+
+/// What a source or sink of std does at one of its calls.
+#[derive(Clone, Copy, PartialEq, Eq)]
+enum Turn {
+    /// It fails.
+    Fails,
+    /// It gives or takes nothing.
+    DoesNothing,
+}
+
+/// A source and a sink of std that counts its calls. It gives or takes one byte a call, but at the call with this
+/// number.
+#[derive(Drop)]
+struct Counted<'a> {
+    calls: &'a Cell<usize>,
+    at: usize,
+    turn: Turn,
+}
+
+impl Counted<'_> {
+    /// How many of so many bytes this call gives or takes.
+    fn count(&mut self, len: usize) -> io::Result<usize>
+        ensures { IfOk result (λ count. count ≤ len) }
+    {
+        self.calls.set(self.calls.get().saturating_add(1));
+        if self.calls.get() != self.at {
+            return Ok(len.min(1));
+        }
+        match self.turn {
+            Turn::Fails => Err(ErrorKind::Other.into()),
+            Turn::DoesNothing => Ok(0),
+        }
+    }
+}
+
+impl Read for Counted<'_> {
+    fn read(&mut self, buf: &mut [u8]) -> io::Result<usize> {
+        self.count(buf.len())
+    }
+}
+
+impl Write for Counted<'_> {
+    fn write(&mut self, buf: &[u8]) -> io::Result<usize> {
+        self.count(buf.len())
+    }
+
+    fn flush(&mut self) -> io::Result<()> {
+        Ok(())
+    }
+}
+
+/// A `Tally` over such a source asks it once a call.
+fn assert_reader_asked(rt: &impl Abort, at: usize, turn: Turn) {
+    let calls = Cell::new(0);
+    let mut source = Tally::new(Counted {
+        calls: &calls,
+        at,
+        turn,
+    });
+    let mut room = [0u8; 3];
+    for call in 1..=CALLS {
+        let _ = source.take(&mut room);
+        assert_eq!(rt; calls.get(), call);
+    }
+}
+
+/// A `Tally` over such a sink asks it once a call.
+fn assert_writer_asked(rt: &impl Abort, at: usize, turn: Turn) {
+    let calls = Cell::new(0);
+    let mut sink = Tally::new(Counted {
+        calls: &calls,
+        at,
+        turn,
+    });
+    for call in 1..=CALLS {
+        let _ = sink.put(b"abc");
+        assert_eq!(rt; calls.get(), call);
+    }
+}
+
+#[test]
+fn a_tally_asks_its_reader_once_a_call(rt: HostRuntime) {
+    for at in NEVER..=CALLS {
+        assert_reader_asked(&rt, at, Turn::Fails);
+        assert_reader_asked(&rt, at, Turn::DoesNothing);
+    }
+}
+
+#[test]
+fn a_tally_asks_its_writer_once_a_call(rt: HostRuntime) {
+    for at in NEVER..=CALLS {
+        assert_writer_asked(&rt, at, Turn::Fails);
+        assert_writer_asked(&rt, at, Turn::DoesNothing);
+    }
+}
+
+/// A call fails at this number alone, and that one has failed is kept.
+fn assert_fails_at(rt: &impl Abort, at: usize, call: usize, fails: bool, has_failed: bool) {
+    assert_eq!(rt; fails, call == at);
+    assert_eq!(rt; has_failed, at != NEVER && at <= call);
+}
+
+/// A `Tally` over a source that fails at this call fails there alone.
+fn assert_reader_fails_at(rt: &impl Abort, at: usize) {
+    let calls = Cell::new(0);
+    let mut source = Tally::new(Counted {
+        calls: &calls,
+        at,
+        turn: Turn::Fails,
+    });
+    let mut room = [0u8; 3];
+    for call in 1..=CALLS {
+        let fails = source.take(&mut room) == Err(Failed);
+        assert_fails_at(rt, at, call, fails, Source::failed(&source));
+    }
+}
+
+/// A `Tally` over a sink that fails at this call, or takes nothing, fails there alone.
+fn assert_writer_fails_at(rt: &impl Abort, at: usize, turn: Turn) {
+    let calls = Cell::new(0);
+    let mut sink = Tally::new(Counted {
+        calls: &calls,
+        at,
+        turn,
+    });
+    for call in 1..=CALLS {
+        let fails = sink.put(b"abc") == Err(Failed);
+        assert_fails_at(rt, at, call, fails, Sink::failed(&sink));
+    }
+}
+
+#[test]
+fn a_tally_fails_where_its_reader_does(rt: HostRuntime) {
+    for at in NEVER..=CALLS {
+        assert_reader_fails_at(&rt, at);
+    }
+}
+
+#[test]
+fn a_tally_fails_where_its_writer_does(rt: HostRuntime) {
+    for at in NEVER..=CALLS {
+        assert_writer_fails_at(&rt, at, Turn::Fails);
+        assert_writer_fails_at(&rt, at, Turn::DoesNothing);
+    }
+}
+
+#[test]
+fn nothing_read_and_nothing_to_write_are_no_failures(rt: HostRuntime) {
+    let calls = Cell::new(0);
+    let mut source = Tally::new(Counted {
+        calls: &calls,
+        at: 1,
+        turn: Turn::DoesNothing,
+    });
+    let mut room = [0u8; 3];
+    assert_eq!(rt; source.take(&mut room), Ok(0));
+    assert!(rt; !Source::failed(&source));
+    let mut sink = Tally::new(Counted {
+        calls: &calls,
+        at: NEVER,
+        turn: Turn::DoesNothing,
+    });
+    assert_eq!(rt; sink.put(b""), Ok(0));
+    assert!(rt; !Sink::failed(&sink));
 }
 
 #[test]

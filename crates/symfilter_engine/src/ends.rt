@@ -1,5 +1,5 @@
 //! The two ends of the filter: where bytes come from, and where they go.
-ghost use Rattle.std.specs.Prelude.{◌≡◌, ℕ, List, Bool, true, Option, None, ◌<◌, ◌≤◌, length, take, IfOk, OnOk, OnErr};
+ghost use Rattle.std.specs.Prelude.{◌≡◌, ℕ, List, Bool, true, false, Option, None, ◌<◌, ◌≤◌, length, take, IsTrue, IfOk, IfSome, OnOk, OnErr};
 ghost use Rattle.std.specs.Io.KnownBytes.{Appends, Consumes, IsAtEnd, Keeps};
 
 /// A source or a sink has failed. Why is not kept.
@@ -13,6 +13,8 @@ pub trait Source {
 
     // Whether a read has failed; then for good.
     ghost failed: { Self → Bool };
+    // Whether a call came after one that had failed, where that is told.
+    ghost called_late: { Self → Option Bool } = { λ _. None };
     // At most so many calls give a byte from here on.
     ghost calls_left: { Self → ℕ };
 
@@ -32,7 +34,9 @@ pub trait Source {
             0 < count → calls_left self.new < calls_left self.old) }
         ensures fails { OnErr result (failed self.new ≡ true) }
         ensures gives_none { OnErr result (Keeps (remaining self.old) (remaining self.new)) }
-        ensures stays { OnOk result (failed self.new ≡ failed self.old) };
+        ensures stays { OnOk result (failed self.new ≡ failed self.old) }
+        ensures in_time { failed self.old ≡ false → called_late self.new ≡ called_late self.old }
+        ensures late { failed self.old ≡ true → IfSome (called_late self.new) IsTrue };
 }
 
 /// Where bytes are written to.
@@ -42,6 +46,9 @@ pub trait Sink {
 
     // Whether a write has failed; then for good.
     ghost failed: { Self → Bool };
+
+    // Whether a call came after one that had failed, where that is told.
+    ghost called_late: { Self → Option Bool } = { λ _. None };
 
     /// Whether a call has failed. A failed call sets this for good.
     fn failed(&self) -> bool
@@ -56,5 +63,7 @@ pub trait Sink {
             Appends (taken self.old) (taken self.new) (take count bytes.now)) }
         ensures fails { OnErr result (failed self.new ≡ true) }
         ensures takes_none { OnErr result (Keeps (taken self.old) (taken self.new)) }
-        ensures stays { OnOk result (failed self.new ≡ failed self.old) };
+        ensures stays { OnOk result (failed self.new ≡ failed self.old) }
+        ensures in_time { failed self.old ≡ false → called_late self.new ≡ called_late self.old }
+        ensures late { failed self.old ≡ true → IfSome (called_late self.new) IsTrue };
 }

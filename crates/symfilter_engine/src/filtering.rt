@@ -34,6 +34,10 @@ pub fn filter<R: Source, W: Sink>(
     ensures read { IsErrOf result FilterFault.Read ↔ IsTrue (R.failed source.new) }
     ensures write { IsErrOf result FilterFault.Write ↔ IsTrue (W.failed sink.new) }
 
+    // Neither end is called once it has failed: it would tell so.
+    ensures source_in_time { R.called_late source.new ≡ R.called_late source.old }
+    ensures sink_in_time { W.called_late sink.new ≡ W.called_late sink.old }
+
     // What follows holds where the bytes of the source are known, and the sink's.
     ensures used_up { OnOk result (IfSome (R.remaining source.old) (λ _.
         R.remaining source.new ≡ Some [])) }
@@ -67,6 +71,8 @@ fn filter_by_chunks<R: Source, W: Sink>(
     requires source_not_failed { R.failed source.old ≡ false }
     requires sink_not_failed { W.failed sink.old ≡ false }
     ensures outcome { IsRunOutcome result (R.failed source.new) (W.failed sink.new) }
+    ensures source_in_time { R.called_late source.new ≡ R.called_late source.old }
+    ensures sink_in_time { W.called_late sink.new ≡ W.called_late sink.old }
     ensures used_up { OnOk result (IfSome (R.remaining source.old) (λ _.
         R.remaining source.new ≡ Some [])) }
     ensures ok { OnOk result (IfSome (R.remaining source.old) (λ given.
@@ -98,6 +104,8 @@ fn copy_lines<R: Source, W: Sink>(
     requires source_not_failed { R.failed source.old ≡ false }
     requires sink_not_failed { W.failed sink.old ≡ false }
     ensures outcome { IsRunOutcome result (R.failed source.new) (W.failed sink.new) }
+    ensures source_in_time { R.called_late source.new ≡ R.called_late source.old }
+    ensures sink_in_time { W.called_late sink.new ≡ W.called_late sink.old }
     ensures bound { IfOk result (λ kept. kept ≤ length chunk.new.items) }
     ensures at_end { OnOk result (IsAtEnd (R.remaining source.new)) }
     ensures unended { IfOk result (λ kept. HasNoLineFeed (take kept chunk.new.items)) }
@@ -150,6 +158,7 @@ fn read_more<R: Source>(
     requires not_failed { R.failed source.old ≡ false }
     requires inside { kept ≤ length chunk.old.items }
     ensures outcome { IsReadOutcome result (R.failed source.new) }
+    ensures in_time { R.called_late source.new ≡ R.called_late source.old }
     ensures ok { IfOk result (λ end. ReadsMore kept end chunk.old.items chunk.new.items
         (R.remaining source.old) (R.remaining source.new)) }
     ensures fewer { IfOk result (λ end.

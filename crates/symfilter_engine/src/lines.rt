@@ -200,6 +200,7 @@ fn write_next<W: Sink>(
     requires ended { EndsInLineFeed lines.now }
     requires known { IsTrue known_utf8 → IsUtf8 lines.now }
     ensures outcome { IsWriteOutcome result (W.failed sink.new) }
+    ensures in_time { W.called_late sink.new ≡ W.called_late sink.old }
     ensures some { IfOk result (λ len. 0 < len) }
     ensures bound { IfOk result (λ len. len ≤ length lines.now) }
     ensures ok { IfOk result (λ len. WritesLines (take len lines.now)
@@ -231,6 +232,7 @@ pub(crate) fn write_lines<W: Sink>(
     requires not_failed { W.failed sink.old ≡ false }
     requires ended { EndsInLineFeed lines.now }
     ensures outcome { IsWriteOutcome result (W.failed sink.new) }
+    ensures in_time { W.called_late sink.new ≡ W.called_late sink.old }
     ensures ok { OnOk result (HasFiltered lines.now [] (W.taken sink.old) (W.taken sink.new)) }
     ensures err { OnErr result (WritesLinesFront lines.now (W.taken sink.old) (W.taken sink.new)) }
     ensures memory { IsErrOf result FilterFault.Memory →
@@ -255,6 +257,7 @@ pub(crate) fn write_last<W: Sink>(
     requires not_failed { W.failed sink.old ≡ false }
     requires unended { HasNoLineFeed line.now }
     ensures outcome { IsWriteOutcome result (W.failed sink.new) }
+    ensures in_time { W.called_late sink.new ≡ W.called_late sink.old }
     ensures ok { OnOk result (WritesFiltered line.now (W.taken sink.old) (W.taken sink.new)) }
     ensures err { OnErr result (WritesBeginning line.now (W.taken sink.old) (W.taken sink.new)) }
     ensures memory { IsErrOf result FilterFault.Memory →

@@ -11,6 +11,7 @@ use super::fault::FilterFault;
 pub(crate) fn put_all<W: Sink>(sink: &mut W, bytes: &[u8]) -> Result<(), FilterFault>
     requires not_failed { W.failed sink.old ≡ false }
     ensures outcome { IsWriteOutcome result (W.failed sink.new) }
+    ensures in_time { W.called_late sink.new ≡ W.called_late sink.old }
     ensures ok { OnOk result (Appends (W.taken sink.old) (W.taken sink.new) bytes.now) }
     ensures fails { OnErr result (W.failed sink.new ≡ true) }
     ensures err { OnErr result (WritesFront bytes.now (W.taken sink.old) (W.taken sink.new)) }

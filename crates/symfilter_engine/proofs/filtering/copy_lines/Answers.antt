@@ -10,6 +10,8 @@ pub turns-init : goal.turns-init
 turns-init g c = record {
   source_not_failed = c.requires.source_not_failed;
   sink_not_failed = c.requires.sink_not_failed;
+  source_in_time = refl;
+  sink_in_time = refl;
   inside = search rules;
   unended = search rules;
   so_far = none_copied _ _ _ refl;
@@ -50,6 +52,8 @@ turns-preserved g c =
     record {
       source_not_failed = c.in_ok-end.ensures.outcome;
       sink_not_failed = c.in_ok-write_lines.ensures.outcome;
+      source_in_time = c.in_ok-end.ensures.in_time ∙ c.turns.invariant.source_in_time;
+      sink_in_time = c.in_ok-write_lines.ensures.in_time ∙ c.turns.invariant.sink_in_time;
       inside = omega (arith, inside, c.move_rest.ensures.len);
       unended = All-same is_other _ _ (c.move_rest.ensures.moved ∙ ap (λ l. drop ended (take end l)) (sym c.deref.ensures.value)) c.ended_len-ended.ensures.unended;
       so_far = turn_copied _ end ended _ all _ _ _ _ _ _ _ _ c.turns.invariant.so_far c.in_ok-end.ensures.ok c.in_ok-write_lines.ensures.ok

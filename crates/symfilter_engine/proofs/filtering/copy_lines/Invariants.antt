@@ -8,6 +8,8 @@ invariant-turns g l =
     record {
       source_not_failed : g.R.Source.failed l.source ≡ false;
       sink_not_failed : g.W.Sink.failed l.sink ≡ false;
+      source_in_time : g.R.Source.called_late l.source ≡ g.R.Source.called_late l.fn.source;
+      sink_in_time : g.W.Sink.called_late l.sink ≡ g.W.Sink.called_late l.fn.sink;
       inside : l.kept ≤ length l.chunk.items;
       unended : HasNoLineFeed (take l.kept l.chunk.items);
       so_far : HasCopied (take l.kept l.chunk.items) (g.R.Source.remaining l.fn.source) (g.R.Source.remaining l.source) (g.W.Sink.taken l.fn.sink) (g.W.Sink.taken l.sink);

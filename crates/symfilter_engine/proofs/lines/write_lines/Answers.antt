@@ -1,4 +1,4 @@
-use Rattle.std.proofs.Common.{rules, sym, subst}
+use Rattle.std.proofs.Common.{rules, refl, sym, subst, ◌∙◌}
 use Rattle.std.specs.Prelude.{IsUtf8}
 use Rattle.std.proofs.lemmas.List.{take_rest}
 use Rattle.symfilter_engine.specs.Progress.{EndsInLineFeed, HasFiltered}
@@ -8,7 +8,13 @@ use Rattle.symfilter_engine.proofs.lines.write_lines.Goals as goal
 
 pub loop-rest-init : goal.loop-rest-init
 loop-rest-init g c =
-    record { not_failed = c.requires.not_failed; ended = c.requires.ended; known = search rules; so_far = none_filtered _ _ }
+    record {
+      not_failed = c.requires.not_failed;
+      in_time = refl;
+      ended = c.requires.ended;
+      known = search rules;
+      so_far = none_filtered _ _;
+    }
 
 pub returns-in_err-len-clause-err : goal.returns-in_err-len-clause-err
 returns-in_err-len-clause-err g c = at_fault _ (WritesLinesFront-append _ _ _ _ _ c.loop-rest.invariant.so_far c.in_err-len.ensures.err)
@@ -24,6 +30,7 @@ loop-rest-preserved g c =
     let left = sym (take_rest rest len) in
     record {
       not_failed = search rules;
+      in_time = c.in_ok-len.ensures.in_time ∙ c.loop-rest.invariant.in_time;
       ended = subst EndsInLineFeed left (ended_after rest len c.loop-rest.invariant.ended);
       known = λ known. subst IsUtf8 left (utf8_after rest c.in_ok-len.ensures.ok.0 len c.in_ok-len.ensures.ok.1 (c.loop-rest.invariant.known known));
       so_far = subst (λ l. HasFiltered c.args.lines.now l (g.W.Sink.taken c.args.sink.now) (g.W.Sink.taken c.write_next.new.sink)) left

@@ -6,6 +6,7 @@ abbrev pub invariant-loop-rest : goal.invariant-loop-rest
 invariant-loop-rest g l =
     record {
       not_failed : g.W.Sink.failed l.sink ≡ false;
+      in_time : g.W.Sink.called_late l.sink ≡ g.W.Sink.called_late l.fn.sink;
       so_far : WritesUpTo l.bytes l.rest (g.W.Sink.taken l.fn.sink) (g.W.Sink.taken l.sink);
     }
 
