@@ -1,20 +1,37 @@
-//! The row of the filter, between two ends in memory that take no memory themselves.
+//! The rows of the filter, between two ends in memory that take no memory themselves.
 ghost use Rattle.std.specs.Prelude.{◌<◌};
 
 use crate::outcome::{Memory, Wrong, must};
+use crate::watch::{NOTHING, Watch, Watched};
 use filter_vectors::memory::MemorySource;
 use std::alloc::Global;
 use symfilter_engine::{FilterFault, Tally, filter};
 
-/// Some lines: the third is longer as its answer than all before it.
-const TEXT: &[u8] = b"_Z3foov\nmalloc\n_Z1fI1A1BIS0_S0_ES1_IS2_S2_ES1_IS3_S3_EEvv\n\n_Z3bar";
+/// Some lines, and what must be written for them.
+#[derive(Clone, Copy)]
+pub struct Lines {
+    pub name: &'static str,
+    text: &'static [u8],
+    filtered: &'static [u8],
+}
 
-/// What must be written for them.
-const FILTERED: &[u8] = b"foo
+/// The lines of each row. Of the first the third is longer as its answer than all before it.
+pub const LINES: [Lines; 2] = [
+    Lines {
+        name: "lines_between_two_ends_in_memory",
+        text: b"_Z3foov\nmalloc\n_Z1fI1A1BIS0_S0_ES1_IS2_S2_ES1_IS3_S3_EEvv\n\n_Z3bar",
+        filtered: b"foo
 malloc
 f<A, B<A, A>, B<B<A, A>, B<A, A> >, B<B<B<A, A>, B<A, A> >, B<B<A, A>, B<A, A> > > >
 
-bar";
+bar",
+    },
+    Lines {
+        name: "short_answers_between_two_ends_in_memory",
+        text: b"_Z3foov\nmalloc\n_Z1fI1AEvv\n_Z3bar",
+        filtered: b"foo\nmalloc\nf<A>\nbar",
+    },
+];
 
 /// How many bytes the sink has room for.
 const ROOM: usize = 256;
@@ -22,44 +39,53 @@ const ROOM: usize = 256;
 /// More calls than the source is asked.
 const CALLS: usize = 1000;
 
-/// Filters into the room, from a source that gives at most so many bytes a call, and answers how many bytes were
+/// Filters a text into the room, from a source that gives at most so many bytes a call, and answers how many bytes were
 /// written.
 fn filter_into(
     alloc: Global,
+    text: &[u8],
     most: usize,
+    watch: &Watch,
     room: &mut [u8; ROOM],
 ) -> (Result<(), FilterFault>, usize)
     requires { 0 < most }
 {
-    let mut source = MemorySource::new(TEXT, most, CALLS);
+    let mut source = Watched {
+        end: MemorySource::new(text, most, CALLS),
+        watch,
+    };
     let mut rest = room.as_mut_slice();
-    let outcome = filter(alloc, &mut source, &mut Tally::new(&mut rest));
+    let mut sink = Watched {
+        end: Tally::new(&mut rest),
+        watch,
+    };
+    let outcome = filter(alloc, &mut source, &mut sink);
     let left = rest.len();
     (outcome, ROOM.saturating_sub(left))
 }
 
 /// Whether the bytes are whole lines, and the filtered text begins with them.
-fn are_whole_lines(bytes: &[u8]) -> bool {
-    FILTERED.starts_with(bytes) && (bytes.is_empty() || bytes.ends_with(b"\n"))
+fn are_whole_lines(bytes: &[u8], filtered: &[u8]) -> bool {
+    filtered.starts_with(bytes) && (bytes.is_empty() || bytes.ends_with(b"\n"))
 }
 
 /// Filters once: all of the filtered text is written, or whole lines before the fault.
-fn run_once(alloc: Global, most: usize) -> Result<Memory, Wrong>
+fn run_once(alloc: Global, lines: &Lines, most: usize, watch: &Watch) -> Result<Memory, Wrong>
     requires { 0 < most }
 {
     let mut room = [0u8; ROOM];
-    let (outcome, len) = filter_into(alloc, most, &mut room);
+    let (outcome, len) = filter_into(alloc, lines.text, most, watch, &mut room);
     let Some(written) = room.as_slice().get(..len) else {
         return Err(Wrong("more is written than there is room for"));
     };
     match outcome {
         Ok(()) => {
-            must(written == FILTERED, "another text is written")?;
+            must(written == lines.filtered, "another text is written")?;
             Ok(Memory::Given)
         }
         Err(FilterFault::Memory) => {
             must(
-                are_whole_lines(written),
+                are_whole_lines(written, lines.filtered),
                 "what is written isn't whole lines",
             )?;
             Ok(Memory::Refused)
@@ -68,23 +94,31 @@ fn run_once(alloc: Global, most: usize) -> Result<Memory, Wrong>
     }
 }
 
-/// Filters from a source that gives at most so many bytes a call, and after a fault once more.
-fn run_by(alloc: Global, most: usize, memory: &mut Memory) -> Result<(), Wrong>
+/// Filters from a source that gives at most so many bytes a call, and after a fault once more. The second run asks the
+/// ends for the same, call by call, up to where memory was refused in the first. So at some moment it has asked for as
+/// much as the first one in all, unless that one called an end after it was refused memory.
+fn run_by(alloc: Global, lines: &Lines, most: usize, memory: &mut Memory) -> Result<(), Wrong>
     requires { 0 < most }
 {
-    if run_once(alloc, most)? == Memory::Refused {
+    let first = Watch::new(NOTHING);
+    if run_once(alloc, lines, most, &first)? == Memory::Refused {
         *memory = Memory::Refused;
-        let again = run_once(alloc, most)?;
+        let second = Watch::new(first.asked());
+        let again = run_once(alloc, lines, most, &second)?;
         must(again == Memory::Given, "a fault after the first one")?;
+        must(
+            second.has_met(),
+            "an end is called after memory was refused",
+        )?;
     }
     Ok(())
 }
 
-/// The row: the source gives one byte a call, some, or all.
-pub fn run(alloc: Global) -> Result<Memory, Wrong> {
+/// The row of these lines: the source gives one byte a call, some, or all.
+pub fn run(alloc: Global, lines: &Lines) -> Result<Memory, Wrong> {
     let mut memory = Memory::Given;
     for most in [1, 7, 1000] {
-        run_by(alloc, most, &mut memory)?;
+        run_by(alloc, lines, most, &mut memory)?;
     }
     Ok(memory)
 }

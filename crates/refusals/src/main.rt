@@ -10,7 +10,9 @@ mod outcome;
 mod scripts;
 mod symbols;
 mod view;
+mod watch;
 
+use crate::filtering::LINES;
 use crate::outcome::{Memory, Wrong};
 use crate::scripts::SCRIPTS;
 use crate::symbols::{Call, SYMBOLS};
@@ -88,12 +90,13 @@ fn play_scripts(rt: &HostRuntime, rows: &mut Rows) -> io::Result<()> {
     Ok(())
 }
 
-/// The row of the filter.
+/// The rows of the filter.
 fn ask_filter(rt: &HostRuntime, rows: &mut Rows) -> io::Result<()> {
-    let what = "lines_between_two_ends_in_memory";
-    if rows.has("filter", what) {
-        let found = filtering::run(rt.alloc());
-        rows.tell(rt, "filter", what, found)?;
+    for lines in LINES {
+        if rows.has("filter", lines.name) {
+            let found = filtering::run(rt.alloc(), &lines);
+            rows.tell(rt, "filter", lines.name, found)?;
+        }
     }
     Ok(())
 }
