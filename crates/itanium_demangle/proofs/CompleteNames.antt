@@ -17,9 +17,10 @@ use Rattle.itanium_grammar.proofs.Progress.{unqualified_takes, args_takes}
 use Rattle.itanium_demangle.specs.Cases.{SymbolCase, SpecialCase, ReturnCase, SignatureCase, EntityCase, SubstitutionCase, TagCase, UnqualifiedCase, FreeCase, FirstCase, NameCase, UnscopedCase, AttachedCase, ComponentCase}
 use Rattle.itanium_reader.specs.Parser.{after_turn, loop, ◌>>=◌, tag_as, tag_turn, parse_tags, free_as, parse_type, substitution_as, parse_substitution, parameter_as, parse_parameter, unqualified_as, parse_unqualified, first_as, attached_as, unscoped_as, component_as, component_turn, parse_nested, return_as, signature_as, special_as, parse_special, symbol_as, parse_thunk, encoding_as, parse_encoding, entity_as, parse_local, name_as, parse_bare_name, parse_name, parse_args}
 use Rattle.itanium_demangle.specs.Meaning.{state_at}
+use Rattle.itanium_demangle.specs.Readers.{bare_of}
 use Rattle.itanium_demangle.proofs.Shapes.{shape-worded, shape-temporary_of, shape-construction_of, shape-thunk_of, same_read, same_state, one_more, taken-map, some-map, last-map, shape-plain_text, shape-abbreviation, shape-ctor_dtor_of, shape-tagged_with, shape-lambda_of, shape-conversion_to, shape-with_args, shape-in_scope, shape-encoding_of, shape-function_encoding}
 use Rattle.itanium_demangle.proofs.CompleteLists.{typed_params_complete}
-use Rattle.itanium_demangle.proofs.Readings.{given, bare_of, ArgsComplete, TypesComplete, BareNamesComplete, NamesComplete, ThunksComplete}
+use Rattle.itanium_demangle.proofs.Readings.{given, ArgsComplete, TypesComplete, BareNamesComplete, NamesComplete, ThunksComplete}
 use Rattle.itanium_demangle.proofs.Waiting.{unscoped_none, bare-nested_of, bare-string_literal_of, bare-default_argument_of, bare-local_in, same_return, whole_name}
 
 -- without a counted production the depth is no matter

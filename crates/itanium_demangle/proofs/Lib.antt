@@ -14,6 +14,7 @@ pub mod SoundExpressions
 pub mod SoundArgs
 pub mod SoundTypes
 pub mod SoundSymbols
+pub mod Readers
 pub mod Symbols
 pub mod Answered
 pub mod Examples

@@ -1,14 +1,11 @@
 -- How the parser and the grammar are compared: what is read within a depth.
-use Rattle.std.proofs.Common.{◌≡◌, ◌≤◌, ℕ, ◌+◌, max, Bool, false, List, map, Option, Some}
-use Rattle.demangle_text.specs.Shape.{Shape}
-use Rattle.demangle_edit.specs.Built.{arguments_shape}
-use Rattle.demangle_quals.specs.declared.quals.Quals.{Quals}
+use Rattle.std.proofs.Common.{◌≡◌, ◌≤◌, ℕ, ◌+◌, max, Bool, false, Option, Some}
 use Rattle.itanium_syntax.specs.declared.context.Context.{Context}
-use Rattle.itanium_syntax.specs.Args.{argument_case}
-use Rattle.itanium_grammar.specs.Tree.{Tree, shape_of, bare_shape, own_quals}
-use Rattle.itanium_grammar.specs.Grammar.{Position, Cost, Name, Args, Thunk, ArgumentAs, Pack, Expression, TypeOf}
+use Rattle.itanium_grammar.specs.Tree.{shape_of}
+use Rattle.itanium_grammar.specs.Grammar.{Position, Cost, Name, Args, Thunk, Pack, Expression, TypeOf}
 use Rattle.itanium_reader.specs.Parser.{ParserState, Parses, parse_bare_name, parse_name, parse_args, parse_pack, parse_type, parse_expression, parse_thunk, parse_argument}
 use Rattle.itanium_demangle.specs.Meaning.{state_at}
+use Rattle.itanium_demangle.specs.Readers.{Argument, bare_of, shape_of_args}
 
 -- what a reading of cost c gives, from so many entered and saved
 abbrev pub given : {T A : Type 0} → (T → A) → T → Position → Cost → ℕ → ℕ → Option (A × ParserState)
@@ -35,14 +32,6 @@ pub record Found {T A : Type 0} (R : T → Position → Cost → Type 0) (show :
 abbrev pub IsSound : {T A : Type 0} → (Position → T → Position → Cost → Type 0) → (T → A) → ℕ → Parses A → Type 0
 IsSound {T} {A} R show d parse = (p : Position) (e m : ℕ) (y : A × ParserState) → parse (state_at p e m) ≡ Some y → Found (R p) show d e m y
 
--- the shape that a list of arguments prints
-abbrev pub shape_of_args : List Tree → Shape
-shape_of_args ts = arguments_shape (map shape_of ts)
-
--- the shape of a name without its own qualifiers, and these
-abbrev pub bare_of : Tree → Shape × Quals
-bare_of t = (bare_shape t, own_quals t)
-
 abbrev pub BareNamesComplete : ℕ → Type 0
 BareNamesComplete d = (waits : Bool) (x : Context) → IsComplete (Name waits x) bare_of d (parse_bare_name d x)
 
@@ -60,10 +49,6 @@ ThunksComplete d = (x : Context) → IsComplete (Thunk x) shape_of d (parse_thun
 
 abbrev pub ExpressionsComplete : ℕ → Type 0
 ExpressionsComplete d = (x : Context) → IsComplete (Expression x) shape_of d (parse_expression d x)
-
--- an argument, by what it begins with
-abbrev pub Argument : Context → Position → Tree → Position → Cost → Type 0
-Argument x p = ArgumentAs (argument_case p.rest) x p
 
 abbrev pub ArgumentsComplete : ℕ → Type 0
 ArgumentsComplete d = (x : Context) → IsComplete (Argument x) shape_of d (parse_argument d x)

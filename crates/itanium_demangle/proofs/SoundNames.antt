@@ -18,8 +18,9 @@ use Rattle.itanium_grammar.proofs.Progress.{unqualified_takes, args_takes}
 use Rattle.itanium_demangle.specs.Cases.{SymbolCase, SpecialSymbol, NameSymbol, SpecialCase, TypeSpecial, NameSpecial, TemporarySpecial, ConstructionSpecial, ThunkSpecial, NoSpecial, ReturnCase, NoReturnType, SomeReturnType, SignatureCase, NoSignature, SomeSignature, EntityCase, StringLiteralEntity, DefaultArgumentEntity, NameEntity, NoEntity, SubstitutionCase, AbbreviationSubstitution, ComponentSubstitution, TagCase, NoTag, NextTag, UnqualifiedCase, ConstructorName, DestructorName, FreeName, FreeCase, SourceName, UnnamedTypeName, LambdaName, ConversionName, LiteralOperatorName, OperatorName, NoName, FirstCase, ParameterFirst, StdFirst, SubstitutionFirst, NameFirst, NameCase, NestedName, LocalName, UnscopedName, UnscopedCase, StdName, SubstitutionName, PlainName, AttachedCase, NoneAttached, ArgsAttached, ComponentCase, EndOfComponents, ArgsComponent, NameComponent}
 use Rattle.itanium_reader.specs.Parser.{ParserState, after_turn, loop, ◌>>=◌, next_component, substitution_as, parse_substitution, parameter_as, parse_parameter, tag_as, tag_turn, parse_tags, typed_params_as, free_as, parse_free, ctor_dtor_as, unqualified_as, parse_unqualified, first_as, attached_by, attached_as, template_as, unscoped_as, component_as, component_turn, parse_components, parse_nested, dropped, return_as, signature_as, special_as, parse_special, symbol_as, parse_thunk, encoding_as, parse_encoding, entity_as, parse_local, name_as, parse_bare_name, parse_name, parse_args, parse_type}
 use Rattle.itanium_demangle.specs.Meaning.{state_at}
+use Rattle.itanium_demangle.specs.Readers.{bare_of}
 use Rattle.itanium_demangle.proofs.Shapes.{same_state, one_more, some-map, last-map, shape-plain_text, shape-ctor_dtor_of, shape-tagged_with, shape-with_args}
-use Rattle.itanium_demangle.proofs.Readings.{Within, Found, given, bare_of, ArgsSound, ArgsComplete, TypesSound, TypesComplete, BareNamesComplete, BareNamesSound, NamesSound, ThunksComplete, ThunksSound}
+use Rattle.itanium_demangle.proofs.Readings.{Within, Found, given, ArgsSound, ArgsComplete, TypesSound, TypesComplete, BareNamesComplete, BareNamesSound, NamesSound, ThunksComplete, ThunksSound}
 use Rattle.itanium_demangle.proofs.Waiting.{same_return}
 use Rattle.itanium_demangle.proofs.CompleteNames.{substitution_complete, parameter_complete, free_complete, unqualified_complete, first_complete, components_complete, encoding_complete, bare_names_complete, names_complete, thunks_complete}
 use Rattle.itanium_syntax.specs.Types.{params_case}

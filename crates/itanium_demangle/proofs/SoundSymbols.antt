@@ -17,7 +17,8 @@ use Rattle.itanium_demangle.proofs.SoundExpressions.{each_argument_sound, expres
 use Rattle.itanium_demangle.proofs.SoundArgs.{args_sound, packs_sound}
 use Rattle.itanium_demangle.proofs.SoundTypes.{types_sound_at}
 
-all_sound : (d : ℕ) → BareNamesSound d × ArgsSound d × PacksSound d × TypesSound d × ExpressionsSound d × ThunksSound d
+-- each counted production
+pub all_sound : (d : ℕ) → BareNamesSound d × ArgsSound d × PacksSound d × TypesSound d × ExpressionsSound d × ThunksSound d
 unfolding parse_bare_name
 all_sound zero = (λ waits x p e m y is. cc, λ x of_name p e m y is. cc, λ x p e m y is. cc, λ x p e m y is. cc, λ x p e m y is. cc, λ x p e m y is. cc)
 all_sound (suc d) =

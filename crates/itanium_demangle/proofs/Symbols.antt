@@ -16,39 +16,16 @@ use Rattle.itanium_syntax.specs.Bytes.{begins}
 use Rattle.itanium_syntax.proofs.Fronts.{IsAfter, after_then}
 use Rattle.itanium_grammar.specs.Tree.{shape_of, printing}
 use Rattle.itanium_grammar.specs.Grammar.{Position, Cost, Symbol}
-use Rattle.itanium_grammar.specs.Answer.{after_prefix, start, outside, suffix, max_depth, HasAnswer, HasNoAnswer, IsAnswer, HasCounts, HasComponents, HasBounds}
-use Rattle.itanium_grammar.proofs.Unambiguous.{one_symbol}
+use Rattle.itanium_grammar.specs.Answer.{after_prefix, start, outside, suffix, max_depth, HasAnswer, HasNoAnswer, IsAnswer, HasCounts, HasComponents, HasSaved, HasBounds}
 use Rattle.itanium_grammar.proofs.Progress.{symbol_takes}
 use Rattle.itanium_reader.specs.declared.reader.Reader.{Reader}
 use Rattle.itanium_reader.specs.declared.stop.Stop.{Stop}
 use Rattle.itanium_reader.specs.declared.stop.Stop.TheVariants.{Unread, Memory}
 use Rattle.itanium_reader.specs.Parser.{ParserState, begun, parse_symbol}
 use Rattle.itanium_reader.specs.Outcome.{state, Gives, Bounds, SavedBounds, MostSaved}
-use Rattle.itanium_demangle.specs.Meaning.{state_at, StandsFor, HasReading, HasNoReading, ReadsAs}
-use Rattle.itanium_demangle.specs.Demangler.{IsPrinted, IsText, answer_text, component_texts}
-use Rattle.itanium_demangle.proofs.CompleteSymbols.{symbol_complete}
-use Rattle.itanium_demangle.proofs.SoundSymbols.{symbol_sound}
-
--- what the parser reads is a reading, with which every other agrees
-pub found_reading : (d : ℕ) (x : Context) (p : Position) (e m : ℕ) (found : Shape) (after : ParserState) → parse_symbol d x (state_at p e m) ≡ Some (found, after)
-    → HasReading x p d e m found after
-found_reading d x p e m found after is =
-    let there = symbol_sound d x p e m (found, after) is in
-    let w = there.within in
-    record {
-      tree = w.tree;
-      next = w.next;
-      cost = w.cost;
-      reading = w.reading;
-      deep = w.deep;
-      shape_is = ap (λ (y : Shape × ParserState). y.0) there.is;
-      state_is = ap (λ (y : Shape × ParserState). y.1) there.is;
-      one = λ t q c r deep. let same = one_symbol r w.reading in (same.tree, same.next, same.cost);
-    }
-
--- what the parser doesn't read has no reading
-pub found_none : (d : ℕ) (x : Context) (p : Position) (e m : ℕ) → parse_symbol d x (state_at p e m) ≡ None → HasNoReading x p d
-found_none d x p e m none tree next cost reading deep = let there = symbol_complete reading d deep e m in cc
+use Rattle.itanium_demangle.specs.Meaning.{StandsFor, HasReading, HasNoReading, ReadsAs}
+use Rattle.itanium_demangle.specs.Demangler.{IsPrinted, IsText, answer_text, component_texts, component_shapes}
+use Rattle.itanium_demangle.proofs.Readers.{symbols}
 
 -- what a call says of the parser, it says of trees
 pub reads_as : (result : Result (Unit {0}) Stop) (x : Context) (d : ℕ) (before after : Reader) → Gives result after (parse_symbol d x (state before))
@@ -56,9 +33,9 @@ pub reads_as : (result : Result (Unit {0}) Stop) (x : Context) (d : ℕ) (before
 reads_as (Ok u) x d before after gives = (
   gives.0,
   λ p stands.
-      found_reading d x p before.entered before.most_saved (shape after.buffer.value after.found) (state after) (rw stands at gives.1),
+      (symbols d x).reads p before.entered before.most_saved (shape after.buffer.value after.found) (state after) (rw stands at gives.1),
 )
-reads_as (Err Unread) x d before after none = λ p stands. found_none d x p before.entered before.most_saved (rw stands at none)
+reads_as (Err Unread) x d before after none = λ p stands. (symbols d x).none p before.entered before.most_saved (rw stands at none)
 reads_as (Err Memory) x d before after gives = tt
 
 -- a reader at the front of a symbol
@@ -124,20 +101,20 @@ prefix_takes symbol inside e = go (begins (95 ∷ 90 ∷ []) symbol) (begins (95
     go false true b c e = let is : drop 3 symbol ≡ inside = cc in rw (sym is) (omega (arith, length-drop 3 symbol, three c))
     go false false b c e = cc
 
-pub not_read : (symbol inside : List ℕ) → after_prefix symbol ≡ Some inside → HasNoReading outside (start inside) max_depth → HasNoAnswer symbol
+pub not_read : (symbol inside : List ℕ) → after_prefix symbol ≡ Some inside → HasNoReading (Symbol outside (start inside)) max_depth → HasNoAnswer symbol
 not_read symbol inside prefix none tree next cost reading deep utf8 =
     let here : reading.inside ≡ inside = cc in
     none tree next cost (subst (λ v. Symbol outside (start v) tree next cost) here reading.reading) deep
 
-read_wrongly : (symbol inside : List ℕ) (e m : ℕ) (found : Shape) (after : ParserState) → after_prefix symbol ≡ Some inside → HasReading outside (start inside) max_depth e m found after
+read_wrongly : (symbol inside : List ℕ) (e m : ℕ) (found : Shape) (after : ParserState) → after_prefix symbol ≡ Some inside → HasReading (Symbol outside (start inside)) shape_of max_depth e m found after
     → ¬ (IsUtf8 (text found)) → HasNoAnswer symbol
 read_wrongly symbol inside e m found after prefix has bad tree next cost reading deep utf8 =
     let here : reading.inside ≡ inside = cc in
     let same = has.one tree next cost (subst (λ v. Symbol outside (start v) tree next cost) here reading.reading) deep in
-    let is : shape_of tree ≡ found = ap shape_of same.0 ∙ sym has.shape_is in
+    let is : shape_of tree ≡ found = ap shape_of same.0 ∙ sym has.found_is in
     bad (subst (λ (v : Shape). IsUtf8 (text v)) is utf8)
 
-read_rightly : (symbol inside answer : List ℕ) (e m : ℕ) (found : Shape) (after : ParserState) → after_prefix symbol ≡ Some inside → HasReading outside (start inside) max_depth e m found after
+read_rightly : (symbol inside answer : List ℕ) (e m : ℕ) (found : Shape) (after : ParserState) → after_prefix symbol ≡ Some inside → HasReading (Symbol outside (start inside)) shape_of max_depth e m found after
     → IsUtf8 (text found) → answer ≡ text found ++ suffix after.rest → HasAnswer symbol answer
 read_rightly symbol inside answer e m found after prefix has utf8 built =
     let same_rest : after.rest ≡ has.next.rest = ap (λ (s : ParserState). s.rest) has.state_is in
@@ -147,24 +124,24 @@ read_rightly symbol inside answer e m found after prefix has utf8 built =
       cost = has.cost;
       reading = record { inside = inside; prefix = prefix; reading = has.reading };
       depth = has.deep;
-      utf8 = subst (λ (v : Shape). IsUtf8 (text v)) has.shape_is utf8;
-      answer_is = built ∙ ap (λ (v : Shape). text v ++ suffix after.rest) has.shape_is ∙ ap (λ (v : List ℕ). printing has.tree ++ suffix v) same_rest;
+      utf8 = subst (λ (v : Shape). IsUtf8 (text v)) has.found_is utf8;
+      answer_is = built ∙ ap (λ (v : Shape). text v ++ suffix after.rest) has.found_is ∙ ap (λ (v : List ℕ). printing has.tree ++ suffix v) same_rest;
     }
 
 pub printed : (symbol inside : List ℕ) (e m : ℕ) (found : Shape) (after : ParserState) (answer : Option (List ℕ)) → after_prefix symbol ≡ Some inside
-    → HasReading outside (start inside) max_depth e m found after → IsPrinted (text found) (suffix after.rest) answer → IsAnswer symbol answer
+    → HasReading (Symbol outside (start inside)) shape_of max_depth e m found after → IsPrinted (text found) (suffix after.rest) answer → IsAnswer symbol answer
 printed symbol inside e m found after None prefix has bad = read_wrongly symbol inside e m found after prefix has bad
 printed symbol inside e m found after (Some answer) prefix has good = read_rightly symbol inside answer e m found after prefix has good.0 good.1
 
 pub suffix_utf8 : (symbol inside : List ℕ) (e m : ℕ) (found : Shape) (after : ParserState) → IsUtf8 symbol → after_prefix symbol ≡ Some inside
-    → HasReading outside (start inside) max_depth e m found after → IsUtf8 (suffix after.rest)
+    → HasReading (Symbol outside (start inside)) shape_of max_depth e m found after → IsUtf8 (suffix after.rest)
 suffix_utf8 symbol inside e m found after utf8 prefix has =
     let same_rest : after.rest ≡ has.next.rest = ap (λ (s : ParserState). s.rest) has.state_is in
     rw same_rest (suffix_from symbol has.next.rest utf8 (after_then (prefix_after symbol inside prefix) (symbol_takes has.reading).after))
 
 -- the counts of a reading that was found are those of every reading
 pub counted : (symbol inside : List ℕ) (before : ParserState) (found : Shape) (after : ParserState) → after_prefix symbol ≡ Some inside → before ≡ begun inside
-    → HasReading outside (start inside) max_depth before.entered before.most_saved found after → HasCounts symbol after.entered after.most_saved
+    → HasReading (Symbol outside (start inside)) shape_of max_depth before.entered before.most_saved found after → HasCounts symbol after.entered after.most_saved
 counted symbol inside before found after prefix starts has tree next cost reading deep =
     let here : reading.inside ≡ inside = cc in
     let same = has.one tree next cost (subst (λ v. Symbol outside (start v) tree next cost) here reading.reading) deep in
@@ -177,7 +154,7 @@ counted symbol inside before found after prefix starts has tree next cost readin
     (omega (arith, entered, none, count), omega (arith, most, nothing, peak))
 
 -- where there is no reading within the depth, nothing is asked of the counts
-pub uncounted : (symbol inside : List ℕ) (entered most_saved : ℕ) → after_prefix symbol ≡ Some inside → HasNoReading outside (start inside) max_depth → HasCounts symbol entered most_saved
+pub uncounted : (symbol inside : List ℕ) (entered most_saved : ℕ) → after_prefix symbol ≡ Some inside → HasNoReading (Symbol outside (start inside)) max_depth → HasCounts symbol entered most_saved
 uncounted symbol inside entered most_saved prefix none tree next cost reading deep =
     let here : reading.inside ≡ inside = cc in
     absurd (none tree next cost (subst (λ v. Symbol outside (start v) tree next cost) here reading.reading) deep)
@@ -188,7 +165,7 @@ uncounted_prefix symbol entered most_saved none tree next cost reading deep = le
 
 -- the components that a reading which was found leaves saved are those of every reading
 left_saved : (symbol inside : List ℕ) (e m : ℕ) (found : Shape) (after : ParserState) (components : List (List ℕ)) (answer : List ℕ) → after_prefix symbol ≡ Some inside
-    → HasReading outside (start inside) max_depth e m found after → components ≡ map text after.saved → HasComponents symbol (Some answer) components
+    → HasReading (Symbol outside (start inside)) shape_of max_depth e m found after → components ≡ map text after.saved → HasComponents symbol (Some answer) components
 left_saved symbol inside e m found after components answer prefix has is tree next cost reading deep =
     let here : reading.inside ≡ inside = cc in
     let same = has.one tree next cost (subst (λ v. Symbol outside (start v) tree next cost) here reading.reading) deep in
@@ -199,9 +176,23 @@ left_saved symbol inside e m found after components answer prefix has is tree ne
 
 -- what is kept as components after a reading that was found
 pub kept_components : (symbol inside : List ℕ) (e m : ℕ) (found : Shape) (after : ParserState) (buffer : Box Buffer Global) (answered : Bool) → after_prefix symbol ≡ Some inside
-    → HasReading outside (start inside) max_depth e m found after → saved buffer.value ≡ after.saved → HasComponents symbol (answer_text answered (Some buffer)) (component_texts answered (Some buffer))
+    → HasReading (Symbol outside (start inside)) shape_of max_depth e m found after → saved buffer.value ≡ after.saved → HasComponents symbol (answer_text answered (Some buffer)) (component_texts answered (Some buffer))
 kept_components symbol inside e m found after buffer false prefix has same = refl
 kept_components symbol inside e m found after buffer true prefix has same = left_saved symbol inside e m found after _ (main_bytes buffer.value) prefix has (ap (map text) same)
+
+-- the shapes that a reading which was found leaves saved are those of every reading
+left_shapes : (symbol inside : List ℕ) (e m : ℕ) (found : Shape) (after : ParserState) (shapes : List Shape) (answer : List ℕ) → after_prefix symbol ≡ Some inside
+    → HasReading (Symbol outside (start inside)) shape_of max_depth e m found after → shapes ≡ after.saved → HasSaved symbol (Some answer) shapes
+left_shapes symbol inside e m found after shapes answer prefix has is tree next cost reading deep =
+    let here : reading.inside ≡ inside = cc in
+    let same = has.one tree next cost (subst (λ v. Symbol outside (start v) tree next cost) here reading.reading) deep in
+    is ∙ ap (λ (s : ParserState). s.saved) has.state_is ∙ sym (ap (λ (q : Position). map shape_of q.saved) same.1)
+
+-- what is kept as their shapes
+pub kept_shapes : (symbol inside : List ℕ) (e m : ℕ) (found : Shape) (after : ParserState) (buffer : Box Buffer Global) (answered : Bool) → after_prefix symbol ≡ Some inside
+    → HasReading (Symbol outside (start inside)) shape_of max_depth e m found after → saved buffer.value ≡ after.saved → HasSaved symbol (answer_text answered (Some buffer)) (component_shapes answered (Some buffer))
+kept_shapes symbol inside e m found after buffer false prefix has same = refl
+kept_shapes symbol inside e m found after buffer true prefix has same = left_shapes symbol inside e m found after (saved buffer.value) (main_bytes buffer.value) prefix has same
 
 -- an answer that is kept is UTF-8
 pub kept_text : (printing after : List ℕ) (buffer : Box Buffer Global) (answered : Bool) → IsPrinted printing after (answer_text answered (Some buffer)) → IsUtf8 after → IsText (answer_text answered (Some buffer))

@@ -4,9 +4,9 @@ use Rattle.std.specs.Str.{IsUtf8}
 use Rattle.std.specs.Prelude.{Box}
 use Rattle.std.specs.Global.{Global}
 use Rattle.demangle_text.specs.declared.buffer.Buffer.{Buffer}
-use Rattle.demangle_text.specs.Shape.{text}
-use Rattle.demangle_text.specs.State.{saved, main_bytes}
-use Rattle.itanium_grammar.specs.Answer.{after_prefix, HasCounts, HasComponents, HasBounds}
+use Rattle.demangle_text.specs.Shape.{Shape, text}
+use Rattle.demangle_text.specs.State.{saved, scopes, frame, outermost, main_bytes}
+use Rattle.itanium_grammar.specs.Answer.{after_prefix, HasCounts, HasComponents, HasSaved, HasBounds}
 use Rattle.itanium_demangle.specs.declared.demangler.Demangler.TheInside.{Inside}
 
 -- what is left of the last symbol that was prepared
@@ -19,10 +19,12 @@ pub record LastRun : Type 0 where
   pub most_saved : ℕ
   -- where it has an answer, the texts of the components that are left saved
   pub components : List (List ℕ)
+  -- and their shapes
+  pub saved : List Shape
 
 -- nothing is left, as on a new value
 abbrev pub no_run : LastRun
-no_run = record { text = None; entered = 0; most_saved = 0; components = [] }
+no_run = record { text = None; entered = 0; most_saved = 0; components = []; saved = [] }
 
 -- the answer: all of the buffer's main text, where there is one
 abbrev pub answer_text : Bool → Option (Box Buffer Global) → Option (List ℕ)
@@ -34,6 +36,11 @@ abbrev pub component_texts : Bool → Option (Box Buffer Global) → List (List 
 component_texts true (Some buffer) = map text (saved buffer.value)
 component_texts answered buffer = []
 
+-- their shapes, where there is an answer
+abbrev pub component_shapes : Bool → Option (Box Buffer Global) → List Shape
+component_shapes true (Some buffer) = saved buffer.value
+component_shapes answered buffer = []
+
 -- what the fields mean
 abbrev pub last_run : Inside → LastRun
 last_run d = record {
@@ -41,6 +48,7 @@ last_run d = record {
   entered = d.entered;
   most_saved = d.most_saved;
   components = component_texts d.answered d.buffer;
+  saved = component_shapes d.answered d.buffer;
 }
 
 -- a text, where there is one, is UTF-8
@@ -48,18 +56,26 @@ abbrev pub IsText : Option (List ℕ) → Type 0
 IsText (Some text) = IsUtf8 text
 IsText None = Unit {0}
 
--- what is kept as an answer is UTF-8
-abbrev pub KeepsText : Inside → Type 0
-KeepsText d = IsText (answer_text d.answered d.buffer)
+-- where there is an answer, no scope and no mark is open in its buffer
+abbrev pub IsEnded : Bool → Option (Box Buffer Global) → Type 0
+IsEnded true (Some buffer) = (scopes buffer.value ≡ []) × (frame buffer.value ≡ outermost)
+IsEnded answered buffer = Unit {0}
+
+-- what is kept as an answer is UTF-8, in a buffer where no scope and no mark is open
+pub record KeepsAnswer (d : Inside) : Type 0 where
+  pub text : IsText (answer_text d.answered d.buffer)
+  pub ended : IsEnded d.answered d.buffer
 
 -- a printing in UTF-8 with what is after it, and no text where it isn't UTF-8
 abbrev pub IsPrinted : List ℕ → List ℕ → Option (List ℕ) → Type 0
 IsPrinted printing after (Some text) = IsUtf8 printing × (text ≡ printing ++ after)
 IsPrinted printing after None = ¬ (IsUtf8 printing)
 
--- after a symbol the counts and the components are those of its readings, and without a prefix nothing is left
+-- after a symbol the counts, the components and their shapes are those of its readings, and without a prefix nothing
+-- is left
 pub record IsPrepared (symbol : List ℕ) (run : LastRun) : Type 0 where
   pub counts : HasCounts symbol run.entered run.most_saved
   pub components : HasComponents symbol run.text run.components
+  pub saved : HasSaved symbol run.text run.saved
   pub bounds : HasBounds symbol run.entered run.most_saved
   pub no_prefix : after_prefix symbol ≡ None → run ≡ no_run

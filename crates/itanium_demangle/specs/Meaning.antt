@@ -1,9 +1,8 @@
--- What a reader of symbols says of trees.
+-- What a reader says of trees.
 use Rattle.std.specs.Prelude.{◌≡◌, ◌≤◌, ℕ, ◌+◌, max, map, Result, Ok, Err}
-use Rattle.demangle_text.specs.Shape.{Shape}
 use Rattle.demangle_text.specs.State.{IsLiving, shape}
 use Rattle.itanium_syntax.specs.declared.context.Context.{Context}
-use Rattle.itanium_grammar.specs.Tree.{Tree, shape_of}
+use Rattle.itanium_grammar.specs.Tree.{shape_of}
 use Rattle.itanium_grammar.specs.Grammar.{Position, Cost, Symbol}
 use Rattle.itanium_reader.specs.Parser.{ParserState}
 use Rattle.itanium_reader.specs.Outcome.{state}
@@ -21,28 +20,28 @@ state_at p entered most_saved = record {
   most_saved = most_saved;
 }
 
--- the grammar reads these bytes within the depth: there is a tree whose shape this is, what its reading leaves is this
--- state, with its count and its peak added, and every reading within the depth agrees with it
-pub record HasReading (x : Context) (p : Position) (depth entered most_saved : ℕ) (found : Shape)
-    (after : ParserState) : Type 0 where
-  pub tree : Tree
+-- the grammar reads these bytes within the depth: there is a tree that shows as what was found, what its reading leaves
+-- is this state, with its count and its peak added, and every reading within the depth agrees with it
+pub record HasReading {T A : Type 0} (R : T → Position → Cost → Type 0) (show : T → A)
+    (depth entered most_saved : ℕ) (found : A) (after : ParserState) : Type 0 where
+  pub tree : T
   pub next : Position
   pub cost : Cost
-  pub reading : Symbol x p tree next cost
+  pub reading : R tree next cost
   pub deep : cost.depth ≤ depth
-  pub shape_is : found ≡ shape_of tree
+  pub found_is : found ≡ show tree
   pub state_is : after ≡ state_at next (entered + cost.count) (max most_saved cost.peak)
   pub one :
-      (t : Tree) (q : Position) (c : Cost)
-      → Symbol x p t q c
+      (t : T) (q : Position) (c : Cost)
+      → R t q c
       → c.depth ≤ depth
       → (t ≡ tree) × (q ≡ next) × (c ≡ cost)
 
 -- the grammar doesn't read these bytes within the depth
-abbrev pub HasNoReading : Context → Position → ℕ → Type 0
-HasNoReading x p depth =
-    (tree : Tree) (next : Position) (cost : Cost)
-    → Symbol x p tree next cost
+abbrev pub HasNoReading : {T : Type 0} → (T → Position → Cost → Type 0) → ℕ → Type 0
+HasNoReading {T} R depth =
+    (tree : T) (next : Position) (cost : Cost)
+    → R tree next cost
     → cost.depth ≤ depth
     → ⊥
 
@@ -55,6 +54,7 @@ abbrev pub ReadsAs : Result (Unit {0}) Stop → Context → ℕ → Reader → R
 ReadsAs (Ok u) x depth before after =
     IsLiving after.buffer.value after.found
     × ((p : Position) → StandsFor before p
-    → HasReading x p depth before.entered before.most_saved (shape after.buffer.value after.found) (state after))
-ReadsAs (Err Unread) x depth before after = (p : Position) → StandsFor before p → HasNoReading x p depth
+    → HasReading (Symbol x p) shape_of depth before.entered before.most_saved
+    (shape after.buffer.value after.found) (state after))
+ReadsAs (Err Unread) x depth before after = (p : Position) → StandsFor before p → HasNoReading (Symbol x p) depth
 ReadsAs (Err Memory) x depth before after = Unit {0}

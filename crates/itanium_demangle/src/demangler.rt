@@ -3,12 +3,12 @@ ghost use Rattle.std.specs.Prelude.{◌≡◌, IfOk, OnOk, OnErr, IfSome, MatchR
 ghost use Rattle.std.specs.Borrow.{sem};
 ghost use Rattle.std.specs.String.{string_bytes};
 ghost use Rattle.std.specs.Str.{IsUtf8};
-ghost use Rattle.demangle_text.specs.State.{IsLiving, shape, saved, main_bytes, frame, inside, frame_start};
+ghost use Rattle.demangle_text.specs.State.{IsLiving, shape, saved, scopes, main_bytes, frame, inside, outside, outermost, frame_start};
 ghost use Rattle.demangle_text.specs.Shape.{text};
-ghost use Rattle.itanium_grammar.specs.Answer.{IsAnswer, HasOneReading, HasCounts, HasComponents, HasBounds};
+ghost use Rattle.itanium_grammar.specs.Answer.{IsAnswer, HasOneReading, HasCounts, HasComponents, HasSaved, HasBounds};
 ghost use Rattle.itanium_grammar.specs.Answer as spec;
 ghost use Rattle.itanium_reader.specs.Outcome.{state};
-ghost use Rattle.itanium_demangle.specs.Demangler.{IsPrinted, IsPrepared, IsText, answer_text, component_texts, no_run};
+ghost use Rattle.itanium_demangle.specs.Demangler.{IsPrinted, IsPrepared, IsText, IsEnded, answer_text, component_texts, component_shapes, no_run};
 
 use crate::mangled_name::read_mangled_name;
 use crate::utf8::is_utf8;
@@ -35,13 +35,13 @@ pub struct Demangler {
 }
 
 impl Model for Demangler {
-    ghost use Rattle.itanium_demangle.specs.Demangler.{LastRun, last_run, KeepsText};
+    ghost use Rattle.itanium_demangle.specs.Demangler.{LastRun, last_run, KeepsAnswer};
 
     ghost Value = { LastRun };
 
     ghost view = { last_run };
 
-    ghost invariant = { KeepsText };
+    ghost invariant = { KeepsAnswer };
 }
 
 /// Opens a mark at the end of the main text of a reader's buffer.
@@ -49,26 +49,30 @@ impl Model for Demangler {
 fn open_mark(reader: &mut Reader) -> Mark
     ensures state { state reader.new ≡ state reader.old }
     ensures innermost { frame reader.new.buffer.value ≡ inside result }
+    ensures next { outside result ≡ frame reader.old.buffer.value }
     ensures start { frame_start (inside result) ≡ length (main_bytes reader.old.buffer.value) }
 {
     reader.buffer.open()
 }
 
-/// Makes the printing that was found, and all that follows from a dot after it, the main text of the buffer. False
-/// where the printing isn't UTF-8.
+/// Makes the printing that was found, and all that follows from a dot after it, the main text of the buffer, and drops
+/// its scopes. False where the printing isn't UTF-8.
 fn end_answer(reader: &mut Reader, mark: Mark) -> Result<bool, AllocError>
     requires innermost { frame reader.old.buffer.value ≡ inside mark }
     requires start { frame_start (inside mark) ≡ 0 }
+    requires next { outside mark ≡ outermost }
     requires living { IsLiving reader.old.buffer.value reader.old.found }
     ensures answer { IfOk result (λ answered. IsPrinted (text (shape reader.old.buffer.value reader.old.found))
         (spec.suffix reader.old.rest.now) (answer_text answered (Some reader.new.buffer))) }
     ensures saved { OnOk result (saved reader.new.buffer.value ≡ saved reader.old.buffer.value) }
+    ensures ended { IfOk result (λ answered. IsEnded answered (Some reader.new.buffer)) }
     ensures entered { reader.new.entered ≡ reader.old.entered }
     ensures most_saved { reader.new.most_saved ≡ reader.old.most_saved }
 {
     if !is_utf8(reader.buffer.bytes(reader.found)) {
         return Ok(false);
     }
+    reader.buffer.keep_scopes(0);
     let printed = reader.buffer.plain(reader.found);
     let rest = suffix(reader.rest);
     if rest.is_empty() {
@@ -100,10 +104,12 @@ impl Demangler {
     /// Keeps the counts of a reader that has ended, and its buffer, whose main text is the answer where there is one.
     fn keep(&mut self, reader: Reader, answered: bool)
         requires text { IsText (answer_text answered (Some reader.buffer)) }
+        requires ended { IsEnded answered (Some reader.buffer) }
         ensures text { self.new.text ≡ answer_text answered (Some reader.entry.buffer) }
         ensures entered { self.new.entered ≡ reader.entry.entered }
         ensures most_saved { self.new.most_saved ≡ reader.entry.most_saved }
         ensures components { self.new.components ≡ component_texts answered (Some reader.entry.buffer) }
+        ensures saved { self.new.saved ≡ component_shapes answered (Some reader.entry.buffer) }
     {
         self.answered = answered;
         self.entered = reader.entered;
@@ -125,6 +131,7 @@ impl Demangler {
         ensures found { IfOk result (λ found. found ≡ is_some self.new.text) }
         ensures counts { IfOk result (λ _. HasCounts symbol.now self.new.entered self.new.most_saved) }
         ensures components { IfOk result (λ _. HasComponents symbol.now self.new.text self.new.components) }
+        ensures saved { IfOk result (λ _. HasSaved symbol.now self.new.text self.new.saved) }
         ensures bounds { IfOk result (λ _. HasBounds symbol.now self.new.entered self.new.most_saved) }
         ensures one { HasOneReading symbol.now }
         ensures no_prefix { spec.after_prefix symbol.now ≡ None → (result ≡ Ok false) × (self.new ≡ no_run) }
@@ -167,13 +174,17 @@ impl Demangler {
     }
 
     /// Where the last `prepare` or `demangle` had an answer, the buffer that it stands in, lent until the next call:
-    /// the answer is its main text, and nothing else is in that; the texts of its saved shapes are the components.
-    /// Elsewhere `None`.
+    /// the answer is its main text, and nothing else is in that; its saved shapes are those of the trees that the
+    /// symbol leaves saved, and their texts are the components; no scope and no mark is open. Elsewhere `None`.
     pub fn buffer(&self) -> Option<&Buffer>
         ensures value { option_map (λ buffer. main_bytes buffer.now) result ≡ self.now.text }
         ensures components { IfSome result (λ buffer. map text (saved buffer.now) ≡ self.now.components) }
+        ensures saved { IfSome result (λ buffer. saved buffer.now ≡ self.now.saved) }
+        ensures scopes { IfSome result (λ buffer. scopes buffer.now ≡ []) }
+        ensures mark { IfSome result (λ buffer. frame buffer.now ≡ outermost) }
         ensures utf8 { IfSome result (λ buffer. IsUtf8 (main_bytes buffer.now)) }
         ensures none { result ≡ None → self.now.components ≡ [] }
+        ensures none_saved { result ≡ None → self.now.saved ≡ [] }
     {
         match &self.buffer {
             Some(buffer) if self.answered => Some(buffer),
@@ -223,8 +234,8 @@ impl Demangler {
     ) -> Result<Option<&'a str>, AllocError>
         ensures answer { IfOk result (λ found. IsAnswer symbol.now (option_map (λ text. text.now) found)) }
         ensures no_prefix { spec.after_prefix symbol.now ≡ None → result ≡ Ok None }
-        // `last` is the value once the answer is no longer lent: it keeps the text that was answered, with the counts
-        // and components of `prepare`, and after an error nothing.
+        // `last` is the value once the answer is no longer lent: it keeps the text that was answered, with the counts,
+        // components and shapes of `prepare`, and after an error nothing.
         ensures* kept { sem 𝓛 (follows_so the_row the_row self.entry.ghost_name none (λ _ _. ⊤)
             (λ last. MatchResult result
             (λ found. (last.text ≡ option_map (λ text. text.now) found) × IsPrepared symbol.now last)

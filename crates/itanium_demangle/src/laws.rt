@@ -1,8 +1,17 @@
-//! Answers that are written out. The function does nothing: it stands for the facts that are its contract.
+//! Answers that are written out, and the laws by which a reader speaks of trees. The functions do nothing: each stands
+//! for the facts that are its contract.
 ghost use Rattle.itanium_demangle.specs.Examples.{WorkedSymbols};
+ghost use Rattle.itanium_demangle.specs.Readers.{LawsOfReaders};
 
 /// The answers of some symbols, as the definition gives them.
 #[tactic(auto, using(crate::proofs::Examples::worked_symbols))]
 pub fn worked_symbols()
     ensures symbols { WorkedSymbols }
+{}
+
+/// The parsers by which the readers say what they read agree with the grammar within each depth: what one answers is a
+/// reading, with which every other agrees, and where it answers none there is no reading.
+#[tactic(auto, using(crate::proofs::Readers::laws_of_readers))]
+pub fn laws_of_readers()
+    ensures laws { LawsOfReaders }
 {}

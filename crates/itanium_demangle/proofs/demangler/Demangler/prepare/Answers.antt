@@ -5,7 +5,7 @@ use Rattle.itanium_reader.specs.declared.stop.Stop.TheVariants.{Unread}
 use Rattle.itanium_reader.specs.Parser.{begun}
 use Rattle.itanium_reader.specs.Outcome.{state}
 use Rattle.itanium_demangle.specs.Meaning.{StandsFor}
-use Rattle.itanium_demangle.proofs.Symbols.{suffix_utf8, printed, counted, kept_components, kept_text, read_within, unread_within, stands_at_start}
+use Rattle.itanium_demangle.proofs.Symbols.{suffix_utf8, printed, counted, kept_components, kept_shapes, kept_text, read_within, unread_within, stands_at_start}
 use Rattle.itanium_demangle.proofs.demangler.Demangler.prepare.Goals as goal
 
 pub returns-in-Err-Unread-clause-bounds : goal.returns-in-Err-Unread-clause-bounds
@@ -27,7 +27,8 @@ keep-requires-2 c =
     let starts : state reader ≡ begun inside = c.open_mark-mark.ensures.state ∙ c.new-reader.ensures.state in
     let stands : StandsFor reader (start inside) = stands_at_start reader inside starts in
     let good = suffix_utf8 c.args.symbol.now inside _ _ _ _ c.utf8.symbol prefix ((c.in-Ok.ensures {u = tt}).reading.1 (start inside) stands) in
-    record { text = kept_text _ _ c.end_answer.new.reader.buffer c.in_ok-answered.answered (c.in_ok-answered.ensures {u = tt}).answer good }
+    let done = c.in_ok-answered.ensures {u = tt} in
+    record { text = kept_text _ _ c.end_answer.new.reader.buffer c.in_ok-answered.answered done.answer good; ended = done.ended }
 
 pub returns-clause-answer : goal.returns-clause-answer
 returns-clause-answer c =
@@ -62,6 +63,18 @@ returns-clause-components c =
     let kept = c.keep-2.ensures in
     let ended = c.in_ok-answered.ensures {u = tt} in
     rw (kept.text, kept.components) (kept_components c.args.symbol.now inside _ _ _ (state c.read_mangled_name.new.reader) c.end_answer.new.reader.buffer c.in_ok-answered.answered prefix ((c.in-Ok.ensures {u = tt}).reading.1 (start inside) stands) ended.saved)
+
+-- and their shapes
+pub returns-clause-saved : goal.returns-clause-saved
+returns-clause-saved c =
+    let inside = c.in-Some.inside.now in
+    let prefix : after_prefix c.args.symbol.now ≡ Some inside = search rules in
+    let reader : Reader = c.open_mark-mark.new.reader in
+    let starts : state reader ≡ begun inside = c.open_mark-mark.ensures.state ∙ c.new-reader.ensures.state in
+    let stands : StandsFor reader (start inside) = stands_at_start reader inside starts in
+    let kept = c.keep-2.ensures in
+    let ended = c.in_ok-answered.ensures {u = tt} in
+    rw (kept.text, kept.saved) (kept_shapes c.args.symbol.now inside _ _ _ (state c.read_mangled_name.new.reader) c.end_answer.new.reader.buffer c.in_ok-answered.answered prefix ((c.in-Ok.ensures {u = tt}).reading.1 (start inside) stands) ended.saved)
 
 pub returns-clause-bounds : goal.returns-clause-bounds
 returns-clause-bounds c =

@@ -1,0 +1,103 @@
+-- How the parser of a production agrees with the grammar. A reader's clause says what it reads by that parser; with the
+-- laws here it says what it reads of trees.
+use Rattle.std.specs.Prelude.{◌≡◌, ℕ, Bool, false, List, map, Some, None}
+use Rattle.demangle_text.specs.Shape.{Shape}
+use Rattle.demangle_edit.specs.Built.{arguments_shape}
+use Rattle.demangle_quals.specs.declared.quals.Quals.{Quals}
+use Rattle.itanium_syntax.specs.declared.context.Context.{Context}
+use Rattle.itanium_syntax.specs.Args.{argument_case}
+use Rattle.itanium_syntax.specs.Expressions.{literal_case}
+use Rattle.itanium_syntax.specs.Specials.{special_case}
+use Rattle.itanium_grammar.specs.Tree.{Tree, shape_of, bare_shape, own_quals}
+use Rattle.itanium_grammar.specs.Grammar.{Position, Cost, Name, Encoding, SpecialAs, Thunk, Symbol, Args, ArgumentAs}
+use Rattle.itanium_grammar.specs.Grammar.{Pack, LiteralAs, Expression, TypeOf}
+use Rattle.itanium_reader.specs.Parser.{ParserState, Parses, parse_bare_name, parse_name, parse_encoding, parse_special}
+use Rattle.itanium_reader.specs.Parser.{parse_thunk, parse_symbol, parse_args, parse_argument, parse_pack}
+use Rattle.itanium_reader.specs.Parser.{parse_primary, parse_expression, parse_type}
+use Rattle.itanium_demangle.specs.Meaning.{state_at, HasReading, HasNoReading}
+
+-- the parser reads what the grammar reads within the depth, and nothing else: from each position of trees, after any
+-- number of productions entered and of trees saved at most
+pub record IsParserOf {T A : Type 0} (R : Position → T → Position → Cost → Type 0) (show : T → A) (depth : ℕ)
+    (parse : Parses A) : Type 0 where
+  -- what it answers is a reading within the depth, with which every other agrees
+  pub reads :
+      (p : Position) (entered most_saved : ℕ) (found : A) (after : ParserState)
+      → parse (state_at p entered most_saved) ≡ Some (found, after)
+      → HasReading (R p) show depth entered most_saved found after
+  -- where it answers none there is no reading within the depth
+  pub none :
+      (p : Position) (entered most_saved : ℕ)
+      → parse (state_at p entered most_saved) ≡ None
+      → HasNoReading (R p) depth
+
+-- the shape of a name without its own qualifiers, and these
+abbrev pub bare_of : Tree → Shape × Quals
+bare_of t = (bare_shape t, own_quals t)
+
+-- the shape of a list of arguments
+abbrev pub shape_of_args : List Tree → Shape
+shape_of_args ts = arguments_shape (map shape_of ts)
+
+-- <special-name>, by what it begins with
+abbrev pub SpecialName : Context → Position → Tree → Position → Cost → Type 0
+SpecialName x p = SpecialAs (special_case p.rest) x p
+
+-- <template-arg>, by what it begins with
+abbrev pub Argument : Context → Position → Tree → Position → Cost → Type 0
+Argument x p = ArgumentAs (argument_case p.rest) x p
+
+-- <expr-primary>, by what it begins with
+abbrev pub Primary : Context → Position → Tree → Position → Cost → Type 0
+Primary x p = LiteralAs (literal_case p.rest) x p
+
+-- the parsers read what the grammar reads: in each context, within each depth
+pub record LawsOfReaders : Type 0 where
+  -- <name> without its own qualifiers, which may wait for the parameters of an encoding
+  pub bare_names :
+      (depth : ℕ) (waits : Bool) (x : Context)
+      → IsParserOf (Name waits x) bare_of depth (parse_bare_name depth x)
+  -- <name>
+  pub names :
+      (depth : ℕ) (x : Context)
+      → IsParserOf (Name false x) shape_of depth (parse_name depth x)
+  -- <encoding>
+  pub encodings :
+      (depth : ℕ) (x : Context)
+      → IsParserOf (Encoding x) shape_of depth (parse_encoding depth x)
+  -- <special-name>
+  pub special_names :
+      (depth : ℕ) (x : Context)
+      → IsParserOf (SpecialName x) shape_of depth (parse_special depth x)
+  -- T <call-offset> <encoding> | T c <call-offset> <call-offset> <encoding>
+  pub thunks :
+      (depth : ℕ) (x : Context)
+      → IsParserOf (Thunk x) shape_of depth (parse_thunk depth x)
+  -- what follows the prefix of a symbol
+  pub symbols :
+      (depth : ℕ) (x : Context)
+      → IsParserOf (Symbol x) shape_of depth (parse_symbol depth x)
+  -- <template-args>, those of a name or others
+  pub lists :
+      (depth : ℕ) (x : Context) (of_name : Bool)
+      → IsParserOf (Args x of_name) shape_of_args depth (parse_args depth x of_name)
+  -- <template-arg>
+  pub arguments :
+      (depth : ℕ) (x : Context)
+      → IsParserOf (Argument x) shape_of depth (parse_argument depth x)
+  -- <template-arg> ::= J <template-arg>* E
+  pub packs :
+      (depth : ℕ) (x : Context)
+      → IsParserOf (Pack x) shape_of depth (parse_pack depth x)
+  -- <expr-primary>: a literal, or an external name
+  pub primaries :
+      (depth : ℕ) (x : Context)
+      → IsParserOf (Primary x) shape_of depth (parse_primary depth x)
+  -- <expression>
+  pub expressions :
+      (depth : ℕ) (x : Context)
+      → IsParserOf (Expression x) shape_of depth (parse_expression depth x)
+  -- <type>
+  pub types :
+      (depth : ℕ) (x : Context)
+      → IsParserOf (TypeOf x) shape_of depth (parse_type depth x)
