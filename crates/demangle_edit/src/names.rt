@@ -78,7 +78,11 @@ pub fn open_default_arg(buf: &mut Buffer, scope: Piece, number: u64) -> Result<P
 ///
 /// An error comes where memory is refused, and then only `clear` of the buffer is promised.
 #[tactic(auto, using(demangle_text::proofs::Laws::laws))]
-pub fn close_default_arg(buf: &mut Buffer, opened: Piece, entity: Piece) -> Result<Piece, AllocError>
+pub fn close_default_arg(
+    buf: &mut Buffer,
+    opened: Piece,
+    entity: Piece,
+) -> Result<Piece, AllocError>
     requires opened { IsLiving buf.old opened }
     requires entity { IsLiving buf.old entity }
     ensures shape { IfOk result (λ p. Lives buf.new p

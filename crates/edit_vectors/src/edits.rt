@@ -7,11 +7,11 @@ use crate::pieces::{
 };
 use demangle_edit::{
     Glue, Pointer, Quals, Reference, address, append_number, apply_name_qualifiers,
-    attach_template_args, begin_arguments, close_arguments, close_default_arg, close_lambda, close_params,
-    collapse_ref, default_arg, end_arguments, expand, format_params, function_type, glue, list_next,
-    open_arguments, open_default_arg, open_params, qualify, qualify_ctor, qualify_text, separate, subexpr, tag,
-    wrap_array, wrap_cv, wrap_member_pointer, wrap_pointer, write_literal, write_literal_of,
-    write_opened_literal,
+    attach_template_args, begin_arguments, close_arguments, close_default_arg, close_lambda,
+    close_params, collapse_ref, default_arg, end_arguments, expand, format_params, function_type,
+    glue, list_next, open_arguments, open_default_arg, open_params, qualify, qualify_ctor,
+    qualify_text, separate, subexpr, tag, wrap_array, wrap_cv, wrap_member_pointer, wrap_pointer,
+    write_literal, write_literal_of, write_opened_literal,
 };
 use demangle_text::{Buffer, Kind, Piece};
 use std::alloc::Global;

@@ -10,7 +10,8 @@ use crate::names::read_bare_name;
 use crate::specials::read_special;
 use crate::types::{read_type, read_typed_params};
 use demangle_edit::{
-    Quals, apply_name_qualifiers, close_default_arg, close_params, open_default_arg, open_params, qualify,
+    Quals, apply_name_qualifiers, close_default_arg, close_params, open_default_arg, open_params,
+    qualify,
 };
 use demangle_text::Piece;
 use itanium_reader::{Reader, Stop};
