@@ -4,11 +4,11 @@
 //! older keeps its shape, and so do the saved components and the arguments of the scopes. After an `AllocError` `clear`
 //! of the buffer is the only call that is promised.
 //!
+//! Most edits of a piece that stands up to the end of the main text, from that mark or later, are done where it stands,
+//! and leave no other byte there (`in_place`). The others put their text at the end (`appends`).
+//!
 //! An entity in a default argument is put together from pieces (`default_arg`), or what opens it is made before the
 //! entity is read, and `close_default_arg` joins the two after it. Both give the same shape.
-//!
-//! An edit of a piece that stands up to the end of the main text, from that mark or later, is done where it stands. Of
-//! any other the text is copied to the end first. But for the byte that `&` takes from `&&`, no other text is left there.
 //!
 //! A list after a name is put together from pieces (`attach_template_args`, `format_params`), or built as it is
 //! read: what opens it, then for each text `separate` before it is read and `list_next` after it (`join` of the
