@@ -56,8 +56,8 @@ pub fn qualify_text(buf: &mut Buffer, scope: Piece, text: &[u8]) -> Result<Piece
     Ok(buf.with_flags(named, false, false))
 }
 
-/// What stands in front of an entity in a default argument of a scope, `scope::{default arg#k}::` with k for its number,
-/// as a plain piece with the last own name and the flags of the scope.
+/// What stands in front of an entity in a default argument of a scope, `scope::{default arg#k}::` with k for its
+/// number, as a plain piece with the last own name and the flags of the scope.
 ///
 /// An error comes where memory is refused, and then only `clear` of the buffer is promised.
 #[tactic(auto, using(demangle_text::proofs::Laws::laws, crate::proofs::Insertions::insertions))]

@@ -1,5 +1,5 @@
-//! Tests of the demangler: counts and components, limits, one value for symbol after symbol, and the scalars. Symbols that
-//! show a rule each stand with their answers in a list, `corpus/rows.tsv`.
+//! Tests of the demangler: counts and components, limits, one value for symbol after symbol, and the scalars. Symbols
+//! that show a rule each stand with their answers in a list, `corpus/rows.tsv`.
 //!
 //! The expected texts come from the grammar's definition, and not from what the demangler answers.
 #![tactic(auto)]
