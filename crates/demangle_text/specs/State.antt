@@ -190,6 +190,10 @@ pub record IsJoinOf (old new : Store) (first second answer : Piece) (n : ℕ) : 
 abbrev pub StandsAs : Piece → Piece → Type 0
 StandsAs p q = (from to : ℕ) → Stands p from to → Stands q from to
 
+-- and from the same byte, but ends n bytes before the piece does
+abbrev pub StandsShortened : ℕ → Piece → Piece → Type 0
+StandsShortened n p q = (from to : ℕ) → Stands p from to → Stands q from (to - n)
+
 -- where the piece stands up to the end of the main text, from the innermost mark or later, the answer stands from the
 -- same byte up to the end, and no byte before it changes
 pub record StaysInPlace (old new : Store) (piece answer : Piece) : Type 0 where
