@@ -4,7 +4,7 @@ ghost use Rattle.std.specs.Prelude.{◌≡◌, ◌≢◌, ◌++◌, All, map, co
 ghost use Rattle.demangle_text.specs.Shape.{CanInsert, IsPlain, IsDeclared, text, plain_shape, inserted};
 ghost use Rattle.demangle_text.specs.Shape.{kind_of, group_of, gap_after, front_text};
 ghost use Rattle.demangle_text.specs.State.{IsLiving, shape, Lives, IsEdit, KeepsAll, main_bytes};
-ghost use Rattle.demangle_text.specs.State.{StaysInPlace, JoinsInPlace, Appends, StandsShortened};
+ghost use Rattle.demangle_text.specs.State.{StaysInPlace, IsLeftOrStays, JoinsInPlace, Appends, StandsShortened};
 ghost use Rattle.demangle_edit.specs.Answers.{Answers, IfFound, OnNone};
 ghost use Rattle.demangle_edit.specs.Types.{pointed, collapse_step, pointer_shape, cv_place, cv_shape};
 ghost use Rattle.demangle_edit.specs.Types.{is_cut, is_shortened};
@@ -47,7 +47,7 @@ pub fn wrap_pointer(buf: &mut Buffer, inner: Piece, kind: Pointer) -> Result<Pie
     ensures shape { IfOk result (λ p. Lives buf.new p (pointer_shape kind (shape buf.old inner))) }
     ensures edit { OnOk result (IsEdit buf.old buf.new) }
     ensures in_place { is_shortened kind (shape buf.old inner) ≡ false
-        → IfOk result (λ p. StaysInPlace buf.old buf.new inner p) }
+        → IfOk result (λ p. IsLeftOrStays buf.old buf.new inner p) }
     ensures cut_main { is_shortened kind (shape buf.old inner) ≡ true
         → OnOk result (main_bytes buf.new ≡ main_bytes buf.old) }
     ensures cut_stands { is_shortened kind (shape buf.old inner) ≡ true
@@ -84,7 +84,7 @@ pub fn collapse_ref(
     ensures none { OnNone result (KeepsAll buf.old buf.new) }
     ensures none_main { OnNone result (main_bytes buf.new ≡ main_bytes buf.old) }
     ensures in_place { is_cut rvalue (shape buf.old inner) ≡ false
-        → IfFound result (λ p. StaysInPlace buf.old buf.new inner p) }
+        → IfFound result (λ p. IsLeftOrStays buf.old buf.new inner p) }
     ensures cut_main { is_cut rvalue (shape buf.old inner) ≡ true
         → OnOk result (main_bytes buf.new ≡ main_bytes buf.old) }
     ensures cut_stands { is_cut rvalue (shape buf.old inner) ≡ true
