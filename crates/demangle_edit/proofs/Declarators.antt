@@ -1,10 +1,17 @@
 -- What a shape's kind and group say of its form.
-use Rattle.std.proofs.Common.{◌≡◌, true, false, Some, None, refl, List, ℕ}
+use Rattle.std.proofs.Common.{◌≡◌, Bool, true, false, ◌&&◌, Some, None, refl, sym, ap, ◌∙◌, List, ℕ, ◌-◌, ◌++◌, length, take, codes, append_assoc, if◌then◌else◌}
+use Rattle.std.specs.Prelude.{nat_eq}
+use Rattle.std.specs.List.{ends_with}
+use Rattle.std.proofs.lemmas.Bool.{and_from}
+use Rattle.std.proofs.lemmas.Bool.Decides.{Decides-eqb}
+use Rattle.std.proofs.lemmas.Slice.Eq.{ends_is}
+use Rattle.demangle_quals.specs.declared.quals.Pointer.{Pointer}
+use Rattle.demangle_quals.specs.declared.quals.Pointer.TheVariants.{Star, Left, Right}
 use Rattle.std.specs.Prelude.{is_some}
 use Rattle.demangle_text.specs.declared.shape.Kind.TheVariants.{Array, Function}
 use Rattle.demangle_text.specs.declared.shape.Place.TheVariants.{Close, Suffix, End}
-use Rattle.demangle_text.specs.Shape.{Shape, Form, Plain, Declared, kind_of, group_of, CanInsert, IsPlain, IsDeclared, is_plain, appended, inserted, opened_group}
-use Rattle.demangle_edit.specs.Types.{pointed_in, cv_place}
+use Rattle.demangle_text.specs.Shape.{Shape, Form, Plain, Declared, kind_of, group_of, CanInsert, IsPlain, IsDeclared, is_plain, text, shortened, appended, inserted, opened_group}
+use Rattle.demangle_edit.specs.Types.{pointed_in, cv_place, is_shortened, collapse_step}
 
 pub plain_kind : (f : Form) → kind_of f ≡ None → is_plain f ≡ true
 plain_kind (Plain t) e = refl
@@ -68,4 +75,26 @@ words_after (Declared Array before None after) e g = cc
 words_after (Declared Function before None after) e g = refl
 words_after (Declared k before (Some group) after) e g = cc
 
-pub ruleset declarators = (plain_kind, plain_form, declared_kind, declared_form, pointed_end, pointed_close, pointed_open, can_close, can_word, words_end, words_close, words_suffix, words_after)
+-- a text that ends in `&&` ends in `&`
+ends_once : (t : List ℕ) → ends_with nat_eq t (codes "&&") ≡ true → ends_with nat_eq t (codes "&") ≡ true
+ends_once t e =
+    let front = take (length t - 2) t in
+    let is = (ends_is Decides-eqb t (codes "&&") _ refl).0 e in
+    (ends_is Decides-eqb t (codes "&") _ refl).1 (front ++ codes "&") (is ∙ sym (append_assoc front (codes "&") (codes "&")))
+
+both : (x y : Bool) → (x && y) ≡ true → (x ≡ true) × (y ≡ true)
+both true true h = (refl, refl)
+both true false h = cc
+both false y h = cc
+
+-- where `&` takes a byte away there is a reference
+pub cut_found : (kind : Pointer) (s : Shape) → is_shortened kind s ≡ true → None ≡ collapse_step false s → ⊥
+cut_found Star s h none = cc
+cut_found Right s h none = cc
+cut_found Left s h none =
+    let parts = both (is_plain s.form) (ends_with nat_eq (text s) (codes "&&")) h in
+    let found = and_from (is_plain s.form) (ends_with nat_eq (text s) (codes "&")) parts.0 (ends_once (text s) parts.1) in
+    let some = ap (λ (b : Bool). if b then Some (if ends_with nat_eq (text s) (codes "&&") then shortened 1 s else s) else None) found in
+    let e = none ∙ some in cc
+
+pub ruleset declarators = (plain_kind, plain_form, declared_kind, declared_form, pointed_end, pointed_close, pointed_open, can_close, can_word, words_end, words_close, words_suffix, words_after, cut_found)

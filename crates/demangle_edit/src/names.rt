@@ -1,7 +1,8 @@
 //! Edits that make a name out of names (Itanium C++ ABI 5.1.2).
 ghost use Rattle.std.specs.Prelude.{◌≡◌, All, map, IfOk, OnOk};
 ghost use Rattle.demangle_text.specs.Shape.{plain_shape};
-ghost use Rattle.demangle_text.specs.State.{IsLiving, shape, Lives, IsEdit, StaysInPlace, JoinsInPlace, Appends};
+ghost use Rattle.demangle_text.specs.State.{IsLiving, shape, Lives, IsEdit};
+ghost use Rattle.demangle_text.specs.State.{StaysInPlace, IsLeftOrStays, JoinsInPlace, Appends};
 ghost use Rattle.demangle_edit.specs.Names.{qualified, qualified_ctor, angle_gap, attached, tagged};
 ghost use Rattle.demangle_edit.specs.Names.{encoding_shape, with_name_qualifiers};
 ghost use Rattle.demangle_edit.specs.Names.{default_arg_opened, default_arg_closed, default_arg_shape};
@@ -236,7 +237,7 @@ pub fn apply_name_qualifiers(
     ensures shape { IfOk result (λ p. Lives buf.new p
         (with_name_qualifiers (shape buf.old name) quals shown)) }
     ensures edit { OnOk result (IsEdit buf.old buf.new) }
-    ensures in_place { IfOk result (λ p. StaysInPlace buf.old buf.new name p) }
+    ensures in_place { IfOk result (λ p. IsLeftOrStays buf.old buf.new name p) }
 {
     if !quals.is_set() {
         return Ok(name);

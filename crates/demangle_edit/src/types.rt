@@ -1,10 +1,10 @@
 //! Edits that make a type out of types: pointers, references, qualifiers, arrays and functions
 //! (Itanium C++ ABI 5.1.5).
-ghost use Rattle.std.specs.Prelude.{◌≡◌, ◌≢◌, ◌++◌, All, map, codes, is_some, false, IfOk, OnOk};
+ghost use Rattle.std.specs.Prelude.{◌≡◌, ◌≢◌, ◌++◌, All, map, codes, is_some, true, false, IfOk, OnOk};
 ghost use Rattle.demangle_text.specs.Shape.{CanInsert, IsPlain, IsDeclared, text, plain_shape, inserted};
 ghost use Rattle.demangle_text.specs.Shape.{kind_of, group_of, gap_after, front_text};
 ghost use Rattle.demangle_text.specs.State.{IsLiving, shape, Lives, IsEdit, KeepsAll, main_bytes};
-ghost use Rattle.demangle_text.specs.State.{StaysInPlace, JoinsInPlace, Appends};
+ghost use Rattle.demangle_text.specs.State.{StaysInPlace, IsLeftOrStays, JoinsInPlace, Appends, StandsShortened};
 ghost use Rattle.demangle_edit.specs.Answers.{Answers, IfFound, OnNone};
 ghost use Rattle.demangle_edit.specs.Types.{pointed, collapse_step, pointer_shape, cv_place, cv_shape};
 ghost use Rattle.demangle_edit.specs.Types.{is_cut, is_shortened};
@@ -47,7 +47,11 @@ pub fn wrap_pointer(buf: &mut Buffer, inner: Piece, kind: Pointer) -> Result<Pie
     ensures shape { IfOk result (λ p. Lives buf.new p (pointer_shape kind (shape buf.old inner))) }
     ensures edit { OnOk result (IsEdit buf.old buf.new) }
     ensures in_place { is_shortened kind (shape buf.old inner) ≡ false
-        → IfOk result (λ p. StaysInPlace buf.old buf.new inner p) }
+        → IfOk result (λ p. IsLeftOrStays buf.old buf.new inner p) }
+    ensures cut_main { is_shortened kind (shape buf.old inner) ≡ true
+        → OnOk result (main_bytes buf.new ≡ main_bytes buf.old) }
+    ensures cut_stands { is_shortened kind (shape buf.old inner) ≡ true
+        → IfOk result (λ p. StandsShortened 1 inner p) }
 {
     match kind {
         Pointer::Star => wrap_token(buf, inner, b"*"),
@@ -80,7 +84,11 @@ pub fn collapse_ref(
     ensures none { OnNone result (KeepsAll buf.old buf.new) }
     ensures none_main { OnNone result (main_bytes buf.new ≡ main_bytes buf.old) }
     ensures in_place { is_cut rvalue (shape buf.old inner) ≡ false
-        → IfFound result (λ p. StaysInPlace buf.old buf.new inner p) }
+        → IfFound result (λ p. IsLeftOrStays buf.old buf.new inner p) }
+    ensures cut_main { is_cut rvalue (shape buf.old inner) ≡ true
+        → OnOk result (main_bytes buf.new ≡ main_bytes buf.old) }
+    ensures cut_stands { is_cut rvalue (shape buf.old inner) ≡ true
+        → IfFound result (λ p. StandsShortened 1 inner p) }
 {
     if buf.kind(inner).is_some() || !buf.bytes(inner).ends_with(b"&") {
         return Ok(None);

@@ -1,14 +1,14 @@
 -- Laws of a run of calls. No line here looks into a buffer: they follow from the words of `State`, and from that a piece
 -- stands at one place.
-use Rattle.std.proofs.Common.{◌≡◌, ◌≤◌, ℕ, List, ◌++◌, length, take, sym, ap, refl, ◌∙◌, subst, Result, Ok, Err, IfOk, OnOk}
-use Rattle.std.proofs.lemmas.List.{take-take, take_at}
+use Rattle.std.proofs.Common.{◌≡◌, ◌≤◌, ℕ, List, ◌++◌, length, take, sym, ap, refl, ◌∙◌, subst, arith, Result, Ok, Err, IfOk, OnOk}
+use Rattle.std.proofs.lemmas.List.{take-take, take_at, take_all}
 use Rattle.demangle_text.specs.declared.shape.Piece.{Piece}
 use Rattle.demangle_text.specs.declared.shape.Mark.{Mark}
 use Rattle.demangle_text.specs.Shape.{Shape}
 use Rattle.demangle_text.specs.Pieces.{Store}
 use Rattle.demangle_text.specs.State.{Frame, frame, frame_start, inside, main_bytes, IsLiving, IsOlder, IsAsOld, shape, Lives, SameLists, SameFrame, KeepsFront, KeepsAll, IsEdit, Opens, Closes, IsRun, IsSince}
-use Rattle.demangle_text.specs.State.{Stands, StandsAs, IsEditOf, IsJoinOf, StaysInPlace, JoinsInPlace, Appends}
-use Rattle.demangle_text.proofs.States.{Stands-begins, Stands-ordered}
+use Rattle.demangle_text.specs.State.{Stands, StandsAs, StandsBefore, EndsMain, IsEditOf, IsJoinOf, StaysInPlace, JoinsInPlace, Appends}
+use Rattle.demangle_text.proofs.States.{Stands-begins, Stands-ordered, Stands-tail}
 
 -- a piece as old as one that is older than a frame is older than the frame too
 pub IsAsOld-older : (p q : Piece) (f : Frame) → IsAsOld p q → IsOlder p f → IsOlder q f
@@ -125,9 +125,21 @@ SameFrame-closed old mid new m o c = record {
 pub Lives-same : (old new : Store) (p : Piece) (s : Shape) → SameFrame old new → Lives old p s → Lives new p s
 Lives-same old new p s u h = Lives-trans old new p s h (u.pieces p)
 
+-- what ends the main text, edited afterwards
+EndsMain-edit : (old mid new : Store) (p q : Piece) → IsEdit old mid → EndsMain old mid p → StaysInPlace mid new p q → EndsMain old new q
+EndsMain-edit old mid new p q e a s =
+    let k = s.stays a.from (subst (λ (f : Frame). frame_start f ≤ a.from) (sym e.frame_same) a.inner) a.stands in
+    record { from = a.from; inner = a.inner; front = k.1 ∙ a.front; stands = k.0 }
+
+-- and what is answered with no edit for it
+EndsMain-named : (old new : Store) (p q : Piece) → EndsMain old new p → StandsAs p q → EndsMain old new q
+EndsMain-named old new p q a as_piece =
+    record { from = a.from; inner = a.inner; front = a.front; stands = as_piece a.from (length (main_bytes new)) a.stands }
+
 -- an edit of a buffer leaves a piece where it stands
 pub StaysInPlace-edit : (old new : Store) (p q : Piece) (n : ℕ) → IsEditOf old new p q n → StaysInPlace old new p q
 StaysInPlace-edit old new p q n e = record {
+  ends = e.ends;
   stays = λ at inner there.
       let stands = (e.in_place at inner there).0 in
       let len = length (main_bytes new) in
@@ -138,6 +150,7 @@ StaysInPlace-edit old new p q n e = record {
 -- one edit after another
 pub StaysInPlace-trans : (old mid new : Store) (p q r : Piece) → IsEdit old mid → StaysInPlace old mid p q → StaysInPlace mid new q r → StaysInPlace old new p r
 StaysInPlace-trans old mid new p q r e a b = record {
+  ends = EndsMain-edit old mid new q r e a.ends b;
   stays = λ at inner there.
       let one = a.stays at inner there in
       let two = b.stays at (subst (λ (f : Frame). frame_start f ≤ at) (sym e.frame_same) inner) one.0 in
@@ -147,12 +160,14 @@ StaysInPlace-trans old mid new p q r e a b = record {
 -- an edit of what is answered for a piece with no edit
 pub StaysInPlace-of : (old new : Store) (p q r : Piece) → StandsAs p q → StaysInPlace old new q r → StaysInPlace old new p r
 StaysInPlace-of old new p q r as_piece a = record {
+  ends = a.ends;
   stays = λ at inner there. a.stays at inner (as_piece at (length (main_bytes old)) there);
 }
 
 -- and what is answered with no edit for a piece after one
 pub StaysInPlace-named : (old new : Store) (p q r : Piece) → StaysInPlace old new p q → StandsAs q r → StaysInPlace old new p r
 StaysInPlace-named old new p q r a as_piece = record {
+  ends = EndsMain-named old new q r a.ends as_piece;
   stays = λ at inner there.
       let one = a.stays at inner there in
       (as_piece at (length (main_bytes new)) one.0, one.1);
@@ -161,6 +176,7 @@ StaysInPlace-named old new p q r a as_piece = record {
 -- a join of a buffer
 pub JoinsInPlace-join : (old new : Store) (p q r : Piece) (n : ℕ) → IsJoinOf old new p q r n → JoinsInPlace old new p q r
 JoinsInPlace-join old new p q r n j = record {
+  ends = j.ends;
   stays = λ from middle inner first second.
       let stands = (j.in_place from middle inner first second).0 in
       let len = length (main_bytes new) in
@@ -171,6 +187,7 @@ JoinsInPlace-join old new p q r n j = record {
 -- and what is answered with no edit after it
 pub JoinsInPlace-named : (old new : Store) (p q r s : Piece) → JoinsInPlace old new p q r → StandsAs r s → JoinsInPlace old new p q s
 JoinsInPlace-named old new p q r s a as_piece = record {
+  ends = EndsMain-named old new r s a.ends as_piece;
   stays = λ from middle inner first second.
       let one = a.stays from middle inner first second in
       (as_piece from (length (main_bytes new)) one.0, one.1);
@@ -179,6 +196,7 @@ JoinsInPlace-named old new p q r s a as_piece = record {
 -- and an edit after it
 pub JoinsInPlace-trans : (old mid new : Store) (p q r s : Piece) → IsEdit old mid → JoinsInPlace old mid p q r → StaysInPlace mid new r s → JoinsInPlace old new p q s
 JoinsInPlace-trans old mid new p q r s e a b = record {
+  ends = EndsMain-edit old mid new r s e a.ends b;
   stays = λ from middle inner first second.
       let one = a.stays from middle inner first second in
       let two = b.stays from (subst (λ (f : Frame). frame_start f ≤ from) (sym e.frame_same) inner) one.0 in
@@ -221,15 +239,38 @@ pub Appends-close : {E : Type 0} (old mid new : Store) (m : Mark) (r : Result Pi
 Appends-close old mid new m (Ok p) starts o c stands = Appends-closed old mid new m p starts o c stands
 Appends-close old mid new m (Err e) starts o c stands = tt
 
--- a piece that stood at the end of the main text, joined to what was put there
-pub StaysInPlace-joined : (old mid new : Store) (p q r : Piece) → IsLiving old p → frame mid ≡ frame old → Appends old mid q → JoinsInPlace mid new p q r → StaysInPlace old new p r
-StaysInPlace-joined old mid new p q r lies same a j = record {
-  stays = λ at inner there.
+-- a piece and what was put after the main text, joined
+module _ (old mid new : Store) (p q r : Piece) (n : ℕ) (lies : IsLiving old p) (same : frame mid ≡ frame old) (a : Appends old mid q) (j : IsJoinOf mid new p q r n) where
+  -- a piece that stood at the end stays there
+  joined_stays : (at : ℕ) → frame_start (frame old) ≤ at → Stands p at (length (main_bytes old))
+      → Stands r at (length (main_bytes new)) × (take at (main_bytes new) ≡ take at (main_bytes old))
+  joined_stays at inner there =
       let len = length (main_bytes old) in
-      let one = j.stays at len (subst (λ (f : Frame). frame_start f ≤ at) (sym same) inner) there a.stands in
+      let one = (JoinsInPlace-join mid new p q r n j).stays at len (subst (λ (f : Frame). frame_start f ≤ at) (sym same) inner) there a.stands in
       let ordered = Stands-ordered old p at len lies there in
-      (one.0, one.1 ∙ sym (take-take at len (main_bytes mid) ordered) ∙ ap (take at) a.front);
-}
+      (one.0, one.1 ∙ sym (take-take at len (main_bytes mid) ordered) ∙ ap (take at) a.front)
+
+  -- any other is put in front of what was put there
+  joined_ends : StandsBefore old p (length (main_bytes old)) → EndsMain old new r
+  joined_ends before =
+      let len = length (main_bytes old) in
+      let inner = subst (λ (f : Frame). frame_start f ≤ len) (sym same) a.inner in
+      let before_mid : StandsBefore mid p len = λ from to stands. ((before from to stands).0, λ inside. (before from to stands).1 (subst (λ (f : Frame). frame_start f ≤ from) same inside)) in
+      let stands = (j.in_front len inner a.stands before_mid).0 in
+      let from_is = Stands-begins r j.ends.from (length (main_bytes new)) len (length (main_bytes new)) j.ends.stands stands in
+      record {
+        from = len;
+        inner = a.inner;
+        front = subst (λ (k : ℕ). take k (main_bytes new) ≡ take k (main_bytes mid)) from_is j.ends.front ∙ a.front ∙ sym (take_all len (main_bytes old) (omega arith));
+        stands = stands;
+      }
+
+  pub StaysInPlace-joined : StaysInPlace old new p r
+  StaysInPlace-joined = record {
+    ends = Stands-tail old p (EndsMain old new r) lies
+        (λ at inner there. let k = joined_stays at inner there in record { from = at; inner = inner; front = k.1; stands = k.0 }) joined_ends;
+    stays = joined_stays;
+  }
 
 -- the laws for the readers
 pub ruleset runs = (IsRun-edit, IsRun-same, SameFrame-keeps, SameFrame-trans, IsRun-trans, IsSince-opens, IsSince-run, SameFrame-closed, Lives-same)

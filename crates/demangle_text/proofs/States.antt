@@ -1,13 +1,14 @@
 -- What stays when a buffer's texts grow, and when the texts that it keeps lie elsewhere.
-use Rattle.std.proofs.Common.{◌≡◌, ℕ, ◌-◌, ◌<◌, ◌≤◌, Bool, true, false, List, [], ◌++◌, length, take, drop, slice_range, All, map, refl, sym, ap, ◌∙◌, subst, arith, Result, Ok, Err, OnErr, append_assoc, set, get_or}
+use Rattle.std.proofs.Common.{◌≡◌, ℕ, ◌-◌, ◌<◌, ◌≤◌, Bool, true, false, List, [], ◌++◌, length, take, drop, slice_range, leb, All, map, refl, sym, ap, ◌∙◌, subst, arith, Result, Ok, Err, OnErr, append_assoc, set, get_or}
 use Rattle.std.proofs.Math.Seq.{map-set_same}
+use Rattle.std.proofs.lemmas.Bool.{leb-true, leb-false}
 use Rattle.std.proofs.lemmas.List.Elements.{All-set, All-get_or, All-weaker}
 use Rattle.std.proofs.lemmas.List.{length-append, length-drop, append-nil, drop_at, take_all, take-append-le}
 use Rattle.demangle_text.specs.declared.shape.Piece.{Piece}
 use Rattle.demangle_text.specs.declared.shape.Mark.{Mark}
 use Rattle.demangle_text.specs.Shape.{text}
 use Rattle.demangle_text.specs.Pieces.{Store, IsStore, IsPiece, IsAt, IsOutlined, outline_of, shape_of, shape_in, piece_text, home_bytes, Extends}
-use Rattle.demangle_text.specs.State.{IsLiving, shape, saved, scopes, main_bytes, Stands, frame, frame_start, inside, outside, Frame, IsBelow, IsOlder, KeepsAll, IsEdit, Opens, Closes, Lives, parts_at}
+use Rattle.demangle_text.specs.State.{IsLiving, shape, saved, scopes, main_bytes, Stands, StandsBefore, frame, frame_start, inside, outside, Frame, IsBelow, IsOlder, KeepsAll, IsEdit, Opens, Closes, Lives, parts_at}
 use Rattle.demangle_text.proofs.Forms.{text-form_of}
 use Rattle.demangle_text.proofs.Texts.{part-append, map_same}
 use Rattle.demangle_text.specs.Flags.{lies_aside}
@@ -192,6 +193,23 @@ Stands-begins p from to at end one two = sym one.begins ∙ two.begins
 pub Stands-ordered : (s : Store) (p : Piece) (from to : ℕ) → IsLiving s p → Stands p from to → from ≤ to
 unfolding IsLiving Stands
 Stands-ordered s p from to lies stands = omega (arith, lies.ordered, stands.begins, stands.ends)
+
+-- it stands up to the end of the main text, from the innermost mark or later, or else before that end
+pub Stands-tail : (s : Store) (p : Piece) (P : Type 0) → IsLiving s p → ((from : ℕ) → frame_start (frame s) ≤ from → Stands p from (length (main_bytes s)) → P)
+    → (StandsBefore s p (length (main_bytes s)) → P) → P
+unfolding IsLiving Stands main_bytes frame frame_start Frame
+Stands-tail s p P lies tail before = by (lies_aside p.flags) (leb s.frame_main p.from_byte) (leb (length s.main_text) p.to_byte) refl refl refl
+  where
+    within : lies_aside p.flags ≡ false → p.to_byte ≤ length s.main_text
+    within home = subst (λ (h : Bool). p.to_byte ≤ length (home_bytes s.main_text s.side_text h)) home lies.within
+
+    by : (aside inner ends : Bool) → lies_aside p.flags ≡ aside → leb s.frame_main p.from_byte ≡ inner → leb (length s.main_text) p.to_byte ≡ ends → P
+    by true inner ends home from to = before (λ a b at. cc)
+    by false true true home from to =
+        tail p.from_byte (leb-true _ _ from) (record { in_main = home; begins = refl; ends = omega (arith, within home, leb-true _ _ to) })
+    by false false ends home from to =
+        before (λ a b at. (omega (arith, within home, at.ends), λ inner. let k : ⊥ = omega (arith, leb-false _ _ from, at.begins, inner) in absurd k))
+    by false true false home from to = before (λ a b at. (omega (arith, within home, at.ends), λ inner. omega (arith, leb-false _ _ to, at.ends)))
 
 -- a fact at the exit of a `?`
 pub on_err_from : {T E Q : Type 0} (r : Result T E) → Q → OnErr r Q

@@ -190,15 +190,29 @@ pub record IsJoinOf (old new : Store) (first second answer : Piece) (n : ℕ) : 
 abbrev pub StandsAs : Piece → Piece → Type 0
 StandsAs p q = (from to : ℕ) → Stands p from to → Stands q from to
 
--- where the piece stands up to the end of the main text, from the innermost mark or later, the answer stands from the
--- same byte up to the end, and no byte before it changes
+-- and from the same byte, but ends n bytes before the piece does
+abbrev pub StandsShortened : ℕ → Piece → Piece → Type 0
+StandsShortened n p q = (from to : ℕ) → Stands p from to → Stands q from (to - n)
+
+-- the answer stands up to the end of the main text, from the innermost mark or later, and no byte before it changes;
+-- where the piece stood up to that end, from the innermost mark or later, the answer stands from the same byte
 pub record StaysInPlace (old new : Store) (piece answer : Piece) : Type 0 where
+  pub ends : EndsMain old new answer
   pub stays : (at : ℕ) → frame_start (frame old) ≤ at → Stands piece at (length (main_bytes old))
       → Stands answer at (length (main_bytes new)) × (take at (main_bytes new) ≡ take at (main_bytes old))
 
--- where the first piece stands from the innermost mark or later, and the second from its end up to the end of the main
--- text, the answer stands from the start of the first up to the end, and no byte before it changes
+-- what becomes of a piece that may be right as it is
+pub data IsLeftOrStays (old new : Store) (piece answer : Piece) : Type 0 where
+  -- the answer is the piece, and no byte of the main text changes
+  left : main_bytes new ≡ main_bytes old → answer ≡ piece → IsLeftOrStays old new piece answer
+  -- the piece was edited
+  edited : StaysInPlace old new piece answer → IsLeftOrStays old new piece answer
+
+-- the answer stands up to the end of the main text, from the innermost mark or later, and no byte before it changes;
+-- where the first piece stood from the innermost mark or later, and the second from its end up to the end of the main
+-- text, the answer stands from the start of the first
 pub record JoinsInPlace (old new : Store) (first second answer : Piece) : Type 0 where
+  pub ends : EndsMain old new answer
   pub stays : (from middle : ℕ) → frame_start (frame old) ≤ from → Stands first from middle
       → Stands second middle (length (main_bytes old))
       → Stands answer from (length (main_bytes new)) × (take from (main_bytes new) ≡ take from (main_bytes old))

@@ -56,7 +56,7 @@ crate::specs::State::saved, crate::specs::State::scopes,),)]
 impl Buffer {
     ghost use Rattle.demangle_text.specs.State.{IsLiving, shape, saved, scopes, frame, inside, outside, outermost};
     ghost use Rattle.demangle_text.specs.State.{Lives, KeepsAll, SameFrame, SameLists, IsEdit, Opens, Closes};
-    ghost use Rattle.demangle_text.specs.State.{last_args, with_arg, IsAsOld, main_bytes, Stands, StandsAs};
+    ghost use Rattle.demangle_text.specs.State.{last_args, with_arg, IsAsOld, main_bytes, Stands, StandsAs, StandsShortened};
     ghost use Rattle.demangle_text.specs.State.{frame_start, Frame, IsOlder, KeepsFront, IsEditOf, IsJoinOf};
     ghost use Rattle.demangle_text.specs.Shape.{text, text_len, form_text, plain_shape, inserted, appended};
     ghost use Rattle.demangle_text.specs.Shape.{opened_group, joined, shortened, CanInsert, IsPlain, IsDeclared};
@@ -693,8 +693,9 @@ impl Buffer {
         Ok(())
     }
 
-    /// The plain piece without its last n bytes. Its last own name is what is left of it. Ends
-    /// pieces, and keeps all after `AllocError`, as `append` does.
+    /// The plain piece without its last n bytes. Its last own name is what is left of it. The main
+    /// text stays as it is, with those bytes. Ends pieces, and keeps all after `AllocError`, as
+    /// `append` does.
     #[inline(always)]
     pub fn cut(&mut self, piece: Piece, n: usize) -> Result<Piece, AllocError>
         requires living { IsLiving self.old piece }
@@ -704,6 +705,8 @@ impl Buffer {
         ensures edit { OnOk result (IsEdit self.old self.new) }
         ensures err { OnErr result (KeepsAll self.old self.new) }
         ensures front { KeepsFront self.old self.new }
+        ensures main { OnOk result (main_bytes self.new ≡ main_bytes self.old) }
+        ensures stands { IfOk result (λ p. StandsShortened n piece p) }
         ensures main_err { OnErr result (main_bytes self.new ≡ main_bytes self.old) }
     {
         Ok(piece.cut(n))

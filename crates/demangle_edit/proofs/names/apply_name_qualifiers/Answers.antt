@@ -1,4 +1,5 @@
 use Rattle.std.proofs.lemmas.Result.{IfOk-weaker}
+use Rattle.demangle_text.specs.State.{edited}
 use Rattle.demangle_text.proofs.Laws.{StaysInPlace-edit, StaysInPlace-trans, StaysInPlace-of}
 use Rattle.demangle_edit.proofs.names.apply_name_qualifiers.Goals as goal
 
@@ -6,4 +7,4 @@ use Rattle.demangle_edit.proofs.names.apply_name_qualifiers.Goals as goal
 pub returns-clause-in_place : goal.returns-clause-in_place
 returns-clause-in_place c =
     let at_worded = StaysInPlace-of _ _ c.args.name c.plain-plain.result _ c.plain-plain.ensures.stands (StaysInPlace-edit _ _ _ _ _ c.in_ok-worded.ensures.edit_of) in
-    IfOk-weaker c.append-2.result _ _ (λ p k. StaysInPlace-trans _ _ _ _ _ _ c.in_ok-worded.ensures.edit at_worded (StaysInPlace-edit _ _ _ _ _ k)) c.append-2.ensures.edit_of
+    IfOk-weaker c.append-2.result _ _ (λ p k. edited (StaysInPlace-trans _ _ _ _ _ _ c.in_ok-worded.ensures.edit at_worded (StaysInPlace-edit _ _ _ _ _ k))) c.append-2.ensures.edit_of

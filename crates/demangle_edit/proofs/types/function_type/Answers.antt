@@ -1,7 +1,7 @@
 use Rattle.std.proofs.Common.{◌≡◌, false, map, codes, sym, ap, ◌∙◌, is_some}
 use Rattle.demangle_text.specs.Shape.{Shape, joined, kind_of}
 use Rattle.demangle_text.specs.State.{shape}
-use Rattle.demangle_text.proofs.Laws.{IsEdit-keeps, IsEdit-trans, JoinsInPlace-join, StaysInPlace-joined, StaysInPlace-edit, StaysInPlace-trans, StaysInPlace-named}
+use Rattle.demangle_text.proofs.Laws.{IsEdit-keeps, IsEdit-trans, StaysInPlace-joined, StaysInPlace-edit, StaysInPlace-trans, StaysInPlace-named}
 use Rattle.demangle_edit.proofs.Cuts.{function_shape_is, function_found}
 use Rattle.demangle_edit.proofs.types.function_type.Goals as goal
 
@@ -26,7 +26,7 @@ returns-clause-in_place c =
     let joined = IsEdit-trans _ _ _ (IsEdit-keeps _ _ kept) c.in_ok-begun.ensures.edit in
     let closed = IsEdit-trans _ _ _ joined c.in_ok-closed.ensures.edit in
     let worded = IsEdit-trans _ _ _ closed c.in_ok-worded.ensures.edit in
-    let at_join = StaysInPlace-joined old _ _ _ _ _ c.requires.ret kept.frame_same c.in_ok-list.ensures.appends (JoinsInPlace-join _ _ _ _ _ _ c.in_ok-begun.ensures.join_of) in
+    let at_join = StaysInPlace-joined old _ _ _ _ _ _ c.requires.ret kept.frame_same c.in_ok-list.ensures.appends c.in_ok-begun.ensures.join_of in
     let at_closed = StaysInPlace-trans _ _ _ _ _ _ joined at_join (StaysInPlace-edit _ _ _ _ _ c.in_ok-closed.ensures.edit_of) in
     let at_worded = StaysInPlace-trans _ _ _ _ _ _ closed at_closed (StaysInPlace-edit _ _ _ _ _ c.in_ok-worded.ensures.edit_of) in
     let at_whole = StaysInPlace-trans _ _ _ _ _ _ worded at_worded (StaysInPlace-edit _ _ _ _ _ c.in_ok-whole.ensures.edit_of) in
