@@ -1,6 +1,7 @@
 //! Callers of `Demangler`, each a few lines over it alone. `demangle` lends its answer, so what it says of the value
-//! afterwards stands in the clause `kept` on its borrow. Each function here ends that borrow, and says as a plain
-//! clause what follows for its own caller.
+//! afterwards stands in the clause `kept` on its borrow. Each function here says as a plain clause what follows for its
+//! own caller: `ask` and `entered_by` let the answer go, `answer_after` lends it on, and `component_of` lets it go and
+//! lends a component.
 #![tactic(auto)]
 
 ghost use Rattle.std.specs.Prelude.{◌≡◌, ◌≤◌, ◌*◌, IfOk, OnOk, OnErr, option_map, length};
@@ -25,12 +26,15 @@ pub fn ask(demangler: &mut Demangler, alloc: Global, symbol: &str) -> Result<(),
     Ok(())
 }
 
-/// How many counted productions a symbol enters: at most two for each of its bytes.
+/// How many counted productions a symbol enters: at most two for each of its bytes. It is what the value's `entered`
+/// answers afterwards.
 pub fn entered_by(
     demangler: &mut Demangler,
     alloc: Global,
     symbol: &str,
 ) -> Result<usize, AllocError>
+    ensures kept { IfOk result (λ entered. entered ≡ demangler.new.entered) }
+    ensures prepared { OnOk result (IsPrepared symbol.now demangler.new) }
     ensures bound { IfOk result (λ entered. entered ≤ 2 * length symbol.now) }
 {
     demangler.demangle(alloc, symbol)?;

@@ -1,5 +1,5 @@
 //! Adapts std's readers and writers: a source over a reader, and a sink over a writer.
-ghost use Rattle.std.specs.Prelude.{◌≡◌, true, false, ◌+◌, ◌-◌, ◌^◌, OnOk, OnErr};
+ghost use Rattle.std.specs.Prelude.{◌≡◌, ◌≤◌, true, false, ◌+◌, ◌-◌, ◌^◌, OnOk, OnErr};
 ghost use Rattle.std.specs.Io.{ReadsAtMost};
 ghost use Rattle.std.specs.Io.KnownBytes.{ReadConsumes};
 
@@ -51,6 +51,7 @@ impl<D: Read> Source for Tally<D> {
         ensures bytes { ReadConsumes
             (D.remaining (inner_of self.old)) (D.remaining (inner_of self.new)) result into.new }
         ensures counted { OnOk result (reads_left self.new + 1 ≡ reads_left self.old) }
+        ensures never_more { reads_left self.new ≤ reads_left self.old }
         ensures none_left { reads_left self.old ≡ 0 → inner_of self.new ≡ inner_of self.old }
         ensures fails { OnErr result (has_failed self.new ≡ true) }
         ensures stays { OnOk result (has_failed self.new ≡ has_failed self.old) }
