@@ -7,6 +7,7 @@ ghost use Rattle.demangle_text.specs.State.{IsLiving, shape, saved, scopes, main
 ghost use Rattle.demangle_text.specs.Shape.{text};
 ghost use Rattle.itanium_grammar.specs.Answer.{IsAnswer, HasOneReading, HasCounts, HasComponents, HasSaved, HasBounds};
 ghost use Rattle.itanium_grammar.specs.Answer as spec;
+ghost use Rattle.itanium_reader.specs.Parser.{begun};
 ghost use Rattle.itanium_reader.specs.Outcome.{state};
 ghost use Rattle.itanium_demangle.specs.Demangler.{IsPrinted, IsPrepared, IsText, IsEnded, answer_text, component_texts, component_shapes, no_run};
 
@@ -44,15 +45,19 @@ impl Model for Demangler {
     ghost invariant = { KeepsAnswer };
 }
 
-/// Opens a mark at the end of the main text of a reader's buffer.
+/// A reader at the front of the bytes, over a buffer that is cleared, and a mark that is opened in it. Both are made
+/// here, where no call has seen the reader yet: so the compiler knows that the mark stands at 0.
 #[tactic(auto, using(crate::proofs::Rules::opened))]
-fn open_mark(reader: &mut Reader) -> Mark
-    ensures state { state reader.new ≡ state reader.old }
-    ensures innermost { frame reader.new.buffer.value ≡ inside result }
-    ensures next { outside result ≡ frame reader.old.buffer.value }
-    ensures start { frame_start (inside result) ≡ length (main_bytes reader.old.buffer.value) }
+#[inline(always)]
+fn begin_answer(alloc: Global, buffer: Box<Buffer>, bytes: &[u8]) -> (Reader<'_>, Mark)
+    ensures state { state result.0 ≡ begun bytes.entry.now }
+    ensures innermost { frame result.0.buffer.value ≡ inside result.1 }
+    ensures next { outside result.1 ≡ outermost }
+    ensures start { frame_start (inside result.1) ≡ 0 }
 {
-    reader.buffer.open()
+    let mut reader = Reader::new(alloc, buffer, bytes);
+    let mark = reader.buffer.open();
+    (reader, mark)
 }
 
 /// Makes the printing that was found, and all that follows from a dot after it, the main text of the buffer, and drops
@@ -147,8 +152,7 @@ impl Demangler {
             Some(buffer) => buffer,
             None => Box::new(alloc, Buffer::new(alloc))?,
         };
-        let mut reader = Reader::new(alloc, buffer, inside);
-        let mark = open_mark(&mut reader);
+        let (mut reader, mark) = begin_answer(alloc, buffer, inside);
         match read_mangled_name(&mut reader, MAX_DEPTH, OUTSIDE) {
             Ok(()) => {}
             Err(Stop::Unread) => {

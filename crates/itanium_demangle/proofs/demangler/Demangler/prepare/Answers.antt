@@ -1,4 +1,4 @@
-use Rattle.std.proofs.Common.{rules, ◌≡◌, ◌∙◌, Some}
+use Rattle.std.proofs.Common.{rules, ◌≡◌, Some}
 use Rattle.itanium_grammar.specs.Answer.{after_prefix, start}
 use Rattle.itanium_reader.specs.declared.reader.Reader.{Reader}
 use Rattle.itanium_reader.specs.declared.stop.Stop.TheVariants.{Unread}
@@ -12,8 +12,8 @@ pub returns-in-Err-Unread-clause-bounds : goal.returns-in-Err-Unread-clause-boun
 returns-in-Err-Unread-clause-bounds c =
     let inside = c.in-Some.inside.now in
     let prefix : after_prefix c.args.symbol.now ≡ Some inside = search rules in
-    let reader : Reader = c.open_mark-mark.new.reader in
-    let starts : state reader ≡ begun inside = c.open_mark-mark.ensures.state ∙ c.new-reader.ensures.state in
+    let reader : Reader = c.begin_answer-reader.result.0 in
+    let starts : state reader ≡ begun inside = c.begin_answer-reader.ensures.state in
     let read = c.in-Err-Unread.ensures {u = tt} in
     let kept = c.keep.ensures in
     let is : c.in-Err-Unread.field-0 ≡ Unread = search rules in
@@ -23,8 +23,8 @@ pub keep-requires-2 : goal.keep-requires-2
 keep-requires-2 c =
     let inside = c.in-Some.inside.now in
     let prefix : after_prefix c.args.symbol.now ≡ Some inside = search rules in
-    let reader : Reader = c.open_mark-mark.new.reader in
-    let starts : state reader ≡ begun inside = c.open_mark-mark.ensures.state ∙ c.new-reader.ensures.state in
+    let reader : Reader = c.begin_answer-reader.result.0 in
+    let starts : state reader ≡ begun inside = c.begin_answer-reader.ensures.state in
     let stands : StandsFor reader (start inside) = stands_at_start reader inside starts in
     let good = suffix_utf8 c.args.symbol.now inside _ _ _ _ c.utf8.symbol prefix ((c.in-Ok.ensures {u = tt}).reading.1 (start inside) stands) in
     let done = c.in_ok-answered.ensures {u = tt} in
@@ -34,8 +34,8 @@ pub returns-clause-answer : goal.returns-clause-answer
 returns-clause-answer c =
     let inside = c.in-Some.inside.now in
     let prefix : after_prefix c.args.symbol.now ≡ Some inside = search rules in
-    let reader : Reader = c.open_mark-mark.new.reader in
-    let starts : state reader ≡ begun inside = c.open_mark-mark.ensures.state ∙ c.new-reader.ensures.state in
+    let reader : Reader = c.begin_answer-reader.result.0 in
+    let starts : state reader ≡ begun inside = c.begin_answer-reader.ensures.state in
     let stands : StandsFor reader (start inside) = stands_at_start reader inside starts in
     let kept = c.keep-2.ensures in
     rw kept.text (printed c.args.symbol.now inside _ _ _ _ _ prefix ((c.in-Ok.ensures {u = tt}).reading.1 (start inside) stands) (c.in_ok-answered.ensures {u = tt}).answer)
@@ -45,8 +45,8 @@ pub returns-clause-counts : goal.returns-clause-counts
 returns-clause-counts c =
     let inside = c.in-Some.inside.now in
     let prefix : after_prefix c.args.symbol.now ≡ Some inside = search rules in
-    let reader : Reader = c.open_mark-mark.new.reader in
-    let starts : state reader ≡ begun inside = c.open_mark-mark.ensures.state ∙ c.new-reader.ensures.state in
+    let reader : Reader = c.begin_answer-reader.result.0 in
+    let starts : state reader ≡ begun inside = c.begin_answer-reader.ensures.state in
     let stands : StandsFor reader (start inside) = stands_at_start reader inside starts in
     let kept = c.keep-2.ensures in
     let ended = c.in_ok-answered.ensures {u = tt} in
@@ -57,8 +57,8 @@ pub returns-clause-components : goal.returns-clause-components
 returns-clause-components c =
     let inside = c.in-Some.inside.now in
     let prefix : after_prefix c.args.symbol.now ≡ Some inside = search rules in
-    let reader : Reader = c.open_mark-mark.new.reader in
-    let starts : state reader ≡ begun inside = c.open_mark-mark.ensures.state ∙ c.new-reader.ensures.state in
+    let reader : Reader = c.begin_answer-reader.result.0 in
+    let starts : state reader ≡ begun inside = c.begin_answer-reader.ensures.state in
     let stands : StandsFor reader (start inside) = stands_at_start reader inside starts in
     let kept = c.keep-2.ensures in
     let ended = c.in_ok-answered.ensures {u = tt} in
@@ -69,8 +69,8 @@ pub returns-clause-saved : goal.returns-clause-saved
 returns-clause-saved c =
     let inside = c.in-Some.inside.now in
     let prefix : after_prefix c.args.symbol.now ≡ Some inside = search rules in
-    let reader : Reader = c.open_mark-mark.new.reader in
-    let starts : state reader ≡ begun inside = c.open_mark-mark.ensures.state ∙ c.new-reader.ensures.state in
+    let reader : Reader = c.begin_answer-reader.result.0 in
+    let starts : state reader ≡ begun inside = c.begin_answer-reader.ensures.state in
     let stands : StandsFor reader (start inside) = stands_at_start reader inside starts in
     let kept = c.keep-2.ensures in
     let ended = c.in_ok-answered.ensures {u = tt} in
@@ -80,8 +80,8 @@ pub returns-clause-bounds : goal.returns-clause-bounds
 returns-clause-bounds c =
     let inside = c.in-Some.inside.now in
     let prefix : after_prefix c.args.symbol.now ≡ Some inside = search rules in
-    let reader : Reader = c.open_mark-mark.new.reader in
-    let starts : state reader ≡ begun inside = c.open_mark-mark.ensures.state ∙ c.new-reader.ensures.state in
+    let reader : Reader = c.begin_answer-reader.result.0 in
+    let starts : state reader ≡ begun inside = c.begin_answer-reader.ensures.state in
     let read = c.in-Ok.ensures {u = tt} in
     let kept = c.keep-2.ensures in
     let ended = c.in_ok-answered.ensures {u = tt} in
