@@ -1,8 +1,14 @@
-use Rattle.std.proofs.Common.{rules, sym}
+use Rattle.std.proofs.Common.{◌≡◌, ℕ, List, drop, refl, rules, sym, Some}
 use Rattle.std.proofs.lemmas.List.{map-append}
 use Rattle.std.proofs.lemmas.Result.{err_from_is_err_and}
 use Rattle.itanium_syntax.proofs.Fronts.{attached_some}
 use Rattle.demangle_text.specs.State.{shape, SameFrame}
+use Rattle.demangle_text.specs.Shape.{Shape}
+use Rattle.demangle_quals.specs.declared.quals.Quals.{Quals}
+use Rattle.demangle_edit.specs.Names.{default_arg_shape}
+use Rattle.itanium_syntax.specs.Scalars.{ordinal}
+use Rattle.itanium_syntax.specs.Encodings.{entity_case}
+use Rattle.itanium_reader.specs.Cases.{DefaultArgumentEntity}
 use Rattle.itanium_reader.specs.Outcome.{state}
 use Rattle.itanium_reader.specs.Parser as spec
 use Rattle.itanium_reader.proofs.Unfold.{source_opens, saved_first, free_found, kept_scope, some_scope, stops, list_stops, attached_start, attached_end, attached_more, attached_fail, attached_plain, attached_front, pack_start, components_end, components_args, components_no_args, components_name, components_no_name, components_source, components_no_source, items_end, items_more, items_fail, typed_end, typed_more, typed_fail, types_end, types_more, types_fail, kept_shapes, one_more_lives}
@@ -221,4 +227,18 @@ names::read_unqualified-returns-in_ok-enclose-in-FreeName-clause-reads t c =
       search rules,
       free_found _ _ _ _ {name = shape free.buffer.value free.found} {mid = state free}
           (rw (some_scope c.args.reader.now.buffer.value c.args.scope) (search rules)) (search rules) (search rules) (search rules),
+    )
+
+-- an entity in a default argument is found
+default_argument_found : (bare : spec.ParsesBareName) (encoding : Shape) (s : spec.ParserState) {number : ℕ} {rest : List ℕ} {entity found : Shape} {quals : Quals} {mid after : spec.ParserState}
+    → entity_case s.rest ≡ DefaultArgumentEntity → ordinal (drop 2 s.rest) ≡ Some (number, rest) → bare (spec.at rest s) ≡ Some ((entity, quals), mid)
+    → found ≡ default_arg_shape encoding number entity → after ≡ mid → spec.entity_as (entity_case s.rest) bare encoding s ≡ Some ((found, quals), after)
+default_argument_found bare encoding s case counted read built same = rw (case, counted, read, built, same) refl
+
+pub encodings::read_entity-returns-in_ok-reader-in-DefaultArgumentEntity-clause-reads : goal.encodings::read_entity-returns-in_ok-reader-in-DefaultArgumentEntity-clause-reads
+encodings::read_entity-returns-in_ok-reader-in-DefaultArgumentEntity-clause-reads t c =
+    let entity = c.framed_bare_name.new.reader in (
+      search rules,
+      default_argument_found (spec.parse_bare_name c.args.depth c.args.context) (shape c.args.reader.now.buffer.value c.args.encoding) (state c.args.reader.now) {number = c.in-Some.number} {rest = c.in-Some.rest.now} {entity = shape entity.buffer.value entity.found} {mid = state entity}
+          (search rules) (search rules) (search rules) (search rules) (search rules),
     )
