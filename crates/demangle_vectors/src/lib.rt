@@ -22,3 +22,5 @@ mod scalars;
 mod serving;
 #[cfg(test)]
 mod tables;
+#[cfg(test)]
+mod widths;

@@ -1,81 +1,111 @@
 -- Of template arguments: what the grammar reads, the parser reads.
-use Rattle.std.proofs.Common.{◌≡◌, ◌<◌, ◌≤◌, ℕ, zero, suc, ◌+◌, max, Bool, true, false, List, [], drop, map, length, refl, sym, ◌∙◌, arith, Some}
+use Rattle.std.proofs.Common.{◌<◌, ◌≤◌, ℕ, zero, suc, ◌+◌, max, Bool, true, false, List, [], drop, map, length, refl, sym, ap, ◌∙◌, arith}
 use Rattle.std.proofs.lemmas.List.{length-map}
 use Rattle.std.specs.Prelude.{codes}
-use Rattle.demangle_text.specs.Shape.{Shape, plain_shape}
+use Rattle.demangle_text.specs.Shape.{Shape, plain_shape, text_len}
 use Rattle.demangle_edit.specs.Built.{listed_each, listed_more}
 use Rattle.demangle_edit.proofs.Built.{arguments_alone, pack_built}
 use Rattle.itanium_syntax.specs.declared.context.Context.{Context}
-use Rattle.itanium_syntax.specs.Context.{opens_scope}
 use Rattle.itanium_syntax.specs.Args.{args_case}
 use Rattle.itanium_syntax.proofs.Fronts.{after_drop, after-le}
-use Rattle.itanium_grammar.specs.Tree.{Tree, shape_of}
-use Rattle.itanium_grammar.specs.Grammar.{Position, Cost, begin, Arguments, ArgumentsAs, PackedAs, args, arguments, end_of_arguments, one_more_argument, pack, end_of_pack, one_more_packed}
+use Rattle.itanium_grammar.specs.Tree.{Tree, shape_of, pack_of, trees}
+use Rattle.itanium_grammar.specs.Grammar as parsed
+use Rattle.itanium_grammar.specs.Grammar.{Position, Cost, skip, begin, scopes_in, Arguments, ArgumentsAs, PackedAs, args, arguments, end_of_arguments, one_more_argument, pack, end_of_pack, one_more_packed}
 use Rattle.itanium_grammar.proofs.Progress.{argument_takes}
 use Rattle.itanium_demangle.specs.Cases.{ArgsCase}
-use Rattle.itanium_reader.specs.Parser.{after_turn, loop, put, put_nowhere, ◌>>=◌, parse_argument, parse_primary, parse_encoding, parse_special, parse_name, list_as, list_turn, parse_args, parse_pack}
+use Rattle.itanium_reader.specs.Parser.{after_turn, loop, put, put_nowhere, ◌>>=◌, parse_argument, parse_primary, parse_encoding, parse_special, parse_name, next_item, list_as, list_turn, parse_list, parse_packed, parse_args, parse_pack}
 use Rattle.itanium_demangle.specs.Meaning.{state_at}
 use Rattle.itanium_demangle.proofs.Shapes.{same_read, put-scopes, begin-scopes, shape-pack_of}
-use Rattle.itanium_demangle.proofs.Readings.{ArgsComplete, PacksComplete, ArgumentsComplete}
+use Rattle.itanium_demangle.specs.Readers.{shape_of_args}
+use Rattle.itanium_demangle.proofs.Fitting.{Met, met, met_then, met_then_again, met_as, met_turn, met_fits}
+use Rattle.itanium_demangle.proofs.Grows.{listed_more_item, listed_longer, closed_longer}
+use Rattle.itanium_demangle.proofs.Readings.{Small, reached, ArgsComplete, PacksComplete, ArgumentsComplete}
 
 -- a pack's arguments put onto a list, in n turns
-abbrev PackedComplete : ℕ → ℕ → Type 0
-PackedComplete d n = (x : Context) (p q : Position) (list : List Tree) (c : Cost) → PackedAs (args_case p.rest) x p list q c → c.depth ≤ d
+abbrev PackedMet : ℕ → ℕ → Type 0
+PackedMet d n = (x : Context) (p q : Position) (list : List Tree) (c : Cost) → PackedAs (args_case p.rest) x p list q c → Small d c
     → (e m : ℕ) (first : Bool) (front : Shape) → length p.rest < n
-    → loop (list_turn put_nowhere (parse_argument d x)) n (first, front) (state_at p e m)
-    ≡ Some (listed_each first front (map shape_of list), state_at q (e + c.count) (max m c.peak))
+    → Met text_len (loop (list_turn put_nowhere (parse_argument d x)) n (first, front) (state_at p e m)) (reached (λ us. listed_each first front (map shape_of us)) list q c e m)
+
+-- a turn gives no list that is shorter than its item
+turn_longer : (first : Bool) (front item : Shape) (rest : List Shape) → text_len item ≤ text_len (listed_each false (listed_more first front item) rest)
+turn_longer first front item rest =
+    let here = listed_more_item first front item in
+    let more = listed_longer false (listed_more first front item) rest in
+    omega arith
 
 module _ (d : ℕ) (each : ArgumentsComplete d) where
   mutual
     unfolding loop list_turn
 
-    arguments_complete : {x : Context} {o : Bool} {k : ℕ} {p q : Position} {list : List Tree} {c : Cost} → Arguments x o k p list q c → c.depth ≤ d
+    arguments_met : {x : Context} {o : Bool} {k : ℕ} {p q : Position} {list : List Tree} {c : Cost} → Arguments x o k p list q c → Small d c
         → (e m n : ℕ) (first : Bool) (front : Shape) → length p.rest < n
-        → loop (list_turn (put o k) (parse_argument d x)) n (first, front) (state_at p e m)
-        ≡ Some (listed_each first front (map shape_of list), state_at q (e + c.count) (max m c.peak))
-    arguments_complete (arguments a) deep e m zero first front room = absurd (omega arith)
-    arguments_complete (arguments a) deep e m (suc n) first front room = arguments_as_complete a deep e m n first front room
+        → Met text_len (loop (list_turn (put o k) (parse_argument d x)) n (first, front) (state_at p e m)) (reached (λ us. listed_each first front (map shape_of us)) list q c e m)
+    arguments_met (arguments a) deep e m zero first front room = absurd (omega arith)
+    arguments_met (arguments a) deep e m (suc n) first front room = arguments_as_met a deep e m n first front room
 
-    arguments_as_complete : {case : ArgsCase} {x : Context} {o : Bool} {k : ℕ} {p q : Position} {list : List Tree} {c : Cost} → ArgumentsAs case x o k p list q c → c.depth ≤ d
+    arguments_as_met : {case : ArgsCase} {x : Context} {o : Bool} {k : ℕ} {p q : Position} {list : List Tree} {c : Cost} → ArgumentsAs case x o k p list q c → Small d c
         → (e m n : ℕ) (first : Bool) (front : Shape) → length p.rest < suc n
-        → (list_as case (put o k) (parse_argument d x) (first, front) (state_at p e m)
+        → Met text_len (list_as case (put o k) (parse_argument d x) (first, front) (state_at p e m)
         >>= λ r. after_turn r.0 (loop (list_turn (put o k) (parse_argument d x)) n) r.1)
-        ≡ Some (listed_each first front (map shape_of list), state_at q (e + c.count) (max m c.peak))
-    arguments_as_complete end_of_arguments deep e m n first front room = same_read refl refl refl (omega arith) (omega arith)
-    arguments_as_complete (one_more_argument {opens = o} {n = k} {q = q} {t = t} {c = c} a more) deep e m n first front room =
+        (reached (λ us. listed_each first front (map shape_of us)) list q c e m)
+    arguments_as_met end_of_arguments deep e m n first front room = met (same_read refl refl refl (omega arith) (omega arith))
+    arguments_as_met (one_more_argument {opens = o} {n = k} {q = q} {t = t} {ts = ts} {c = c} a more) deep e m n first front room =
         let shorter = (argument_takes a).shorter in
-        rw (each _ _ _ _ _ a (omega arith) e m, put-scopes o k t q.scopes, arguments_complete more (omega arith) (e + c.count) (max m c.peak) n false (listed_more first front (shape_of t)) (omega arith))
-        (same_read refl refl refl (omega arith) (omega arith))
+        let list = listed_more first front (shape_of t) in
+        let rest = arguments_met more (omega arith) (e + c.count) (max m c.peak) n false list (omega arith) in
+        met_then_again _ _ (each _ _ _ _ _ a (omega arith) e m) (turn_longer first front (shape_of t) (map shape_of ts))
+        (rw (put-scopes o k t q.scopes)
+        (met_turn list (state_at (parsed.put o k t q) (e + c.count) (max m c.peak)) next_item _ (listed_longer false list (map shape_of ts))
+        (met_as rest (same_read refl refl refl (omega arith) (omega arith)))))
 
-  packed_as_complete : (n : ℕ) → PackedComplete d n → {case : ArgsCase} {x : Context} {p q : Position} {list : List Tree} {c : Cost} → PackedAs case x p list q c → c.depth ≤ d
+  packed_as_met : (n : ℕ) → PackedMet d n → {case : ArgsCase} {x : Context} {p q : Position} {list : List Tree} {c : Cost} → PackedAs case x p list q c → Small d c
       → (e m : ℕ) (first : Bool) (front : Shape) → length p.rest < suc n
-      → (list_as case put_nowhere (parse_argument d x) (first, front) (state_at p e m)
+      → Met text_len (list_as case put_nowhere (parse_argument d x) (first, front) (state_at p e m)
       >>= λ r. after_turn r.0 (loop (list_turn put_nowhere (parse_argument d x)) n) r.1)
-      ≡ Some (listed_each first front (map shape_of list), state_at q (e + c.count) (max m c.peak))
-  packed_as_complete n again end_of_pack deep e m first front room = same_read refl refl refl (omega arith) (omega arith)
-  packed_as_complete n again (one_more_packed {t = t} {c = c} a more) deep e m first front room =
+      (reached (λ us. listed_each first front (map shape_of us)) list q c e m)
+  packed_as_met n again end_of_pack deep e m first front room = met (same_read refl refl refl (omega arith) (omega arith))
+  packed_as_met n again (one_more_packed {q = q} {t = t} {ts = ts} {c = c} a more) deep e m first front room =
       let shorter = (argument_takes a).shorter in
-      rw (each _ _ _ _ _ a (omega arith) e m, again _ _ _ _ _ more (omega arith) (e + c.count) (max m c.peak) false (listed_more first front (shape_of t)) (omega arith))
-      (same_read refl refl refl (omega arith) (omega arith))
+      let list = listed_more first front (shape_of t) in
+      let rest = again _ _ _ _ _ more (omega arith) (e + c.count) (max m c.peak) false list (omega arith) in
+      met_then_again _ _ (each _ _ _ _ _ a (omega arith) e m) (turn_longer first front (shape_of t) (map shape_of ts))
+      (met_turn list (state_at q (e + c.count) (max m c.peak)) next_item _ (listed_longer false list (map shape_of ts))
+      (met_as rest (same_read refl refl refl (omega arith) (omega arith))))
 
-  packed_complete : (n : ℕ) → PackedComplete d n
+  packed_met : (n : ℕ) → PackedMet d n
   unfolding loop list_turn
-  packed_complete zero x p q list c a deep e m first front room = absurd (omega arith)
-  packed_complete (suc n) x p q list c a deep e m first front room = packed_as_complete n (packed_complete n) a deep e m first front room
+  packed_met zero x p q list c a deep e m first front room = absurd (omega arith)
+  packed_met (suc n) x p q list c a deep e m first front room = packed_as_met n (packed_met n) a deep e m first front room
+
+  -- a list from its I to its E
+  pub list_met : {x : Context} {o : Bool} (p : Position) {q : Position} {list : List Tree} {c : Cost} → Arguments x o (scopes_in o p) (begin o (skip 1 p)) list q c → Small d c → (e m : ℕ)
+      → Met text_len (parse_list (parse_argument d x) o (state_at p e m)) (reached shape_of_args list q c e m)
+  list_met {o = o} p {list = list} a deep e m =
+      let within = after-le (after_drop 1 p.rest) in
+      let begun = plain_shape (codes "<") in
+      let built = arguments_alone (map shape_of list) in
+      let closed = closed_longer (listed_each true begun (map shape_of list)) in
+      let same_len = ap text_len built in
+      rw (begin-scopes o p.scopes, length-map (begin o p).scopes (map shape_of))
+      (met_then _ (arguments_met a deep e m (length (drop 1 p.rest) + 1) true begun (omega arith)) (omega arith)
+      (met (same_read built refl refl refl refl)))
+
+  -- a pack from its J to its E
+  pub pack_met : {x : Context} (p : Position) {q : Position} {list : List Tree} {c : Cost} → PackedAs (args_case (drop 1 p.rest)) x (skip 1 p) list q c → Small d c → (e m : ℕ)
+      → Met text_len (parse_packed (parse_argument d x) (state_at p e m)) (reached shape_of (pack_of (trees list)) q c e m)
+  pack_met p {list = list} a deep e m =
+      let built = pack_built (map shape_of list) ∙ sym (shape-pack_of list) in
+      let same_len = ap text_len built in
+      met_then _ (packed_met (length (drop 1 p.rest) + 1) _ _ _ _ _ a deep e m true (plain_shape []) (omega arith)) (omega arith)
+      (met (same_read built refl refl refl refl))
 
 pub args_complete : (d : ℕ) → ArgumentsComplete d → ArgsComplete (suc d)
 unfolding parse_args parse_argument parse_primary parse_encoding parse_special parse_name
 args_complete d each x of_name p q list c (args a) deep e m =
-    let within = after-le (after_drop 1 p.rest) in
-    rw (
-      begin-scopes (opens_scope of_name x) p.scopes,
-      length-map (begin (opens_scope of_name x) p).scopes (map shape_of),
-      arguments_complete d each a (omega arith) (e + 1) m (length (drop 1 p.rest) + 1) true (plain_shape (codes "<")) (omega arith),
-    )
-    (same_read (arguments_alone (map shape_of list)) refl refl (omega arith) refl)
+    met_fits (met_as (list_met d each p a (omega arith) (e + 1) m) (same_read refl refl refl (omega arith) refl)) (omega arith)
 
 pub packs_complete : (d : ℕ) → ArgumentsComplete d → PacksComplete (suc d)
 unfolding parse_pack parse_argument parse_primary parse_encoding parse_special parse_name
-packs_complete d each x p q t c (pack {list = list} a) deep e m =
-    rw (packed_complete d each (length (drop 1 p.rest) + 1) _ _ _ _ _ a (omega arith) (e + 1) m true (plain_shape []) (omega arith))
-    (same_read (pack_built (map shape_of list) ∙ sym (shape-pack_of list)) refl refl (omega arith) refl)
+packs_complete d each x p q t c (pack a) deep e m =
+    met_fits (met_as (pack_met d each p a (omega arith) (e + 1) m) (same_read refl refl refl (omega arith) refl)) (omega arith)

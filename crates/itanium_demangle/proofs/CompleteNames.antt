@@ -1,29 +1,37 @@
 -- Of names: what the grammar reads, the parser reads.
-use Rattle.std.proofs.Common.{◌≡◌, ◌<◌, ◌≤◌, ℕ, zero, suc, ◌+◌, max, Bool, true, false, ◌++◌, drop, map, length, refl, ◌∙◌, sym, arith, Option, Some, ap, ap₂}
+use Rattle.std.proofs.Common.{◌≡◌, ◌<◌, ◌≤◌, ℕ, zero, suc, ◌+◌, max, Bool, true, false, List, ◌++◌, drop, map, length, refl, ◌∙◌, sym, arith, subst, Option, Some, ap, ap₂}
 use Rattle.std.proofs.lemmas.List.{length-map}
 use Rattle.std.specs.Prelude.{codes, option_map}
 use Rattle.std.proofs.lemmas.Option.{slice_get-map}
-use Rattle.demangle_text.specs.Shape.{plain_shape}
+use Rattle.demangle_text.specs.Shape.{Shape, plain_shape, text_len}
 use Rattle.demangle_edit.proofs.Built.{lambda_built, params_built}
-use Rattle.demangle_edit.specs.Built.{params_opened}
+use Rattle.demangle_edit.specs.Built.{listed_each, params_opened}
+use Rattle.demangle_edit.specs.Names.{with_name_qualifiers}
 use Rattle.itanium_syntax.specs.declared.context.Context.{Context}
+use Rattle.itanium_syntax.specs.declared.offsets.ThunkOffsets.{ThunkOffsets}
+use Rattle.itanium_syntax.specs.Offsets.{thunk_offsets}
 use Rattle.itanium_syntax.specs.Specials.{special_case, special_text, special_close}
-use Rattle.itanium_syntax.specs.Names.{source_text, name_quals, tag_case}
+use Rattle.itanium_syntax.specs.Names.{source_text, symbol_case, name_case, name_quals, tag_case}
+use Rattle.itanium_syntax.specs.Encodings.{shows_words}
 use Rattle.itanium_syntax.specs.Context.{inside_lambda, inside_local, inside_encoding}
 use Rattle.itanium_syntax.proofs.Fronts.{initializer_after, after_drop, source_takes, after-le}
-use Rattle.itanium_grammar.specs.Tree.{Tree, bare_shape, own_quals, with_args, trees, unnamed_text, literal_operator_text, shape_of}
-use Rattle.itanium_grammar.specs.Grammar.{Position, Cost, SpecialAs, SymbolAs, special_encoding, type_special, name_special, temporary_special, construction_special, thunk_special, thunk, special_symbol, name_symbol, past_initializer, last_of, SubstitutionAs, Substitution, ParameterAs, Parameter, TaggedAs, UnqualifiedAs, Unqualified, FirstAs, NameAs, Local, EntityAs, Encoding, EncodingAs, ReturnAs, SignatureAs, UnscopedAs, AttachedAs, Nested, Components, ComponentsAs, abbreviation_substitution, component_substitution, substitution, auto_parameter, scope_parameter, parameter, no_tag, next_tag, FreeAs, source_free, unnamed_type_free, lambda_free, conversion_free, literal_operator_free, operator_free, constructor_component, destructor_component, free_component, unqualified, parameter_first, std_first, substitution_first, name_first, name, nested_name, local_name, local, string_literal_entity, default_argument_entity, name_entity, encoding, name_encoding, no_return_type, some_return_type, no_signature, some_signature, unscoped_name, std_name, substitution_name, global_name, none_attached, args_attached, nested, components, end_of_components, args_component, name_component}
+use Rattle.itanium_grammar.specs.Tree.{Tree, bare_shape, own_quals, thunk_of, with_args, trees, unnamed_text, literal_operator_text, shape_of, name_printing}
+use Rattle.itanium_grammar.specs.Grammar.{Position, Cost, at, SpecialAs, SymbolAs, special_encoding, type_special, name_special, temporary_special, construction_special, thunk_special, thunk, special_symbol, name_symbol, past_initializer, last_of, SubstitutionAs, Substitution, ParameterAs, Parameter, TaggedAs, UnqualifiedAs, Unqualified, FirstAs, Name, NameAs, Local, EntityAs, Encoding, EncodingAs, ReturnAs, SignatureAs, UnscopedAs, AttachedAs, Nested, Components, ComponentsAs, abbreviation_substitution, component_substitution, substitution, auto_parameter, scope_parameter, parameter, no_tag, next_tag, FreeAs, source_free, unnamed_type_free, lambda_free, conversion_free, literal_operator_free, operator_free, constructor_component, destructor_component, free_component, unqualified, parameter_first, std_first, substitution_first, name_first, name, nested_name, local_name, local, string_literal_entity, default_argument_entity, name_entity, encoding, name_encoding, no_return_type, some_return_type, no_signature, some_signature, unscoped_name, std_name, substitution_name, global_name, none_attached, args_attached, nested, components, end_of_components, args_component, name_component}
 use Rattle.itanium_grammar.proofs.Progress.{unqualified_takes, args_takes}
 use Rattle.itanium_demangle.specs.Cases.{SymbolCase, SpecialCase, ReturnCase, SignatureCase, EntityCase, SubstitutionCase, TagCase, UnqualifiedCase, FreeCase, FirstCase, NameCase, UnscopedCase, AttachedCase, ComponentCase}
-use Rattle.itanium_reader.specs.Parser.{after_turn, loop, ◌>>=◌, tag_as, tag_turn, parse_tags, free_as, parse_type, substitution_as, parse_substitution, parameter_as, parse_parameter, unqualified_as, parse_unqualified, first_as, attached_as, unscoped_as, component_as, component_turn, parse_nested, return_as, signature_as, special_as, parse_special, symbol_as, parse_thunk, encoding_as, parse_encoding, entity_as, parse_local, name_as, parse_bare_name, parse_name, parse_args}
+use Rattle.itanium_reader.specs.Parser.{ParserState, after_turn, loop, ◌>>=◌, tag_as, tag_turn, parse_tags, free_as, parse_free, parse_type, substitution_as, parse_substitution, parameter_as, parse_parameter, unqualified_as, parse_unqualified, first_as, attached_by, attached_as, unscoped_as, component_as, component_turn, parse_nested, return_as, signature_as, special_as, parse_special, symbol_as, symbol_by, thunk_by, parse_thunk, encoding_as, parse_encoding, entity_as, parse_local, name_as, parse_bare_name, parse_name, parse_args}
 use Rattle.itanium_demangle.specs.Meaning.{state_at}
 use Rattle.itanium_demangle.specs.Readers.{bare_of}
 use Rattle.itanium_demangle.proofs.Shapes.{shape-worded, shape-temporary_of, shape-construction_of, shape-thunk_of, same_read, same_state, one_more, taken-map, some-map, last-map, shape-plain_text, shape-abbreviation, shape-ctor_dtor_of, shape-tagged_with, shape-lambda_of, shape-conversion_to, shape-with_args, shape-in_scope, shape-encoding_of, shape-function_encoding}
-use Rattle.itanium_demangle.proofs.CompleteLists.{typed_params_complete}
-use Rattle.itanium_demangle.proofs.Readings.{given, ArgsComplete, TypesComplete, BareNamesComplete, NamesComplete, ThunksComplete}
+use Rattle.itanium_demangle.proofs.CompleteLists.{typed_params_met}
+use Rattle.itanium_demangle.proofs.Fitting.{bare_len, Met, met, met_then, met_as, met_step, met_fits, met_fits_bare, fits}
+use Rattle.itanium_demangle.proofs.Grows.{lambda_longer, params_longer}
+use Rattle.itanium_demangle.proofs.Longer.{in_scope_longer, tags_longer, attached_as_longer, components_longer, entity_longer}
+use Rattle.itanium_demangle.proofs.Whole.{without_quals}
+use Rattle.itanium_demangle.proofs.Readings.{Small, reached, given, ArgsComplete, TypesComplete, BareNamesComplete, NamesComplete, ThunksComplete}
 use Rattle.itanium_demangle.proofs.Waiting.{unscoped_none, bare-nested_of, bare-string_literal_of, bare-default_argument_of, bare-local_in, same_return, whole_name}
 
--- without a counted production the depth is no matter
+-- without a counted production the limits are no matter
 substitution_as_complete : {case : SubstitutionCase} {p q : Position} {t : Tree} → SubstitutionAs case p t q → (e m : ℕ)
     → substitution_as case (state_at p e m) ≡ Some (shape_of t, state_at q e m)
 substitution_as_complete (abbreviation_substitution {abbreviated = a} found) e m = rw (found, ← shape-abbreviation a) refl
@@ -64,119 +72,141 @@ pub parse_tags_complete : {t u : Tree} {p q : Position} → TaggedAs (tag_case p
 parse_tags_complete {p = p} a e m = tags_complete (length p.rest + 1) _ _ _ _ a e m (omega arith)
 
 module _ (d : ℕ) (lists : ArgsComplete d) (kinds : TypesComplete d) where
-  pub free_complete : {case : FreeCase} {x : Context} {p q : Position} {t : Tree} {c : Cost} → FreeAs case x p t q c → c.depth ≤ d → (e m : ℕ)
-      → free_as case (parse_type d x) (parse_type d (inside_lambda x)) (state_at p e m) ≡ given shape_of t q c e m
-  free_complete (source_free {bytes = b} found) deep e m = rw (found, ← shape-plain_text (source_text b)) (same_read refl refl refl (omega arith) (omega arith))
-  free_complete (unnamed_type_free {k = k} found) deep e m = rw (found, ← shape-plain_text (unnamed_text k)) (same_read refl refl refl (omega arith) (omega arith))
-  free_complete (lambda_free {ts = ts} {k = k} params found) deep e m =
-      rw (typed_params_complete d kinds params deep e m (plain_shape (codes "{lambda(")), found)
-      (same_read (lambda_built (map shape_of ts) k ∙ sym (shape-lambda_of ts k)) refl refl refl refl)
-  free_complete (conversion_free {t = t} a) deep e m = rw (kinds _ _ _ _ _ a deep e m, ← shape-conversion_to t) refl
-  free_complete (literal_operator_free {bytes = b} found) deep e m =
-      rw (found, ← shape-plain_text (literal_operator_text b)) (same_read refl refl refl (omega arith) (omega arith))
-  free_complete (operator_free {text = o} found) deep e m =
-      rw (found, ← shape-plain_text (codes "operator" ++ o)) (same_read refl refl refl (omega arith) (omega arith))
+  pub free_met : {case : FreeCase} {x : Context} {p q : Position} {t : Tree} {c : Cost} → FreeAs case x p t q c → Small d c → (e m : ℕ)
+      → Met text_len (free_as case (parse_type d x) (parse_type d (inside_lambda x)) (state_at p e m)) (reached shape_of t q c e m)
+  free_met (source_free {bytes = b} found) deep e m = met (rw (found, ← shape-plain_text (source_text b)) (same_read refl refl refl (omega arith) (omega arith)))
+  free_met (unnamed_type_free {k = k} found) deep e m = met (rw (found, ← shape-plain_text (unnamed_text k)) (same_read refl refl refl (omega arith) (omega arith)))
+  free_met (lambda_free {ts = ts} {k = k} params found) deep e m =
+      let begun = plain_shape (codes "{lambda(") in
+      let list = listed_each true begun (map shape_of ts) in
+      let whole = lambda_built (map shape_of ts) k ∙ sym (shape-lambda_of ts k) in
+      met_then _ (typed_params_met d kinds params deep e m begun)
+      (subst (λ (s : Shape). text_len list ≤ text_len s) whole (lambda_longer k list))
+      (met (rw found (same_read whole refl refl refl refl)))
+  free_met (conversion_free {t = t} a) deep e m = met (rw (kinds _ _ _ _ _ a deep e m, ← shape-conversion_to t) refl)
+  free_met (literal_operator_free {bytes = b} found) deep e m =
+      met (rw (found, ← shape-plain_text (literal_operator_text b)) (same_read refl refl refl (omega arith) (omega arith)))
+  free_met (operator_free {text = o} found) deep e m =
+      met (rw (found, ← shape-plain_text (codes "operator" ++ o)) (same_read refl refl refl (omega arith) (omega arith)))
 
-  unqualified_as_complete : {case : UnqualifiedCase} {x : Context} {scope : Option Tree} {p q : Position} {t : Tree} {c : Cost} → UnqualifiedAs case x scope p t q c → c.depth ≤ d → (e m : ℕ)
-      → unqualified_as case (parse_type d x) (parse_type d (inside_lambda x)) (option_map shape_of scope) (state_at p e m) ≡ given shape_of t q c e m
-  unqualified_as_complete (constructor_component {scope = scope} tags) deep e m =
-      rw (← shape-ctor_dtor_of scope false, parse_tags_complete tags e m) (same_read refl refl refl (omega arith) (omega arith))
-  unqualified_as_complete (destructor_component {scope = scope} tags) deep e m =
-      rw (← shape-ctor_dtor_of scope true, parse_tags_complete tags e m) (same_read refl refl refl (omega arith) (omega arith))
-  unqualified_as_complete (free_component {scope = scope} {u = u} {c = c} a tags) deep e m =
-      rw (free_complete a deep e m, parse_tags_complete tags (e + c.count) (max m c.peak), ← shape-in_scope scope u) refl
+  unqualified_as_met : {case : UnqualifiedCase} {x : Context} {scope : Option Tree} {p q : Position} {t : Tree} {c : Cost} → UnqualifiedAs case x scope p t q c → Small d c → (e m : ℕ)
+      → Met text_len (unqualified_as case (parse_type d x) (parse_type d (inside_lambda x)) (option_map shape_of scope) (state_at p e m)) (reached shape_of t q c e m)
+  unqualified_as_met (constructor_component {scope = scope} tags) deep e m =
+      met (rw (← shape-ctor_dtor_of scope false, parse_tags_complete tags e m) (same_read refl refl refl (omega arith) (omega arith)))
+  unqualified_as_met (destructor_component {scope = scope} tags) deep e m =
+      met (rw (← shape-ctor_dtor_of scope true, parse_tags_complete tags e m) (same_read refl refl refl (omega arith) (omega arith)))
+  unqualified_as_met (free_component {x = x} {scope = scope} {p = p} {r = r} {u = u} {c = c} a tags) deep e m =
+      let named : Met text_len (parse_free (parse_type d x) (parse_type d (inside_lambda x)) (state_at p e m)) (reached shape_of u r c e m) =
+      met_then _ (free_met a deep e m) (tags_longer tags) (met (parse_tags_complete tags (e + c.count) (max m c.peak))) in
+      met_then _ named (in_scope_longer scope u) (met (same_read (sym (shape-in_scope scope u)) refl refl refl refl))
 
-  pub unqualified_complete : {x : Context} {scope : Option Tree} {p q : Position} {t : Tree} {c : Cost} → Unqualified x scope p t q c → c.depth ≤ d → (e m : ℕ)
-      → parse_unqualified (parse_type d x) (parse_type d (inside_lambda x)) (option_map shape_of scope) (state_at p e m) ≡ given shape_of t q c e m
+  pub unqualified_met : {x : Context} {scope : Option Tree} {p q : Position} {t : Tree} {c : Cost} → Unqualified x scope p t q c → Small d c → (e m : ℕ)
+      → Met text_len (parse_unqualified (parse_type d x) (parse_type d (inside_lambda x)) (option_map shape_of scope) (state_at p e m)) (reached shape_of t q c e m)
   unfolding parse_unqualified
-  unqualified_complete (unqualified {scope = scope} a) deep e m = rw (some-map scope) (unqualified_as_complete a deep e m)
+  unqualified_met (unqualified {scope = scope} a) deep e m = rw (some-map scope) (unqualified_as_met a deep e m)
 
-  pub first_complete : {case : FirstCase} {x : Context} {p q : Position} {t : Tree} {c : Cost} → FirstAs case x p t q c → c.depth ≤ d → (e m : ℕ)
-      → first_as case (parse_unqualified (parse_type d x) (parse_type d (inside_lambda x))) x (state_at p e m) ≡ given shape_of t q c e m
-  first_complete (parameter_first {q = q} {t = t} a) deep e m =
-      rw (parameter_complete a e m) (same_read refl (one_more q.saved t) refl (omega arith) (omega (arith, length-map q.saved shape_of)))
-  first_complete std_first deep e m = same_read (sym (shape-plain_text (codes "std"))) refl refl (omega arith) (omega arith)
-  first_complete (substitution_first a) deep e m = substitution_complete a e m ∙ same_read refl refl refl (omega arith) (omega arith)
-  first_complete (name_first {q = q} {t = t} a) deep e m =
-      rw (unqualified_complete a (omega arith) e m) (same_read refl (one_more q.saved t) refl (omega arith) (omega (arith, length-map q.saved shape_of)))
+  pub first_met : {case : FirstCase} {x : Context} {p q : Position} {t : Tree} {c : Cost} → FirstAs case x p t q c → Small d c → (e m : ℕ)
+      → Met text_len (first_as case (parse_unqualified (parse_type d x) (parse_type d (inside_lambda x))) x (state_at p e m)) (reached shape_of t q c e m)
+  first_met (parameter_first {q = q} {t = t} a) deep e m =
+      met (rw (parameter_complete a e m) (same_read refl (one_more q.saved t) refl (omega arith) (omega (arith, length-map q.saved shape_of))))
+  first_met std_first deep e m = met (same_read (sym (shape-plain_text (codes "std"))) refl refl (omega arith) (omega arith))
+  first_met (substitution_first a) deep e m = met (substitution_complete a e m ∙ same_read refl refl refl (omega arith) (omega arith))
+  first_met (name_first {q = q} {t = t} a) deep e m =
+      met_then _ (unqualified_met a (omega arith) e m) (omega arith) (met (same_read refl (one_more q.saved t) refl (omega arith) (omega (arith, length-map q.saved shape_of))))
 
-  attached_complete : {case : AttachedCase} {x : Context} {t u : Tree} {p q : Position} {c : Cost} → AttachedAs case x t p u q c → c.depth ≤ d → (e m : ℕ)
+  attached_complete : {case : AttachedCase} {x : Context} {t u : Tree} {p q : Position} {c : Cost} → AttachedAs case x t p u q c → Small d c → (e m : ℕ)
       → attached_as case (parse_args d x true) (shape_of t) (state_at p e m) ≡ given shape_of u q c e m
   attached_complete none_attached deep e m = same_read refl refl refl (omega arith) (omega arith)
   attached_complete (args_attached {t = t} {p = p} {list = ts} a) deep e m =
       rw (one_more p.saved t, lists _ _ _ _ _ _ a (omega arith) e (max m (length (map shape_of p.saved) + 1)), ← shape-with_args t ts)
       (same_read refl refl refl (omega arith) (omega (arith, length-map p.saved shape_of)))
 
-  unscoped_complete : {case : UnscopedCase} {x : Context} {p q : Position} {t : Tree} {c : Cost} → UnscopedAs case x p t q c → c.depth ≤ d → (e m : ℕ)
-      → unscoped_as case (parse_unqualified (parse_type d x) (parse_type d (inside_lambda x))) (parse_args d x true) (state_at p e m) ≡ given shape_of t q c e m
-  unscoped_complete (std_name {c = c} a b) deep e m =
-      rw (← shape-plain_text (codes "std"), unqualified_complete a (omega arith) e m, attached_complete b (omega arith) (e + c.count) (max m c.peak))
-      (same_read refl refl refl (omega arith) (omega arith))
-  unscoped_complete (substitution_name {t = t} {list = ts} a case b) deep e m =
-      rw (substitution_complete a e m, case, lists _ _ _ _ _ _ b deep e m, ← shape-with_args t ts) refl
-  unscoped_complete (global_name {c = c} a b) deep e m =
-      rw (unqualified_complete a (omega arith) e m, attached_complete b (omega arith) (e + c.count) (max m c.peak)) (same_read refl refl refl (omega arith) (omega arith))
+  unscoped_met : {case : UnscopedCase} {x : Context} {p q : Position} {t : Tree} {c : Cost} → UnscopedAs case x p t q c → Small d c → (e m : ℕ)
+      → Met text_len (unscoped_as case (parse_unqualified (parse_type d x) (parse_type d (inside_lambda x))) (parse_args d x true) (state_at p e m)) (reached shape_of t q c e m)
+  unscoped_met (std_name {c = c} a b) deep e m =
+      rw (← shape-plain_text (codes "std"))
+      (met_then _ (unqualified_met a (omega arith) e m) (attached_as_longer b)
+      (met (attached_complete b (omega arith) (e + c.count) (max m c.peak) ∙ same_read refl refl refl (omega arith) (omega arith))))
+  unscoped_met (substitution_name {t = t} {list = ts} a case b) deep e m =
+      met (rw (substitution_complete a e m, case, lists _ _ _ _ _ _ b deep e m, ← shape-with_args t ts) refl)
+  unscoped_met (global_name {c = c} a b) deep e m =
+      met_then _ (unqualified_met a (omega arith) e m) (attached_as_longer b)
+      (met (attached_complete b (omega arith) (e + c.count) (max m c.peak) ∙ same_read refl refl refl (omega arith) (omega arith)))
 
   mutual
     unfolding loop component_turn
 
-    pub components_complete : {x : Context} {takes : Bool} {t u : Tree} {p q : Position} {c : Cost} → Components x takes t p u q c → c.depth ≤ d → (e m n : ℕ) → length p.rest < n
-        → loop (component_turn (parse_unqualified (parse_type d x) (parse_type d (inside_lambda x))) (parse_args d x true)) n (takes, shape_of t) (state_at p e m) ≡ given shape_of u q c e m
-    components_complete (components a) deep e m zero room = absurd (omega arith)
-    components_complete (components a) deep e m (suc n) room = component_complete a deep e m n room
+    pub components_met : {x : Context} {takes : Bool} {t u : Tree} {p q : Position} {c : Cost} → Components x takes t p u q c → Small d c → (e m n : ℕ) → length p.rest < n
+        → Met text_len (loop (component_turn (parse_unqualified (parse_type d x) (parse_type d (inside_lambda x))) (parse_args d x true)) n (takes, shape_of t) (state_at p e m)) (reached shape_of u q c e m)
+    components_met (components a) deep e m zero room = absurd (omega arith)
+    components_met (components a) deep e m (suc n) room = component_met a deep e m n room
 
-    component_complete : {case : ComponentCase} {x : Context} {takes : Bool} {t u : Tree} {p q : Position} {c : Cost} → ComponentsAs case x takes t p u q c → c.depth ≤ d → (e m n : ℕ) → length p.rest < suc n
-        → (component_as case (parse_unqualified (parse_type d x) (parse_type d (inside_lambda x))) (parse_args d x true) (takes, shape_of t) (state_at p e m) >>= λ r. after_turn r.0 (loop (component_turn (parse_unqualified (parse_type d x) (parse_type d (inside_lambda x))) (parse_args d x true)) n) r.1) ≡ given shape_of u q c e m
-    component_complete (end_of_components {takes = takes} {p = p}) deep e m n room = same_read refl (taken-map takes p.saved) refl (omega arith) (omega arith)
-    component_complete (args_component {q = q} {t = t} {list = ts} {c = c} a b) deep e m n room =
+    component_met : {case : ComponentCase} {x : Context} {takes : Bool} {t u : Tree} {p q : Position} {c : Cost} → ComponentsAs case x takes t p u q c → Small d c → (e m n : ℕ) → length p.rest < suc n
+        → Met text_len (component_as case (parse_unqualified (parse_type d x) (parse_type d (inside_lambda x))) (parse_args d x true) (takes, shape_of t) (state_at p e m) >>= λ r. after_turn r.0 (loop (component_turn (parse_unqualified (parse_type d x) (parse_type d (inside_lambda x))) (parse_args d x true)) n) r.1) (reached shape_of u q c e m)
+    component_met (end_of_components {takes = takes} {p = p}) deep e m n room = met (same_read refl (taken-map takes p.saved) refl (omega arith) (omega arith))
+    component_met (args_component {x = x} {p = p} {q = q} {t = t} {list = ts} {c = c} a b) deep e m n room =
+        let attached : attached_by (parse_args d x true) (shape_of t) (state_at p e m) ≡ given shape_of (with_args t (trees ts)) q c e m =
+        rw (lists _ _ _ _ _ _ a (omega arith) e m, ← shape-with_args t ts) refl in
         let shorter = (args_takes a).shorter in
         let within = after-le (initializer_after q.rest) in
-        rw (
-          lists _ _ _ _ _ _ a (omega arith) e m,
-          ← shape-with_args t ts,
-          one_more q.saved (with_args t (trees ts)),
-          components_complete b (omega arith) (e + c.count) (max (max m c.peak) (length (map shape_of q.saved) + 1)) n (omega arith),
-        )
-        (same_read refl refl refl (omega arith) (omega (arith, length-map q.saved shape_of)))
-    component_complete (name_component {q = q} {u = u} {c = c} a b) deep e m n room =
+        let rest = components_met b (omega arith) (e + c.count) (max (max m c.peak) (length (map shape_of q.saved) + 1)) n (omega arith) in
+        met_step _ _ (met attached) (components_longer b)
+        (rw (one_more q.saved (with_args t (trees ts)))
+        (met_as rest (same_read refl refl refl (omega arith) (omega (arith, length-map q.saved shape_of)))))
+    component_met (name_component {q = q} {u = u} {c = c} a b) deep e m n room =
         let shorter = (unqualified_takes a).shorter in
         let within = after-le (initializer_after q.rest) in
-        rw (
-          unqualified_complete a (omega arith) e m,
-          one_more q.saved u,
-          components_complete b (omega arith) (e + c.count) (max (max m c.peak) (length (map shape_of q.saved) + 1)) n (omega arith),
-        )
-        (same_read refl refl refl (omega arith) (omega (arith, length-map q.saved shape_of)))
+        let rest = components_met b (omega arith) (e + c.count) (max (max m c.peak) (length (map shape_of q.saved) + 1)) n (omega arith) in
+        met_step _ _ (unqualified_met a (omega arith) e m) (components_longer b)
+        (rw (one_more q.saved u)
+        (met_as rest (same_read refl refl refl (omega arith) (omega (arith, length-map q.saved shape_of)))))
 
-  nested_complete : {x : Context} {p q : Position} {t : Tree} {c : Cost} → Nested x p t q c → c.depth ≤ d → (e m : ℕ)
-      → parse_nested (parse_unqualified (parse_type d x) (parse_type d (inside_lambda x))) (parse_args d x true) x (state_at p e m) ≡ given bare_of t q c e m
+  nested_met : {x : Context} {p q : Position} {t : Tree} {c : Cost} → Nested x p t q c → Small d c → (e m : ℕ)
+      → Met bare_len (parse_nested (parse_unqualified (parse_type d x) (parse_type d (inside_lambda x))) (parse_args d x true) x (state_at p e m)) (reached bare_of t q c e m)
   unfolding parse_nested
-  nested_complete (nested {x = x} {p = p} {q = q} {u = u} {c = c} a b) deep e m =
-      rw (first_complete a (omega arith) e m, components_complete b (omega arith) (e + c.count) (max m c.peak) (length (past_initializer q).rest + 1) (omega arith), ← bare-nested_of u (name_quals p.rest) x.shown)
-      (same_read refl refl refl (omega arith) (omega arith))
+  nested_met (nested {x = x} {p = p} {q = q} {u = u} {c = c} a b) deep e m =
+      let bare = bare-nested_of u (name_quals p.rest) x.shown in
+      let same_len = ap text_len bare in
+      let longer = components_longer b in
+      met_then _ (first_met a (omega arith) e m) (omega arith)
+      (met_then _ (components_met b (omega arith) (e + c.count) (max m c.peak) (length (past_initializer q).rest + 1) (omega arith)) (omega arith)
+      (met (same_read (ap (λ s. (s, name_quals p.rest)) (sym bare)) refl refl (omega arith) (omega arith))))
 
 -- the return type of an encoding
-return_complete : (d : ℕ) → TypesComplete d → {case : ReturnCase} {x : Context} {p q : Position} {c : Cost} → ReturnAs case x p q c → c.depth ≤ d → (e m : ℕ)
+return_complete : (d : ℕ) → TypesComplete d → {case : ReturnCase} {x : Context} {p q : Position} {c : Cost} → ReturnAs case x p q c → Small d c → (e m : ℕ)
     → return_as case (parse_type d x) (state_at p e m) ≡ Some (state_at q (e + c.count) (max m c.peak))
 return_complete d kinds no_return_type deep e m = same_state refl refl (omega arith) (omega arith)
 return_complete d kinds (some_return_type a) deep e m = rw (kinds _ _ _ _ _ a deep e m) refl
 
 -- the parameters of an encoding
-signature_complete : (d : ℕ) → TypesComplete d → {case : SignatureCase} {x : Context} {t u : Tree} {p q : Position} {c : Cost} → SignatureAs case x t p u q c → c.depth ≤ d → (e m : ℕ)
-    → signature_as case (parse_type d x) (bare_of t) (state_at p e m) ≡ given shape_of u q c e m
-signature_complete d kinds (no_signature {t = t}) deep e m = same_read (sym (shape-encoding_of t)) refl refl (omega arith) (omega arith)
-signature_complete d kinds (some_signature {t = t} {ts = ts} params) deep e m =
-    rw (typed_params_complete d kinds params deep e m (params_opened (bare_shape t)))
-    (same_read (params_built (bare_shape t) (map shape_of ts) (own_quals t) ∙ sym (shape-function_encoding t ts)) refl refl refl refl)
+signature_met : (d : ℕ) → TypesComplete d → {case : SignatureCase} {x : Context} {t u : Tree} {p q : Position} {c : Cost} → SignatureAs case x t p u q c → Small d c → (e m : ℕ)
+    → Met text_len (signature_as case (parse_type d x) (bare_of t) (state_at p e m)) (reached shape_of u q c e m)
+signature_met d kinds (no_signature {t = t}) deep e m = met (same_read (sym (shape-encoding_of t)) refl refl (omega arith) (omega arith))
+signature_met d kinds (some_signature {t = t} {ts = ts} params) deep e m =
+    let list = listed_each true (params_opened (bare_shape t)) (map shape_of ts) in
+    let whole = params_built (bare_shape t) (map shape_of ts) (own_quals t) ∙ sym (shape-function_encoding t ts) in
+    met_then _ (typed_params_met d kinds params deep e m (params_opened (bare_shape t)))
+    (subst (λ (s : Shape). text_len list ≤ text_len s) whole (params_longer (own_quals t) list))
+    (met (same_read whole refl refl refl refl))
+
+-- a name isn't longer than its reading is wide
+name_narrow : {waits : Bool} {x : Context} {p q : Position} {t : Tree} {c : Cost} → Name waits x p t q c → length (name_printing waits t) ≤ c.width
+name_narrow (name a) = omega arith
 
 -- a name with its own qualifiers
 pub names_complete : (d : ℕ) → BareNamesComplete d → NamesComplete d
 unfolding parse_name
 names_complete d bares x p q t c a deep e m =
-    rw (bares false x p q t c a deep e m) (same_read (whole_name a) refl refl refl refl)
+    let bare = without_quals a in
+    let whole = whole_name a in
+    let narrow = name_narrow a in
+    let same_len = ap text_len whole in
+    let read = bares x p q t bare.cost bare.reading (omega (arith, bare.depth_is, bare.width_in)) e m in
+    let g : Shape × ParserState = (with_name_qualifiers (bare_shape t) (own_quals t) (shows_words (name_case p.rest) x.shown), state_at q (e + bare.cost.count) (max m bare.cost.peak)) in
+    rw read (fits g (omega arith) ∙ same_read whole refl refl (omega (arith, bare.count_is)) (omega (arith, bare.peak_is)))
 
 module _ (d : ℕ) (kinds : TypesComplete d) (bares : BareNamesComplete d) (thunks : ThunksComplete d) where
-  special_as_complete : {case : SpecialCase} {x : Context} {p q : Position} {t : Tree} {c : Cost} → SpecialAs case x p t q c → c.depth ≤ d → (e m : ℕ)
+  special_as_complete : {case : SpecialCase} {x : Context} {p q : Position} {t : Tree} {c : Cost} → SpecialAs case x p t q c → Small d c → (e m : ℕ)
       → special_as case (parse_type d x) (parse_name d x) (parse_thunk d x) (state_at p e m) ≡ given shape_of t q c e m
   special_as_complete (type_special {p = p} {t = t} a) deep e m =
       rw (kinds _ _ _ _ _ a deep e m) (same_read (sym (shape-worded (special_text p.rest) t (special_close p.rest))) refl refl refl refl)
@@ -189,64 +219,73 @@ module _ (d : ℕ) (kinds : TypesComplete d) (bares : BareNamesComplete d) (thun
       (same_read (sym (shape-construction_of u t)) refl refl (omega arith) (omega arith))
   special_as_complete (thunk_special a) deep e m = thunks _ _ _ _ _ a deep e m
 
-  pub special_complete : {x : Context} {p q : Position} {t : Tree} {c : Cost} → SpecialAs (special_case p.rest) x p t q c → c.depth ≤ d → (e m : ℕ)
+  pub special_complete : {x : Context} {p q : Position} {t : Tree} {c : Cost} → SpecialAs (special_case p.rest) x p t q c → Small d c → (e m : ℕ)
       → parse_special d x (state_at p e m) ≡ given shape_of t q c e m
   unfolding parse_special
   special_complete a deep e m = special_as_complete a deep e m
 
-  pub symbol_as_complete : {case : SymbolCase} {x : Context} {p q : Position} {t : Tree} {c : Cost} → SymbolAs case x p t q c → c.depth ≤ d → (e m : ℕ)
+  pub symbol_as_complete : {case : SymbolCase} {x : Context} {p q : Position} {t : Tree} {c : Cost} → SymbolAs case x p t q c → Small d c → (e m : ℕ)
       → symbol_as case (parse_special d x) (parse_name d x) (state_at p e m) ≡ given shape_of t q c e m
   symbol_as_complete (special_symbol a) deep e m = special_complete a deep e m
   symbol_as_complete (name_symbol a) deep e m = names_complete d bares _ _ _ _ _ a deep e m
 
-  pub thunks_complete : ThunksComplete (suc d)
-  unfolding parse_thunk parse_special parse_name
-  thunks_complete x p q t c (thunk {t = u} {offsets = o} found a) deep e m =
-      rw (found, symbol_as_complete a (omega arith) (e + 1) m) (same_read (sym (shape-thunk_of o u)) refl refl (omega arith) refl)
+  -- the offsets of a thunk, and what it stands for
+  pub thunk_by_complete : {x : Context} (p : Position) {q : Position} {t : Tree} {c : Cost} {offsets : ThunkOffsets} {rest : List ℕ} → thunk_offsets (drop 1 p.rest) ≡ Some (offsets, rest)
+      → SymbolAs (symbol_case rest) x (at rest p) t q c → Small d c → (e m : ℕ)
+      → thunk_by (symbol_by (parse_type d x) (parse_bare_name d x) (parse_thunk d x) x) (state_at p e m) ≡ given shape_of (thunk_of offsets t) q c e m
+  unfolding parse_special parse_name
+  thunk_by_complete p {t = t} {offsets = o} found a deep e m = rw (found, symbol_as_complete a deep e m) (same_read (sym (shape-thunk_of o t)) refl refl refl refl)
 
-  encoding_as_complete : {case : SymbolCase} {x : Context} {p q : Position} {t : Tree} {c : Cost} → EncodingAs case x p t q c → c.depth ≤ d → (e m : ℕ)
-      → encoding_as case (parse_special d x) (parse_bare_name d x) (parse_type d x) (state_at p e m) ≡ given shape_of t q c e m
-  encoding_as_complete (special_encoding a) deep e m = special_complete a deep e m
-  encoding_as_complete (name_encoding {q = q} {r = r} {c = c} {d = f} a b g) deep e m =
+  pub thunks_complete : ThunksComplete (suc d)
+  unfolding parse_thunk
+  thunks_complete x p q t c (thunk found a) deep e m =
+      met_fits (met (thunk_by_complete p found a (omega arith) (e + 1) m ∙ same_read refl refl refl (omega arith) refl)) (omega arith)
+
+  encoding_as_met : {case : SymbolCase} {x : Context} {p q : Position} {t : Tree} {c : Cost} → EncodingAs case x p t q c → Small d c → (e m : ℕ)
+      → Met text_len (encoding_as case (parse_special d x) (parse_bare_name d x) (parse_type d x) (state_at p e m)) (reached shape_of t q c e m)
+  encoding_as_met (special_encoding a) deep e m = met (special_complete a deep e m)
+  encoding_as_met (name_encoding {q = q} {r = r} {c = c} {d = f} a b g) deep e m =
       rw (
-        bares true _ _ _ _ _ a (omega arith) e m,
+        bares _ _ _ _ _ a (omega arith) e m,
         same_return a q.rest,
         return_complete d kinds b (omega arith) (e + c.count) (max m c.peak),
-        signature_complete d kinds g (omega arith) (e + c.count + f.count) (max (max m c.peak) f.peak),
       )
-      (same_read refl refl refl (omega arith) (omega arith))
+      (met_as (signature_met d kinds g (omega arith) (e + c.count + f.count) (max (max m c.peak) f.peak)) (same_read refl refl refl (omega arith) (omega arith)))
 
-  pub encoding_complete : {x : Context} {p q : Position} {t : Tree} {c : Cost} → Encoding x p t q c → c.depth ≤ d → (e m : ℕ)
-      → parse_encoding d x (state_at p e m) ≡ given shape_of t q c e m
+  pub encoding_met : {x : Context} {p q : Position} {t : Tree} {c : Cost} → Encoding x p t q c → Small d c → (e m : ℕ)
+      → Met text_len (parse_encoding d x (state_at p e m)) (reached shape_of t q c e m)
   unfolding parse_encoding
-  encoding_complete (encoding a) deep e m = encoding_as_complete a deep e m
+  encoding_met (encoding a) deep e m = encoding_as_met a deep e m
 
-  entity_complete : {case : EntityCase} {waits : Bool} {x : Context} {t u : Tree} {p q : Position} {c : Cost} → EntityAs case waits x t p u q c → c.depth ≤ d → (e m : ℕ)
+  entity_complete : {case : EntityCase} {x : Context} {t u : Tree} {p q : Position} {c : Cost} → EntityAs case true x t p u q c → Small d c → (e m : ℕ)
       → entity_as case (parse_bare_name d x) (shape_of t) (state_at p e m) ≡ given bare_of u q c e m
   entity_complete (string_literal_entity {t = t}) deep e m = same_read (bare-string_literal_of t) refl refl (omega arith) (omega arith)
-  entity_complete (default_argument_entity {waits = waits} {t = t} {u = u} {number = k} found a) deep e m =
-      rw (found, bares waits _ _ _ _ _ a deep e m) (same_read (ap (λ s. (s, own_quals u)) (sym (bare-default_argument_of t k u))) refl refl refl refl)
-  entity_complete (name_entity {waits = waits} {t = t} {u = u} a) deep e m =
-      rw (bares waits _ _ _ _ _ a deep e m) (same_read (ap (λ s. (s, own_quals u)) (sym (bare-local_in t u))) refl refl refl refl)
+  entity_complete (default_argument_entity {t = t} {u = u} {number = k} found a) deep e m =
+      rw (found, bares _ _ _ _ _ a deep e m) (same_read (ap (λ s. (s, own_quals u)) (sym (bare-default_argument_of t k u))) refl refl refl refl)
+  entity_complete (name_entity {t = t} {u = u} a) deep e m =
+      rw (bares _ _ _ _ _ a deep e m) (same_read (ap (λ s. (s, own_quals u)) (sym (bare-local_in t u))) refl refl refl refl)
 
-  pub local_complete : {waits : Bool} {x : Context} {p q : Position} {t : Tree} {c : Cost} → Local waits x p t q c → c.depth ≤ d → (e m : ℕ)
-      → parse_local (parse_encoding d (inside_encoding x)) (parse_bare_name d (inside_local x)) (state_at p e m) ≡ given bare_of t q c e m
+  pub local_met : {x : Context} {p q : Position} {t : Tree} {c : Cost} → Local true x p t q c → Small d c → (e m : ℕ)
+      → Met bare_len (parse_local (parse_encoding d (inside_encoding x)) (parse_bare_name d (inside_local x)) (state_at p e m)) (reached bare_of t q c e m)
   unfolding parse_local
-  local_complete (local {c = c} a b) deep e m =
-      rw (encoding_complete a (omega arith) e m, entity_complete b (omega arith) (e + c.count) (max m c.peak)) (same_read refl refl refl (omega arith) (omega arith))
+  local_met (local {c = c} a b) deep e m =
+      met_then _ (encoding_met a (omega arith) e m) (entity_longer b)
+      (met (entity_complete b (omega arith) (e + c.count) (max m c.peak) ∙ same_read refl refl refl (omega arith) (omega arith)))
 
 module _ (d : ℕ) (lists : ArgsComplete d) (kinds : TypesComplete d) (bares : BareNamesComplete d) (thunks : ThunksComplete d) where
-  pub name_as_complete : {case : NameCase} {waits : Bool} {x : Context} {p q : Position} {t : Tree} {c : Cost} → NameAs case waits x p t q c → c.depth ≤ d → (e m : ℕ)
-      → name_as case (parse_unqualified (parse_type d x) (parse_type d (inside_lambda x))) (parse_args d x true)
-      (parse_local (parse_encoding d (inside_encoding x)) (parse_bare_name d (inside_local x))) x (state_at p e m)
-      ≡ given bare_of t q c e m
-  name_as_complete (nested_name a) deep e m = nested_complete d lists kinds a deep e m
-  name_as_complete (local_name a) deep e m = local_complete d kinds bares thunks a deep e m
-  name_as_complete (unscoped_name a) deep e m =
+  pub name_as_met : {case : NameCase} {x : Context} {p q : Position} {t : Tree} {c : Cost} → NameAs case true x p t q c → Small d c → (e m : ℕ)
+      → Met bare_len (name_as case (parse_unqualified (parse_type d x) (parse_type d (inside_lambda x))) (parse_args d x true)
+      (parse_local (parse_encoding d (inside_encoding x)) (parse_bare_name d (inside_local x))) x (state_at p e m))
+      (reached bare_of t q c e m)
+  name_as_met (nested_name a) deep e m = nested_met d lists kinds a deep e m
+  name_as_met (local_name a) deep e m = local_met d kinds bares thunks a deep e m
+  name_as_met (unscoped_name a) deep e m =
       let none = unscoped_none a in
-      rw (unscoped_complete d lists kinds a deep e m) (same_read (ap₂ (λ s q. (s, q)) (sym none.bare) (sym none.quals)) refl refl refl refl)
+      let same_len = ap text_len none.bare in
+      met_then _ (unscoped_met d lists kinds a deep e m) (omega arith)
+      (met (same_read (ap₂ (λ s q. (s, q)) (sym none.bare) (sym none.quals)) refl refl refl refl))
 
 pub bare_names_complete : (d : ℕ) → ArgsComplete d → TypesComplete d → BareNamesComplete d → ThunksComplete d → BareNamesComplete (suc d)
 unfolding parse_bare_name parse_encoding parse_special parse_name
-bare_names_complete d lists kinds bares thunks waits x p q t c (name a) deep e m =
-    name_as_complete d lists kinds bares thunks a (omega arith) (e + 1) m ∙ same_read refl refl refl (omega arith) refl
+bare_names_complete d lists kinds bares thunks x p q t c (name a) deep e m =
+    met_fits_bare (met_as (name_as_met d lists kinds bares thunks a (omega arith) (e + 1) m) (same_read refl refl refl (omega arith) refl)) (omega arith)

@@ -1,19 +1,19 @@
 -- Of symbols: what the grammar reads, the parser reads.
-use Rattle.std.proofs.Common.{◌≡◌, ◌≤◌, ℕ, zero, suc, arith}
+use Rattle.std.proofs.Common.{◌≡◌, ℕ, zero, suc, arith}
 use Rattle.itanium_syntax.specs.declared.context.Context.{Context}
 use Rattle.itanium_grammar.specs.Tree.{Tree, shape_of}
 use Rattle.itanium_grammar.specs.Grammar.{Position, Cost, Symbol, name, args, pack, type, expression, thunk, symbol}
 use Rattle.itanium_reader.specs.Parser.{parse_symbol}
 use Rattle.itanium_demangle.specs.Meaning.{state_at}
-use Rattle.itanium_demangle.proofs.Readings.{given, BareNamesComplete, ArgsComplete, PacksComplete, TypesComplete, ExpressionsComplete, ThunksComplete}
+use Rattle.itanium_demangle.proofs.Readings.{Small, given, BareNamesComplete, ArgsComplete, PacksComplete, TypesComplete, ExpressionsComplete, ThunksComplete}
 use Rattle.itanium_demangle.proofs.CompleteNames.{bare_names_complete, names_complete, thunks_complete, symbol_as_complete}
-use Rattle.itanium_demangle.proofs.CompleteExpressions.{each_argument_complete, expressions_complete}
+use Rattle.itanium_demangle.proofs.CompleteExpressions.{each_argument_met, expressions_complete}
 use Rattle.itanium_demangle.proofs.CompleteArgs.{args_complete, packs_complete}
 use Rattle.itanium_demangle.proofs.CompleteTypes.{types_complete_at}
 
--- each counted production has a depth
+-- each counted production nests
 no_names : BareNamesComplete 0
-no_names waits x p q t c (name a) deep e m = absurd (omega arith)
+no_names x p q t c (name a) deep e m = absurd (omega arith)
 
 no_lists : ArgsComplete 0
 no_lists x of_name p q t c (args a) deep e m = absurd (omega arith)
@@ -34,7 +34,7 @@ pub all_complete : (d : ℕ) → BareNamesComplete d × ArgsComplete d × PacksC
 all_complete zero = (no_names, no_lists, no_packs, no_kinds, no_values, no_thunks)
 all_complete (suc d) =
     let (bares, lists, packs, kinds, values, thunks) = all_complete d in
-    let each = each_argument_complete d packs kinds bares thunks values in (
+    let each = each_argument_met d packs kinds bares thunks values in (
       bare_names_complete d lists kinds bares thunks,
       args_complete d each,
       packs_complete d each,
@@ -43,7 +43,7 @@ all_complete (suc d) =
       thunks_complete d kinds bares thunks,
     )
 
-pub symbol_complete : {x : Context} {p q : Position} {t : Tree} {c : Cost} → Symbol x p t q c → (d : ℕ) → c.depth ≤ d → (e m : ℕ)
+pub symbol_complete : {x : Context} {p q : Position} {t : Tree} {c : Cost} → Symbol x p t q c → (d : ℕ) → Small d c → (e m : ℕ)
     → parse_symbol d x (state_at p e m) ≡ given shape_of t q c e m
 unfolding parse_symbol
 symbol_complete (symbol a) d deep e m =

@@ -1,7 +1,7 @@
 -- Of types: what the grammar reads, the parser reads.
-use Rattle.std.proofs.Common.{◌≡◌, ◌<◌, ◌≤◌, ℕ, zero, suc, ◌+◌, max, true, false, List, [], ◌∷◌, ◌++◌, map, length, refl, ◌∙◌, sym, arith, Some, append_assoc}
+use Rattle.std.proofs.Common.{◌≡◌, ◌<◌, ◌≤◌, ℕ, zero, suc, ◌+◌, max, true, false, List, [], ◌∷◌, ◌++◌, map, length, refl, ap, sym, subst, arith, Some, append_assoc}
 use Rattle.std.proofs.lemmas.List.{length-map, append-nil}
-use Rattle.demangle_text.specs.Shape.{Shape}
+use Rattle.demangle_text.specs.Shape.{Shape, text_len}
 use Rattle.demangle_quals.specs.declared.quals.Quals.{Quals}
 use Rattle.itanium_syntax.specs.declared.context.Context.{Context}
 use Rattle.itanium_syntax.specs.Names.{source_text}
@@ -10,95 +10,103 @@ use Rattle.itanium_grammar.specs.Tree.{Tree, plain_text, with_args, pointer_to, 
 use Rattle.itanium_grammar.specs.Grammar.{Position, Cost, TypeAs, CvAs, Function, ParamsAs, TypesAs, TypeAttachedAs, type, builtin_type, expansion_type, vendor_type, array_type, function_type, member_type, pointer_type, cv_type, elaborated_type, parameter_type, substitution_type, name_type, cv_function, cv_other, function, no_params, some_params, end_of_types, one_more_type, none_attached_to_type, args_attached_to_type}
 use Rattle.itanium_grammar.proofs.Progress.{type_takes}
 use Rattle.itanium_demangle.specs.Cases.{TypeCase, CvCase, ParamsCase, TypesCase, AttachedCase}
-use Rattle.itanium_reader.specs.Parser.{after_turn, loop, ◌>>=◌, types_as, types_turn, params_as, parse_function, cv_as, type_attached_as, type_as, parse_name, parse_args, parse_type}
+use Rattle.itanium_reader.specs.Parser.{goes_on, after_turn, loop, total_len, ◌>>=◌, types_as, types_turn, params_as, parse_function, cv_as, type_attached_as, type_as, parse_name, parse_args, parse_type}
 use Rattle.itanium_demangle.specs.Meaning.{state_at}
 use Rattle.itanium_demangle.proofs.Shapes.{same_read, one_more, shape-plain_text, shape-with_args, shape-pointer_to, shape-cv_of, shape-array_of, shape-member_of, shape-function_to, shape-elaborated, shape-expanded}
 use Rattle.itanium_demangle.proofs.CompleteNames.{substitution_complete, parameter_complete}
-use Rattle.itanium_demangle.proofs.Readings.{given, NamesComplete, ArgsComplete, TypesComplete}
+use Rattle.itanium_demangle.proofs.Fitting.{Met, met, met_then, met_as, met_unless, met_fits}
+use Rattle.itanium_demangle.proofs.Grows.{total_more, function_longer}
+use Rattle.itanium_demangle.proofs.Readings.{Small, reached, given, NamesComplete, ArgsComplete, TypesComplete}
 
 -- types after those that stand in front, in n turns
-abbrev SomeTypesComplete : ℕ → ℕ → Type 0
-SomeTypesComplete d n = (x : Context) (p q : Position) (ts : List Tree) (c : Cost) → TypesAs (types_case true p.rest) true x p ts q c → c.depth ≤ d
+abbrev SomeTypesMet : ℕ → ℕ → Type 0
+SomeTypesMet d n = (x : Context) (p q : Position) (ts : List Tree) (c : Cost) → TypesAs (types_case true p.rest) true x p ts q c → Small d c
     → (e m : ℕ) (front : List Shape) → length p.rest < n
-    → loop (types_turn (parse_type d x)) n front (state_at p e m) ≡ Some (front ++ map shape_of ts, state_at q (e + c.count) (max m c.peak))
+    → Met total_len (loop (types_turn (parse_type d x)) n front (state_at p e m)) (reached (λ us. front ++ map shape_of us) ts q c e m)
 
 module _ (d : ℕ) (kinds : TypesComplete d) where
-  types_as_complete : (n : ℕ) → SomeTypesComplete d n → {case : TypesCase} {x : Context} {p q : Position} {ts : List Tree} {c : Cost} → TypesAs case true x p ts q c → c.depth ≤ d
+  types_as_met : (n : ℕ) → SomeTypesMet d n → {case : TypesCase} {x : Context} {p q : Position} {ts : List Tree} {c : Cost} → TypesAs case true x p ts q c → Small d c
       → (e m : ℕ) (front : List Shape) → length p.rest < suc n
-      → (types_as case (parse_type d x) front (state_at p e m) >>= λ r. after_turn r.0 (loop (types_turn (parse_type d x)) n) r.1)
-      ≡ Some (front ++ map shape_of ts, state_at q (e + c.count) (max m c.peak))
-  types_as_complete n again end_of_types deep e m front room = same_read (sym (append-nil front)) refl refl (omega arith) (omega arith)
-  types_as_complete n again (one_more_type {t = t} {ts = ts} {c = c} a others) deep e m front room =
+      → Met total_len (types_as case (parse_type d x) front (state_at p e m) >>= λ r. after_turn r.0 (loop (types_turn (parse_type d x)) n) r.1)
+      (reached (λ us. front ++ map shape_of us) ts q c e m)
+  types_as_met n again end_of_types deep e m front room = met (same_read (sym (append-nil front)) refl refl (omega arith) (omega arith))
+  types_as_met n again (one_more_type {x = x} {q = q} {t = t} {ts = ts} {c = c} a others) deep e m front room =
       let shorter = (type_takes a).shorter in
-      rw (kinds _ _ _ _ _ a (omega arith) e m, again _ _ _ _ _ others (omega arith) (e + c.count) (max m c.peak) (front ++ shape_of t ∷ []) (omega arith))
-      (same_read (append_assoc front (shape_of t ∷ []) (map shape_of ts)) refl refl (omega arith) (omega arith))
+      let so_far = front ++ shape_of t ∷ [] in
+      let all = append_assoc front (shape_of t ∷ []) (map shape_of ts) in
+      let same_len = ap total_len all in
+      let more = total_more so_far (map shape_of ts) in
+      let rest = again _ _ _ _ _ others (omega arith) (e + c.count) (max m c.peak) so_far (omega arith) in
+      rw (kinds _ _ _ _ _ a (omega arith) e m)
+      (met_unless (total_len so_far) (Some (goes_on so_far, state_at q (e + c.count) (max m c.peak))) (λ r. after_turn r.0 (loop (types_turn (parse_type d x)) n) r.1)
+      (omega arith) (met_as rest (same_read all refl refl (omega arith) (omega arith))))
 
-  types_complete : (n : ℕ) → SomeTypesComplete d n
+  types_met : (n : ℕ) → SomeTypesMet d n
   unfolding loop types_turn
-  types_complete zero x p q ts c a deep e m front room = absurd (omega arith)
-  types_complete (suc n) x p q ts c a deep e m front room = types_as_complete n (types_complete n) a deep e m front room
+  types_met zero x p q ts c a deep e m front room = absurd (omega arith)
+  types_met (suc n) x p q ts c a deep e m front room = types_as_met n (types_met n) a deep e m front room
 
-  pub params_complete : {case : ParamsCase} {x : Context} {p q : Position} {ts : List Tree} {c : Cost} → ParamsAs case true x p ts q c → c.depth ≤ d → (e m : ℕ)
-      → params_as case (parse_type d x) (state_at p e m) ≡ given (map shape_of) ts q c e m
-  params_complete no_params deep e m = same_read refl refl refl (omega arith) (omega arith)
-  params_complete (some_params {p = p} a) deep e m = types_complete (length p.rest + 1) _ _ _ _ _ a deep e m [] (omega arith)
+  pub params_met : {case : ParamsCase} {x : Context} {p q : Position} {ts : List Tree} {c : Cost} → ParamsAs case true x p ts q c → Small d c → (e m : ℕ)
+      → Met total_len (params_as case (parse_type d x) (state_at p e m)) (reached (map shape_of) ts q c e m)
+  params_met no_params deep e m = met (same_read refl refl refl (omega arith) (omega arith))
+  params_met (some_params {p = p} a) deep e m = types_met (length p.rest + 1) _ _ _ _ _ a deep e m [] (omega arith)
 
-  function_complete : {x : Context} {quals : Quals} {p q : Position} {t : Tree} {c : Cost} → Function x quals p t q c → c.depth ≤ d → (e m : ℕ)
-      → parse_function (parse_type d x) quals (state_at p e m) ≡ given shape_of t q c e m
-  function_complete (function {quals = quals} {r = r} {t = t} {ts = ts} {c = c} plain a b there) deep e m =
-      rw (
-        plain,
-        kinds _ _ _ _ _ a (omega arith) e m,
-        params_complete b (omega arith) (e + c.count) (max m c.peak),
-        there,
-        ← shape-function_to t ts (with_reference quals r.rest),
-      )
-      (same_read refl refl refl (omega arith) (omega arith))
+  pub function_met : {x : Context} {quals : Quals} {p q : Position} {t : Tree} {c : Cost} → Function x quals p t q c → Small d c → (e m : ℕ)
+      → Met text_len (parse_function (parse_type d x) quals (state_at p e m)) (reached shape_of t q c e m)
+  function_met (function {quals = quals} {r = r} {t = t} {ts = ts} {c = c} plain a b there) deep e m =
+      let all = with_reference quals r.rest in
+      let whole = sym (shape-function_to t ts all) in
+      rw (plain, kinds _ _ _ _ _ a (omega arith) e m)
+      (met_then _ (params_met b (omega arith) (e + c.count) (max m c.peak))
+      (subst (λ (s : Shape). total_len (map shape_of ts) ≤ text_len s) whole (function_longer (shape_of t) (map shape_of ts) all))
+      (met (rw there (same_read whole refl refl (omega arith) (omega arith)))))
 
-  cv_complete : {case : CvCase} {x : Context} {quals : Quals} {p q : Position} {t : Tree} {c : Cost} → CvAs case x quals p t q c → c.depth ≤ d → (e m : ℕ)
-      → cv_as case (parse_type d x) quals (state_at p e m) ≡ given shape_of t q c e m
-  cv_complete (cv_function a) deep e m = function_complete a deep e m
-  cv_complete (cv_other {quals = quals} {t = t} a) deep e m = rw (kinds _ _ _ _ _ a deep e m, ← shape-cv_of quals t) refl
+  pub cv_met : {case : CvCase} {x : Context} {quals : Quals} {p q : Position} {t : Tree} {c : Cost} → CvAs case x quals p t q c → Small d c → (e m : ℕ)
+      → Met text_len (cv_as case (parse_type d x) quals (state_at p e m)) (reached shape_of t q c e m)
+  cv_met (cv_function a) deep e m = function_met a deep e m
+  cv_met (cv_other {quals = quals} {t = t} a) deep e m = met (rw (kinds _ _ _ _ _ a deep e m, ← shape-cv_of quals t) refl)
 
-type_attached_complete : (d : ℕ) → ArgsComplete d → {case : AttachedCase} {x : Context} {t u : Tree} {p q : Position} {c : Cost} → TypeAttachedAs case x t p u q c → c.depth ≤ d → (e m : ℕ)
+type_attached_complete : (d : ℕ) → ArgsComplete d → {case : AttachedCase} {x : Context} {t u : Tree} {p q : Position} {c : Cost} → TypeAttachedAs case x t p u q c → Small d c → (e m : ℕ)
     → type_attached_as case (parse_args d x false) (shape_of t) (state_at p e m) ≡ given shape_of u q c e m
 type_attached_complete d lists none_attached_to_type deep e m = same_read refl refl refl (omega arith) (omega arith)
 type_attached_complete d lists (args_attached_to_type {t = t} {q = q} {list = ts} a) deep e m =
     rw (lists _ _ _ _ _ _ a (omega arith) e m, ← shape-with_args t ts)
     (same_read refl (one_more q.saved (with_args t (trees ts))) refl (omega arith) (omega (arith, length-map q.saved shape_of)))
 
-type_as_complete : (d : ℕ) → TypesComplete d → NamesComplete d → ArgsComplete d → {case : TypeCase} {x : Context} {p q : Position} {t : Tree} {c : Cost} → TypeAs case x p t q c → c.depth ≤ d → (e m : ℕ)
-    → type_as case (parse_type d x) (parse_name d x) (parse_args d x false) x (state_at p e m) ≡ given shape_of t q c e m
-type_as_complete d kinds names lists (builtin_type {p = p}) deep e m = same_read (sym (shape-plain_text (builtin_text p.rest))) refl refl (omega arith) (omega arith)
-type_as_complete d kinds names lists (expansion_type {x = x} {q = q} {t = t} a) deep e m =
-    rw (kinds _ _ _ _ _ a (omega arith) e m, ← shape-expanded x.pack t)
-    (same_read refl (one_more q.saved (expanded x.pack t)) refl (omega arith) (omega (arith, length-map q.saved shape_of)))
-type_as_complete d kinds names lists (vendor_type {p = p} {bytes = b} found none) deep e m =
-    rw (found, none, ← shape-plain_text (source_text b)) (same_read refl (one_more p.saved (plain_text (source_text b))) refl (omega arith) (omega (arith, length-map p.saved shape_of)))
-type_as_complete d kinds names lists (array_type {q = q} {t = t} {dimension = n} found a there) deep e m =
-    rw (found, kinds _ _ _ _ _ a (omega arith) e m, there, ← shape-array_of n t)
-    (same_read refl (one_more q.saved (array_of n t)) refl (omega arith) (omega (arith, length-map q.saved shape_of)))
-type_as_complete d kinds names lists (function_type {q = q} {t = t} a) deep e m =
-    rw (function_complete d kinds a (omega arith) e m) (same_read refl (one_more q.saved t) refl (omega arith) (omega (arith, length-map q.saved shape_of)))
-type_as_complete d kinds names lists (member_type {r = r} {t = t} {u = u} {c = c} a b there) deep e m =
-    rw (kinds _ _ _ _ _ a (omega arith) e m, kinds _ _ _ _ _ b (omega arith) (e + c.count) (max m c.peak), there, ← shape-member_of t u)
-    (same_read refl (one_more r.saved (member_of t u)) refl (omega arith) (omega (arith, length-map r.saved shape_of)))
-type_as_complete d kinds names lists (pointer_type {kind = kind} {q = q} {t = t} a) deep e m =
-    rw (kinds _ _ _ _ _ a (omega arith) e m, ← shape-pointer_to kind t)
-    (same_read refl (one_more q.saved (pointer_to kind t)) refl (omega arith) (omega (arith, length-map q.saved shape_of)))
-type_as_complete d kinds names lists (cv_type {q = q} {t = t} a) deep e m =
-    rw (cv_complete d kinds a (omega arith) e m) (same_read refl (one_more q.saved t) refl (omega arith) (omega (arith, length-map q.saved shape_of)))
-type_as_complete d kinds names lists (elaborated_type {p = p} {q = q} {t = t} a) deep e m =
-    rw (names _ _ _ _ _ a (omega arith) e m, ← shape-elaborated (elaborated_text p.rest) t)
-    (same_read refl (one_more q.saved (elaborated (elaborated_text p.rest) t)) refl (omega arith) (omega (arith, length-map q.saved shape_of)))
-type_as_complete d kinds names lists (parameter_type {q = q} {t = t} a b) deep e m =
-    rw (parameter_complete a e m, one_more q.saved t, type_attached_complete d lists b (omega arith) e (max m (length (map shape_of q.saved) + 1)))
-    (same_read refl refl refl (omega arith) (omega (arith, length-map q.saved shape_of)))
-type_as_complete d kinds names lists (substitution_type a b) deep e m = rw (substitution_complete a e m, type_attached_complete d lists b deep e m) refl
-type_as_complete d kinds names lists (name_type {q = q} {t = t} a) deep e m =
-    rw (names _ _ _ _ _ a (omega arith) e m) (same_read refl (one_more q.saved t) refl (omega arith) (omega (arith, length-map q.saved shape_of)))
+pub type_as_met : (d : ℕ) → TypesComplete d → NamesComplete d → ArgsComplete d → {case : TypeCase} {x : Context} {p q : Position} {t : Tree} {c : Cost} → TypeAs case x p t q c → Small d c → (e m : ℕ)
+    → Met text_len (type_as case (parse_type d x) (parse_name d x) (parse_args d x false) x (state_at p e m)) (reached shape_of t q c e m)
+type_as_met d kinds names lists (builtin_type {p = p}) deep e m =
+    met (same_read (sym (shape-plain_text (builtin_text p.rest))) refl refl (omega arith) (omega arith))
+type_as_met d kinds names lists (expansion_type {x = x} {q = q} {t = t} a) deep e m =
+    met (rw (kinds _ _ _ _ _ a (omega arith) e m, ← shape-expanded x.pack t)
+    (same_read refl (one_more q.saved (expanded x.pack t)) refl (omega arith) (omega (arith, length-map q.saved shape_of))))
+type_as_met d kinds names lists (vendor_type {p = p} {bytes = b} found none) deep e m =
+    met (rw (found, none, ← shape-plain_text (source_text b)) (same_read refl (one_more p.saved (plain_text (source_text b))) refl (omega arith) (omega (arith, length-map p.saved shape_of))))
+type_as_met d kinds names lists (array_type {q = q} {t = t} {dimension = n} found a there) deep e m =
+    met (rw (found, kinds _ _ _ _ _ a (omega arith) e m, there, ← shape-array_of n t)
+    (same_read refl (one_more q.saved (array_of n t)) refl (omega arith) (omega (arith, length-map q.saved shape_of))))
+type_as_met d kinds names lists (function_type {q = q} {t = t} a) deep e m =
+    met_then _ (function_met d kinds a (omega arith) e m) (omega arith) (met (same_read refl (one_more q.saved t) refl (omega arith) (omega (arith, length-map q.saved shape_of))))
+type_as_met d kinds names lists (member_type {r = r} {t = t} {u = u} {c = c} a b there) deep e m =
+    met (rw (kinds _ _ _ _ _ a (omega arith) e m, kinds _ _ _ _ _ b (omega arith) (e + c.count) (max m c.peak), there, ← shape-member_of t u)
+    (same_read refl (one_more r.saved (member_of t u)) refl (omega arith) (omega (arith, length-map r.saved shape_of))))
+type_as_met d kinds names lists (pointer_type {kind = kind} {q = q} {t = t} a) deep e m =
+    met (rw (kinds _ _ _ _ _ a (omega arith) e m, ← shape-pointer_to kind t)
+    (same_read refl (one_more q.saved (pointer_to kind t)) refl (omega arith) (omega (arith, length-map q.saved shape_of))))
+type_as_met d kinds names lists (cv_type {q = q} {t = t} a) deep e m =
+    met_then _ (cv_met d kinds a (omega arith) e m) (omega arith) (met (same_read refl (one_more q.saved t) refl (omega arith) (omega (arith, length-map q.saved shape_of))))
+type_as_met d kinds names lists (elaborated_type {p = p} {q = q} {t = t} a) deep e m =
+    met (rw (names _ _ _ _ _ a (omega arith) e m, ← shape-elaborated (elaborated_text p.rest) t)
+    (same_read refl (one_more q.saved (elaborated (elaborated_text p.rest) t)) refl (omega arith) (omega (arith, length-map q.saved shape_of))))
+type_as_met d kinds names lists (parameter_type {q = q} {t = t} a b) deep e m =
+    met (rw (parameter_complete a e m, one_more q.saved t, type_attached_complete d lists b (omega arith) e (max m (length (map shape_of q.saved) + 1)))
+    (same_read refl refl refl (omega arith) (omega (arith, length-map q.saved shape_of))))
+type_as_met d kinds names lists (substitution_type a b) deep e m =
+    met (rw (substitution_complete a e m, type_attached_complete d lists b deep e m) refl)
+type_as_met d kinds names lists (name_type {q = q} {t = t} a) deep e m =
+    met (rw (names _ _ _ _ _ a (omega arith) e m) (same_read refl (one_more q.saved t) refl (omega arith) (omega (arith, length-map q.saved shape_of))))
 
 pub types_complete_at : (d : ℕ) → TypesComplete d → NamesComplete d → ArgsComplete d → TypesComplete (suc d)
 unfolding parse_type parse_name
 types_complete_at d kinds names lists x p q t c (type a) deep e m =
-    type_as_complete d kinds names lists a (omega arith) (e + 1) m ∙ same_read refl refl refl (omega arith) refl
+    met_fits (met_as (type_as_met d kinds names lists a (omega arith) (e + 1) m) (same_read refl refl refl (omega arith) refl)) (omega arith)

@@ -1,7 +1,11 @@
 pub mod Ascii
 pub mod Shapes
 pub mod Waiting
+pub mod Fitting
 pub mod Readings
+pub mod Grows
+pub mod Longer
+pub mod Whole
 pub mod CompleteLists
 pub mod CompleteNames
 pub mod CompleteExpressions

@@ -12,11 +12,12 @@ use Rattle.itanium_grammar.specs.Grammar.{Position, put, begin, skip, both, Args
 use Rattle.itanium_grammar.proofs.Progress.{argument_takes}
 use Rattle.itanium_demangle.specs.Cases.{ArgsCase, EndOfArguments, NextArgument}
 use Rattle.itanium_reader.specs.Parser as parser
-use Rattle.itanium_reader.specs.Parser.{ParserState, Turn, after_turn, loop, parse_loop, put_nowhere, ◌>>=◌, parse_argument, parse_primary, parse_encoding, parse_special, parse_name, list_as, list_turn, parse_args, parse_pack}
+use Rattle.itanium_reader.specs.Parser.{ParserState, Turn, after_turn, loop, parse_loop, put_nowhere, ◌>>=◌, parse_argument, parse_primary, parse_encoding, parse_special, parse_name, next_item, list_as, list_turn, parse_list, parse_packed, parse_args, parse_pack}
 use Rattle.itanium_demangle.specs.Meaning.{state_at}
 use Rattle.itanium_demangle.proofs.Shapes.{put-scopes, begin-scopes}
+use Rattle.itanium_demangle.proofs.Fitting.{met_passed, past_fitting}
 use Rattle.itanium_demangle.proofs.Readings.{Within, PacksSound, ArgsSound, ArgumentsComplete, ArgumentsSound}
-use Rattle.itanium_demangle.proofs.CompleteArgs.{args_complete, packs_complete}
+use Rattle.itanium_demangle.proofs.CompleteArgs.{list_met, pack_met, args_complete, packs_complete}
 use Rattle.demangle_edit.specs.Built.{listed_more}
 
 -- the arguments after what stands of a list, in n turns
@@ -42,7 +43,8 @@ module _ (d : ℕ) (each : ArgumentsSound d) where
       let found = each x p e m z arg in
       let i = found.within in
       let shorter = (argument_takes i.reading).shorter in
-      let there = rw (← same_Some _ _ made, found.is, put-scopes o k i.tree i.next.scopes) at rest in
+      let stepped = past_fitting (listed_more first front z.0, parser.put o k z.0 z.1) next_item v made in
+      let there = rw (← same_Some _ _ stepped, found.is, put-scopes o k i.tree i.next.scopes) at rest in
       let r = again x o k false (listed_more first front (shape_of i.tree)) (put o k i.tree i.next) (e + i.cost.count) (max m i.cost.peak) y (omega arith) there in
       record {
         tree = i.tree ∷ r.tree;
@@ -71,7 +73,8 @@ module _ (d : ℕ) (each : ArgumentsSound d) where
       let found = each x p e m z arg in
       let i = found.within in
       let shorter = (argument_takes i.reading).shorter in
-      let there = rw (← same_Some _ _ made, found.is) at rest in
+      let stepped = past_fitting (listed_more first front z.0, z.1) next_item v made in
+      let there = rw (← same_Some _ _ stepped, found.is) at rest in
       let r = again x false (listed_more first front (shape_of i.tree)) i.next (e + i.cost.count) (max m i.cost.peak) y (omega arith) there in
       record {
         tree = i.tree ∷ r.tree;
@@ -91,20 +94,24 @@ unfolding parse_args parse_argument parse_primary parse_encoding parse_special p
 args_sound d each_is each x of_name p e m y is =
     let opens = opens_scope of_name x in
     let begun = begin opens (skip 1 p) in
-    let there = rw (begin-scopes opens p.scopes, length-map begun.scopes (map shape_of)) at is in
     let within = after-le (after_drop 1 p.rest) in
-    option_and_then_some _ (parse_loop (list_turn (parser.put opens (length begun.scopes)) (parse_argument d x)) (true, plain_shape (codes "<")) (state_at begun (e + 1) m)) y there
+    option_and_then_some _ (parse_list (parse_argument d x) opens (state_at p (e + 1) m)) y is (λ u read through.
+    let there = rw (begin-scopes opens p.scopes, length-map begun.scopes (map shape_of)) at read in
+    option_and_then_some _ (parse_loop (list_turn (parser.put opens (length begun.scopes)) (parse_argument d x)) (true, plain_shape (codes "<")) (state_at begun (e + 1) m)) u there
     (λ z list _.
     let r = arguments_sound d each _ x opens (length begun.scopes) true (plain_shape (codes "<")) begun (e + 1) m z (omega arith) list in
-    let w : Within (Args x of_name p) (suc d) = record { tree = _; next = _; cost = _; reading = args r.reading; deep = omega (arith, r.deep) } in
-    record { within = w; is = same_Some _ _ (sym is ∙ args_complete d each_is x of_name _ _ _ _ w.reading w.deep e m) })
+    let narrow = met_passed (list_met d each_is p r.reading r.deep (e + 1) m) read through in
+    let w : Within (Args x of_name p) (suc d) = record { tree = _; next = _; cost = _; reading = args r.reading; deep = omega (arith, r.deep, narrow) } in
+    record { within = w; is = same_Some _ _ (sym is ∙ args_complete d each_is x of_name _ _ _ _ w.reading w.deep e m) }))
 
 pub packs_sound : (d : ℕ) → ArgumentsComplete d → ArgumentsSound d → PacksSound (suc d)
 unfolding parse_pack parse_argument parse_primary parse_encoding parse_special parse_name
 packs_sound d each_is each x p e m y is =
     let inside = inside_pack x in
-    option_and_then_some _ (parse_loop (list_turn put_nowhere (parse_argument d inside)) (true, plain_shape []) (state_at (skip 1 p) (e + 1) m)) y is
+    option_and_then_some _ (parse_packed (parse_argument d inside) (state_at p (e + 1) m)) y is (λ u read through.
+    option_and_then_some _ (parse_loop (list_turn put_nowhere (parse_argument d inside)) (true, plain_shape []) (state_at (skip 1 p) (e + 1) m)) u read
     (λ z list _.
     let r = packed_sound d each _ inside true (plain_shape []) (skip 1 p) (e + 1) m z (omega arith) list in
-    let w : Within (Pack x p) (suc d) = record { tree = _; next = _; cost = _; reading = pack r.reading; deep = omega (arith, r.deep) } in
-    record { within = w; is = same_Some _ _ (sym is ∙ packs_complete d each_is x _ _ _ _ w.reading w.deep e m) })
+    let narrow = met_passed (pack_met d each_is p r.reading r.deep (e + 1) m) read through in
+    let w : Within (Pack x p) (suc d) = record { tree = _; next = _; cost = _; reading = pack r.reading; deep = omega (arith, r.deep, narrow) } in
+    record { within = w; is = same_Some _ _ (sym is ∙ packs_complete d each_is x _ _ _ _ w.reading w.deep e m) }))

@@ -13,8 +13,9 @@ use Rattle.itanium_grammar.specs.Grammar.{Position, skip, ArgumentAs, Expression
 use Rattle.itanium_demangle.specs.Cases.{LiteralCase, ExternalName, ValueLiteral, NoLiteral, ExpressionCase, PreExpression, AddressExpression, UnaryExpression, PostExpression, BinaryExpression, GreaterExpression, ConditionalExpression, ParameterExpression, LiteralExpression, NoExpression, ArgumentCase, ExpressionArgument, PackArgument, LiteralArgument, ConstraintArgument, TypeArgument}
 use Rattle.itanium_reader.specs.Parser.{ParserState, parse_type, parse_name, parse_special, parse_pack, parse_encoding, past_end, literal_as, parse_primary, operand_by, expression_as, parse_expression, argument_as, parse_argument}
 use Rattle.itanium_demangle.specs.Meaning.{state_at}
+use Rattle.itanium_demangle.proofs.Fitting.{met_is, met_passed}
 use Rattle.itanium_demangle.proofs.Readings.{Within, Found, TypesComplete, PacksComplete, BareNamesComplete, ThunksComplete, ExpressionsComplete, TypesSound, PacksSound, BareNamesSound, ThunksSound, ExpressionsSound, ArgumentsSound}
-use Rattle.itanium_demangle.proofs.CompleteExpressions.{operand_complete, expressions_complete, each_argument_complete}
+use Rattle.itanium_demangle.proofs.CompleteExpressions.{operand_complete, expression_as_met, expressions_complete, each_argument_met}
 use Rattle.itanium_demangle.proofs.SoundNames.{parameter_sound, encoding_sound}
 
 -- an E stands there
@@ -112,9 +113,11 @@ module _ (d : ℕ) (complete : TypesComplete d) (bares_are : BareNamesComplete d
   pub expressions_sound : ExpressionsSound (suc d)
   unfolding parse_expression parse_primary parse_encoding parse_special parse_name
   expressions_sound x p e m y is =
-      let r = expression_as_sound (expression_case p.rest) x p (e + 1) m y is in
-      let w : Within (Expression x p) (suc d) = record { tree = _; next = _; cost = _; reading = expression r.reading; deep = omega (arith, r.deep) } in
-      record { within = w; is = same_Some _ _ (sym is ∙ expressions_complete d complete bares_are thunks_are values_are x _ _ _ _ w.reading w.deep e m) }
+      option_and_then_some _ (expression_as (expression_case p.rest) (parse_expression d x) (parse_primary d x) x (state_at p (e + 1) m)) y is (λ z read through.
+      let r = expression_as_sound (expression_case p.rest) x p (e + 1) m z read in
+      let narrow = met_passed (expression_as_met d complete bares_are thunks_are values_are r.reading r.deep (e + 1) m) read through in
+      let w : Within (Expression x p) (suc d) = record { tree = _; next = _; cost = _; reading = expression r.reading; deep = omega (arith, r.deep, narrow) } in
+      record { within = w; is = same_Some _ _ (sym is ∙ expressions_complete d complete bares_are thunks_are values_are x _ _ _ _ w.reading w.deep e m) })
 
 module _ (d : ℕ) (packs_are : PacksComplete d) (complete : TypesComplete d) (bares_are : BareNamesComplete d) (thunks_are : ThunksComplete d) (values_are : ExpressionsComplete d)
     (packs : PacksSound d) (kinds : TypesSound d) (bares : BareNamesSound d) (thunks : ThunksSound d) (values : ExpressionsSound d) where
@@ -139,4 +142,4 @@ module _ (d : ℕ) (packs_are : PacksComplete d) (complete : TypesComplete d) (b
   unfolding parse_argument
   each_argument_sound x p e m y is =
       let w = argument_as_sound (argument_case p.rest) x p e m y is in
-      record { within = w; is = same_Some _ _ (sym is ∙ each_argument_complete d packs_are complete bares_are thunks_are values_are x _ _ _ _ w.reading w.deep e m) }
+      record { within = w; is = met_is (each_argument_met d packs_are complete bares_are thunks_are values_are x _ _ _ _ w.reading w.deep e m) is }

@@ -1,5 +1,5 @@
 -- Of lists that are built as they are read: what the parser reads, the grammar reads.
-use Rattle.std.proofs.Common.{◌≡◌, ◌<◌, ℕ, zero, suc, ◌+◌, max, Bool, true, false, ◌∷◌, map, length, ◌∙◌, sym, arith, Some}
+use Rattle.std.proofs.Common.{◌≡◌, ◌<◌, ℕ, zero, suc, ◌+◌, max, Bool, true, false, ◌∷◌, map, length, arith, Some}
 use Rattle.std.proofs.lemmas.Option.{same_Some, option_and_then_some}
 use Rattle.demangle_text.specs.Shape.{Shape}
 use Rattle.demangle_edit.specs.Built.{listed_each, listed_more}
@@ -9,10 +9,11 @@ use Rattle.itanium_grammar.specs.Tree.{shape_of}
 use Rattle.itanium_grammar.specs.Grammar.{Position, ParamsAs, TypesAs, no_params, some_params, end_of_types, one_more_type}
 use Rattle.itanium_grammar.proofs.Progress.{type_takes}
 use Rattle.itanium_demangle.specs.Cases.{ParamsCase, NoParams, SomeParams, TypesCase, EndOfTypes, NextType}
-use Rattle.itanium_reader.specs.Parser.{ParserState, after_turn, loop, ◌>>=◌, typed_as, typed_turn, typed_params_as, parse_type}
+use Rattle.itanium_reader.specs.Parser.{ParserState, after_turn, loop, ◌>>=◌, next_item, typed_as, typed_turn, typed_params_as, parse_type}
 use Rattle.itanium_demangle.specs.Meaning.{state_at}
+use Rattle.itanium_demangle.proofs.Fitting.{met_is, past_fitting}
 use Rattle.itanium_demangle.proofs.Readings.{Within, Found, TypesSound, TypesComplete}
-use Rattle.itanium_demangle.proofs.CompleteLists.{typed_params_complete}
+use Rattle.itanium_demangle.proofs.CompleteLists.{typed_params_met}
 
 -- types put onto a list, in n turns
 abbrev TypedSound : ℕ → ℕ → Type 0
@@ -29,7 +30,8 @@ module _ (d : ℕ) (complete : TypesComplete d) (kinds : TypesSound d) where
       let found = kinds x p e m z read in
       let i = found.within in
       let shorter = (type_takes i.reading).shorter in
-      let there = rw (← same_Some _ _ made, found.is) at rest in
+      let stepped = past_fitting (listed_more first front z.0, z.1) next_item v made in
+      let there = rw (← same_Some _ _ stepped, found.is) at rest in
       let o = again x false (listed_more first front (shape_of i.tree)) i.next (e + i.cost.count) (max m i.cost.peak) y (omega arith) there in
       record { tree = i.tree ∷ o.tree; next = o.next; cost = _; reading = one_more_type i.reading o.reading; deep = omega (arith, i.deep, o.deep) }))
 
@@ -43,8 +45,8 @@ module _ (d : ℕ) (complete : TypesComplete d) (kinds : TypesSound d) where
       → typed_params_as case (parse_type d x) front (state_at p e m) ≡ Some y → Found (ParamsAs case false x p) (λ ts. listed_each true front (map shape_of ts)) d e m y
   typed_params_sound NoParams x front p e m y is =
       let w : Within (ParamsAs NoParams false x p) d = record { tree = _; next = _; cost = _; reading = no_params; deep = omega arith } in
-      record { within = w; is = same_Some _ _ (sym is ∙ typed_params_complete d complete w.reading w.deep e m front) }
+      record { within = w; is = met_is (typed_params_met d complete w.reading w.deep e m front) is }
   typed_params_sound SomeParams x front p e m y is =
       let i = typed_sound (length p.rest + 1) x true front p e m y (omega arith) is in
       let w : Within (ParamsAs SomeParams false x p) d = record { tree = i.tree; next = i.next; cost = i.cost; reading = some_params i.reading; deep = i.deep } in
-      record { within = w; is = same_Some _ _ (sym is ∙ typed_params_complete d complete w.reading w.deep e m front) }
+      record { within = w; is = met_is (typed_params_met d complete w.reading w.deep e m front) is }

@@ -1,34 +1,37 @@
 -- Of names: what the parser reads, the grammar reads.
-use Rattle.std.proofs.Common.{◌≡◌, ◌<◌, ◌≤◌, ℕ, zero, suc, ◌+◌, max, Bool, true, false, List, map, length, drop, refl, ap, ◌∙◌, sym, arith, Option, Some, None, codes}
+use Rattle.std.proofs.Common.{◌≡◌, ◌<◌, ℕ, zero, suc, ◌+◌, max, Bool, true, false, List, map, length, drop, refl, ap, ◌∙◌, sym, arith, Option, Some, None, codes}
 use Rattle.std.proofs.lemmas.Option.{same_Some, option_and_then_some, slice_get-map}
 use Rattle.std.specs.Prelude.{option_map, slice_get, is_some}
-use Rattle.demangle_text.specs.Shape.{Shape, plain_shape}
+use Rattle.demangle_text.specs.Shape.{Shape, plain_shape, text_len}
 use Rattle.itanium_syntax.specs.declared.context.Context.{Context}
 use Rattle.itanium_syntax.specs.declared.numerals.Radix.TheVariants.{Decimal, Base36}
-use Rattle.itanium_syntax.specs.Scalars.{optional_number, source_name, index_of, ordinal}
+use Rattle.itanium_syntax.specs.Scalars.{source_name, index_of, ordinal}
 use Rattle.itanium_syntax.specs.Abbreviations.{abbreviation_of}
 use Rattle.itanium_syntax.specs.Offsets.{thunk_offsets, past_base_offset}
 use Rattle.itanium_syntax.specs.Specials.{special_case}
 use Rattle.itanium_syntax.specs.Names.{source_text, symbol_case, name_case, unscoped_case, first_case, component_case, unqualified_case, free_case, tag_case, substitution_case, past_internal, past_name_quals, saves_first}
 use Rattle.itanium_syntax.specs.Args.{attached_case}
 use Rattle.itanium_syntax.proofs.Fronts.{initializer_after, after_drop, source_takes, after-le}
-use Rattle.itanium_grammar.specs.Tree.{Tree, bare_shape, plain_text, abbreviation, ctor_dtor_of, tagged_with, with_args, trees, shape_of}
+use Rattle.itanium_grammar.specs.Tree.{Tree, bare_shape, own_quals, plain_text, abbreviation, ctor_dtor_of, tagged_with, with_args, trees, shape_of}
 use Rattle.itanium_grammar.specs.Grammar.{Position, Cost, at, skip, save, last_of, past_initializer, both, saving, SubstitutionAs, Substitution, ParameterAs, Parameter, TaggedAs, FreeAs, UnqualifiedAs, Unqualified, FirstAs, NameAs, Name, nothing, SpecialAs, SymbolAs, Thunk, special_encoding, type_special, name_special, temporary_special, construction_special, thunk_special, thunk, special_symbol, name_symbol, Local, EntityAs, Encoding, EncodingAs, ReturnAs, SignatureAs, UnscopedAs, AttachedAs, Nested, Components, ComponentsAs, Args, abbreviation_substitution, component_substitution, substitution, auto_parameter, scope_parameter, parameter, no_tag, next_tag, source_free, unnamed_type_free, lambda_free, conversion_free, literal_operator_free, operator_free, constructor_component, destructor_component, free_component, unqualified, parameter_first, std_first, substitution_first, name_first, name, nested_name, local_name, local, string_literal_entity, default_argument_entity, name_entity, encoding, name_encoding, no_return_type, some_return_type, no_signature, some_signature, unscoped_name, std_name, substitution_name, global_name, none_attached, args_attached, nested, components, end_of_components, args_component, name_component}
 use Rattle.itanium_grammar.proofs.Progress.{unqualified_takes, args_takes}
 use Rattle.itanium_demangle.specs.Cases.{SymbolCase, SpecialSymbol, NameSymbol, SpecialCase, TypeSpecial, NameSpecial, TemporarySpecial, ConstructionSpecial, ThunkSpecial, NoSpecial, ReturnCase, NoReturnType, SomeReturnType, SignatureCase, NoSignature, SomeSignature, EntityCase, StringLiteralEntity, DefaultArgumentEntity, NameEntity, NoEntity, SubstitutionCase, AbbreviationSubstitution, ComponentSubstitution, TagCase, NoTag, NextTag, UnqualifiedCase, ConstructorName, DestructorName, FreeName, FreeCase, SourceName, UnnamedTypeName, LambdaName, ConversionName, LiteralOperatorName, OperatorName, NoName, FirstCase, ParameterFirst, StdFirst, SubstitutionFirst, NameFirst, NameCase, NestedName, LocalName, UnscopedName, UnscopedCase, StdName, SubstitutionName, PlainName, AttachedCase, NoneAttached, ArgsAttached, ComponentCase, EndOfComponents, ArgsComponent, NameComponent}
-use Rattle.itanium_reader.specs.Parser.{ParserState, after_turn, loop, ◌>>=◌, next_component, substitution_as, parse_substitution, parameter_as, parse_parameter, tag_as, tag_turn, parse_tags, typed_params_as, free_as, parse_free, ctor_dtor_as, unqualified_as, parse_unqualified, first_as, attached_by, attached_as, template_as, unscoped_as, component_as, component_turn, parse_components, parse_nested, dropped, return_as, signature_as, special_as, parse_special, symbol_as, parse_thunk, encoding_as, parse_encoding, entity_as, parse_local, name_as, parse_bare_name, parse_name, parse_args, parse_type}
+use Rattle.itanium_reader.specs.Parser.{ParserState, after_turn, loop, ◌>>=◌, next_component, substitution_as, parse_substitution, parameter_as, parse_parameter, tag_as, tag_turn, parse_tags, typed_params_as, free_as, parse_free, ctor_dtor_as, unqualified_as, parse_unqualified, first_as, fitting, attached_by, attached_as, template_as, unscoped_as, component_as, component_turn, parse_components, parse_nested, return_as, signature_as, special_as, parse_special, symbol_as, symbol_by, thunk_by, parse_thunk, encoding_as, parse_encoding, entity_as, parse_local, name_as, parse_bare_name, parse_name, parse_args, parse_type}
 use Rattle.itanium_demangle.specs.Meaning.{state_at}
 use Rattle.itanium_demangle.specs.Readers.{bare_of}
 use Rattle.itanium_demangle.proofs.Shapes.{same_state, one_more, some-map, last-map, shape-plain_text, shape-ctor_dtor_of, shape-tagged_with, shape-with_args}
-use Rattle.itanium_demangle.proofs.Readings.{Within, Found, given, ArgsSound, ArgsComplete, TypesSound, TypesComplete, BareNamesComplete, BareNamesSound, NamesSound, ThunksComplete, ThunksSound}
-use Rattle.itanium_demangle.proofs.Waiting.{same_return}
-use Rattle.itanium_demangle.proofs.CompleteNames.{substitution_complete, parameter_complete, free_complete, unqualified_complete, first_complete, components_complete, encoding_complete, bare_names_complete, names_complete, thunks_complete}
+use Rattle.itanium_demangle.proofs.Readings.{Small, Within, Found, reached, given, ArgsSound, ArgsComplete, TypesSound, TypesComplete, BareNamesComplete, BareNamesSound, NamesSound, ThunksComplete, ThunksSound}
+use Rattle.itanium_demangle.proofs.Waiting.{same_return, whole_name}
+use Rattle.itanium_demangle.proofs.Whole.{with_own_quals}
+use Rattle.itanium_demangle.proofs.Fitting.{Met, met, met_is, met_passed, met_passed_bare, passed}
+use Rattle.itanium_demangle.proofs.CompleteNames.{substitution_complete, parameter_complete, free_met, unqualified_met, first_met, components_met, encoding_met, thunk_by_complete, name_as_met, bare_names_complete, names_complete, thunks_complete}
 use Rattle.itanium_syntax.specs.Types.{params_case}
 use Rattle.itanium_syntax.specs.Operators.{operator_here}
 use Rattle.itanium_syntax.specs.Context.{inside_lambda, inside_local, inside_encoding}
-use Rattle.itanium_syntax.specs.Encodings.{return_case, signature_case, entity_case}
+use Rattle.itanium_syntax.specs.Encodings.{return_case, signature_case, entity_case, shows_words}
 use Rattle.demangle_quals.specs.declared.quals.Quals.{Quals}
 use Rattle.demangle_edit.specs.Built.{params_opened}
+use Rattle.demangle_edit.specs.Names.{with_name_qualifiers}
 use Rattle.itanium_demangle.proofs.SoundLists.{typed_params_sound}
 
 -- a reading that isn't counted, and the answer y is what it gives
@@ -137,11 +140,11 @@ module _ (d : ℕ) (complete : TypesComplete d) (lists_are : ArgsComplete d) (ki
   free_sound SourceName x p e m y is =
       option_and_then_some _ (source_name p.rest) y is (λ b found _.
       let w : Within (FreeAs SourceName x p) d = record { tree = _; next = _; cost = _; reading = source_free found; deep = omega arith } in
-      record { within = w; is = same_Some _ _ (sym is ∙ free_complete d lists_are complete w.reading w.deep e m) })
+      record { within = w; is = met_is (free_met d lists_are complete w.reading w.deep e m) is })
   free_sound UnnamedTypeName x p e m y is =
       option_and_then_some _ (ordinal (drop 2 p.rest)) y is (λ b found _.
       let w : Within (FreeAs UnnamedTypeName x p) d = record { tree = _; next = _; cost = _; reading = unnamed_type_free found; deep = omega arith } in
-      record { within = w; is = same_Some _ _ (sym is ∙ free_complete d lists_are complete w.reading w.deep e m) })
+      record { within = w; is = met_is (free_met d lists_are complete w.reading w.deep e m) is })
   free_sound LambdaName x p e m y is =
       option_and_then_some _ (typed_params_as (params_case (drop 2 p.rest)) (parse_type d (inside_lambda x)) (plain_shape (codes "{lambda(")) (state_at (skip 2 p) e m)) y is (λ z params ends.
       let listed = typed_params_sound d complete kinds (params_case (drop 2 p.rest)) (inside_lambda x) (plain_shape (codes "{lambda(")) (skip 2 p) e m z params in
@@ -149,20 +152,20 @@ module _ (d : ℕ) (complete : TypesComplete d) (lists_are : ArgsComplete d) (ki
       let there = rw listed.is at ends in
       option_and_then_some _ (ordinal (drop 1 o.next.rest)) y there (λ b found _.
       let w : Within (FreeAs LambdaName x p) d = record { tree = _; next = _; cost = _; reading = lambda_free o.reading found; deep = omega (arith, o.deep) } in
-      record { within = w; is = same_Some _ _ (sym is ∙ free_complete d lists_are complete w.reading w.deep e m) }))
+      record { within = w; is = met_is (free_met d lists_are complete w.reading w.deep e m) is }))
   free_sound ConversionName x p e m y is =
       option_and_then_some _ (parse_type d x (state_at (skip 2 p) e m)) y is (λ z inner _.
       let i = (kinds x (skip 2 p) e m z inner).within in
       let w : Within (FreeAs ConversionName x p) d = record { tree = _; next = _; cost = _; reading = conversion_free i.reading; deep = omega (arith, i.deep) } in
-      record { within = w; is = same_Some _ _ (sym is ∙ free_complete d lists_are complete w.reading w.deep e m) })
+      record { within = w; is = met_is (free_met d lists_are complete w.reading w.deep e m) is })
   free_sound LiteralOperatorName x p e m y is =
       option_and_then_some _ (source_name (drop 2 p.rest)) y is (λ b found _.
       let w : Within (FreeAs LiteralOperatorName x p) d = record { tree = _; next = _; cost = _; reading = literal_operator_free found; deep = omega arith } in
-      record { within = w; is = same_Some _ _ (sym is ∙ free_complete d lists_are complete w.reading w.deep e m) })
+      record { within = w; is = met_is (free_met d lists_are complete w.reading w.deep e m) is })
   free_sound OperatorName x p e m y is =
       option_and_then_some _ (operator_here p.rest) y is (λ b found _.
       let w : Within (FreeAs OperatorName x p) d = record { tree = _; next = _; cost = _; reading = operator_free found; deep = omega arith } in
-      record { within = w; is = same_Some _ _ (sym is ∙ free_complete d lists_are complete w.reading w.deep e m) })
+      record { within = w; is = met_is (free_met d lists_are complete w.reading w.deep e m) is })
 
   unqualified_as_sound : (case : UnqualifiedCase) (x : Context) (scope : Option Tree) (p : Position) (e m : ℕ) (y : Shape × ParserState)
       → unqualified_as case (parse_type d x) (parse_type d (inside_lambda x)) (option_map shape_of scope) (state_at p e m) ≡ Some y → Within (UnqualifiedAs case x scope p) d
@@ -186,11 +189,11 @@ module _ (d : ℕ) (complete : TypesComplete d) (lists_are : ArgsComplete d) (ki
   unqualified_sound x scope p e m y is =
       let r = unqualified_as_sound (unqualified_case (is_some scope) (past_internal p.rest)) x scope (at (past_internal p.rest) p) e m y (rw (some-map scope) at is) in
       let w : Within (Unqualified x scope p) d = record { tree = _; next = _; cost = _; reading = unqualified r.reading; deep = r.deep } in
-      record { within = w; is = same_Some _ _ (sym is ∙ whole w.reading w.deep) }
+      record { within = w; is = met_is (whole w.reading w.deep) is }
     where
-      whole : {t : Tree} {q : Position} {c : Cost} → Unqualified x scope p t q c → c.depth ≤ d
-          → parse_unqualified (parse_type d x) (parse_type d (inside_lambda x)) (option_map shape_of scope) (state_at p e m) ≡ given shape_of t q c e m
-      whole a deep = unqualified_complete d lists_are complete a deep e m
+      whole : {t : Tree} {q : Position} {c : Cost} → Unqualified x scope p t q c → Small d c
+          → Met text_len (parse_unqualified (parse_type d x) (parse_type d (inside_lambda x)) (option_map shape_of scope) (state_at p e m)) (reached shape_of t q c e m)
+      whole a deep = unqualified_met d lists_are complete a deep e m
 
   first_sound : (case : FirstCase) (x : Context) (p : Position) (e m : ℕ) (y : Shape × ParserState) → first_as case (parse_unqualified (parse_type d x) (parse_type d (inside_lambda x))) x (state_at p e m) ≡ Some y → Within (FirstAs case x p) d
   first_sound ParameterFirst x p e m y is =
@@ -265,8 +268,10 @@ module _ (d : ℕ) (complete : TypesComplete d) (lists_are : ArgsComplete d) (ki
       → Within (ComponentsAs case x takes t p) d
   component_sound n again EndOfComponents x takes t p e m y room is = record { tree = _; next = _; cost = _; reading = end_of_components; deep = omega arith }
   component_sound n again ArgsComponent x takes t p e m y room is =
-      option_and_then_some _ (attached_by (parse_args d x true) (shape_of t) (state_at p e m) >>= next_component) y is (λ v turned rest.
-      option_and_then_some _ (attached_by (parse_args d x true) (shape_of t) (state_at p e m)) v turned (λ z list made.
+      option_and_then_some _ (attached_by (parse_args d x true) (shape_of t) (state_at p e m) >>= fitting >>= next_component) y is (λ v turned rest.
+      option_and_then_some _ (attached_by (parse_args d x true) (shape_of t) (state_at p e m) >>= fitting) v turned (λ u fitted next.
+      option_and_then_some _ (attached_by (parse_args d x true) (shape_of t) (state_at p e m)) u fitted (λ z list through.
+      let made = rw ((passed z u through).0) at next in
       let found = attached_sound d lists x true t p e m z list in
       let i = found.within in
       let shorter = (args_takes i.reading).shorter in
@@ -274,17 +279,19 @@ module _ (d : ℕ) (complete : TypesComplete d) (lists_are : ArgsComplete d) (ki
       let whole = with_args t (trees i.tree) in
       let there = rw (← same_Some _ _ made, found.is, one_more i.next.saved whole) at rest in
       let o = (again x true whole (past_initializer (save whole i.next)) (e + i.cost.count) (max (max m i.cost.peak) (length (map shape_of i.next.saved) + 1)) y (omega arith) there).within in
-      record { tree = o.tree; next = o.next; cost = both i.cost (both (saving i.next) o.cost); reading = args_component {r = o.next} {v = o.tree} {d = o.cost} i.reading o.reading; deep = omega (arith, i.deep, o.deep) }))
+      record { tree = o.tree; next = o.next; cost = both i.cost (both (saving i.next) o.cost); reading = args_component {r = o.next} {v = o.tree} {d = o.cost} i.reading o.reading; deep = omega (arith, i.deep, o.deep) })))
   component_sound n again NameComponent x takes t p e m y room is =
-      option_and_then_some _ (parse_unqualified (parse_type d x) (parse_type d (inside_lambda x)) (Some (shape_of t)) (state_at p e m) >>= next_component) y is (λ v turned rest.
-      option_and_then_some _ (parse_unqualified (parse_type d x) (parse_type d (inside_lambda x)) (Some (shape_of t)) (state_at p e m)) v turned (λ z named made.
+      option_and_then_some _ (parse_unqualified (parse_type d x) (parse_type d (inside_lambda x)) (Some (shape_of t)) (state_at p e m) >>= fitting >>= next_component) y is (λ v turned rest.
+      option_and_then_some _ (parse_unqualified (parse_type d x) (parse_type d (inside_lambda x)) (Some (shape_of t)) (state_at p e m) >>= fitting) v turned (λ u fitted next.
+      option_and_then_some _ (parse_unqualified (parse_type d x) (parse_type d (inside_lambda x)) (Some (shape_of t)) (state_at p e m)) u fitted (λ z named through.
+      let made = rw ((passed z u through).0) at next in
       let found = unqualified_sound d complete lists_are kinds x (Some t) p e m z named in
       let i = found.within in
       let shorter = (unqualified_takes i.reading).shorter in
       let within = after-le (initializer_after i.next.rest) in
       let there = rw (← same_Some _ _ made, found.is, one_more i.next.saved i.tree) at rest in
       let o = (again x true i.tree (past_initializer (save i.tree i.next)) (e + i.cost.count) (max (max m i.cost.peak) (length (map shape_of i.next.saved) + 1)) y (omega arith) there).within in
-      record { tree = o.tree; next = o.next; cost = both i.cost (both (saving i.next) o.cost); reading = name_component {r = o.next} {v = o.tree} {d = o.cost} i.reading o.reading; deep = omega (arith, i.deep, o.deep) }))
+      record { tree = o.tree; next = o.next; cost = both i.cost (both (saving i.next) o.cost); reading = name_component {r = o.next} {v = o.tree} {d = o.cost} i.reading o.reading; deep = omega (arith, i.deep, o.deep) })))
 
   components_sound : (n : ℕ) → ComponentsSound d n
   unfolding loop component_turn
@@ -292,7 +299,7 @@ module _ (d : ℕ) (complete : TypesComplete d) (lists_are : ArgsComplete d) (ki
   components_sound (suc n) x takes t p e m y room is =
       let r = component_sound n (components_sound n) (component_case p.rest) x takes t p e m y room is in
       let w : Within (Components x takes t p) d = record { tree = _; next = _; cost = _; reading = components r.reading; deep = r.deep } in
-      record { within = w; is = same_Some _ _ (sym is ∙ components_complete d lists_are complete w.reading w.deep e m (suc n) room) }
+      record { within = w; is = met_is (components_met d lists_are complete w.reading w.deep e m (suc n) room) is }
 
   nested_sound : (x : Context) (p : Position) (e m : ℕ) (y : (Shape × Quals) × ParserState) → parse_nested (parse_unqualified (parse_type d x) (parse_type d (inside_lambda x))) (parse_args d x true) x (state_at p e m) ≡ Some y → Within (Nested x p) d
   unfolding parse_nested
@@ -301,7 +308,7 @@ module _ (d : ℕ) (complete : TypesComplete d) (lists_are : ArgsComplete d) (ki
       let case = first_case (past_name_quals p.rest) in
       option_and_then_some _ (first_as case (parse_unqualified (parse_type d x) (parse_type d (inside_lambda x))) x (state_at begun e m)) y is (λ z first more.
       let i = first_sound d complete lists_are kinds case x begun e m z first in
-      let is_z : z ≡ (shape_of i.tree, state_at i.next (e + i.cost.count) (max m i.cost.peak)) = same_Some _ _ (sym first ∙ first_complete d lists_are complete i.reading i.deep e m) in
+      let is_z : z ≡ (shape_of i.tree, state_at i.next (e + i.cost.count) (max m i.cost.peak)) = met_is (first_met d lists_are complete i.reading i.deep e m) first in
       let there = rw is_z at more in
       option_and_then_some _ (parse_components (parse_unqualified (parse_type d x) (parse_type d (inside_lambda x))) (parse_args d x true) (saves_first case) (shape_of i.tree) (state_at (past_initializer i.next) (e + i.cost.count) (max m i.cost.peak))) y there (λ v rest _.
       let o = (components_sound (length (past_initializer i.next).rest + 1) x (saves_first case) i.tree (past_initializer i.next) (e + i.cost.count) (max m i.cost.peak) v (omega arith) rest).within in
@@ -312,7 +319,7 @@ record Returned (case : ReturnCase) (x : Context) (p : Position) (d e m : ℕ) (
   next : Position
   cost : Cost
   reading : ReturnAs case x p next cost
-  deep : cost.depth ≤ d
+  deep : Small d cost
   is : after ≡ state_at next (e + cost.count) (max m cost.peak)
 
 return_sound : (d : ℕ) → TypesSound d → (case : ReturnCase) (x : Context) (p : Position) (e m : ℕ) (after : ParserState)
@@ -337,11 +344,18 @@ signature_sound d complete kinds SomeSignature x t p e m y is =
 pub names_sound : (d : ℕ) → BareNamesComplete d → BareNamesSound d → NamesSound d
 unfolding parse_name
 names_sound d bares_are bares x p e m y is =
-    option_and_then_some _ (parse_bare_name d x (state_at p e m)) y is (λ z read _.
-    let w = (bares false x p e m z read).within in
+    option_and_then_some _ (parse_bare_name d x (state_at p e m)) y is (λ z read through.
+    let found = bares x p e m z read in
+    let i = found.within in
+    let g : Shape × ParserState = (with_name_qualifiers (bare_shape i.tree) (own_quals i.tree) (shows_words (name_case p.rest) x.shown), state_at i.next (e + i.cost.count) (max m i.cost.peak)) in
+    let there : fitting g ≡ Some y = rw found.is at through in
+    let narrow = (passed g y there).1 in
+    let same_len = ap text_len (whole_name i.reading) in
+    let own = with_own_quals i.reading in
+    let w : Within (Name false x p) d = record { tree = i.tree; next = i.next; cost = own.cost; reading = own.reading; deep = omega (arith, i.deep, own.depth_is, own.width_in) } in
     record { within = w; is = same_Some _ _ (sym is ∙ whole w.reading w.deep) })
   where
-    whole : {t : Tree} {q : Position} {c : Cost} → Name false x p t q c → c.depth ≤ d → parse_name d x (state_at p e m) ≡ given shape_of t q c e m
+    whole : {t : Tree} {q : Position} {c : Cost} → Name false x p t q c → Small d c → parse_name d x (state_at p e m) ≡ given shape_of t q c e m
     whole a deep = names_complete d bares_are x _ _ _ _ a deep e m
 
 module _ (d : ℕ) (complete : TypesComplete d) (bares_are : BareNamesComplete d) (thunks_are : ThunksComplete d) (kinds : TypesSound d) (bares : BareNamesSound d) (thunks : ThunksSound d) where
@@ -387,11 +401,13 @@ module _ (d : ℕ) (complete : TypesComplete d) (bares_are : BareNamesComplete d
   pub thunks_sound : ThunksSound (suc d)
   unfolding parse_thunk parse_special parse_name
   thunks_sound x p e m y is =
-      option_and_then_some _ (thunk_offsets (drop 1 p.rest)) y is (λ o offsets more.
-      option_and_then_some _ (symbol_as (symbol_case o.1) (parse_special d x) (parse_name d x) (state_at (at o.1 p) (e + 1) m)) y more (λ z read _.
+      option_and_then_some _ (thunk_by (symbol_by (parse_type d x) (parse_bare_name d x) (parse_thunk d x) x) (state_at p (e + 1) m)) y is (λ u thunked through.
+      option_and_then_some _ (thunk_offsets (drop 1 p.rest)) u thunked (λ o offsets more.
+      option_and_then_some _ (symbol_as (symbol_case o.1) (parse_special d x) (parse_name d x) (state_at (at o.1 p) (e + 1) m)) u more (λ z read _.
       let i = symbol_as_sound (symbol_case o.1) x (at o.1 p) (e + 1) m z read in
-      let w : Within (Thunk x p) (suc d) = record { tree = _; next = _; cost = _; reading = thunk offsets i.reading; deep = omega (arith, i.deep) } in
-      record { within = w; is = same_Some _ _ (sym is ∙ thunks_complete d complete bares_are thunks_are x _ _ _ _ w.reading w.deep e m) }))
+      let narrow = met_passed (met (thunk_by_complete d complete bares_are thunks_are p offsets i.reading i.deep (e + 1) m)) thunked through in
+      let w : Within (Thunk x p) (suc d) = record { tree = _; next = _; cost = _; reading = thunk offsets i.reading; deep = omega (arith, i.deep, narrow) } in
+      record { within = w; is = same_Some _ _ (sym is ∙ thunks_complete d complete bares_are thunks_are x _ _ _ _ w.reading w.deep e m) })))
 
   encoding_as_sound : (case : SymbolCase) (x : Context) (p : Position) (e m : ℕ) (y : Shape × ParserState)
       → encoding_as case (parse_special d x) (parse_bare_name d x) (parse_type d x) (state_at p e m) ≡ Some y → Within (EncodingAs case x p) d
@@ -399,7 +415,7 @@ module _ (d : ℕ) (complete : TypesComplete d) (bares_are : BareNamesComplete d
       let i = special_sound x p e m y is in record { tree = _; next = _; cost = _; reading = special_encoding i.reading; deep = i.deep }
   encoding_as_sound NameSymbol x p e m y is =
       option_and_then_some _ (parse_bare_name d x (state_at p e m)) y is (λ z named ends.
-      let found = bares true x p e m z named in
+      let found = bares x p e m z named in
       let i = found.within in
       let case = return_case (shape_of i.tree).templ (shape_of i.tree).ctor i.next.rest in
       let there = rw (found.is, same_return i.reading i.next.rest) at ends in
@@ -413,49 +429,52 @@ module _ (d : ℕ) (complete : TypesComplete d) (bares_are : BareNamesComplete d
   encoding_sound x p e m y is =
       let r = encoding_as_sound (symbol_case p.rest) x p e m y is in
       let w : Within (Encoding x p) d = record { tree = _; next = _; cost = _; reading = encoding r.reading; deep = r.deep } in
-      record { within = w; is = same_Some _ _ (sym is ∙ encoding_complete d complete bares_are thunks_are w.reading w.deep e m) }
+      record { within = w; is = met_is (encoding_met d complete bares_are thunks_are w.reading w.deep e m) is }
 
-  entity_sound : (case : EntityCase) (waits : Bool) (x : Context) (t : Tree) (p : Position) (e m : ℕ) (y : (Shape × Quals) × ParserState)
-      → entity_as case (parse_bare_name d x) (shape_of t) (state_at p e m) ≡ Some y → Within (EntityAs case waits x t p) d
-  entity_sound StringLiteralEntity waits x t p e m y is = record { tree = _; next = _; cost = _; reading = string_literal_entity; deep = omega arith }
-  entity_sound DefaultArgumentEntity waits x t p e m y is =
+  entity_sound : (case : EntityCase) (x : Context) (t : Tree) (p : Position) (e m : ℕ) (y : (Shape × Quals) × ParserState)
+      → entity_as case (parse_bare_name d x) (shape_of t) (state_at p e m) ≡ Some y → Within (EntityAs case true x t p) d
+  entity_sound StringLiteralEntity x t p e m y is = record { tree = _; next = _; cost = _; reading = string_literal_entity; deep = omega arith }
+  entity_sound DefaultArgumentEntity x t p e m y is =
       option_and_then_some _ (ordinal (drop 2 p.rest)) y is (λ n number more.
       option_and_then_some _ (parse_bare_name d x (state_at (at n.1 p) e m)) y more (λ z read _.
-      let i = (bares waits x (at n.1 p) e m z read).within in
+      let i = (bares x (at n.1 p) e m z read).within in
       record { tree = _; next = _; cost = _; reading = default_argument_entity number i.reading; deep = i.deep }))
-  entity_sound NameEntity waits x t p e m y is =
+  entity_sound NameEntity x t p e m y is =
       option_and_then_some _ (parse_bare_name d x (state_at (skip 1 p) e m)) y is (λ z read _.
-      let i = (bares waits x (skip 1 p) e m z read).within in
+      let i = (bares x (skip 1 p) e m z read).within in
       record { tree = _; next = _; cost = _; reading = name_entity i.reading; deep = i.deep })
-  entity_sound NoEntity waits x t p e m y is = cc
+  entity_sound NoEntity x t p e m y is = cc
 
-  local_sound : (waits : Bool) (x : Context) (p : Position) (e m : ℕ) (y : (Shape × Quals) × ParserState)
+  local_sound : (x : Context) (p : Position) (e m : ℕ) (y : (Shape × Quals) × ParserState)
       → parse_local (parse_encoding d (inside_encoding x)) (parse_bare_name d (inside_local x)) (state_at p e m) ≡ Some y
-      → Within (Local waits x p) d
+      → Within (Local true x p) d
   unfolding parse_local
-  local_sound waits x p e m y is =
+  local_sound x p e m y is =
       option_and_then_some _ (parse_encoding d (inside_encoding x) (state_at p e m)) y is (λ z read more.
       let found = encoding_sound (inside_encoding x) p e m z read in
       let i = found.within in
-      let o = entity_sound (entity_case i.next.rest) waits (inside_local x) i.tree i.next (e + i.cost.count) (max m i.cost.peak) y (rw found.is at more) in
+      let o = entity_sound (entity_case i.next.rest) (inside_local x) i.tree i.next (e + i.cost.count) (max m i.cost.peak) y (rw found.is at more) in
       record { tree = _; next = _; cost = _; reading = local i.reading o.reading; deep = omega (arith, i.deep, o.deep) })
 
 module _ (d : ℕ) (complete : TypesComplete d) (lists_are : ArgsComplete d) (bares_are : BareNamesComplete d) (thunks_are : ThunksComplete d) (kinds : TypesSound d) (lists : ArgsSound d) (bares : BareNamesSound d) (thunks : ThunksSound d) where
-  name_as_sound : (case : NameCase) (waits : Bool) (x : Context) (p : Position) (e m : ℕ) (y : (Shape × Quals) × ParserState)
+  name_as_sound : (case : NameCase) (x : Context) (p : Position) (e m : ℕ) (y : (Shape × Quals) × ParserState)
       → name_as case (parse_unqualified (parse_type d x) (parse_type d (inside_lambda x))) (parse_args d x true)
       (parse_local (parse_encoding d (inside_encoding x)) (parse_bare_name d (inside_local x))) x (state_at p e m) ≡ Some y
-      → Within (NameAs case waits x p) d
-  name_as_sound NestedName waits x p e m y is =
+      → Within (NameAs case true x p) d
+  name_as_sound NestedName x p e m y is =
       let i = nested_sound d complete lists_are kinds lists x (skip 1 p) e m y is in record { tree = _; next = _; cost = _; reading = nested_name i.reading; deep = i.deep }
-  name_as_sound LocalName waits x p e m y is =
-      let i = local_sound d complete bares_are thunks_are kinds bares thunks waits x (skip 1 p) e m y is in record { tree = _; next = _; cost = _; reading = local_name i.reading; deep = i.deep }
-  name_as_sound UnscopedName waits x p e m y is =
+  name_as_sound LocalName x p e m y is =
+      let i = local_sound d complete bares_are thunks_are kinds bares thunks x (skip 1 p) e m y is in record { tree = _; next = _; cost = _; reading = local_name i.reading; deep = i.deep }
+  name_as_sound UnscopedName x p e m y is =
       option_and_then_some _ (unscoped_as (unscoped_case p.rest) (parse_unqualified (parse_type d x) (parse_type d (inside_lambda x))) (parse_args d x true) (state_at p e m)) y is (λ z read _.
       let i = unscoped_sound d complete lists_are kinds lists (unscoped_case p.rest) x p e m z read in record { tree = _; next = _; cost = _; reading = unscoped_name i.reading; deep = i.deep })
 
 pub bare_names_sound : (d : ℕ) → ArgsComplete d → TypesComplete d → BareNamesComplete d → ThunksComplete d → ArgsSound d → TypesSound d → BareNamesSound d → ThunksSound d → BareNamesSound (suc d)
 unfolding parse_bare_name parse_encoding parse_special parse_name
-bare_names_sound d lists_are complete bares_are thunks_are lists kinds bares thunks waits x p e m y is =
-    let r = name_as_sound d complete lists_are bares_are thunks_are kinds lists bares thunks (name_case p.rest) waits x p (e + 1) m y is in
-    let w : Within (Name waits x p) (suc d) = record { tree = _; next = _; cost = _; reading = name r.reading; deep = omega (arith, r.deep) } in
-    record { within = w; is = same_Some _ _ (sym is ∙ bare_names_complete d lists_are complete bares_are thunks_are waits x _ _ _ _ w.reading w.deep e m) }
+bare_names_sound d lists_are complete bares_are thunks_are lists kinds bares thunks x p e m y is =
+    option_and_then_some _ (name_as (name_case p.rest) (parse_unqualified (parse_type d x) (parse_type d (inside_lambda x))) (parse_args d x true)
+    (parse_local (parse_encoding d (inside_encoding x)) (parse_bare_name d (inside_local x))) x (state_at p (e + 1) m)) y is (λ z read through.
+    let r = name_as_sound d complete lists_are bares_are thunks_are kinds lists bares thunks (name_case p.rest) x p (e + 1) m z read in
+    let narrow = met_passed_bare (name_as_met d lists_are complete bares_are thunks_are r.reading r.deep (e + 1) m) read through in
+    let w : Within (Name true x p) (suc d) = record { tree = _; next = _; cost = _; reading = name r.reading; deep = omega (arith, r.deep, narrow) } in
+    record { within = w; is = same_Some _ _ (sym is ∙ bare_names_complete d lists_are complete bares_are thunks_are x _ _ _ _ w.reading w.deep e m) })

@@ -12,7 +12,7 @@ use Rattle.itanium_demangle.proofs.Readings.{Within, Found, BareNamesSound, Args
 use Rattle.itanium_demangle.proofs.CompleteSymbols.{all_complete, symbol_complete}
 use Rattle.itanium_demangle.proofs.CompleteNames.{names_complete}
 use Rattle.itanium_demangle.proofs.SoundNames.{bare_names_sound, names_sound, thunks_sound, symbol_as_sound}
-use Rattle.itanium_demangle.proofs.CompleteExpressions.{each_argument_complete}
+use Rattle.itanium_demangle.proofs.CompleteExpressions.{each_argument_met}
 use Rattle.itanium_demangle.proofs.SoundExpressions.{each_argument_sound, expressions_sound}
 use Rattle.itanium_demangle.proofs.SoundArgs.{args_sound, packs_sound}
 use Rattle.itanium_demangle.proofs.SoundTypes.{types_sound_at}
@@ -20,11 +20,11 @@ use Rattle.itanium_demangle.proofs.SoundTypes.{types_sound_at}
 -- each counted production
 pub all_sound : (d : ℕ) → BareNamesSound d × ArgsSound d × PacksSound d × TypesSound d × ExpressionsSound d × ThunksSound d
 unfolding parse_bare_name
-all_sound zero = (λ waits x p e m y is. cc, λ x of_name p e m y is. cc, λ x p e m y is. cc, λ x p e m y is. cc, λ x p e m y is. cc, λ x p e m y is. cc)
+all_sound zero = (λ x p e m y is. cc, λ x of_name p e m y is. cc, λ x p e m y is. cc, λ x p e m y is. cc, λ x p e m y is. cc, λ x p e m y is. cc)
 all_sound (suc d) =
     let (bares_are, lists_are, packs_are, kinds_are, values_are, thunks_are) = all_complete d in
     let (bares, lists, packs, kinds, values, thunks) = all_sound d in
-    let each_is = each_argument_complete d packs_are kinds_are bares_are thunks_are values_are in
+    let each_is = each_argument_met d packs_are kinds_are bares_are thunks_are values_are in
     let each = each_argument_sound d packs_are kinds_are bares_are thunks_are values_are packs kinds bares thunks values in (
       bare_names_sound d lists_are kinds_are bares_are thunks_are lists kinds bares thunks,
       args_sound d each_is each,

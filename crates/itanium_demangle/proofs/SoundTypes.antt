@@ -15,11 +15,12 @@ use Rattle.itanium_grammar.specs.Tree.{Tree, plain_text, shape_of}
 use Rattle.itanium_grammar.specs.Grammar.{Position, at, skip, save, TypeOf, TypeAs, CvAs, Function, ParamsAs, TypesAs, TypeAttachedAs, type, builtin_type, expansion_type, vendor_type, array_type, function_type, member_type, pointer_type, cv_type, elaborated_type, parameter_type, substitution_type, name_type, cv_function, cv_other, function, no_params, some_params, end_of_types, one_more_type, none_attached_to_type, args_attached_to_type}
 use Rattle.itanium_grammar.proofs.Progress.{type_takes}
 use Rattle.itanium_demangle.specs.Cases.{TypeCase, BuiltinType, ExpansionType, VendorType, ArrayType, FunctionType, MemberType, PointerType, CvType, ElaboratedType, ParameterType, SubstitutionType, UnreadType, NameType, CvCase, CvFunction, CvOther, FunctionCase, ExternFunction, PlainFunction, ParamsCase, NoParams, SomeParams, TypesCase, EndOfTypes, NextType, AttachedCase, NoneAttached, ArgsAttached}
-use Rattle.itanium_reader.specs.Parser.{ParserState, after_turn, loop, ◌>>=◌, parse_source, parse_parameter, saved_parameter, parse_substitution, attached_by, type_attached_as, types_as, types_turn, params_as, function_as, parse_function, cv_as, vendor_as, type_as, parse_name, parse_args, parse_type}
+use Rattle.itanium_reader.specs.Parser.{ParserState, goes_on, total_len, after_turn, loop, ◌>>=◌, parse_source, parse_parameter, saved_parameter, parse_substitution, attached_by, type_attached_as, types_as, types_turn, params_as, function_as, parse_function, cv_as, vendor_as, type_as, parse_name, parse_args, parse_type}
 use Rattle.itanium_demangle.specs.Meaning.{state_at}
 use Rattle.itanium_demangle.proofs.Shapes.{one_more}
+use Rattle.itanium_demangle.proofs.Fitting.{met_is, met_passed, not_ended}
 use Rattle.itanium_demangle.proofs.Readings.{Within, Found, NamesComplete, NamesSound, ArgsComplete, ArgsSound, TypesComplete, TypesSound}
-use Rattle.itanium_demangle.proofs.CompleteTypes.{params_complete, types_complete_at}
+use Rattle.itanium_demangle.proofs.CompleteTypes.{params_met, type_as_met, types_complete_at}
 use Rattle.itanium_demangle.proofs.SoundNames.{attached_sound, substitution_sound, parameter_sound, source_is}
 
 type_attached_sound : (d : ℕ) → ArgsSound d → (case : AttachedCase) (x : Context) (t : Tree) (p : Position) (e m : ℕ) (y : Shape × ParserState)
@@ -59,7 +60,8 @@ module _ (d : ℕ) (complete : TypesComplete d) (kinds : TypesSound d) where
       let found = kinds x p e m z first in
       let i = found.within in
       let shorter = (type_takes i.reading).shorter in
-      let there = rw (← same_Some _ _ made, found.is) at rest in
+      let stepped = not_ended (total_len (front ++ z.0 ∷ [])) (Some (goes_on (front ++ z.0 ∷ []), z.1)) v made in
+      let there = rw (← same_Some _ _ stepped, found.is) at rest in
       let o = again x (front ++ shape_of i.tree ∷ []) i.next (e + i.cost.count) (max m i.cost.peak) y (omega arith) there in
       record { tree = i.tree ∷ o.tree; next = o.next; cost = _; reading = one_more_type i.reading o.reading; deep = omega (arith, i.deep, o.deep) }))
 
@@ -72,11 +74,11 @@ module _ (d : ℕ) (complete : TypesComplete d) (kinds : TypesSound d) where
       → params_as case (parse_type d x) (state_at p e m) ≡ Some y → Found (ParamsAs case true x p) (map shape_of) d e m y
   params_sound NoParams x p e m y is =
       let w : Within (ParamsAs NoParams true x p) d = record { tree = _; next = _; cost = _; reading = no_params; deep = omega arith } in
-      record { within = w; is = same_Some _ _ (sym is ∙ params_complete d complete w.reading w.deep e m) }
+      record { within = w; is = met_is (params_met d complete w.reading w.deep e m) is }
   params_sound SomeParams x p e m y is =
       let i = types_sound (length p.rest + 1) x [] p e m y (omega arith) is in
       let w : Within (ParamsAs SomeParams true x p) d = record { tree = i.tree; next = i.next; cost = i.cost; reading = some_params i.reading; deep = i.deep } in
-      record { within = w; is = same_Some _ _ (sym is ∙ params_complete d complete w.reading w.deep e m) }
+      record { within = w; is = met_is (params_met d complete w.reading w.deep e m) is }
 
   function_as_sound : (case : FunctionCase) (x : Context) (quals : Quals) (p : Position) (e m : ℕ) (y : Shape × ParserState) → function_case p.rest ≡ case
       → function_as case (parse_type d x) quals (state_at p e m) ≡ Some y → Within (Function x quals p) d
@@ -171,6 +173,8 @@ type_as_sound d complete kinds names lists NameType x p e m y is =
 pub types_sound_at : (d : ℕ) → TypesComplete d → NamesComplete d → ArgsComplete d → TypesSound d → NamesSound d → ArgsSound d → TypesSound (suc d)
 unfolding parse_type parse_name
 types_sound_at d complete names_are lists_are kinds names lists x p e m y is =
-    let r = type_as_sound d complete kinds names lists (type_case p.rest) (inside_type x) p (e + 1) m y is in
-    let w : Within (TypeOf x p) (suc d) = record { tree = _; next = _; cost = _; reading = type r.reading; deep = omega (arith, r.deep) } in
-    record { within = w; is = same_Some _ _ (sym is ∙ types_complete_at d complete names_are lists_are x _ _ _ _ w.reading w.deep e m) }
+    option_and_then_some _ (type_as (type_case p.rest) (parse_type d (inside_type x)) (parse_name d (inside_type x)) (parse_args d (inside_type x) false) (inside_type x) (state_at p (e + 1) m)) y is (λ z read through.
+    let r = type_as_sound d complete kinds names lists (type_case p.rest) (inside_type x) p (e + 1) m z read in
+    let narrow = met_passed (type_as_met d complete names_are lists_are r.reading r.deep (e + 1) m) read through in
+    let w : Within (TypeOf x p) (suc d) = record { tree = _; next = _; cost = _; reading = type r.reading; deep = omega (arith, r.deep, narrow) } in
+    record { within = w; is = same_Some _ _ (sym is ∙ types_complete_at d complete names_are lists_are x _ _ _ _ w.reading w.deep e m) })

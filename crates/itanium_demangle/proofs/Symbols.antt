@@ -49,7 +49,7 @@ stands_at_start r bytes is = is ∙ (λ j. record {
 })
 
 pub no_prefix : (symbol : List ℕ) → after_prefix symbol ≡ None → HasNoAnswer symbol
-no_prefix symbol none tree next cost reading deep utf8 = let p = reading.prefix in cc
+no_prefix symbol none tree next cost reading within utf8 = let p = reading.prefix in cc
 
 begins_dot : (bytes : List ℕ) → begins (46 ∷ []) bytes ≡ true → (0 < length bytes) × (get_or bytes 0 0 ≡ 46)
 begins_dot [] e = cc
@@ -102,15 +102,15 @@ prefix_takes symbol inside e = go (begins (95 ∷ 90 ∷ []) symbol) (begins (95
     go false false b c e = cc
 
 pub not_read : (symbol inside : List ℕ) → after_prefix symbol ≡ Some inside → HasNoReading (Symbol outside (start inside)) max_depth → HasNoAnswer symbol
-not_read symbol inside prefix none tree next cost reading deep utf8 =
+not_read symbol inside prefix none tree next cost reading within utf8 =
     let here : reading.inside ≡ inside = cc in
-    none tree next cost (subst (λ v. Symbol outside (start v) tree next cost) here reading.reading) deep
+    none tree next cost (subst (λ v. Symbol outside (start v) tree next cost) here reading.reading) within
 
 read_wrongly : (symbol inside : List ℕ) (e m : ℕ) (found : Shape) (after : ParserState) → after_prefix symbol ≡ Some inside → HasReading (Symbol outside (start inside)) shape_of max_depth e m found after
     → ¬ (IsUtf8 (text found)) → HasNoAnswer symbol
-read_wrongly symbol inside e m found after prefix has bad tree next cost reading deep utf8 =
+read_wrongly symbol inside e m found after prefix has bad tree next cost reading within utf8 =
     let here : reading.inside ≡ inside = cc in
-    let same = has.one tree next cost (subst (λ v. Symbol outside (start v) tree next cost) here reading.reading) deep in
+    let same = has.one tree next cost (subst (λ v. Symbol outside (start v) tree next cost) here reading.reading) within in
     let is : shape_of tree ≡ found = ap shape_of same.0 ∙ sym has.found_is in
     bad (subst (λ (v : Shape). IsUtf8 (text v)) is utf8)
 
@@ -123,7 +123,7 @@ read_rightly symbol inside answer e m found after prefix has utf8 built =
       next = has.next;
       cost = has.cost;
       reading = record { inside = inside; prefix = prefix; reading = has.reading };
-      depth = has.deep;
+      within = has.fits;
       utf8 = subst (λ (v : Shape). IsUtf8 (text v)) has.found_is utf8;
       answer_is = built ∙ ap (λ (v : Shape). text v ++ suffix after.rest) has.found_is ∙ ap (λ (v : List ℕ). printing has.tree ++ suffix v) same_rest;
     }
@@ -142,9 +142,9 @@ suffix_utf8 symbol inside e m found after utf8 prefix has =
 -- the counts of a reading that was found are those of every reading
 pub counted : (symbol inside : List ℕ) (before : ParserState) (found : Shape) (after : ParserState) → after_prefix symbol ≡ Some inside → before ≡ begun inside
     → HasReading (Symbol outside (start inside)) shape_of max_depth before.entered before.most_saved found after → HasCounts symbol after.entered after.most_saved
-counted symbol inside before found after prefix starts has tree next cost reading deep =
+counted symbol inside before found after prefix starts has tree next cost reading within =
     let here : reading.inside ≡ inside = cc in
-    let same = has.one tree next cost (subst (λ v. Symbol outside (start v) tree next cost) here reading.reading) deep in
+    let same = has.one tree next cost (subst (λ v. Symbol outside (start v) tree next cost) here reading.reading) within in
     let entered : after.entered ≡ before.entered + has.cost.count = ap (λ (s : ParserState). s.entered) has.state_is in
     let most : after.most_saved ≡ max before.most_saved has.cost.peak = ap (λ (s : ParserState). s.most_saved) has.state_is in
     let none : before.entered ≡ 0 = ap (λ (s : ParserState). s.entered) starts in
@@ -153,22 +153,22 @@ counted symbol inside before found after prefix starts has tree next cost readin
     let peak : cost.peak ≡ has.cost.peak = ap (λ (c : Cost). c.peak) same.2 in
     (omega (arith, entered, none, count), omega (arith, most, nothing, peak))
 
--- where there is no reading within the depth, nothing is asked of the counts
+-- where there is no reading within the limits, nothing is asked of the counts
 pub uncounted : (symbol inside : List ℕ) (entered most_saved : ℕ) → after_prefix symbol ≡ Some inside → HasNoReading (Symbol outside (start inside)) max_depth → HasCounts symbol entered most_saved
-uncounted symbol inside entered most_saved prefix none tree next cost reading deep =
+uncounted symbol inside entered most_saved prefix none tree next cost reading within =
     let here : reading.inside ≡ inside = cc in
-    absurd (none tree next cost (subst (λ v. Symbol outside (start v) tree next cost) here reading.reading) deep)
+    absurd (none tree next cost (subst (λ v. Symbol outside (start v) tree next cost) here reading.reading) within)
 
 -- without a prefix neither
 pub uncounted_prefix : (symbol : List ℕ) (entered most_saved : ℕ) → after_prefix symbol ≡ None → HasCounts symbol entered most_saved
-uncounted_prefix symbol entered most_saved none tree next cost reading deep = let p = reading.prefix in cc
+uncounted_prefix symbol entered most_saved none tree next cost reading within = let p = reading.prefix in cc
 
 -- the components that a reading which was found leaves saved are those of every reading
 left_saved : (symbol inside : List ℕ) (e m : ℕ) (found : Shape) (after : ParserState) (components : List (List ℕ)) (answer : List ℕ) → after_prefix symbol ≡ Some inside
     → HasReading (Symbol outside (start inside)) shape_of max_depth e m found after → components ≡ map text after.saved → HasComponents symbol (Some answer) components
-left_saved symbol inside e m found after components answer prefix has is tree next cost reading deep =
+left_saved symbol inside e m found after components answer prefix has is tree next cost reading within =
     let here : reading.inside ≡ inside = cc in
-    let same = has.one tree next cost (subst (λ v. Symbol outside (start v) tree next cost) here reading.reading) deep in
+    let same = has.one tree next cost (subst (λ v. Symbol outside (start v) tree next cost) here reading.reading) within in
     is
     ∙ ap (map text) (ap (λ (s : ParserState). s.saved) has.state_is)
     ∙ map-map text shape_of has.next.saved
@@ -183,9 +183,9 @@ kept_components symbol inside e m found after buffer true prefix has same = left
 -- the shapes that a reading which was found leaves saved are those of every reading
 left_shapes : (symbol inside : List ℕ) (e m : ℕ) (found : Shape) (after : ParserState) (shapes : List Shape) (answer : List ℕ) → after_prefix symbol ≡ Some inside
     → HasReading (Symbol outside (start inside)) shape_of max_depth e m found after → shapes ≡ after.saved → HasSaved symbol (Some answer) shapes
-left_shapes symbol inside e m found after shapes answer prefix has is tree next cost reading deep =
+left_shapes symbol inside e m found after shapes answer prefix has is tree next cost reading within =
     let here : reading.inside ≡ inside = cc in
-    let same = has.one tree next cost (subst (λ v. Symbol outside (start v) tree next cost) here reading.reading) deep in
+    let same = has.one tree next cost (subst (λ v. Symbol outside (start v) tree next cost) here reading.reading) within in
     is ∙ ap (λ (s : ParserState). s.saved) has.state_is ∙ sym (ap (λ (q : Position). map shape_of q.saved) same.1)
 
 -- what is kept as their shapes

@@ -1,9 +1,10 @@
 -- What a reader says of trees.
-use Rattle.std.specs.Prelude.{◌≡◌, ◌≤◌, ℕ, ◌+◌, max, map, Result, Ok, Err}
+use Rattle.std.specs.Prelude.{◌≡◌, ℕ, ◌+◌, max, map, Result, Ok, Err}
 use Rattle.demangle_text.specs.State.{IsLiving, shape}
 use Rattle.itanium_syntax.specs.declared.context.Context.{Context}
 use Rattle.itanium_grammar.specs.Tree.{shape_of}
 use Rattle.itanium_grammar.specs.Grammar.{Position, Cost, Symbol}
+use Rattle.itanium_grammar.specs.Answer.{Fits}
 use Rattle.itanium_reader.specs.Parser.{ParserState}
 use Rattle.itanium_reader.specs.Outcome.{state}
 use Rattle.itanium_reader.specs.declared.reader.Reader.{Reader}
@@ -20,29 +21,29 @@ state_at p entered most_saved = record {
   most_saved = most_saved;
 }
 
--- the grammar reads these bytes within the depth: there is a tree that shows as what was found, what its reading leaves
--- is this state, with its count and its peak added, and every reading within the depth agrees with it
+-- the grammar reads these bytes within the limits: there is a tree that shows as what was found, what its reading leaves
+-- is this state, with its count and its peak added, and every reading within the limits agrees with it
 pub record HasReading {T A : Type 0} (R : T → Position → Cost → Type 0) (show : T → A)
     (depth entered most_saved : ℕ) (found : A) (after : ParserState) : Type 0 where
   pub tree : T
   pub next : Position
   pub cost : Cost
   pub reading : R tree next cost
-  pub deep : cost.depth ≤ depth
+  pub fits : Fits depth cost
   pub found_is : found ≡ show tree
   pub state_is : after ≡ state_at next (entered + cost.count) (max most_saved cost.peak)
   pub one :
       (t : T) (q : Position) (c : Cost)
       → R t q c
-      → c.depth ≤ depth
+      → Fits depth c
       → (t ≡ tree) × (q ≡ next) × (c ≡ cost)
 
--- the grammar doesn't read these bytes within the depth
+-- the grammar doesn't read these bytes within the limits
 abbrev pub HasNoReading : {T : Type 0} → (T → Position → Cost → Type 0) → ℕ → Type 0
 HasNoReading {T} R depth =
     (tree : T) (next : Position) (cost : Cost)
     → R tree next cost
-    → cost.depth ≤ depth
+    → Fits depth cost
     → ⊥
 
 -- the position of trees that the reader stands for

@@ -1,6 +1,6 @@
 -- How the parser of a production agrees with the grammar. A reader's clause says what it reads by that parser; with the
 -- laws here it says what it reads of trees.
-use Rattle.std.specs.Prelude.{◌≡◌, ℕ, Bool, false, List, map, Some, None}
+use Rattle.std.specs.Prelude.{◌≡◌, ◌≤◌, ℕ, Bool, true, false, List, map, length, Some, None}
 use Rattle.demangle_text.specs.Shape.{Shape}
 use Rattle.demangle_edit.specs.Built.{arguments_shape}
 use Rattle.demangle_quals.specs.declared.quals.Quals.{Quals}
@@ -8,28 +8,34 @@ use Rattle.itanium_syntax.specs.declared.context.Context.{Context}
 use Rattle.itanium_syntax.specs.Args.{argument_case}
 use Rattle.itanium_syntax.specs.Expressions.{literal_case}
 use Rattle.itanium_syntax.specs.Specials.{special_case}
-use Rattle.itanium_grammar.specs.Tree.{Tree, shape_of, bare_shape, own_quals}
+use Rattle.itanium_grammar.specs.Tree.{Tree, shape_of, bare_shape, own_quals, printing}
 use Rattle.itanium_grammar.specs.Grammar.{Position, Cost, Name, Encoding, SpecialAs, Thunk, Symbol, Args, ArgumentAs}
 use Rattle.itanium_grammar.specs.Grammar.{Pack, LiteralAs, Expression, TypeOf}
+use Rattle.itanium_grammar.specs.Answer.{max_text}
 use Rattle.itanium_reader.specs.Parser.{ParserState, Parses, parse_bare_name, parse_name, parse_encoding, parse_special}
 use Rattle.itanium_reader.specs.Parser.{parse_thunk, parse_symbol, parse_args, parse_argument, parse_pack}
 use Rattle.itanium_reader.specs.Parser.{parse_primary, parse_expression, parse_type}
 use Rattle.itanium_demangle.specs.Meaning.{state_at, HasReading, HasNoReading}
 
--- the parser reads what the grammar reads within the depth, and nothing else: from each position of trees, after any
--- number of productions entered and of trees saved at most
-pub record IsParserOf {T A : Type 0} (R : Position → T → Position → Cost → Type 0) (show : T → A) (depth : ℕ)
+-- the parser reads what the grammar reads within the limits, and nothing else: from each position of trees, after any
+-- number of productions entered and of trees saved at most. Of the readings R it reads at least those that are N
+pub record IsParserOf {T A : Type 0} (R N : Position → T → Position → Cost → Type 0) (show : T → A) (depth : ℕ)
     (parse : Parses A) : Type 0 where
-  -- what it answers is a reading within the depth, with which every other agrees
+  -- what it answers is a reading within the limits, with which every other agrees
   pub reads :
       (p : Position) (entered most_saved : ℕ) (found : A) (after : ParserState)
       → parse (state_at p entered most_saved) ≡ Some (found, after)
       → HasReading (R p) show depth entered most_saved found after
-  -- where it answers none there is no reading within the depth
+  -- where it answers none there is no such reading within the limits
   pub none :
       (p : Position) (entered most_saved : ℕ)
       → parse (state_at p entered most_saved) ≡ None
-      → HasNoReading (R p) depth
+      → HasNoReading (N p) depth
+
+-- a reading whose tree isn't longer than a counted production may be: what is not counted itself is read where it may
+-- stand in one that is
+abbrev pub Narrow : (Position → Tree → Position → Cost → Type 0) → Position → Tree → Position → Cost → Type 0
+Narrow R p t q c = R p t q c × (length (printing t) ≤ max_text)
 
 -- the shape of a name without its own qualifiers, and these
 abbrev pub bare_of : Tree → Shape × Quals
@@ -53,51 +59,51 @@ Primary x p = LiteralAs (literal_case p.rest) x p
 
 -- the parsers read what the grammar reads: in each context, within each depth
 pub record LawsOfReaders : Type 0 where
-  -- <name> without its own qualifiers, which may wait for the parameters of an encoding
+  -- <name> without its own qualifiers, which wait for the parameters of an encoding
   pub bare_names :
-      (depth : ℕ) (waits : Bool) (x : Context)
-      → IsParserOf (Name waits x) bare_of depth (parse_bare_name depth x)
+      (depth : ℕ) (x : Context)
+      → IsParserOf (Name true x) (Name true x) bare_of depth (parse_bare_name depth x)
   -- <name>
   pub names :
       (depth : ℕ) (x : Context)
-      → IsParserOf (Name false x) shape_of depth (parse_name depth x)
+      → IsParserOf (Name false x) (Name false x) shape_of depth (parse_name depth x)
   -- <encoding>
   pub encodings :
       (depth : ℕ) (x : Context)
-      → IsParserOf (Encoding x) shape_of depth (parse_encoding depth x)
+      → IsParserOf (Encoding x) (Narrow (Encoding x)) shape_of depth (parse_encoding depth x)
   -- <special-name>
   pub special_names :
       (depth : ℕ) (x : Context)
-      → IsParserOf (SpecialName x) shape_of depth (parse_special depth x)
+      → IsParserOf (SpecialName x) (SpecialName x) shape_of depth (parse_special depth x)
   -- T <call-offset> <encoding> | T c <call-offset> <call-offset> <encoding>
   pub thunks :
       (depth : ℕ) (x : Context)
-      → IsParserOf (Thunk x) shape_of depth (parse_thunk depth x)
+      → IsParserOf (Thunk x) (Thunk x) shape_of depth (parse_thunk depth x)
   -- what follows the prefix of a symbol
   pub symbols :
       (depth : ℕ) (x : Context)
-      → IsParserOf (Symbol x) shape_of depth (parse_symbol depth x)
+      → IsParserOf (Symbol x) (Symbol x) shape_of depth (parse_symbol depth x)
   -- <template-args>, those of a name or others
   pub lists :
       (depth : ℕ) (x : Context) (of_name : Bool)
-      → IsParserOf (Args x of_name) shape_of_args depth (parse_args depth x of_name)
+      → IsParserOf (Args x of_name) (Args x of_name) shape_of_args depth (parse_args depth x of_name)
   -- <template-arg>
   pub arguments :
       (depth : ℕ) (x : Context)
-      → IsParserOf (Argument x) shape_of depth (parse_argument depth x)
+      → IsParserOf (Argument x) (Narrow (Argument x)) shape_of depth (parse_argument depth x)
   -- <template-arg> ::= J <template-arg>* E
   pub packs :
       (depth : ℕ) (x : Context)
-      → IsParserOf (Pack x) shape_of depth (parse_pack depth x)
+      → IsParserOf (Pack x) (Pack x) shape_of depth (parse_pack depth x)
   -- <expr-primary>: a literal, or an external name
   pub primaries :
       (depth : ℕ) (x : Context)
-      → IsParserOf (Primary x) shape_of depth (parse_primary depth x)
+      → IsParserOf (Primary x) (Narrow (Primary x)) shape_of depth (parse_primary depth x)
   -- <expression>
   pub expressions :
       (depth : ℕ) (x : Context)
-      → IsParserOf (Expression x) shape_of depth (parse_expression depth x)
+      → IsParserOf (Expression x) (Expression x) shape_of depth (parse_expression depth x)
   -- <type>
   pub types :
       (depth : ℕ) (x : Context)
-      → IsParserOf (TypeOf x) shape_of depth (parse_type depth x)
+      → IsParserOf (TypeOf x) (TypeOf x) shape_of depth (parse_type depth x)

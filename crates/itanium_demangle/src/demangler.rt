@@ -5,7 +5,7 @@ ghost use Rattle.std.specs.String.{string_bytes};
 ghost use Rattle.std.specs.Str.{IsUtf8};
 ghost use Rattle.demangle_text.specs.State.{IsLiving, shape, saved, scopes, main_bytes, frame, inside, outside, outermost, frame_start};
 ghost use Rattle.demangle_text.specs.Shape.{text};
-ghost use Rattle.itanium_grammar.specs.Answer.{IsAnswer, HasOneReading, HasCounts, HasComponents, HasSaved, HasBounds};
+ghost use Rattle.itanium_grammar.specs.Answer.{IsAnswer, HasOneReading, HasCounts, HasComponents, HasSaved, HasBounds, HasLength};
 ghost use Rattle.itanium_grammar.specs.Answer as spec;
 ghost use Rattle.itanium_reader.specs.Parser.{begun};
 ghost use Rattle.itanium_reader.specs.Outcome.{state};
@@ -127,9 +127,10 @@ impl Demangler {
     /// Any text may be asked. After `_Z` or `__Z` a special name is read where `T` or `G` is next, else a name; the
     /// parameters of a function aren't (Itanium C++ ABI 5.1.2). The answer is the printing, and after it all that
     /// follows from a dot right after what was read. There is none where the grammar doesn't read the symbol with at
-    /// most `MAX_DEPTH` nested counted productions, or where the printing isn't UTF-8. Without such a prefix there is
-    /// none either, no memory is taken, and both counts are 0. An error comes only where memory is refused; then
-    /// nothing is kept, and the value serves on.
+    /// most `MAX_DEPTH` nested counted productions that print at most `MAX_TEXT` bytes each, or where the printing isn't
+    /// UTF-8. So a text has at most 2,097,180 bytes, and all that follows from the dot: two types, and the 28 bytes of
+    /// `construction vtable for ` and `-in-`. Without such a prefix there is none either, no memory is taken, and both
+    /// counts are 0. An error comes only where memory is refused; then nothing is kept, and the value serves on.
     #[tactic(auto, using(crate::proofs::Rules::answers))]
     pub fn prepare(&mut self, alloc: Global, symbol: &str) -> Result<bool, AllocError>
         ensures answer { IfOk result (λ _. IsAnswer symbol.now self.new.text) }
@@ -138,6 +139,7 @@ impl Demangler {
         ensures components { IfOk result (λ _. HasComponents symbol.now self.new.text self.new.components) }
         ensures saved { IfOk result (λ _. HasSaved symbol.now self.new.text self.new.saved) }
         ensures bounds { IfOk result (λ _. HasBounds symbol.now self.new.entered self.new.most_saved) }
+        ensures longest { IfOk result (λ _. HasLength symbol.now self.new.text) }
         ensures one { HasOneReading symbol.now }
         ensures no_prefix { spec.after_prefix symbol.now ≡ None → (result ≡ Ok false) × (self.new ≡ no_run) }
         ensures err { OnErr result (self.new ≡ no_run) }

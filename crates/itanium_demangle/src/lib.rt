@@ -34,4 +34,5 @@ mod mangled_name;
 mod utf8;
 
 pub use crate::demangler::{Demangler, MAX_DEPTH, demangle_owned};
+pub use itanium_reader::MAX_TEXT;
 pub use itanium_syntax::scalar;

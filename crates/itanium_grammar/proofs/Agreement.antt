@@ -1,19 +1,19 @@
 -- Laws of readings and of answers.
-use Rattle.std.proofs.Common.{◌≡◌, ◌≤◌, ℕ, List, [], ◌∷◌, ◌++◌, Bool, true, false, Option, Some, None, refl, subst, ap, ap₂, arith, ◌∙◌, sym, codes}
+use Rattle.std.proofs.Common.{◌≡◌, ℕ, List, [], ◌∷◌, ◌++◌, Bool, true, false, Option, Some, None, refl, subst, ap, ap₂, arith, ◌∙◌, sym, codes}
 use Rattle.std.specs.Prelude.{◌==◌, ◌&&◌}
 use Rattle.std.proofs.lemmas.Grind.{common_steps}
 use Rattle.std.specs.Str.{IsUtf8}
 use Rattle.itanium_syntax.specs.Bytes.{begins}
 use Rattle.itanium_grammar.specs.Tree.{Tree, printing}
 use Rattle.itanium_grammar.specs.Grammar.{Position, Cost, Symbol}
-use Rattle.itanium_grammar.specs.Answer.{after_prefix, start, outside, suffix, max_depth, IsReading, HasAnswer, IsAnswer, HasOneReading}
+use Rattle.itanium_grammar.specs.Answer.{after_prefix, start, outside, suffix, IsWithin, IsReading, HasAnswer, IsAnswer, HasOneReading}
 use Rattle.itanium_grammar.specs.Laws.{LawsOfReadings, LawsOfAnswers}
 use Rattle.itanium_grammar.proofs.Unambiguous.{one_symbol}
 use Rattle.itanium_grammar.proofs.Progress.{symbol_takes}
 
 pub one_reading : (symbol : List ℕ) → HasOneReading symbol
 one_reading symbol = record {
-  agree = λ t u q r c d a b deep deeper.
+  agree = λ t u q r c d a b within other.
       let here : b.inside ≡ a.inside = cc in
       let same = one_symbol a.reading (subst (λ v. Symbol outside (start v) u r d) here b.reading) in
       (same.tree, same.next, same.cost);
@@ -22,13 +22,13 @@ one_reading symbol = record {
 -- a symbol with an answer has no other
 same_answer : (symbol a b : List ℕ) → HasAnswer symbol a → HasAnswer symbol b → a ≡ b
 same_answer symbol a b f g =
-    let same = (one_reading symbol).agree f.tree g.tree f.next g.next f.cost g.cost f.reading g.reading f.depth g.depth in
+    let same = (one_reading symbol).agree f.tree g.tree f.next g.next f.cost g.cost f.reading g.reading f.within g.within in
     f.answer_is ∙ ap₂ (λ t q. printing t ++ suffix q.rest) same.0 same.1 ∙ sym g.answer_is
 
 one_answer : (symbol : List ℕ) (a b : Option (List ℕ)) → IsAnswer symbol a → IsAnswer symbol b → a ≡ b
 one_answer symbol None None f g = refl
-one_answer symbol None (Some b) f g = absurd (f g.tree g.next g.cost g.reading g.depth g.utf8)
-one_answer symbol (Some a) None f g = absurd (g f.tree f.next f.cost f.reading f.depth f.utf8)
+one_answer symbol None (Some b) f g = absurd (f g.tree g.next g.cost g.reading g.within g.utf8)
+one_answer symbol (Some a) None f g = absurd (g f.tree f.next f.cost f.reading f.within f.utf8)
 one_answer symbol (Some a) (Some b) f g = ap Some (same_answer symbol a b f g)
 
 -- both prefixes have the same after them
@@ -54,19 +54,19 @@ moved_answer old new (Some a) e f = record {
   next = f.next;
   cost = f.cost;
   reading = moved_reading old new f.tree f.next f.cost e f.reading;
-  depth = f.depth;
+  within = f.within;
   utf8 = f.utf8;
   answer_is = f.answer_is;
 }
 
-dot_kept : (symbol rest : List ℕ) (tree : Tree) (next : Position) (cost : Cost) → IsReading symbol tree next cost → cost.depth ≤ max_depth
+dot_kept : (symbol rest : List ℕ) (tree : Tree) (next : Position) (cost : Cost) → IsReading symbol tree next cost → IsWithin cost
     → IsUtf8 (printing tree) → next.rest ≡ codes "." ++ rest → IsAnswer symbol (Some (printing tree ++ (codes "." ++ rest)))
-dot_kept symbol rest tree next cost reading deep utf8 dot = record {
+dot_kept symbol rest tree next cost reading within utf8 dot = record {
   tree = tree;
   next = next;
   cost = cost;
   reading = reading;
-  depth = deep;
+  within = within;
   utf8 = utf8;
   answer_is = rw dot refl;
 }

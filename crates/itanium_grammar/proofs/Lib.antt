@@ -1,3 +1,4 @@
 pub mod Progress
 pub mod Unambiguous
+pub mod Widths
 pub mod Agreement

@@ -1,5 +1,5 @@
 -- Of one position there is at most one reading.
-use Rattle.std.proofs.Common.{◌≡◌, ℕ, Bool, true, false, ◌∷◌, List, Option, length, refl, sym, subst, ap, ap₂, ◌∙◌, ◌++◌, drop, codes}
+use Rattle.std.proofs.Common.{◌≡◌, ℕ, Bool, true, ◌∷◌, List, Option, length, refl, sym, subst, ap, ap₂, ◌∙◌, ◌++◌, drop, codes}
 use Rattle.std.proofs.lemmas.Option.{some_pair_parts, same_Some}
 use Rattle.demangle_quals.specs.declared.quals.Quals.{Quals}
 use Rattle.itanium_syntax.specs.declared.context.Context.{Context}

@@ -1,5 +1,5 @@
 -- What a symbol's answer is.
-use Rattle.std.specs.Prelude.{◌≡◌, ◌≤◌, ℕ, ◌*◌, ◌++◌, List, [], map, length, Option, Some, None, drop, codes, false, if◌then◌else◌}
+use Rattle.std.specs.Prelude.{◌≡◌, ◌≤◌, ℕ, ◌+◌, ◌*◌, ◌++◌, List, [], map, length, Option, Some, None, drop, codes, false, if◌then◌else◌}
 use Rattle.std.specs.Str.{IsUtf8}
 use Rattle.demangle_text.specs.Shape.{Shape}
 use Rattle.itanium_syntax.specs.declared.context.Context.{Context}
@@ -10,6 +10,19 @@ use Rattle.itanium_grammar.specs.Grammar.{Position, Cost, Symbol}
 -- most counted productions that may nest
 abbrev pub max_depth : ℕ
 max_depth = 128
+
+-- most bytes that a counted production may print
+unfoldable pub max_text : ℕ
+max_text = 1048576
+
+-- a reading counts: at most so many counted productions nest, and none of them prints more than the limit
+pub record Fits (depth : ℕ) (cost : Cost) : Type 0 where
+  pub depth_fits : cost.depth ≤ depth
+  pub width_fits : cost.width ≤ max_text
+
+-- a symbol's reading counts: at most 128 counted productions nest, and none of them prints more than the limit
+abbrev pub IsWithin : Cost → Type 0
+IsWithin cost = Fits max_depth cost
 
 -- the context of a symbol: nothing is on
 abbrev pub outside : Context
@@ -35,23 +48,22 @@ pub record IsReading (symbol : List ℕ) (tree : Tree) (next : Position) (cost :
   pub prefix : after_prefix symbol ≡ Some inside
   pub reading : Symbol outside (start inside) tree next cost
 
--- a reading nests at most 128 counted productions, its printing is UTF-8, and the answer is the printing with the
--- suffix
+-- a reading within the limits: its printing is UTF-8, and the answer is the printing with the suffix
 pub record HasAnswer (symbol answer : List ℕ) : Type 0 where
   pub tree : Tree
   pub next : Position
   pub cost : Cost
   pub reading : IsReading symbol tree next cost
-  pub depth : cost.depth ≤ max_depth
+  pub within : IsWithin cost
   pub utf8 : IsUtf8 (printing tree)
   pub answer_is : answer ≡ printing tree ++ suffix next.rest
 
--- no reading nests at most 128 counted productions and has a printing in UTF-8
+-- no reading within the limits has a printing in UTF-8
 abbrev pub HasNoAnswer : List ℕ → Type 0
 HasNoAnswer symbol =
     (tree : Tree) (next : Position) (cost : Cost)
     → IsReading symbol tree next cost
-    → cost.depth ≤ max_depth
+    → IsWithin cost
     → IsUtf8 (printing tree)
     → ⊥
 
@@ -60,44 +72,54 @@ abbrev pub IsAnswer : List ℕ → Option (List ℕ) → Type 0
 IsAnswer symbol (Some answer) = HasAnswer symbol answer
 IsAnswer symbol None = HasNoAnswer symbol
 
--- any two readings of the symbol within the depth have the same tree, the same rest, saved trees and scopes after it,
+-- any two readings of the symbol within the limits have the same tree, the same rest, saved trees and scopes after it,
 -- and the same count, depth, peak and width
 pub record HasOneReading (symbol : List ℕ) : Type 0 where
   pub agree :
       (t u : Tree) (q r : Position) (c d : Cost)
       → IsReading symbol t q c
       → IsReading symbol u r d
-      → c.depth ≤ max_depth
-      → d.depth ≤ max_depth
+      → IsWithin c
+      → IsWithin d
       → (t ≡ u) × (q ≡ r) × (c ≡ d)
 
--- the counts are those of every reading of the symbol within the depth
+-- the counts are those of every reading of the symbol within the limits
 abbrev pub HasCounts : List ℕ → ℕ → ℕ → Type 0
 HasCounts symbol entered most_saved =
     (tree : Tree) (next : Position) (cost : Cost)
     → IsReading symbol tree next cost
-    → cost.depth ≤ max_depth
+    → IsWithin cost
     → (entered ≡ cost.count) × (most_saved ≡ cost.peak)
 
--- where there is an answer, these are the printings of the trees that every reading within the depth leaves saved;
+-- where there is an answer, these are the printings of the trees that every reading within the limits leaves saved;
 -- elsewhere there are none
 abbrev pub HasComponents : List ℕ → Option (List ℕ) → List (List ℕ) → Type 0
 HasComponents symbol (Some answer) components =
     (tree : Tree) (next : Position) (cost : Cost)
     → IsReading symbol tree next cost
-    → cost.depth ≤ max_depth
+    → IsWithin cost
     → components ≡ map printing next.saved
 HasComponents symbol None components = components ≡ []
 
--- the same of shapes: where there is an answer, these are the shapes of the trees that every reading within the depth
+-- the same of shapes: where there is an answer, these are the shapes of the trees that every reading within the limits
 -- leaves saved; elsewhere there are none
 abbrev pub HasSaved : List ℕ → Option (List ℕ) → List Shape → Type 0
 HasSaved symbol (Some answer) shapes =
     (tree : Tree) (next : Position) (cost : Cost)
     → IsReading symbol tree next cost
-    → cost.depth ≤ max_depth
+    → IsWithin cost
     → shapes ≡ map shape_of next.saved
 HasSaved symbol None shapes = shapes ≡ []
+
+-- where there is an answer, it is at most so long that two types of the longest text fit in it, with the 28 bytes of the
+-- words around them, and the suffix of every reading within the limits
+abbrev pub HasLength : List ℕ → Option (List ℕ) → Type 0
+HasLength symbol (Some answer) =
+    (tree : Tree) (next : Position) (cost : Cost)
+    → IsReading symbol tree next cost
+    → IsWithin cost
+    → length answer ≤ 2097180 + length (suffix next.rest)
+HasLength symbol None = Unit {0}
 
 -- at most two counted productions are entered for each byte of the symbol, and at no moment are more components saved
 -- than it has bytes

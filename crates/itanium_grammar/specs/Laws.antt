@@ -1,15 +1,15 @@
 -- Laws of readings and of answers.
-use Rattle.std.specs.Prelude.{◌≡◌, ◌<◌, ◌≤◌, ℕ, List, ◌++◌, length, Option, Some, codes, true}
+use Rattle.std.specs.Prelude.{◌≡◌, ◌<◌, ℕ, List, ◌++◌, length, Option, Some, codes, true}
 use Rattle.std.specs.Str.{IsUtf8}
 use Rattle.itanium_syntax.specs.Bytes.{begins}
 use Rattle.itanium_grammar.specs.Tree.{Tree, printing}
 use Rattle.itanium_grammar.specs.Grammar.{Position, Cost, Symbol}
 use Rattle.itanium_syntax.specs.declared.context.Context.{Context}
-use Rattle.itanium_grammar.specs.Answer.{max_depth, IsReading, HasOneReading, IsAnswer}
+use Rattle.itanium_grammar.specs.Answer.{IsWithin, IsReading, HasOneReading, IsAnswer}
 
 -- what holds of readings
 pub record LawsOfReadings : Type 0 where
-  -- two readings of a symbol within the depth agree
+  -- two readings of a symbol within the limits agree
   pub one_reading : (symbol : List ℕ) → HasOneReading symbol
   -- a reading takes one byte at least
   pub takes :
@@ -35,7 +35,7 @@ pub record LawsOfAnswers : Type 0 where
   pub dot :
       (symbol rest : List ℕ) (tree : Tree) (next : Position) (cost : Cost)
       → IsReading symbol tree next cost
-      → cost.depth ≤ max_depth
+      → IsWithin cost
       → IsUtf8 (printing tree)
       → next.rest ≡ codes "." ++ rest
       → IsAnswer symbol (Some (printing tree ++ (codes "." ++ rest)))

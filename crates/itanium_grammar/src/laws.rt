@@ -1,7 +1,7 @@
 //! Laws of readings and of answers. The functions do nothing: each stands for the law that is its contract.
 ghost use Rattle.itanium_grammar.specs.Laws.{LawsOfReadings, LawsOfAnswers};
 
-/// Two readings of a symbol within the depth agree, and a reading takes one byte at least.
+/// Two readings of a symbol within the limits agree, and a reading takes one byte at least.
 #[tactic(auto, using(crate::proofs::Agreement::laws_of_readings))]
 pub fn laws_of_readings()
     ensures laws { LawsOfReadings }

@@ -7,7 +7,7 @@ ghost use Rattle.itanium_reader.specs.Outcome.{state, Gives, HasRoom, Bounds, Sa
 use crate::expressions::{read_expression, read_primary};
 use crate::types::read_type;
 use demangle_edit::{begin_arguments, end_arguments, list_next};
-use itanium_reader::{Reader, Stop};
+use itanium_reader::{Reader, Stop, text_limit};
 use itanium_syntax::args::{ArgsCase, ArgumentCase, args_case, argument_case};
 use itanium_syntax::context::Context;
 
@@ -44,12 +44,17 @@ pub(crate) fn read_attached(
     reader.begin(opens)?;
     let scopes = reader.buffer.scopes();
     let mut list = begin_arguments(&mut reader.buffer, reader.found)?;
+    // The list begins with its `<`, after the name.
+    let front = reader.buffer.len(list) - 1;
     let mut first = true;
     loop {
         match args_case(reader.rest) {
             ArgsCase::EndOfArguments => {
                 reader.skip(1);
                 reader.found = end_arguments(&mut reader.buffer, list, len, own, ctor)?;
+                if reader.buffer.len(reader.found) - front > text_limit() {
+                    return Err(Stop::Unread);
+                }
                 return Ok(());
             }
             ArgsCase::NextArgument => {
@@ -57,6 +62,9 @@ pub(crate) fn read_attached(
                 framed_argument(reader, depth - 1, context)?;
                 reader.put_found(opens, scopes)?;
                 list = reader.buffer.join(list, b"", reader.found)?;
+                if reader.buffer.len(list) - front > text_limit() {
+                    return Err(Stop::Unread);
+                }
                 first = false;
             }
         }
@@ -90,12 +98,18 @@ pub(crate) fn read_pack(reader: &mut Reader, depth: usize, context: Context) -> 
             ArgsCase::EndOfArguments => {
                 reader.skip(1);
                 reader.found = reader.buffer.whole(list);
+                if reader.is_wide(reader.found) {
+                    return Err(Stop::Unread);
+                }
                 return Ok(());
             }
             ArgsCase::NextArgument => {
                 list = reader.separate_list(list, first)?;
                 framed_argument(reader, depth - 1, inside)?;
                 list = list_next(&mut reader.buffer, list, reader.found)?;
+                if reader.is_wide(list) {
+                    return Err(Stop::Unread);
+                }
                 first = false;
             }
         }

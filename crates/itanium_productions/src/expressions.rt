@@ -84,7 +84,7 @@ pub(crate) fn read_other_literal(
 }
 
 /// The same of a builtin type.
-#[tactic(auto, using(itanium_reader::proofs::Rules::types))]
+#[tactic(auto, using(itanium_reader::proofs::Rules::builtin_literals))]
 fn read_builtin_literal(reader: &mut Reader, depth: usize, context: Context) -> Result<(), Stop>
     requires room { HasRoom 2 (state reader.old) }
     requires builtin { type_case reader.old.rest.now ≡ BuiltinType }
@@ -281,17 +281,21 @@ pub(crate) fn read_expression(
     }
     reader.entered += 1;
     match expression_case(reader.rest) {
-        ExpressionCase::PreExpression => read_pre(reader, depth - 1, context),
-        ExpressionCase::AddressExpression => read_address(reader, depth - 1, context),
-        ExpressionCase::UnaryExpression => read_unary(reader, depth - 1, context),
-        ExpressionCase::PostExpression => read_post(reader, depth - 1, context),
-        ExpressionCase::BinaryExpression => read_binary(reader, depth - 1, context),
-        ExpressionCase::GreaterExpression => read_greater(reader, depth - 1, context),
-        ExpressionCase::ConditionalExpression => read_conditional(reader, depth - 1, context),
-        ExpressionCase::ParameterExpression => reader.read_parameter(context),
-        ExpressionCase::LiteralExpression => read_primary(reader, depth - 1, context),
-        ExpressionCase::NoExpression => Err(Stop::Unread),
+        ExpressionCase::PreExpression => read_pre(reader, depth - 1, context)?,
+        ExpressionCase::AddressExpression => read_address(reader, depth - 1, context)?,
+        ExpressionCase::UnaryExpression => read_unary(reader, depth - 1, context)?,
+        ExpressionCase::PostExpression => read_post(reader, depth - 1, context)?,
+        ExpressionCase::BinaryExpression => read_binary(reader, depth - 1, context)?,
+        ExpressionCase::GreaterExpression => read_greater(reader, depth - 1, context)?,
+        ExpressionCase::ConditionalExpression => read_conditional(reader, depth - 1, context)?,
+        ExpressionCase::ParameterExpression => reader.read_parameter(context)?,
+        ExpressionCase::LiteralExpression => read_primary(reader, depth - 1, context)?,
+        ExpressionCase::NoExpression => return Err(Stop::Unread),
     }
+    if reader.is_wide(reader.found) {
+        return Err(Stop::Unread);
+    }
+    Ok(())
 }
 
 /// An operand: an `<expression>`, in parentheses but for an external name.

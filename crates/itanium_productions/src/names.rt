@@ -336,6 +336,9 @@ pub(crate) fn read_components(
             }
             ComponentCase::ArgsComponent => {
                 read_attached(reader, depth, context, true)?;
+                if reader.is_wide(reader.found) {
+                    return Err(Stop::Unread);
+                }
                 reader.end_component()?;
                 takes = true;
             }
@@ -343,10 +346,16 @@ pub(crate) fn read_components(
                 // The two ways don't meet before the next component.
                 if begins_source(reader.rest) {
                     reader.read_next_source()?;
+                    if reader.is_wide(reader.found) {
+                        return Err(Stop::Unread);
+                    }
                     takes = true;
                     continue;
                 }
                 read_other_component(reader, depth, context)?;
+                if reader.is_wide(reader.found) {
+                    return Err(Stop::Unread);
+                }
                 reader.end_component()?;
                 takes = true;
             }
@@ -437,20 +446,24 @@ pub(crate) fn read_bare_name(
         return Err(Stop::Unread);
     }
     reader.entered += 1;
-    match name_case(reader.rest) {
+    let quals = match name_case(reader.rest) {
         NameCase::NestedName => {
             reader.skip(1);
-            read_nested(reader, depth - 1, context)
+            read_nested(reader, depth - 1, context)?
         }
         NameCase::LocalName => {
             reader.skip(1);
-            read_local(reader, depth - 1, context)
+            read_local(reader, depth - 1, context)?
         }
         NameCase::UnscopedName => {
             read_unscoped(reader, depth - 1, context)?;
-            Ok(Quals::none())
+            Quals::none()
         }
+    };
+    if reader.is_wide(reader.found) {
+        return Err(Stop::Unread);
     }
+    Ok(quals)
 }
 
 /// `<name>` with its own qualifiers, within `depth` open productions.
@@ -467,6 +480,9 @@ pub(crate) fn read_name(reader: &mut Reader, depth: usize, context: Context) -> 
     let shown = shows_words(name_case(reader.rest), context.shown);
     let quals = read_bare_name(reader, depth, context)?;
     reader.print_quals(quals, shown)?;
+    if reader.is_wide(reader.found) {
+        return Err(Stop::Unread);
+    }
     Ok(())
 }
 

@@ -135,6 +135,9 @@ pub(crate) fn read_thunk(reader: &mut Reader, depth: usize, context: Context) ->
     reader.rest = rest;
     read_symbol(reader, depth - 1, context)?;
     reader.print_thunk(offsets)?;
+    if reader.is_wide(reader.found) {
+        return Err(Stop::Unread);
+    }
     Ok(())
 }
 

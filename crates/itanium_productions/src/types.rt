@@ -11,7 +11,7 @@ use crate::args::read_attached;
 use crate::names::read_name;
 use demangle_edit::{Pointer, Quals, list_next};
 use demangle_text::Piece;
-use itanium_reader::{Reader, Stop};
+use itanium_reader::{Reader, Stop, text_limit};
 use itanium_syntax::args::{AttachedCase, attached_case};
 use itanium_syntax::context::Context;
 use itanium_syntax::numerals::optional_number;
@@ -63,23 +63,24 @@ pub(crate) fn read_type(reader: &mut Reader, depth: usize, context: Context) -> 
     reader.entered += 1;
     let inside = context.inside_type();
     match type_case(reader.rest) {
-        TypeCase::BuiltinType => {
-            reader.read_builtin()?;
-            Ok(())
-        }
-        TypeCase::UnreadType => Err(Stop::Unread),
-        TypeCase::ExpansionType => read_expansion(reader, depth - 1, inside),
-        TypeCase::VendorType => reader.read_vendor(),
-        TypeCase::ArrayType => read_array(reader, depth - 1, inside),
-        TypeCase::FunctionType => read_function_type(reader, depth - 1, inside),
-        TypeCase::MemberType => read_member(reader, depth - 1, inside),
-        TypeCase::PointerType(kind) => read_pointer(reader, depth - 1, inside, kind),
-        TypeCase::CvType => read_cv_type(reader, depth - 1, inside),
-        TypeCase::ElaboratedType => read_elaborated(reader, depth - 1, inside),
-        TypeCase::ParameterType => read_parameter_type(reader, depth - 1, inside),
-        TypeCase::SubstitutionType => read_substitution_type(reader, depth - 1, inside),
-        TypeCase::NameType => read_name_type(reader, depth - 1, inside),
+        TypeCase::BuiltinType => reader.read_builtin()?,
+        TypeCase::UnreadType => return Err(Stop::Unread),
+        TypeCase::ExpansionType => read_expansion(reader, depth - 1, inside)?,
+        TypeCase::VendorType => reader.read_vendor()?,
+        TypeCase::ArrayType => read_array(reader, depth - 1, inside)?,
+        TypeCase::FunctionType => read_function_type(reader, depth - 1, inside)?,
+        TypeCase::MemberType => read_member(reader, depth - 1, inside)?,
+        TypeCase::PointerType(kind) => read_pointer(reader, depth - 1, inside, kind)?,
+        TypeCase::CvType => read_cv_type(reader, depth - 1, inside)?,
+        TypeCase::ElaboratedType => read_elaborated(reader, depth - 1, inside)?,
+        TypeCase::ParameterType => read_parameter_type(reader, depth - 1, inside)?,
+        TypeCase::SubstitutionType => read_substitution_type(reader, depth - 1, inside)?,
+        TypeCase::NameType => read_name_type(reader, depth - 1, inside)?,
     }
+    if reader.is_wide(reader.found) {
+        return Err(Stop::Unread);
+    }
+    Ok(())
 }
 
 /// `Dp <type>`: its dots are printed where no pack is around it.
@@ -389,11 +390,18 @@ pub(crate) fn read_types(
     ensures saved { SavedBounds 0 result (state reader.old) (state reader.new) }
 {
     let mut list = Vec::new(reader.alloc);
+    // How many bytes these types may still have.
+    let mut left = text_limit();
     loop {
         match types_case(true, reader.rest) {
             TypesCase::EndOfTypes => return Ok(list),
             TypesCase::NextType => {
                 framed_type(reader, depth, context)?;
+                let len = reader.buffer.len(reader.found);
+                if len > left {
+                    return Err(Stop::Unread);
+                }
+                left -= len;
                 list.push(reader.found)?;
             }
         }
@@ -429,6 +437,9 @@ pub(crate) fn read_typed(
                 list = reader.separate_list(list, first)?;
                 framed_type(reader, depth, context)?;
                 list = list_next(&mut reader.buffer, list, reader.found)?;
+                if reader.is_wide(list) {
+                    return Err(Stop::Unread);
+                }
                 first = false;
             }
         }

@@ -35,24 +35,24 @@ loop_more {turn = turn} {so_far = so_far} {s = s} sofar there shorter = record {
   is = sofar.is ∙ loop_opens turn sofar.turns so_far s (omega (arith, sofar.room)) ∙ rw there refl;
 }
 
--- The same of a loop whose answer gets an end: the whole is what the loop gives, with its end.
-pub record ListSoFar {L A B : Type 0} (whole : Option (B × ParserState)) (turn : L → Parses (Turn L A)) (finish : A → B) (so_far : L) (s : ParserState) : Type 0 where
+-- The same of a loop whose answer gets an end, or none: the whole is what the loop gives, with its end.
+pub record ListSoFar {L A B : Type 0} (whole : Option (B × ParserState)) (turn : L → Parses (Turn L A)) (finish : A × ParserState → Option (B × ParserState)) (so_far : L) (s : ParserState) : Type 0 where
   pub inner : Option (A × ParserState)
   pub loop : LoopSoFar inner turn so_far s
-  pub is : whole ≡ (inner >>= λ r. Some (finish r.0, r.1))
+  pub is : whole ≡ (inner >>= finish)
 
-pub list_start : {L A B : Type 0} {whole : Option (B × ParserState)} {turn : L → Parses (Turn L A)} {finish : A → B} {so_far : L} {s : ParserState}
-    → whole ≡ (parse_loop turn so_far s >>= λ r. Some (finish r.0, r.1)) → ListSoFar whole turn finish so_far s
+pub list_start : {L A B : Type 0} {whole : Option (B × ParserState)} {turn : L → Parses (Turn L A)} {finish : A × ParserState → Option (B × ParserState)} {so_far : L} {s : ParserState}
+    → whole ≡ (parse_loop turn so_far s >>= finish) → ListSoFar whole turn finish so_far s
 list_start whole = record { inner = _; loop = loop_start refl; is = whole }
 
-pub list_end : {L A B : Type 0} {whole : Option (B × ParserState)} {turn : L → Parses (Turn L A)} {finish : A → B} {so_far : L} {s after : ParserState} {answer : A}
-    → ListSoFar whole turn finish so_far s → turn so_far s ≡ Some (ends answer, after) → whole ≡ Some (finish answer, after)
+pub list_end : {L A B : Type 0} {whole : Option (B × ParserState)} {turn : L → Parses (Turn L A)} {finish : A × ParserState → Option (B × ParserState)} {so_far : L} {s after : ParserState} {answer : A}
+    → ListSoFar whole turn finish so_far s → turn so_far s ≡ Some (ends answer, after) → whole ≡ finish (answer, after)
 list_end {finish = finish} sofar there = sofar.is ∙ rw (loop_end sofar.loop there) refl
 
-pub list_fail : {L A B : Type 0} {whole : Option (B × ParserState)} {turn : L → Parses (Turn L A)} {finish : A → B} {so_far : L} {s : ParserState}
+pub list_fail : {L A B : Type 0} {whole : Option (B × ParserState)} {turn : L → Parses (Turn L A)} {finish : A × ParserState → Option (B × ParserState)} {so_far : L} {s : ParserState}
     → ListSoFar whole turn finish so_far s → turn so_far s ≡ None → whole ≡ None
 list_fail sofar there = sofar.is ∙ rw (loop_fail sofar.loop there) refl
 
-pub list_more : {L A B : Type 0} {whole : Option (B × ParserState)} {turn : L → Parses (Turn L A)} {finish : A → B} {so_far next : L} {s after : ParserState}
+pub list_more : {L A B : Type 0} {whole : Option (B × ParserState)} {turn : L → Parses (Turn L A)} {finish : A × ParserState → Option (B × ParserState)} {so_far next : L} {s after : ParserState}
     → ListSoFar whole turn finish so_far s → turn so_far s ≡ Some (goes_on next, after) → length after.rest < length s.rest → ListSoFar whole turn finish next after
 list_more sofar there shorter = record { inner = sofar.inner; loop = loop_more sofar.loop there shorter; is = sofar.is }

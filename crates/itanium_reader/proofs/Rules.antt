@@ -1,7 +1,7 @@
 -- What the check may use for the readers: the laws of the buffer, and what unfolds each.
 use Rattle.demangle_text.proofs.Laws.{laws, runs}
 use Rattle.itanium_syntax.proofs.Fronts.{cases, names_some, entities_some, expressions_some, arguments_some, specials_some}
-use Rattle.itanium_reader.proofs.Unfold.{bare_name_opens, no_bare_name, name_opens, encoding_opens, local_opens, expression_opens, no_expression, primary_opens, argument_opens, thunk_opens, no_thunk, special_opens, no_attached, pack_opens, no_pack, type_opens, no_type, substitution_opens, parameter_opens, unqualified_opens, symbol_opens, nested_opens, kept_scope, some_scope, source_opens, no_tags, nothing_in_front, words_joined}
+use Rattle.itanium_reader.proofs.Unfold.{builtin_fits, bare_name_opens, no_bare_name, name_opens, encoding_opens, local_opens, expression_opens, no_expression, primary_opens, argument_opens, thunk_opens, no_thunk, special_opens, no_attached, pack_opens, no_pack, type_opens, no_type, substitution_opens, parameter_opens, unqualified_opens, symbol_opens, nested_opens, kept_scope, some_scope, source_opens, no_tags, nothing_in_front, words_joined}
 use Rattle.itanium_reader.proofs.Loops.{loop_start}
 
 pub ruleset buffers = (laws, runs)
@@ -59,3 +59,5 @@ pub ruleset packs = (buffers, pack_opens, no_pack)
 pub ruleset typed_lists = (fronts)
 
 pub ruleset types = (fronts, type_opens, no_type)
+
+pub ruleset builtin_literals = (types, builtin_fits)

@@ -1,7 +1,8 @@
 -- One level of the parser's functions, and the turns of its loops.
 use Rattle.std.proofs.Common.{◌≡◌, ◌<◌, ◌≤◌, ℕ, zero, suc, ◌+◌, ◌-◌, max, Bool, true, false, List, [], ◌∷◌, ◌++◌, length, drop, map, All, refl, sym, ◌∙◌, ap, ap₂, append_assoc, arith, Option, Some, None, Result, Ok, Err}
-use Rattle.std.specs.Prelude.{IfSome, option_map, is_some, nat_le, ◌&&◌, ◌==◌, if◌then◌else◌}
+use Rattle.std.specs.Prelude.{IfSome, option_map, is_some, nat_le, nat_lt, ◌&&◌, ◌==◌, if◌then◌else◌}
 use Rattle.std.proofs.lemmas.Bool.Decides.{nat_tests}
+use Rattle.std.proofs.lemmas.Option.{same_Some}
 use Rattle.std.proofs.lemmas.List.{append-nil, length-append}
 use Rattle.demangle_text.specs.declared.shape.Piece.{Piece}
 use Rattle.demangle_text.specs.declared.buffer.Buffer.{Buffer}
@@ -18,18 +19,19 @@ use Rattle.itanium_syntax.specs.Names.{symbol_case, name_case, component_case, u
 use Rattle.itanium_syntax.specs.Expressions.{expression_case}
 use Rattle.itanium_syntax.specs.Encodings.{entity_case}
 use Rattle.itanium_syntax.specs.Args.{args_case}
-use Rattle.itanium_syntax.specs.Types.{types_case, type_case}
+use Rattle.itanium_syntax.specs.Types.{types_case, type_case, letter_text, two_letter_text, builtin_text}
 use Rattle.itanium_reader.specs.declared.reader.Reader.{Reader}
 use Rattle.itanium_reader.specs.declared.stop.Stop.{Stop}
 use Rattle.itanium_reader.specs.declared.stop.Stop.TheVariants.{Unread, Memory}
 use Rattle.itanium_reader.specs.Outcome.{Gives, GivesList, SavedBounds}
 use Rattle.itanium_reader.proofs.Loops.{LoopSoFar, loop_start, loop_end, loop_more, loop_fail, ListSoFar, list_start, list_end, list_more, list_fail}
 use Rattle.itanium_reader.specs.Cases.{FreeName, ConstructorName, DestructorName, SourceName, NoTag, NextTag, EndOfComponents, ArgsComponent, NameComponent, EndOfArguments, NextArgument, EndOfTypes, NextType}
-use Rattle.itanium_reader.specs.Parser.{ParserState, Parses, ParsesName, ParsesBareName, ◌>>=◌, enter, at, save, skip, begin, put, put_nowhere, taken_back, past_initializer, substitution_as, parse_substitution, parameter_as, parse_parameter, tag_turn, unqualified_as, parse_unqualified, parse_free, in_scope, parse_tags, parse_source_in, parse_first_source, parse_next_source, end_component, next_component, goes_on, first_as, attached_by, component_turn, parse_components, parse_after_quals, with_quals, parse_nested, name_as, qualified_by, parse_bare_name, parse_name, encoding_as, parse_encoding, entity_as, parse_local, primary_by, parse_primary, special_by, parse_special, thunk_by, parse_thunk, expression_as, parse_expression, parse_argument, argument_by, list_turn, typed_turn, parse_list, parse_packed, parse_args, parse_pack, types_turn, type_as, parse_type, symbol_as, parse_symbol}
+use Rattle.itanium_grammar.specs.Answer.{max_text}
+use Rattle.itanium_reader.specs.Parser.{ParserState, Parses, ParsesName, ParsesBareName, ◌>>=◌, is_wide, fitting, fitting_bare, total_len, enter, at, save, skip, begin, put, put_nowhere, taken_back, past_initializer, substitution_as, parse_substitution, parameter_as, parse_parameter, tag_turn, unqualified_as, parse_unqualified, parse_free, in_scope, parse_tags, parse_source_in, parse_first_source, parse_next_source, end_component, next_component, goes_on, first_as, attached_by, component_turn, parse_components, parse_after_quals, with_quals, parse_nested, name_as, qualified_by, parse_bare_name, parse_name, encoding_as, parse_encoding, entity_as, parse_local, primary_by, parse_primary, special_by, parse_special, thunk_by, parse_thunk, expression_as, parse_expression, parse_argument, argument_by, list_turn, typed_turn, parse_list, parse_packed, parse_args, parse_pack, types_turn, type_as, parse_type, symbol_as, parse_symbol}
 
 pub bare_name_opens : (d : ℕ) (x : Context) (s : ParserState) → 0 < d → parse_bare_name d x s
-    ≡ name_as (name_case s.rest) (parse_unqualified (parse_type (d - 1) x) (parse_type (d - 1) (inside_lambda x))) (parse_args (d - 1) x true)
-    (parse_local (parse_encoding (d - 1) (inside_encoding x)) (parse_bare_name (d - 1) (inside_local x))) x (enter s)
+    ≡ (name_as (name_case s.rest) (parse_unqualified (parse_type (d - 1) x) (parse_type (d - 1) (inside_lambda x))) (parse_args (d - 1) x true)
+    (parse_local (parse_encoding (d - 1) (inside_encoding x)) (parse_bare_name (d - 1) (inside_local x))) x (enter s) >>= fitting_bare)
 unfolding parse_bare_name parse_encoding parse_special parse_name
 bare_name_opens zero x s h = absurd (omega arith)
 bare_name_opens (suc d) x s h = let less : suc d - 1 ≡ d = omega arith in rw less refl
@@ -43,7 +45,7 @@ unfolding parse_name
 name_opens d x s = refl
 
 pub expression_opens : (d : ℕ) (x : Context) (s : ParserState) → 0 < d → parse_expression d x s
-    ≡ expression_as (expression_case s.rest) (parse_expression (d - 1) x) (parse_primary (d - 1) x) x (enter s)
+    ≡ (expression_as (expression_case s.rest) (parse_expression (d - 1) x) (parse_primary (d - 1) x) x (enter s) >>= fitting)
 unfolding parse_expression parse_primary parse_encoding parse_special parse_name
 expression_opens zero x s h = absurd (omega arith)
 expression_opens (suc d) x s h = let less : suc d - 1 ≡ d = omega arith in rw less refl
@@ -56,7 +58,7 @@ pub primary_opens : (d : ℕ) (x : Context) (s : ParserState) → parse_primary 
 unfolding parse_primary
 primary_opens d x s = refl
 
-pub thunk_opens : (d : ℕ) (x : Context) (s : ParserState) → 0 < d → parse_thunk d x s ≡ thunk_by (parse_symbol (d - 1) x) (enter s)
+pub thunk_opens : (d : ℕ) (x : Context) (s : ParserState) → 0 < d → parse_thunk d x s ≡ (thunk_by (parse_symbol (d - 1) x) (enter s) >>= fitting)
 unfolding parse_thunk parse_symbol parse_special parse_name
 thunk_opens zero x s h = absurd (omega arith)
 thunk_opens (suc d) x s h = let less : suc d - 1 ≡ d = omega arith in rw less refl
@@ -85,7 +87,7 @@ unfolding parse_local
 local_opens encoding bare s = refl
 
 pub args_opens : (d : ℕ) (x : Context) (of_name : Bool) (s : ParserState) → 0 < d
-    → parse_args d x of_name s ≡ parse_list (parse_argument (d - 1) x) (opens_scope of_name x) (enter s)
+    → parse_args d x of_name s ≡ (parse_list (parse_argument (d - 1) x) (opens_scope of_name x) (enter s) >>= fitting)
 unfolding parse_args parse_argument parse_primary parse_encoding parse_special parse_name
 args_opens zero x of_name s h = absurd (omega arith)
 args_opens (suc d) x of_name s h = let less : suc d - 1 ≡ d = omega arith in rw less refl
@@ -95,7 +97,7 @@ unfolding parse_args
 no_args x of_name s = refl
 
 pub pack_opens : (d : ℕ) (x : Context) (s : ParserState) → 0 < d
-    → parse_pack d x s ≡ parse_packed (parse_argument (d - 1) (inside_pack x)) (enter s)
+    → parse_pack d x s ≡ (parse_packed (parse_argument (d - 1) (inside_pack x)) (enter s) >>= fitting)
 unfolding parse_pack parse_argument parse_primary parse_encoding parse_special parse_name
 pack_opens zero x s h = absurd (omega arith)
 pack_opens (suc d) x s h = let less : suc d - 1 ≡ d = omega arith in rw less refl
@@ -105,7 +107,7 @@ unfolding parse_pack
 no_pack x s = refl
 
 pub type_opens : (d : ℕ) (x : Context) (s : ParserState) → 0 < d → parse_type d x s
-    ≡ type_as (type_case s.rest) (parse_type (d - 1) (inside_type x)) (parse_name (d - 1) (inside_type x)) (parse_args (d - 1) (inside_type x) false) (inside_type x) (enter s)
+    ≡ (type_as (type_case s.rest) (parse_type (d - 1) (inside_type x)) (parse_name (d - 1) (inside_type x)) (parse_args (d - 1) (inside_type x) false) (inside_type x) (enter s) >>= fitting)
 unfolding parse_type parse_name
 type_opens zero x s h = absurd (omega arith)
 type_opens (suc d) x s h = let less : suc d - 1 ≡ d = omega arith in rw less refl
@@ -176,6 +178,76 @@ nested_opens unqualified args x s = then_named (first_as (first_case (past_name_
     then_named None = refl
     then_named (Some f) = refl
 
+-- the limit
+pub max_text_is : max_text ≡ 1048576
+unfolding max_text
+max_text_is = refl
+
+-- a length that is within the limit, and one that isn't
+pub not_longer : {n : ℕ} → n ≤ max_text → nat_lt max_text n ≡ false
+not_longer short = grind (arith, nat_tests)
+
+pub longer : {n : ℕ} → max_text < n → nat_lt max_text n ≡ true
+longer long = grind (arith, nat_tests)
+
+not_wide : (t : Shape) → text_len t ≤ max_text → is_wide t ≡ false
+not_wide t short = not_longer short
+
+wide_by : (t : Shape) → max_text < text_len t → is_wide t ≡ true
+wide_by t long = longer long
+
+-- the text of a builtin type is short
+pick : (b : Bool) (xs ys : List ℕ) → length xs ≤ 40 → length ys ≤ 40 → length (if b then xs else ys) ≤ 40
+pick true xs ys here there = here
+pick false xs ys here there = there
+
+letter_short : (letter : ℕ) → length (letter_text letter) ≤ 40
+letter_short letter =
+    pick (letter == 118) _ _ (omega arith) (
+    pick (letter == 119) _ _ (omega arith) (
+    pick (letter == 98) _ _ (omega arith) (
+    pick (letter == 99) _ _ (omega arith) (
+    pick (letter == 97) _ _ (omega arith) (
+    pick (letter == 104) _ _ (omega arith) (
+    pick (letter == 115) _ _ (omega arith) (
+    pick (letter == 116) _ _ (omega arith) (
+    pick (letter == 105) _ _ (omega arith) (
+    pick (letter == 106) _ _ (omega arith) (
+    pick (letter == 108) _ _ (omega arith) (
+    pick (letter == 109) _ _ (omega arith) (
+    pick (letter == 120) _ _ (omega arith) (
+    pick (letter == 121) _ _ (omega arith) (
+    pick (letter == 110) _ _ (omega arith) (
+    pick (letter == 111) _ _ (omega arith) (
+    pick (letter == 102) _ _ (omega arith) (
+    pick (letter == 100) _ _ (omega arith) (
+    pick (letter == 101) _ _ (omega arith) (
+    pick (letter == 103) _ _ (omega arith) (
+    pick (letter == 122) _ _ (omega arith) (
+    omega arith)))))))))))))))))))))
+
+two_letters_short : (letter : ℕ) → length (two_letter_text letter) ≤ 40
+two_letters_short letter =
+    pick (letter == 115) _ _ (omega arith) (
+    pick (letter == 105) _ _ (omega arith) (
+    pick (letter == 117) _ _ (omega arith) (
+    pick (letter == 110) _ _ (omega arith) (
+    pick (letter == 97) _ _ (omega arith) (
+    pick (letter == 99) _ _ (omega arith) (
+    pick (letter == 104) _ _ (omega arith) (
+    pick (letter == 100) _ _ (omega arith) (
+    pick (letter == 101) _ _ (omega arith) (
+    pick (letter == 102) _ _ (omega arith) (
+    omega arith))))))))))
+
+builtin_short : (bytes : List ℕ) → length (builtin_text bytes) ≤ 40
+builtin_short [] = omega arith
+builtin_short (first ∷ []) = letter_short first
+builtin_short (first ∷ second ∷ bytes) = pick (first == 68) _ _ (two_letters_short second) (letter_short first)
+
+pub builtin_fits : (bytes : List ℕ) → is_wide (plain_shape (builtin_text bytes)) ≡ false
+builtin_fits bytes = not_wide (plain_shape (builtin_text bytes)) (omega (arith, builtin_short bytes, max_text_is))
+
 -- a call that hands on why what it called has stopped: then the whole isn't parsed either
 pub stops : (after : Reader) {inner whole : Option (Shape × ParserState)} (e : Stop) → Gives (Err e) after inner → (inner ≡ None → whole ≡ None) → Gives (Err e) after whole
 stops after Unread none follows = follows none
@@ -192,10 +264,27 @@ saved_first (Ok u) before mid after bounds longer same some most = (omega (arith
 saved_first (Err Unread) before mid after bounds longer same some most = omega (arith, bounds)
 saved_first (Err Memory) before mid after bounds longer same some most = tt
 
--- a component that is ended is what a turn goes on with
-ended_goes_on : (read : Option (Shape × ParserState)) → (read >>= next_component) ≡ ((read >>= end_component) >>= λ next. Some (goes_on (true, next.0), next.1))
-ended_goes_on None = refl
-ended_goes_on (Some found) = refl
+-- a component that is ended and isn't too long is what a turn goes on with
+ended_goes_on : (read : Option (Shape × ParserState)) {next : Shape} {after : ParserState} → (read >>= end_component) ≡ Some (next, after) → is_wide next ≡ false
+    → (read >>= fitting >>= next_component) ≡ Some (goes_on (true, next), after)
+ended_goes_on None ended fits = cc
+ended_goes_on (Some found) {next} {after} ended fits =
+    let is = same_Some _ _ ended in
+    let name : found.0 ≡ next = ap (λ (y : Shape × ParserState). y.0) is in
+    let left : past_initializer (save found.0 found.1) ≡ after = ap (λ (y : Shape × ParserState). y.1) is in
+    rw (name, fits) (ap (λ (s : ParserState). Some (goes_on (true, next), s)) (rw (sym name) left))
+
+-- one that is too long ends the loop
+ended_wide : (read : Option (Shape × ParserState)) {next : Shape} {after : ParserState} → (read >>= end_component) ≡ Some (next, after) → is_wide next ≡ true
+    → (read >>= fitting >>= next_component) ≡ None
+ended_wide None ended wide = cc
+ended_wide (Some found) {next} {after} ended wide =
+    let name : found.0 ≡ next = ap (λ (y : Shape × ParserState). y.0) (same_Some _ _ ended) in rw (name, wide) refl
+
+-- where no component is read there is none
+ended_none : (read : Option (Shape × ParserState)) → (read >>= end_component) ≡ None → (read >>= fitting >>= next_component) ≡ None
+ended_none None none = refl
+ended_none (Some found) none = cc
 
 -- the turns of the components of a nested name
 module _ {whole : Option (Shape × ParserState)} (unqualified : ParsesName) (args : Parses Shape) {takes : Bool} {name : Shape} {s : ParserState}
@@ -204,28 +293,41 @@ module _ {whole : Option (Shape × ParserState)} (unqualified : ParsesName) (arg
   unfolding component_turn
   components_end case same left = loop_end so_far (rw (case, same, left) refl)
 
-  pub components_args : {next : Shape} {mid after : ParserState} → component_case s.rest ≡ ArgsComponent → attached_by args name s ≡ Some (next, mid) → length mid.rest < length s.rest
+  pub components_args : {next : Shape} {mid after : ParserState} → component_case s.rest ≡ ArgsComponent → attached_by args name s ≡ Some (next, mid) → is_wide next ≡ false → length mid.rest < length s.rest
       → after ≡ past_initializer (save next mid) → length after.rest ≤ length mid.rest → LoopSoFar whole (component_turn unqualified args) (true, next) after
   unfolding component_turn
-  components_args case found shorter left short = loop_more so_far (rw (case, found, left) refl) (omega arith)
+  components_args case found fits shorter left short = loop_more so_far (rw (case, found, fits, left) refl) (omega arith)
+
+  pub components_wide_args : {next : Shape} {mid : ParserState} → component_case s.rest ≡ ArgsComponent → attached_by args name s ≡ Some (next, mid) → is_wide next ≡ true → whole ≡ None
+  unfolding component_turn
+  components_wide_args case found wide = loop_fail so_far (rw (case, found, wide) refl)
 
   pub components_no_args : component_case s.rest ≡ ArgsComponent → attached_by args name s ≡ None → whole ≡ None
   unfolding component_turn
   components_no_args case none = loop_fail so_far (rw (case, none) refl)
 
-  pub components_name : {next : Shape} {mid after : ParserState} → component_case s.rest ≡ NameComponent → unqualified (Some name) s ≡ Some (next, mid) → length mid.rest < length s.rest
+  pub components_name : {next : Shape} {mid after : ParserState} → component_case s.rest ≡ NameComponent → unqualified (Some name) s ≡ Some (next, mid) → is_wide next ≡ false → length mid.rest < length s.rest
       → after ≡ past_initializer (save next mid) → length after.rest ≤ length mid.rest → LoopSoFar whole (component_turn unqualified args) (true, next) after
   unfolding component_turn
-  components_name case found shorter left short = loop_more so_far (rw (case, found, left) refl) (omega arith)
+  components_name case found fits shorter left short = loop_more so_far (rw (case, found, fits, left) refl) (omega arith)
+
+  pub components_wide_name : {next : Shape} {mid : ParserState} → component_case s.rest ≡ NameComponent → unqualified (Some name) s ≡ Some (next, mid) → is_wide next ≡ true → whole ≡ None
+  unfolding component_turn
+  components_wide_name case found wide = loop_fail so_far (rw (case, found, wide) refl)
 
   pub components_source : {next : Shape} {after : ParserState} → component_case s.rest ≡ NameComponent → unqualified (Some name) s ≡ parse_source_in (Some name) s
-      → parse_next_source (Some name) s ≡ Some (next, after) → length after.rest < length s.rest → LoopSoFar whole (component_turn unqualified args) (true, next) after
+      → parse_next_source (Some name) s ≡ Some (next, after) → is_wide next ≡ false → length after.rest < length s.rest → LoopSoFar whole (component_turn unqualified args) (true, next) after
   unfolding component_turn
-  components_source case source read shorter = loop_more so_far (rw (case, source) (ended_goes_on (parse_source_in (Some name) s) ∙ rw read refl)) shorter
+  components_source case source read fits shorter = loop_more so_far (rw (case, source) (ended_goes_on (parse_source_in (Some name) s) read fits)) shorter
+
+  pub components_wide_source : {next : Shape} {after : ParserState} → component_case s.rest ≡ NameComponent → unqualified (Some name) s ≡ parse_source_in (Some name) s
+      → parse_next_source (Some name) s ≡ Some (next, after) → is_wide next ≡ true → whole ≡ None
+  unfolding component_turn
+  components_wide_source case source read wide = loop_fail so_far (rw (case, source) (ended_wide (parse_source_in (Some name) s) read wide))
 
   pub components_no_source : component_case s.rest ≡ NameComponent → unqualified (Some name) s ≡ parse_source_in (Some name) s → parse_next_source (Some name) s ≡ None → whole ≡ None
   unfolding component_turn
-  components_no_source case source none = loop_fail so_far (rw (case, source) (ended_goes_on (parse_source_in (Some name) s) ∙ rw none refl))
+  components_no_source case source none = loop_fail so_far (rw (case, source) (ended_none (parse_source_in (Some name) s) none))
 
   pub components_no_name : component_case s.rest ≡ NameComponent → unqualified (Some name) s ≡ None → whole ≡ None
   unfolding component_turn
@@ -292,35 +394,65 @@ nothing_in_front list = λ j. record { form = Plain (append-nil (text list) j); 
 pub words_joined : (words t close : List ℕ) → plain_shape ((words ++ t) ++ close) ≡ plain_shape (words ++ (t ++ (close ++ [])))
 words_joined words t close = ap plain_shape (append_assoc words t close ∙ ap (λ (c : List ℕ). words ++ (t ++ c)) (sym (append-nil close)))
 
+-- a list that is read whole gets its end, and isn't too long
+ended_then : {A : Type 0} (read : Option (Shape × ParserState)) (finish : Shape → Shape) (k : Shape × ParserState → Option A)
+    → ((read >>= λ r. Some (finish r.0, r.1)) >>= k) ≡ (read >>= λ r. k (finish r.0, r.1))
+ended_then None finish k = refl
+ended_then (Some r) finish k = refl
+
+-- a pack that is read whole
+abbrev pub pack_end : Shape × ParserState → Option (Shape × ParserState)
+pack_end r = fitting (whole_shape r.0, r.1)
+
 -- a pack begins
 pub pack_start : (d : ℕ) (x : Context) (s : ParserState) {inside : Context} {list : Shape} {after : ParserState} → 0 < d → inside ≡ inside_pack x → list ≡ plain_shape [] → after ≡ skip 1 (enter s)
-    → ListSoFar (parse_pack d x s) (list_turn put_nowhere (parse_argument (d - 1) inside)) whole_shape (true, list) after
-pack_start d x s deep within built left = rw (left, within, built) (list_start (pack_opens d x s deep))
+    → ListSoFar (parse_pack d x s) (list_turn put_nowhere (parse_argument (d - 1) inside)) pack_end (true, list) after
+pack_start d x s deep within built left = rw (left, within, built) (list_start (pack_opens d x s deep ∙ ended_then _ whole_shape fitting))
 
 -- the turns of a list up to its E
-module _ {whole : Option (Shape × ParserState)} (put : Shape → ParserState → ParserState) (item : Parses Shape) (finish : Shape → Shape) {first : Bool} {list : Shape} {s : ParserState}
+module _ {whole : Option (Shape × ParserState)} (put : Shape → ParserState → ParserState) (item : Parses Shape) (finish : Shape × ParserState → Option (Shape × ParserState)) {first : Bool} {list : Shape} {s : ParserState}
     (so_far : ListSoFar whole (list_turn put item) finish (first, list) s) where
-  pub items_end : {found : Shape} {after : ParserState} → args_case s.rest ≡ EndOfArguments → found ≡ finish list → after ≡ skip 1 s → whole ≡ Some (found, after)
+  pub items_end : {after : ParserState} → args_case s.rest ≡ EndOfArguments → after ≡ skip 1 s → whole ≡ finish (list, after)
   unfolding list_turn
-  items_end case built left = rw (built, left) (list_end so_far (rw case refl))
+  items_end case left = rw left (list_end so_far (rw case refl))
 
   pub items_more : {next found : Shape} {mid after : ParserState} → args_case s.rest ≡ NextArgument → item s ≡ Some (next, mid) → length mid.rest < length s.rest
-      → found ≡ listed_more first list next → after ≡ put next mid → after.rest ≡ mid.rest → ListSoFar whole (list_turn put item) finish (false, found) after
+      → found ≡ listed_more first list next → is_wide found ≡ false → after ≡ put next mid → after.rest ≡ mid.rest → ListSoFar whole (list_turn put item) finish (false, found) after
   unfolding list_turn
-  items_more case read shorter built left same = list_more so_far (rw (case, read, built, left) refl) (rw same shorter)
+  items_more {next} {found} case read shorter built fits left same =
+      let narrow : is_wide (listed_more first list next) ≡ false = ap is_wide (sym built) ∙ fits in
+      list_more so_far (rw (case, read, narrow, built, left) refl) (rw same shorter)
+
+  pub items_wide : {next found : Shape} {mid : ParserState} → args_case s.rest ≡ NextArgument → item s ≡ Some (next, mid) → found ≡ listed_more first list next → is_wide found ≡ true → whole ≡ None
+  unfolding list_turn
+  items_wide {next} {found} case read built wide =
+      let long : is_wide (listed_more first list next) ≡ true = ap is_wide (sym built) ∙ wide in
+      list_fail so_far (rw (case, read, long) refl)
 
   pub items_fail : args_case s.rest ≡ NextArgument → item s ≡ None → whole ≡ None
   unfolding list_turn
   items_fail case none = list_fail so_far (rw (case, none) refl)
 
+-- a pack ends
+pub pack_ends : {whole : Option (Shape × ParserState)} (item : Parses Shape) {first : Bool} {list found : Shape} {s after : ParserState} → ListSoFar whole (list_turn put_nowhere item) pack_end (first, list) s
+    → args_case s.rest ≡ EndOfArguments → found ≡ whole_shape list → is_wide found ≡ false → after ≡ skip 1 s → whole ≡ Some (found, after)
+pack_ends item {list = list} {found = found} so_far case built fits left =
+    let narrow : is_wide (whole_shape list) ≡ false = ap is_wide (sym built) ∙ fits in
+    items_end put_nowhere item pack_end so_far case left ∙ rw (narrow, sym built) refl
+
+pub pack_wide : {whole : Option (Shape × ParserState)} (item : Parses Shape) {first : Bool} {list found : Shape} {s : ParserState} → ListSoFar whole (list_turn put_nowhere item) pack_end (first, list) s
+    → args_case s.rest ≡ EndOfArguments → found ≡ whole_shape list → is_wide found ≡ true → whole ≡ None
+pack_wide item {list = list} {found = found} so_far case built wide =
+    let long : is_wide (whole_shape list) ≡ true = ap is_wide (sym built) ∙ wide in
+    items_end put_nowhere item pack_end so_far case refl ∙ rw long refl
+
 -- what is read gets its end
 abbrev with_end : (Shape → Shape) → Option (Shape × ParserState) → Option (Shape × ParserState)
 with_end finish read = read >>= λ r. Some (finish r.0, r.1)
 
--- one end, and then another
-ended_twice : (read : Option (Shape × ParserState)) (first second : Shape → Shape) → with_end second (with_end first read) ≡ with_end (λ found. second (first found)) read
-ended_twice None first second = refl
-ended_twice (Some r) first second = refl
+-- a list that is read whole is attached to a name
+abbrev pub attached_to : Shape → Shape × ParserState → Option (Shape × ParserState)
+attached_to name r = fitting (whole_shape (arguments_closed r.0), r.1) >>= λ list. Some (attached name list.0, list.1)
 
 -- A list after a name has come this far: what is found stands for the name's text and the list's.
 pub record AttachedSoFar (whole : Option (Shape × ParserState)) (put : Shape → ParserState → ParserState) (item : Parses Shape) (name : Shape) (first : Bool) (found : Shape) (s : ParserState) : Type 0 where
@@ -328,8 +460,12 @@ pub record AttachedSoFar (whole : Option (Shape × ParserState)) (put : Shape �
   pub own : ℕ × ℕ
   pub templ : Bool
   pub ctor : Bool
-  pub so_far : ListSoFar whole (list_turn put item) (λ all. attached name (whole_shape (arguments_closed all))) (first, begun_list list own templ ctor) s
+  pub so_far : ListSoFar whole (list_turn put item) (attached_to name) (first, begun_list list own templ ctor) s
   pub stands : found ≡ plain_shape (text name ++ (angle_gap (text name) ++ (60 ∷ list)))
+
+-- how many bytes stand in front of a list after a name
+abbrev pub front_len : Shape → ℕ
+front_len name = text_len name + length (angle_gap (text name))
 
 -- a list begins after a name
 pub attached_start : (d : ℕ) (x : Context) (of_name : Bool) (s : ParserState) (name : Shape) {opens : Bool} {n : ℕ} {found : Shape} {after : ParserState} → 0 < d
@@ -341,33 +477,89 @@ attached_start d x of_name s name {opens} {n} {found} {after} deep opened built 
   templ = false;
   ctor = false;
   so_far = rw (scopes, left, opened) (list_start (ap (with_end (attached name)) (args_opens d x of_name s deep)
-      ∙ ended_twice _ (λ all. whole_shape (arguments_closed all)) (attached name)));
+      ∙ ended_thrice _ (λ all. whole_shape (arguments_closed all)) (attached name)));
   stands = built;
 }
+  where
+    ended_thrice : (read : Option (Shape × ParserState)) (first second : Shape → Shape)
+        → with_end second (with_end first read >>= fitting) ≡ (read >>= λ r. with_end second (fitting (first r.0, r.1)))
+    ended_thrice None first second = refl
+    ended_thrice (Some r) first second = refl
+
+-- the front of a list that has begun
+pub begun_front : (name found : Shape) {len : ℕ} → found ≡ arguments_begun name → len ≡ text_len found → len - 1 ≡ front_len name
+begun_front name found built long =
+    let gap = angle_gap (text name) in
+    let all : text_len found ≡ length (text name ++ (gap ++ (60 ∷ []))) = ap text_len built in
+    omega (arith, long, all, length-append (text name) (gap ++ (60 ∷ [])), length-append gap (60 ∷ []))
 
 -- the turns of a list after a name
 module _ {whole : Option (Shape × ParserState)} (put : Shape → ParserState → ParserState) (item : Parses Shape) (name : Shape) {first : Bool} {found : Shape} {s : ParserState}
     (so_far : AttachedSoFar whole put item name first found s) where
+  -- the list so far, and the whole of it
+  abbrev list_so_far : Shape
+  list_so_far = begun_list so_far.list so_far.own so_far.templ so_far.ctor
+
+  abbrev list_whole : Shape
+  list_whole = whole_shape (arguments_closed list_so_far)
+
+  -- the name with the list
+  ended : {last : Shape} → last ≡ arguments_ended (text_len name) name.own name.ctor found → last ≡ attached name list_whole
+  ended built = built ∙ ap (arguments_ended (text_len name) name.own name.ctor) so_far.stands ∙ ended_attached name so_far.list so_far.own so_far.templ so_far.ctor
+
+  -- its length
+  ended_len : {last : Shape} → last ≡ arguments_ended (text_len name) name.own name.ctor found → text_len last ≡ front_len name + text_len list_whole
+  ended_len built =
+      let gap = angle_gap (text name) in
+      let long : text_len (attached name list_whole) ≡ length (text name ++ (gap ++ text list_whole)) = refl in
+      omega (arith, ap text_len (ended built), long, length-append (text name) (gap ++ text list_whole), length-append gap (text list_whole))
+
   pub attached_end : {last : Shape} {after : ParserState} → args_case s.rest ≡ EndOfArguments → last ≡ arguments_ended (text_len name) name.own name.ctor found
-      → after ≡ skip 1 s → whole ≡ Some (last, after)
-  attached_end case built left =
-      items_end put item (λ all. attached name (whole_shape (arguments_closed all))) so_far.so_far case
-      (built ∙ ap (arguments_ended (text_len name) name.own name.ctor) so_far.stands ∙ ended_attached name so_far.list so_far.own so_far.templ so_far.ctor) left
+      → text_len last - front_len name ≤ max_text → after ≡ skip 1 s → whole ≡ Some (last, after)
+  attached_end case built short left =
+      let fits : is_wide list_whole ≡ false = not_wide list_whole (omega (arith, short, ended_len built)) in
+      items_end put item (attached_to name) so_far.so_far case left ∙ rw (fits, sym (ended built)) refl
+
+  pub attached_wide : {last : Shape} → args_case s.rest ≡ EndOfArguments → last ≡ arguments_ended (text_len name) name.own name.ctor found
+      → max_text < text_len last - front_len name → whole ≡ None
+  attached_wide case built long =
+      let wide : is_wide list_whole ≡ true = wide_by list_whole (omega (arith, long, ended_len built)) in
+      items_end put item (attached_to name) so_far.so_far case refl ∙ rw wide refl
+
+  -- with one text more
+  more_len : (next more : Shape) → more ≡ joined (separated first found) [] next → text_len more ≡ front_len name + text_len (listed_more first list_so_far next)
+  more_len next more built =
+      let list = (so_far.list ++ separator first) ++ text next in
+      let gap = angle_gap (text name) in
+      let is : more ≡ plain_shape (text name ++ (gap ++ (60 ∷ list))) =
+      built ∙ ap (λ (l : Shape). joined (separated first l) [] next) so_far.stands ∙ begun_more (text name) gap so_far.list next first in
+      let long : text_len (listed_more first list_so_far next) ≡ length (60 ∷ list) = refl in
+      omega (arith, ap text_len is, long, length-append (text name) (gap ++ (60 ∷ list)), length-append gap (60 ∷ list))
 
   pub attached_more : {next more : Shape} {mid after : ParserState} → args_case s.rest ≡ NextArgument → item s ≡ Some (next, mid) → length mid.rest < length s.rest
-      → more ≡ joined (separated first found) [] next → after ≡ put next mid → after.rest ≡ mid.rest → AttachedSoFar whole put item name false more after
-  attached_more {next} {more} {mid} {after} case read shorter built left same =
-      let longer = listed_more first (begun_list so_far.list so_far.own so_far.templ so_far.ctor) next in record {
+      → more ≡ joined (separated first found) [] next → text_len more - front_len name ≤ max_text → after ≡ put next mid → after.rest ≡ mid.rest → AttachedSoFar whole put item name false more after
+  attached_more {next} {more} {mid} {after} case read shorter built short left same =
+      let longer = listed_more first list_so_far next in
+      let fits : is_wide longer ≡ false = not_wide longer (omega (arith, short, more_len next more built)) in record {
         list = (so_far.list ++ separator first) ++ text next;
         own = longer.own;
         templ = so_far.templ;
         ctor = so_far.ctor;
-        so_far = items_more put item (λ all. attached name (whole_shape (arguments_closed all))) so_far.so_far case read shorter refl left same;
+        so_far = items_more put item (attached_to name) so_far.so_far case read shorter refl fits left same;
         stands = built ∙ ap (λ (l : Shape). joined (separated first l) [] next) so_far.stands ∙ begun_more (text name) (angle_gap (text name)) so_far.list next first;
       }
 
+  pub attached_more_wide : {next more : Shape} {mid : ParserState} → args_case s.rest ≡ NextArgument → item s ≡ Some (next, mid)
+      → more ≡ joined (separated first found) [] next → max_text < text_len more - front_len name → whole ≡ None
+  attached_more_wide {next} {more} case read built long =
+      items_wide put item (attached_to name) so_far.so_far case read refl (wide_by (listed_more first list_so_far next) (omega (arith, long, more_len next more built)))
+
+  -- the front is in what is found
+  pub attached_room : (next : Shape) {more : Shape} → more ≡ joined (separated first found) [] next → {front all : ℕ} → front ≡ front_len name → all ≡ text_len more → front ≤ all
+  attached_room next {more} built front_is all_is = omega (arith, front_is, all_is, more_len next more built)
+
   pub attached_fail : args_case s.rest ≡ NextArgument → item s ≡ None → whole ≡ None
-  attached_fail case none = items_fail put item (λ all. attached name (whole_shape (arguments_closed all))) so_far.so_far case none
+  attached_fail case none = items_fail put item (attached_to name) so_far.so_far case none
 
   -- what is found is a text that begins with the name's
   pub attached_plain : {all : Shape} → all ≡ found → all ≡ plain_shape (text all)
@@ -391,13 +583,27 @@ module _ {whole : Option (Shape × ParserState)} (type : Parses Shape) {first : 
   typed_end case = loop_end so_far (rw case refl)
 
   pub typed_more : {next found : Shape} {after : ParserState} → types_case false s.rest ≡ NextType → type s ≡ Some (next, after) → length after.rest < length s.rest
-      → found ≡ listed_more first list next → LoopSoFar whole (typed_turn type) (false, found) after
+      → found ≡ listed_more first list next → is_wide found ≡ false → LoopSoFar whole (typed_turn type) (false, found) after
   unfolding typed_turn
-  typed_more case read shorter built = loop_more so_far (rw (case, read, built) refl) shorter
+  typed_more {next} case read shorter built fits =
+      let narrow : is_wide (listed_more first list next) ≡ false = ap is_wide (sym built) ∙ fits in
+      loop_more so_far (rw (case, read, narrow, built) refl) shorter
+
+  pub typed_wide : {next found : Shape} {after : ParserState} → types_case false s.rest ≡ NextType → type s ≡ Some (next, after)
+      → found ≡ listed_more first list next → is_wide found ≡ true → whole ≡ None
+  unfolding typed_turn
+  typed_wide {next} case read built wide =
+      let long : is_wide (listed_more first list next) ≡ true = ap is_wide (sym built) ∙ wide in
+      loop_fail so_far (rw (case, read, long) refl)
 
   pub typed_fail : types_case false s.rest ≡ NextType → type s ≡ None → whole ≡ None
   unfolding typed_turn
   typed_fail case none = loop_fail so_far (rw (case, none) refl)
+
+-- one text more
+pub total_more : (ts : List Shape) (t : Shape) → total_len (ts ++ t ∷ []) ≡ total_len ts + text_len t
+total_more [] t = omega arith
+total_more (u ∷ ts) t = omega (arith, total_more ts t)
 
 -- the turns of a list of types
 pub types_end : {whole : Option (List Shape × ParserState)} (type : Parses Shape) {so_far : List Shape} {s : ParserState} → LoopSoFar whole (types_turn type) so_far s
@@ -406,9 +612,19 @@ unfolding types_turn
 types_end type sofar case = loop_end sofar (rw case refl)
 
 pub types_more : {whole : Option (List Shape × ParserState)} (type : Parses Shape) {so_far : List Shape} {next : Shape} {s after : ParserState} → LoopSoFar whole (types_turn type) so_far s
-    → types_case true s.rest ≡ NextType → type s ≡ Some (next, after) → length after.rest < length s.rest → LoopSoFar whole (types_turn type) (so_far ++ next ∷ []) after
+    → types_case true s.rest ≡ NextType → type s ≡ Some (next, after) → total_len so_far + text_len next ≤ max_text → length after.rest < length s.rest
+    → LoopSoFar whole (types_turn type) (so_far ++ next ∷ []) after
 unfolding types_turn
-types_more type sofar case found shorter = loop_more sofar (rw (case, found) refl) shorter
+types_more type {so_far} {next} sofar case found short shorter =
+    let fits : nat_lt max_text (total_len (so_far ++ next ∷ [])) ≡ false = not_longer (omega (arith, short, total_more so_far next)) in
+    loop_more sofar (rw (case, found, fits) refl) shorter
+
+pub types_wide : {whole : Option (List Shape × ParserState)} (type : Parses Shape) {so_far : List Shape} {next : Shape} {s after : ParserState} → LoopSoFar whole (types_turn type) so_far s
+    → types_case true s.rest ≡ NextType → type s ≡ Some (next, after) → max_text < total_len so_far + text_len next → whole ≡ None
+unfolding types_turn
+types_wide type {so_far} {next} sofar case found long =
+    let wide : nat_lt max_text (total_len (so_far ++ next ∷ [])) ≡ true = longer (omega (arith, long, total_more so_far next)) in
+    loop_fail sofar (rw (case, found, wide) refl)
 
 pub types_fail : {whole : Option (List Shape × ParserState)} (type : Parses Shape) {so_far : List Shape} {s : ParserState} → LoopSoFar whole (types_turn type) so_far s
     → types_case true s.rest ≡ NextType → type s ≡ None → whole ≡ None

@@ -1,7 +1,7 @@
 -- A bridge between the readers and the grammar, and no definition: what the readers do, as functions over shapes. The
 -- grammar is what is promised; theorems over it say that these functions read what it reads, and nothing else.
-use Rattle.std.specs.Prelude.{ℕ, zero, suc, ◌+◌, ◌-◌, max, Bool, true, false, not, if◌then◌else◌, is_some, slice_get, List, [], ◌∷◌, ◌++◌, Option, Some, None, option_and_then, take, drop, length, codes}
-use Rattle.demangle_text.specs.Shape.{Shape, plain_shape, whole_shape, appended}
+use Rattle.std.specs.Prelude.{ℕ, zero, suc, ◌+◌, ◌-◌, max, Bool, true, false, not, if◌then◌else◌, nat_lt, is_some, slice_get, List, [], ◌∷◌, ◌++◌, Option, Some, None, option_and_then, take, drop, length, codes}
+use Rattle.demangle_text.specs.Shape.{Shape, text_len, plain_shape, whole_shape, appended}
 use Rattle.demangle_text.specs.State.{last_args, with_arg}
 use Rattle.demangle_quals.specs.declared.quals.Quals.{Quals}
 use Rattle.demangle_quals.specs.declared.quals.Pointer.{Pointer}
@@ -24,6 +24,7 @@ use Rattle.itanium_syntax.specs.Specials.{special_case, special_text, special_cl
 use Rattle.itanium_syntax.specs.Encodings.{return_case, signature_case, entity_case, shows_words}
 use Rattle.itanium_syntax.specs.Args.{attached_case, args_case, argument_case}
 use Rattle.itanium_syntax.specs.Types.{type_case, builtin_text, past_builtin, cv_quals, past_cv, with_reference, past_reference, cv_case, function_case, params_case, types_case, elaborated_text}
+use Rattle.itanium_grammar.specs.Answer.{max_text}
 use Rattle.itanium_grammar.specs.Tree.{worded_shape, temporary_shape, construction_shape, thunk_shape, pre_shape, post_shape, binary_shape, greater_shape, conditional_shape, abbreviation_shape, conversion_shape, elaborated_shape, unnamed_text, literal_operator_text}
 use Rattle.itanium_reader.specs.Cases.{SymbolCase, SpecialSymbol, NameSymbol, SpecialCase, TypeSpecial, NameSpecial, TemporarySpecial, ConstructionSpecial, ThunkSpecial, NoSpecial, NameCase, NestedName, LocalName, UnscopedName, ReturnCase, NoReturnType, SomeReturnType, SignatureCase, NoSignature, SomeSignature, EntityCase, StringLiteralEntity, DefaultArgumentEntity, NameEntity, NoEntity, UnscopedCase, StdName, SubstitutionName, PlainName, AttachedCase, NoneAttached, ArgsAttached, FirstCase, ParameterFirst, StdFirst, SubstitutionFirst, NameFirst, ComponentCase, EndOfComponents, ArgsComponent, NameComponent, UnqualifiedCase, ConstructorName, DestructorName, FreeName, FreeCase, SourceName, UnnamedTypeName, LambdaName, ConversionName, LiteralOperatorName, OperatorName, NoName, TagCase, NoTag, NextTag, SubstitutionCase, AbbreviationSubstitution, ComponentSubstitution, ArgsCase, EndOfArguments, NextArgument, LiteralCase, ExternalName, ValueLiteral, NoLiteral, ExpressionCase, PreExpression, AddressExpression, UnaryExpression, PostExpression, BinaryExpression, GreaterExpression, ConditionalExpression, ParameterExpression, LiteralExpression, NoExpression, ArgumentCase, ExpressionArgument, PackArgument, LiteralArgument, ConstraintArgument, TypeArgument, TypeCase, BuiltinType, ExpansionType, VendorType, ArrayType, FunctionType, MemberType, PointerType, CvType, ElaboratedType, ParameterType, SubstitutionType, UnreadType, NameType, CvCase, CvFunction, CvOther, FunctionCase, ExternFunction, PlainFunction, ParamsCase, NoParams, SomeParams, TypesCase, EndOfTypes, NextType}
 
@@ -67,6 +68,23 @@ enter s = record s { entered = s.entered + 1 }
 -- the last saved shape is taken back, where it is to be
 abbrev pub taken_back : Bool → ParserState → ParserState
 taken_back takes s = record s { saved = if takes then take (length s.saved - 1) s.saved else s.saved }
+
+-- the text of the shape is longer than the limit
+abbrev pub is_wide : Shape → Bool
+is_wide t = nat_lt max_text (text_len t)
+
+-- a shape that isn't too long; else nothing
+abbrev pub fitting : Shape × ParserState → Option (Shape × ParserState)
+fitting found = if is_wide found.0 then None else Some found
+
+-- a name without its own qualifiers that isn't too long; else nothing
+abbrev pub fitting_bare : (Shape × Quals) × ParserState → Option ((Shape × Quals) × ParserState)
+fitting_bare found = if is_wide found.0.0 then None else Some found
+
+-- how many bytes the texts of several shapes have together
+abbrev pub total_len : List Shape → ℕ
+total_len [] = 0
+total_len (t ∷ ts) = text_len t + total_len ts
 
 -- past the M of a data member's initializer
 abbrev pub past_initializer : ParserState → ParserState
@@ -149,12 +167,17 @@ tag_turn name s = tag_as (tag_case s.rest) name s
 abbrev pub parse_tags : Shape → Parses Shape
 parse_tags name s = parse_loop tag_turn name s
 
--- one more item of a list, with what stands in front of it, or the list's E
+-- the list goes on after an item
+abbrev pub next_item : Shape × ParserState → Option (Turn (Bool × Shape) Shape × ParserState)
+next_item list = Some (goes_on (false, list.0), list.1)
+
+-- one more item of a list, with what stands in front of it, or the list's E. A list that is too long already isn't read
+-- on
 abbrev pub list_as : ArgsCase → (Shape → ParserState → ParserState) → Parses Shape → Bool × Shape
     → Parses (Turn (Bool × Shape) Shape)
 list_as EndOfArguments put item so_far s = Some (ends so_far.1, skip 1 s)
 list_as NextArgument put item so_far s =
-    item s >>= λ next. Some (goes_on (false, listed_more so_far.0 so_far.1 next.0), put next.0 next.1)
+    item s >>= λ next. fitting (listed_more so_far.0 so_far.1 next.0, put next.0 next.1) >>= next_item
 
 -- the same, by what comes next
 unfoldable pub list_turn : (Shape → ParserState → ParserState) → Parses Shape → Bool × Shape
@@ -165,11 +188,12 @@ list_turn put item so_far s = list_as (args_case s.rest) put item so_far s
 abbrev pub put_nowhere : Shape → ParserState → ParserState
 put_nowhere item s = s
 
--- one more type of a list, with what stands in front of it, or its end, which isn't taken
+-- one more type of a list, with what stands in front of it, or its end, which isn't taken. A list that is too long
+-- already isn't read on
 abbrev pub typed_as : TypesCase → Parses Shape → Bool × Shape → Parses (Turn (Bool × Shape) Shape)
 typed_as EndOfTypes type so_far s = Some (ends so_far.1, s)
 typed_as NextType type so_far s =
-    type s >>= λ next. Some (goes_on (false, listed_more so_far.0 so_far.1 next.0), next.1)
+    type s >>= λ next. fitting (listed_more so_far.0 so_far.1 next.0, next.1) >>= next_item
 
 -- the same, by what comes next
 unfoldable pub typed_turn : Parses Shape → Bool × Shape → Parses (Turn (Bool × Shape) Shape)
@@ -306,8 +330,8 @@ parse_next_source scope s = parse_source_in scope s >>= end_component
 abbrev pub component_as : ComponentCase → ParsesName → Parses Shape → Bool × Shape
     → Parses (Turn (Bool × Shape) Shape)
 component_as EndOfComponents unqualified args so_far s = Some (ends so_far.1, taken_back so_far.0 (skip 1 s))
-component_as ArgsComponent unqualified args so_far s = attached_by args so_far.1 s >>= next_component
-component_as NameComponent unqualified args so_far s = unqualified (Some so_far.1) s >>= next_component
+component_as ArgsComponent unqualified args so_far s = attached_by args so_far.1 s >>= fitting >>= next_component
+component_as NameComponent unqualified args so_far s = unqualified (Some so_far.1) s >>= fitting >>= next_component
 
 -- the same, by what comes next
 unfoldable pub component_turn : ParsesName → Parses Shape → Bool × Shape → Parses (Turn (Bool × Shape) Shape)
@@ -365,7 +389,7 @@ encoding_end type name s =
 abbrev pub qualified_by : ParsesBareName → Context → Parses Shape
 qualified_by bare x s =
     bare s >>= λ name.
-    Some (with_name_qualifiers name.0.0 name.0.1 (shows_words (name_case s.rest) x.shown), name.1)
+    fitting (with_name_qualifiers name.0.0 name.0.1 (shows_words (name_case s.rest) x.shown), name.1)
 
 -- words around a type or in front of a name
 abbrev pub parse_worded : Parses Shape → Parses Shape
@@ -566,10 +590,13 @@ abbrev pub type_attached_as : AttachedCase → Parses Shape → Shape → Parses
 type_attached_as NoneAttached args name s = Some (name, s)
 type_attached_as ArgsAttached args name s = attached_by args name s >>= λ whole. Some (whole.0, save whole.0 whole.1)
 
--- one more type of a list, or its end
+-- one more type of a list, or its end. Types that are too long together already aren't read on
 abbrev pub types_as : TypesCase → Parses Shape → List Shape → Parses (Turn (List Shape) (List Shape))
 types_as EndOfTypes type so_far s = Some (ends so_far, s)
-types_as NextType type so_far s = type s >>= λ next. Some (goes_on (so_far ++ next.0 ∷ []), next.1)
+types_as NextType type so_far s =
+    type s >>= λ next.
+    if nat_lt max_text (total_len (so_far ++ next.0 ∷ [])) then None else
+    Some (goes_on (so_far ++ next.0 ∷ []), next.1)
 
 -- the same, by what comes next
 unfoldable pub types_turn : Parses Shape → List Shape → Parses (Turn (List Shape) (List Shape))
@@ -687,7 +714,7 @@ type_as SubstitutionType type name args x s = substitution_type args s
 type_as UnreadType type name args x s = None
 type_as NameType type name args x s = saved_by name s
 
--- The first number is how many counted productions may still open.
+-- The first number is how many counted productions may still open. One that prints more than the limit isn't read.
 unfoldable mutual
   -- <name>, without its own qualifiers
   pub parse_bare_name : ℕ → Context → ParsesBareName
@@ -699,7 +726,7 @@ unfoldable mutual
       (encoding_by (parse_type d (inside_encoding x)) (parse_bare_name d (inside_encoding x))
       (parse_thunk d (inside_encoding x)) (inside_encoding x))
       (parse_bare_name d (inside_local x)))
-      x (enter s)
+      x (enter s) >>= fitting_bare
 
   -- <template-args>
   pub parse_args : ℕ → Context → Bool → Parses Shape
@@ -709,7 +736,7 @@ unfoldable mutual
       (primary_by (parse_type d x)
       (encoding_by (parse_type d (inside_encoding x)) (parse_bare_name d (inside_encoding x))
       (parse_thunk d (inside_encoding x)) (inside_encoding x))))
-      (opens_scope of_name x) (enter s)
+      (opens_scope of_name x) (enter s) >>= fitting
 
   -- J <template-arg>* E
   pub parse_pack : ℕ → Context → Parses Shape
@@ -721,7 +748,7 @@ unfoldable mutual
       (encoding_by (parse_type d (inside_encoding (inside_pack x)))
       (parse_bare_name d (inside_encoding (inside_pack x))) (parse_thunk d (inside_encoding (inside_pack x)))
       (inside_encoding (inside_pack x)))))
-      (enter s)
+      (enter s) >>= fitting
 
   -- <type>
   pub parse_type : ℕ → Context → Parses Shape
@@ -729,7 +756,7 @@ unfoldable mutual
   parse_type (suc d) x s =
       type_as (type_case s.rest) (parse_type d (inside_type x))
       (qualified_by (parse_bare_name d (inside_type x)) (inside_type x))
-      (parse_args d (inside_type x) false) (inside_type x) (enter s)
+      (parse_args d (inside_type x) false) (inside_type x) (enter s) >>= fitting
 
   -- <expression>
   pub parse_expression : ℕ → Context → Parses Shape
@@ -738,13 +765,13 @@ unfoldable mutual
       expression_as (expression_case s.rest) (parse_expression d x) (primary_by (parse_type d x)
       (encoding_by (parse_type d (inside_encoding x)) (parse_bare_name d (inside_encoding x))
       (parse_thunk d (inside_encoding x)) (inside_encoding x)))
-      x (enter s)
+      x (enter s) >>= fitting
 
   -- T <call-offset> <encoding> and T c <call-offset> <call-offset> <encoding>
   pub parse_thunk : ℕ → Context → Parses Shape
   parse_thunk zero x s = None
   parse_thunk (suc d) x s =
-      thunk_by (symbol_by (parse_type d x) (parse_bare_name d x) (parse_thunk d x) x) (enter s)
+      thunk_by (symbol_by (parse_type d x) (parse_bare_name d x) (parse_thunk d x) x) (enter s) >>= fitting
 
 -- <name>
 unfoldable pub parse_name : ℕ → Context → Parses Shape

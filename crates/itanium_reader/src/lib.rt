@@ -9,5 +9,5 @@ mod reader;
 mod specials;
 mod stop;
 
-pub use crate::reader::Reader;
+pub use crate::reader::{MAX_TEXT, Reader, text_limit};
 pub use crate::stop::Stop;

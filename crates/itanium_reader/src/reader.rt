@@ -5,6 +5,7 @@ ghost use Rattle.demangle_text.specs.State.{IsLiving, Lives, shape, IsRun, SameF
 ghost use Rattle.demangle_edit.specs.Built.{separated};
 ghost use Rattle.itanium_syntax.specs.Types.{builtin_text, past_builtin};
 ghost use Rattle.itanium_grammar.specs.Tree.{abbreviation_shape};
+ghost use Rattle.itanium_grammar.specs.Answer.{max_text};
 ghost use Rattle.itanium_reader.specs.Parser as spec;
 ghost use Rattle.itanium_reader.specs.Outcome.{state, Gives, Bounds, SavedBounds};
 
@@ -20,6 +21,18 @@ use itanium_syntax::numerals::{Radix, index_of};
 use itanium_syntax::scalar::source_name;
 use itanium_syntax::types::{builtin_text, past_builtin};
 use std::alloc::{AllocError, Global};
+
+/// The greatest number of bytes that a counted production may print.
+pub const MAX_TEXT: usize = 1_048_576;
+
+/// The limit as a number of bytes.
+#[inline(always)]
+#[tactic(auto, using(crate::proofs::Unfold::max_text_is))]
+pub fn text_limit() -> usize
+    ensures value { result ≡ max_text }
+{
+    MAX_TEXT
+}
 
 /// A reader of mangled bytes. Each production has a function over it, or a method, that answers `Ok` where it was read:
 /// then `found` is the piece of its printing. It answers `Stop::Unread` where it isn't read, and `Stop::Memory` where
@@ -121,6 +134,15 @@ impl<'a> Reader<'a> {
         self.save_found()?;
         self.skip_initializer();
         Ok(())
+    }
+
+    /// Whether the piece is longer than `MAX_TEXT`.
+    #[inline(always)]
+    pub fn is_wide(&self, piece: Piece) -> bool
+        requires living { IsLiving self.now.buffer.value piece }
+        ensures value { result ≡ spec.is_wide (shape self.now.buffer.value piece) }
+    {
+        self.buffer.len(piece) > text_limit()
     }
 
     /// Takes the last saved component back, where it is to be.

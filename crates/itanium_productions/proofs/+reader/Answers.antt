@@ -1,9 +1,9 @@
-use Rattle.std.proofs.Common.{◌≡◌, ℕ, List, drop, refl, rules, sym, Some}
+use Rattle.std.proofs.Common.{◌≡◌, ℕ, List, drop, map, refl, rules, sym, arith, Some}
 use Rattle.std.proofs.lemmas.List.{map-append}
 use Rattle.std.proofs.lemmas.Result.{err_from_is_err_and}
 use Rattle.itanium_syntax.proofs.Fronts.{attached_some}
 use Rattle.demangle_text.specs.State.{shape, SameFrame}
-use Rattle.demangle_text.specs.Shape.{Shape}
+use Rattle.demangle_text.specs.Shape.{Shape, text_len}
 use Rattle.demangle_quals.specs.declared.quals.Quals.{Quals}
 use Rattle.demangle_edit.specs.Names.{default_arg_shape}
 use Rattle.itanium_syntax.specs.Scalars.{ordinal}
@@ -11,12 +11,13 @@ use Rattle.itanium_syntax.specs.Encodings.{entity_case}
 use Rattle.itanium_reader.specs.Cases.{DefaultArgumentEntity}
 use Rattle.itanium_reader.specs.Outcome.{state}
 use Rattle.itanium_reader.specs.Parser as spec
-use Rattle.itanium_reader.proofs.Unfold.{source_opens, saved_first, free_found, kept_scope, some_scope, stops, list_stops, attached_start, attached_end, attached_more, attached_fail, attached_plain, attached_front, pack_start, components_end, components_args, components_no_args, components_name, components_no_name, components_source, components_no_source, items_end, items_more, items_fail, typed_end, typed_more, typed_fail, types_end, types_more, types_fail, kept_shapes, one_more_lives}
+use Rattle.itanium_reader.proofs.Unfold.{source_opens, saved_first, free_found, kept_scope, some_scope, stops, list_stops, attached_start, attached_end, attached_more, attached_fail, attached_plain, attached_front, pack_start, components_end, components_args, components_no_args, components_name, components_no_name, components_source, components_no_source, items_more, items_fail, typed_end, typed_more, typed_fail, types_end, types_more, types_fail, kept_shapes, one_more_lives, begun_front, attached_wide, attached_more_wide, components_wide_args, components_wide_source, components_wide_name, types_wide, total_more, pack_ends, pack_wide, typed_wide, attached_room, items_wide}
 use Rattle.itanium_productions.proofs.+reader.Goals as goal
 
 pub args::read_attached-loop-reader-init : goal.args::read_attached-loop-reader-init
 args::read_attached-loop-reader-init t c = record {
   positive = search rules;
+  front = begun_front (shape c.args.reader.now.buffer.value c.args.reader.now.found) (shape c.begin_arguments.new.buf c.in_ok-list.list) (search rules) (search rules);
   reads = attached_start _ _ _ _ (shape c.args.reader.now.buffer.value c.args.reader.now.found) (search rules) (search rules) (search rules) (search rules) (search rules);
   living = search rules;
   run = search rules;
@@ -37,7 +38,28 @@ args::read_attached-end_arguments-requires-clause-front t c = attached_front _ _
 
 pub args::read_attached-returns-in-EndOfArguments-clause-reads : goal.args::read_attached-returns-in-EndOfArguments-clause-reads
 args::read_attached-returns-in-EndOfArguments-clause-reads t c =
-    (search rules, attached_end _ _ _ c.loop-reader.invariant.reads (sym c.in-EndOfArguments.ensures.case) (search rules) (search rules))
+    (search rules, attached_end _ _ _ c.loop-reader.invariant.reads (sym c.in-EndOfArguments.ensures.case) (search rules) (search rules) (search rules))
+
+pub args::read_attached-returns-then-len-front-clause-reads : goal.args::read_attached-returns-then-len-front-clause-reads
+args::read_attached-returns-then-len-front-clause-reads t c =
+    let last = shape c.end_arguments.new.buf c.in_ok-reader-in-EndOfArguments.field-0 in
+    let long : c.len.result ≡ text_len last = search rules in
+    attached_wide _ _ _ c.loop-reader.invariant.reads {last = last} (sym c.in-EndOfArguments.ensures.case) (search rules)
+    (omega (arith, c.if-len-front.true, c.text_limit.ensures.value, long, c.loop-reader.invariant.front))
+
+pub args::read_attached-overflow_sub-len-in-NextArgument : goal.args::read_attached-overflow_sub-len-in-NextArgument
+args::read_attached-overflow_sub-len-in-NextArgument t c =
+    let more = shape c.join.new.self c.in_ok-list-in-NextArgument-2.list in
+    attached_room _ _ _ c.loop-reader.invariant.reads (shape c.framed_argument.new.reader.buffer.value c.framed_argument.new.reader.found) {more = more}
+    (search rules) c.loop-reader.invariant.front (search rules)
+
+pub args::read_attached-returns-then-len-front-2-clause-reads : goal.args::read_attached-returns-then-len-front-2-clause-reads
+args::read_attached-returns-then-len-front-2-clause-reads t c =
+    let more = shape c.join.new.self c.in_ok-list-in-NextArgument-2.list in
+    let long : c.len-in-NextArgument.result ≡ text_len more = search rules in
+    attached_more_wide _ _ _ c.loop-reader.invariant.reads {next = shape c.framed_argument.new.reader.buffer.value c.framed_argument.new.reader.found} {more = more} {mid = state c.framed_argument.new.reader}
+    (sym c.in-NextArgument.ensures.case) (search rules) (search rules)
+    (omega (arith, c.if-len-front-2.true, c.text_limit-in-NextArgument.ensures.value, long, c.loop-reader.invariant.front))
 
 pub args::read_attached-returns-in_err-framed_argument-in-NextArgument-clause-reads : goal.args::read_attached-returns-in_err-framed_argument-in-NextArgument-clause-reads
 args::read_attached-returns-in_err-framed_argument-in-NextArgument-clause-reads t c =
@@ -50,8 +72,9 @@ args::read_attached-returns-in_err-framed_argument-in-NextArgument-clause-reads 
 pub args::read_attached-loop-reader-preserved : goal.args::read_attached-loop-reader-preserved
 args::read_attached-loop-reader-preserved t c = record {
   positive = search rules;
+  front = c.loop-reader.invariant.front;
   reads = attached_more _ _ _ c.loop-reader.invariant.reads {next = shape c.framed_argument.new.reader.buffer.value c.framed_argument.new.reader.found} {mid = state c.framed_argument.new.reader}
-      (sym c.in-NextArgument.ensures.case) (search rules) (search rules) (search rules) (search rules) (search rules);
+      (sym c.in-NextArgument.ensures.case) (search rules) (search rules) (search rules) (search rules) (search rules) (search rules);
   living = search rules;
   run = search rules;
   scopes_stand = search rules;
@@ -87,9 +110,25 @@ names::read_components-returns-in_err-read_next_source-in-NameComponent-clause-r
     rw (e.1, e.2) (stops _ _ (c.in_err-read_next_source-in-NameComponent.ensures {u = tt}).reads
     (components_no_source _ _ c.loop-reader.invariant.reads (sym c.in-NameComponent.ensures.case) (source_opens _ _ _ (state c.loop-reader.reader) (search rules))))
 
+pub names::read_components-returns-then-is_wide-clause-reads : goal.names::read_components-returns-then-is_wide-clause-reads
+names::read_components-returns-then-is_wide-clause-reads t c =
+    components_wide_args _ _ c.loop-reader.invariant.reads {next = shape c.read_attached.new.reader.buffer.value c.read_attached.new.reader.found} {mid = state c.read_attached.new.reader}
+    (sym c.in-ArgsComponent.ensures.case) (search rules) (search rules)
+
+pub names::read_components-returns-then-is_wide-2-clause-reads : goal.names::read_components-returns-then-is_wide-2-clause-reads
+names::read_components-returns-then-is_wide-2-clause-reads t c =
+    let after = c.read_next_source.new.self in
+    components_wide_source _ _ c.loop-reader.invariant.reads {next = shape after.buffer.value after.found} {after = state after}
+    (sym c.in-NameComponent.ensures.case) (source_opens _ _ _ (state c.loop-reader.reader) (search rules)) (search rules) (search rules)
+
+pub names::read_components-returns-then-is_wide-3-clause-reads : goal.names::read_components-returns-then-is_wide-3-clause-reads
+names::read_components-returns-then-is_wide-3-clause-reads t c =
+    components_wide_name _ _ c.loop-reader.invariant.reads {next = shape c.read_other_component.new.reader.buffer.value c.read_other_component.new.reader.found} {mid = state c.read_other_component.new.reader}
+    (sym c.in-NameComponent.ensures.case) (search rules) (search rules)
+
 pub names::read_components-loop-reader-preserved-then-begins_source : goal.names::read_components-loop-reader-preserved-then-begins_source
 names::read_components-loop-reader-preserved-then-begins_source t c = record {
-  reads = components_source _ _ c.loop-reader.invariant.reads (sym c.in-NameComponent.ensures.case) (source_opens _ _ _ (state c.loop-reader.reader) (search rules)) (search rules) (search rules);
+  reads = components_source _ _ c.loop-reader.invariant.reads (sym c.in-NameComponent.ensures.case) (source_opens _ _ _ (state c.loop-reader.reader) (search rules)) (search rules) (search rules) (search rules);
   living = search rules;
   run = search rules;
   some_saved = search rules;
@@ -102,7 +141,7 @@ names::read_components-loop-reader-preserved-then-begins_source t c = record {
 
 pub names::read_components-loop-reader-preserved : goal.names::read_components-loop-reader-preserved
 names::read_components-loop-reader-preserved t c = record {
-  reads = components_name _ _ c.loop-reader.invariant.reads {mid = state c.read_other_component.new.reader} (sym c.in-NameComponent.ensures.case) (search rules) (search rules) (search rules) (search rules);
+  reads = components_name _ _ c.loop-reader.invariant.reads {mid = state c.read_other_component.new.reader} (sym c.in-NameComponent.ensures.case) (search rules) (search rules) (search rules) (search rules) (search rules);
   living = search rules;
   run = search rules;
   some_saved = search rules;
@@ -115,7 +154,7 @@ names::read_components-loop-reader-preserved t c = record {
 
 pub names::read_components-loop-reader-preserved-in-ArgsComponent : goal.names::read_components-loop-reader-preserved-in-ArgsComponent
 names::read_components-loop-reader-preserved-in-ArgsComponent t c = record {
-  reads = components_args _ _ c.loop-reader.invariant.reads {mid = state c.read_attached.new.reader} (sym c.in-ArgsComponent.ensures.case) (search rules) (search rules) (search rules) (search rules);
+  reads = components_args _ _ c.loop-reader.invariant.reads {mid = state c.read_attached.new.reader} (sym c.in-ArgsComponent.ensures.case) (search rules) (search rules) (search rules) (search rules) (search rules);
   living = search rules;
   run = search rules;
   some_saved = search rules;
@@ -136,14 +175,30 @@ types::read_types-returns-in_err-framed_type-in-NextType-clause-reads t c =
     rw (e.1, e.2) (list_stops _ _ (c.in_err-framed_type-in-NextType.ensures {u = tt}).reads
     (types_fail _ c.loop-list.invariant.reads (sym c.in-NextType.ensures.case)))
 
+pub types::read_types-returns-then-len-left-clause-reads : goal.types::read_types-returns-then-len-left-clause-reads
+types::read_types-returns-then-len-left-clause-reads t c =
+    let next = shape c.framed_type.new.reader.buffer.value c.framed_type.new.reader.found in
+    let long : c.len-len.result ≡ text_len next = search rules in
+    types_wide _ {next = next} {after = state c.framed_type.new.reader} c.loop-list.invariant.reads (sym c.in-NextType.ensures.case) (search rules)
+    (omega (arith, c.if-len-left.true, long, c.loop-list.invariant.left))
+
 pub types::read_types-loop-list-preserved : goal.types::read_types-loop-list-preserved
 types::read_types-loop-list-preserved t c =
     let l = c.loop-list in
     let items = (c.in_ok-push-in-NextType.ensures {u = tt}).items in
     let kept : SameFrame l.reader.buffer.value c.framed_type.new.reader.buffer.value = search rules in
+    let next = shape c.framed_type.new.reader.buffer.value c.framed_type.new.reader.found in
+    let long : c.len-len.result ≡ text_len next = search rules in
     let shapes = kept_shapes l.reader.buffer.value c.framed_type.new.reader.buffer.value l.list.items kept l.invariant.living in
     record {
-      reads = rw (items, map-append, shapes) (types_more _ l.invariant.reads (sym c.in-NextType.ensures.case) (search rules) (search rules));
+      reads = rw (items, map-append, shapes) (types_more _ l.invariant.reads (sym c.in-NextType.ensures.case) (search rules) (search rules) (search rules));
+      left = rw (items, map-append, shapes) (omega (
+        arith,
+        long,
+        c.if-len-left.false,
+        l.invariant.left,
+        total_more (map (shape l.reader.buffer.value) l.list.items) next,
+      ));
       living = rw items (one_more_lives _ _ _ _ kept l.invariant.living (search rules));
       kept = search rules;
       scopes_stand = search rules;
@@ -174,7 +229,7 @@ args::read_pack-loop-reader-init t c = record {
 
 pub args::read_pack-returns-in-EndOfArguments-clause-reads : goal.args::read_pack-returns-in-EndOfArguments-clause-reads
 args::read_pack-returns-in-EndOfArguments-clause-reads t c =
-    (search rules, items_end _ _ _ c.loop-reader.invariant.reads (sym c.in-EndOfArguments.ensures.case) (search rules) (search rules))
+    (search rules, pack_ends _ c.loop-reader.invariant.reads (sym c.in-EndOfArguments.ensures.case) (search rules) (search rules) (search rules))
 
 pub args::read_pack-returns-in_err-framed_argument-in-NextArgument-clause-reads : goal.args::read_pack-returns-in_err-framed_argument-in-NextArgument-clause-reads
 args::read_pack-returns-in_err-framed_argument-in-NextArgument-clause-reads t c =
@@ -187,7 +242,7 @@ pub args::read_pack-loop-reader-preserved : goal.args::read_pack-loop-reader-pre
 args::read_pack-loop-reader-preserved t c = record {
   positive = search rules;
   reads = items_more _ _ _ c.loop-reader.invariant.reads {next = shape c.framed_argument.new.reader.buffer.value c.framed_argument.new.reader.found} {mid = state c.framed_argument.new.reader}
-      (sym c.in-NextArgument.ensures.case) (search rules) (search rules) (search rules) (search rules) (search rules);
+      (sym c.in-NextArgument.ensures.case) (search rules) (search rules) (search rules) (search rules) (search rules) (search rules);
   living = search rules;
   run = search rules;
   scopes_stand = search rules;
@@ -208,9 +263,15 @@ types::read_typed-returns-in_err-framed_type-in-NextType-clause-reads t c =
     rw (e.1, e.2) (stops _ _ (c.in_err-framed_type-in-NextType.ensures {u = tt}).reads
     (λ none. typed_fail _ c.loop-list.invariant.reads (sym c.in-NextType.ensures.case) (search rules)))
 
+pub types::read_typed-returns-then-is_wide-clause-reads : goal.types::read_typed-returns-then-is_wide-clause-reads
+types::read_typed-returns-then-is_wide-clause-reads t c =
+    typed_wide _ c.loop-list.invariant.reads {next = shape c.framed_type.new.reader.buffer.value c.framed_type.new.reader.found}
+    {found = shape c.list_next.new.buf c.in_ok-list-in-NextType-2.list} {after = state c.framed_type.new.reader}
+    (sym c.in-NextType.ensures.case) (search rules) (search rules) (search rules)
+
 pub types::read_typed-loop-list-preserved : goal.types::read_typed-loop-list-preserved
 types::read_typed-loop-list-preserved t c = record {
-  reads = typed_more _ c.loop-list.invariant.reads {next = shape c.framed_type.new.reader.buffer.value c.framed_type.new.reader.found} (sym c.in-NextType.ensures.case) (search rules) (search rules) (search rules);
+  reads = typed_more _ c.loop-list.invariant.reads {next = shape c.framed_type.new.reader.buffer.value c.framed_type.new.reader.found} (sym c.in-NextType.ensures.case) (search rules) (search rules) (search rules) (search rules);
   living = search rules;
   run = search rules;
   scopes_stand = search rules;
@@ -228,6 +289,17 @@ names::read_unqualified-returns-in_ok-enclose-in-FreeName-clause-reads t c =
       free_found _ _ _ _ {name = shape free.buffer.value free.found} {mid = state free}
           (rw (some_scope c.args.reader.now.buffer.value c.args.scope) (search rules)) (search rules) (search rules) (search rules),
     )
+
+pub args::read_pack-returns-then-is_wide-clause-reads : goal.args::read_pack-returns-then-is_wide-clause-reads
+args::read_pack-returns-then-is_wide-clause-reads t c =
+    pack_wide _ {found = shape c.skip-in-EndOfArguments.new.self.buffer.value c.whole-reader.result} c.loop-reader.invariant.reads
+    (sym c.in-EndOfArguments.ensures.case) (search rules) (search rules)
+
+pub args::read_pack-returns-then-is_wide-2-clause-reads : goal.args::read_pack-returns-then-is_wide-2-clause-reads
+args::read_pack-returns-then-is_wide-2-clause-reads t c =
+    items_wide _ _ _ c.loop-reader.invariant.reads {next = shape c.framed_argument.new.reader.buffer.value c.framed_argument.new.reader.found}
+    {found = shape c.list_next.new.buf c.in_ok-list-in-NextArgument-2.list} {mid = state c.framed_argument.new.reader}
+    (sym c.in-NextArgument.ensures.case) (search rules) (search rules) (search rules)
 
 -- an entity in a default argument is found
 default_argument_found : (bare : spec.ParsesBareName) (encoding : Shape) (s : spec.ParserState) {number : ℕ} {rest : List ℕ} {entity found : Shape} {quals : Quals} {mid after : spec.ParserState}

@@ -2,10 +2,10 @@ use Rattle.std.proofs.Common.{◌≡◌, ◌+◌, ◌-◌, ◌*◌, ◌<◌, ◌
 use Rattle.demangle_text.specs.State.{IsLiving, IsRun, SameFrame, shape, saved, scopes}
 use Rattle.itanium_reader.specs.Parser as spec
 use Rattle.itanium_reader.specs.Outcome.{state}
-use Rattle.demangle_text.specs.Shape.{whole_shape}
+use Rattle.itanium_grammar.specs.Answer.{max_text}
 use Rattle.itanium_syntax.specs.Context.{inside_lambda}
 use Rattle.itanium_reader.proofs.Loops.{LoopSoFar, ListSoFar}
-use Rattle.itanium_reader.proofs.Unfold.{AttachedSoFar}
+use Rattle.itanium_reader.proofs.Unfold.{AttachedSoFar, front_len, pack_end}
 use Rattle.itanium_productions.proofs.+reader.Given as goal
 
 abbrev pub decreases-names::read_bare_name : goal.decreases-names::read_bare_name
@@ -90,6 +90,7 @@ invariant-args::read_attached-loop-reader l = record {
   reads : AttachedSoFar (spec.attached_by (spec.parse_args l.depth l.context l.of_name) (shape l.fn.reader.buffer.value l.fn.reader.found) (state l.fn.reader))
       (spec.put l.opens l.scopes) (spec.parse_argument (l.depth - 1) l.context) (shape l.fn.reader.buffer.value l.fn.reader.found) l.first
       (shape l.reader.buffer.value l.list) (state l.reader);
+  front : l.front ≡ front_len (shape l.fn.reader.buffer.value l.fn.reader.found);
   living : IsLiving l.reader.buffer.value l.list;
   run : IsRun l.fn.reader.buffer.value l.reader.buffer.value;
   scopes_stand : length (scopes l.fn.reader.buffer.value) ≤ l.scopes;
@@ -122,6 +123,7 @@ decreases-types::read_cv l = 16 * l.depth + 5
 abbrev pub invariant-types::read_types-loop-list : goal.invariant-types::read_types-loop-list
 invariant-types::read_types-loop-list l = record {
   reads : LoopSoFar (spec.parse_types (spec.parse_type l.depth l.context) (state l.fn.reader)) (spec.types_turn (spec.parse_type l.depth l.context)) (map (shape l.reader.buffer.value) l.list.items) (state l.reader);
+  left : l.left + spec.total_len (map (shape l.reader.buffer.value) l.list.items) ≡ max_text;
   living : All (IsLiving l.reader.buffer.value) l.list.items;
   kept : SameFrame l.fn.reader.buffer.value l.reader.buffer.value;
   scopes_stand : length (scopes l.fn.reader.buffer.value) ≤ length (scopes l.reader.buffer.value);
@@ -208,7 +210,7 @@ invariant-args::read_pack-loop-reader l = record {
   positive : 0 < l.depth;
   reads : ListSoFar (spec.parse_pack l.depth l.fn.context (state l.fn.reader))
       (spec.list_turn spec.put_nowhere (spec.parse_argument (l.depth - 1) l.inside))
-      whole_shape (l.first, shape l.reader.buffer.value l.list) (state l.reader);
+      pack_end (l.first, shape l.reader.buffer.value l.list) (state l.reader);
   living : IsLiving l.reader.buffer.value l.list;
   run : IsRun l.fn.reader.buffer.value l.reader.buffer.value;
   scopes_stand : length (scopes l.fn.reader.buffer.value) ≤ length (scopes l.reader.buffer.value);

@@ -6,6 +6,7 @@ use Rattle.itanium_reader.specs.Parser.{begun}
 use Rattle.itanium_reader.specs.Outcome.{state}
 use Rattle.itanium_demangle.specs.Meaning.{StandsFor}
 use Rattle.itanium_demangle.proofs.Symbols.{suffix_utf8, printed, counted, kept_components, kept_shapes, kept_text, read_within, unread_within, stands_at_start}
+use Rattle.itanium_grammar.proofs.Widths.{answer_length}
 use Rattle.itanium_demangle.proofs.demangler.Demangler.prepare.Goals as goal
 
 pub returns-in-Err-Unread-clause-bounds : goal.returns-in-Err-Unread-clause-bounds
@@ -39,6 +40,10 @@ returns-clause-answer c =
     let stands : StandsFor reader (start inside) = stands_at_start reader inside starts in
     let kept = c.keep-2.ensures in
     rw kept.text (printed c.args.symbol.now inside _ _ _ _ _ prefix ((c.in-Ok.ensures {u = tt}).reading.1 (start inside) stands) (c.in_ok-answered.ensures {u = tt}).answer)
+
+-- and so long it is at most
+pub returns-clause-longest : goal.returns-clause-longest
+returns-clause-longest c = answer_length c.args.symbol.now _ (returns-clause-answer c)
 
 -- the counts are those that the reader has kept
 pub returns-clause-counts : goal.returns-clause-counts

@@ -1,0 +1,125 @@
+-- A text grows as it is built: what is put onto a text, and what is read after it, makes it no shorter.
+use Rattle.std.proofs.Common.{◌≡◌, ◌≤◌, ℕ, ◌+◌, Bool, true, false, List, [], ◌∷◌, ◌++◌, map, length, arith, codes, decimal, if◌then◌else◌, nat_eq}
+use Rattle.std.proofs.lemmas.List.{length-append}
+use Rattle.std.specs.List.{ends_with}
+use Rattle.demangle_text.specs.Shape.{Shape, Form, Plain, Declared, text, text_len, form_text, form_with, grouped, appended, flattened, own_shape}
+use Rattle.demangle_text.specs.declared.shape.Place.TheVariants.{End}
+use Rattle.demangle_quals.specs.declared.quals.Quals.{Quals}
+use Rattle.demangle_quals.specs.Quals.{quals_text, words_text, reference_text, has_quals}
+use Rattle.demangle_edit.specs.Lists.{listed, params_text}
+use Rattle.demangle_edit.specs.Names.{qualified, default_arg_opened, default_arg_shape, qualified_ctor, angle_gap, attached, tagged, with_name_qualifiers}
+use Rattle.demangle_edit.specs.Types.{function_shape}
+use Rattle.demangle_edit.specs.Built.{separator, listed_more, listed_each, arguments_closed, params_opened, params_closed, lambda_closed}
+use Rattle.itanium_reader.specs.Parser.{total_len}
+
+-- a form with bytes at its end
+form_longer : (bytes : List ℕ) (f : Form) → length (form_text f) ≤ length (form_text (form_with End bytes f))
+form_longer bytes (Plain t) = omega (arith, length-append t bytes)
+form_longer bytes (Declared k before group after) =
+    omega (
+      arith,
+      length-append before (grouped group ++ after),
+      length-append (grouped group) after,
+      length-append before (grouped group ++ (after ++ bytes)),
+      length-append (grouped group) (after ++ bytes),
+      length-append after bytes,
+    )
+
+pub appended_longer : (bytes : List ℕ) (s : Shape) → text_len s ≤ text_len (appended bytes s)
+appended_longer bytes s = form_longer bytes s.form
+
+-- lists that are built as they are read
+more_len : (first : Bool) (front next : Shape) → text_len (listed_more first front next) ≡ text_len front + length (separator first) + text_len next
+more_len first front next =
+    omega (arith, length-append (text front ++ separator first) (text next), length-append (text front) (separator first))
+
+pub listed_more_front : (first : Bool) (front next : Shape) → text_len front ≤ text_len (listed_more first front next)
+listed_more_front first front next = omega (arith, more_len first front next)
+
+pub listed_more_item : (first : Bool) (front next : Shape) → text_len next ≤ text_len (listed_more first front next)
+listed_more_item first front next = omega (arith, more_len first front next)
+
+pub listed_longer : (first : Bool) (front : Shape) (items : List Shape) → text_len front ≤ text_len (listed_each first front items)
+listed_longer first front [] = omega arith
+listed_longer first front (next ∷ rest) =
+    let here = listed_more_front first front next in
+    let more = listed_longer false (listed_more first front next) rest in
+    omega arith
+
+pub closed_longer : (list : Shape) → text_len list ≤ text_len (arguments_closed list)
+closed_longer list = appended_longer (if ends_with nat_eq (text list) (codes ">") then codes " >" else codes ">") list
+
+pub lambda_longer : (number : ℕ) (list : Shape) → text_len list ≤ text_len (lambda_closed number list)
+lambda_longer number list = appended_longer (codes ")#" ++ (decimal number ++ codes "}")) list
+
+pub params_longer : (quals : Quals) (list : Shape) → text_len list ≤ text_len (params_closed quals list)
+params_longer quals list = appended_longer (codes ")" ++ quals_text quals) list
+
+pub opened_longer : (name : Shape) → text_len name ≤ text_len (params_opened name)
+opened_longer name = appended_longer (codes "(") (flattened name)
+
+-- names
+pub tagged_longer : (name : Shape) (tag : List ℕ) → text_len name ≤ text_len (tagged name tag)
+tagged_longer name tag = appended_longer (codes "[abi:" ++ (tag ++ codes "]")) (flattened name)
+
+pub attached_longer : (name list : Shape) → text_len name ≤ text_len (attached name list)
+attached_longer name list = appended_longer (angle_gap (text name) ++ text list) (flattened name)
+
+pub quals_longer : (name : Shape) (quals : Quals) (shown : Bool) → text_len name ≤ text_len (with_name_qualifiers name quals shown)
+quals_longer name quals shown = go (has_quals quals)
+  where
+    words : List ℕ
+    words = (if shown then words_text quals else []) ++ reference_text quals.reference
+
+    go : (b : Bool) → text_len name ≤ text_len (if b then appended words (flattened name) else name)
+    go true = appended_longer words (flattened name)
+    go false = omega arith
+
+qualified_len : (scope leaf : Shape) → text_len (qualified scope leaf) ≡ text_len scope + 2 + text_len leaf
+qualified_len scope leaf = omega (arith, length-append (text scope ++ codes "::") (text leaf), length-append (text scope) (codes "::"))
+
+pub scope_longer : (scope leaf : Shape) → text_len scope ≤ text_len (qualified scope leaf)
+scope_longer scope leaf = omega (arith, qualified_len scope leaf)
+
+pub leaf_longer : (scope leaf : Shape) → text_len leaf ≤ text_len (qualified scope leaf)
+leaf_longer scope leaf = omega (arith, qualified_len scope leaf)
+
+pub ctor_longer : (scope : Shape) (destructor : Bool) → text_len scope ≤ text_len (qualified_ctor scope destructor)
+ctor_longer scope destructor =
+    let name = (if destructor then codes "~" else []) ++ text (own_shape scope) in
+    omega (arith, length-append (text scope ++ codes "::") name, length-append (text scope) (codes "::"))
+
+default_len : (scope entity : Shape) (number : ℕ) → text_len (default_arg_shape scope number entity) ≡ text_len (default_arg_opened scope number) + text_len entity
+default_len scope entity number = length-append (text (default_arg_opened scope number)) (text entity)
+
+pub default_scope_longer : (scope entity : Shape) (number : ℕ) → text_len scope ≤ text_len (default_arg_shape scope number entity)
+default_scope_longer scope entity number =
+    let opened = appended_longer (codes "::{default arg#" ++ (decimal number ++ codes "}::")) (flattened scope) in
+    omega (arith, default_len scope entity number)
+
+pub default_entity_longer : (scope entity : Shape) (number : ℕ) → text_len entity ≤ text_len (default_arg_shape scope number entity)
+default_entity_longer scope entity number = omega (arith, default_len scope entity number)
+
+-- a function's parameters
+listed_total : (items : List Shape) → total_len items ≤ length (listed (map text items))
+listed_total [] = omega arith
+listed_total (s ∷ []) = omega arith
+listed_total (s ∷ next ∷ rest) =
+    let more = listed_total (next ∷ rest) in
+    let all = listed (map text (next ∷ rest)) in
+    omega (arith, length-append (text s) (codes ", " ++ all), length-append (codes ", ") all)
+
+pub function_longer : (ret : Shape) (params : List Shape) (quals : Quals) → total_len params ≤ text_len (function_shape ret params quals)
+function_longer ret params quals =
+    let all = listed (map text params) in
+    let total = listed_total params in
+    omega (
+      arith,
+      length-append (text ret ++ codes " ") (params_text params quals),
+      length-append (codes "(") (all ++ (codes ")" ++ quals_text quals)),
+      length-append all (codes ")" ++ quals_text quals),
+    )
+
+pub total_more : (front : List Shape) (items : List Shape) → total_len (front ++ items) ≡ total_len front + total_len items
+total_more [] items = omega arith
+total_more (s ∷ front) items = let more = total_more front items in omega arith

@@ -1,0 +1,162 @@
+-- How long the printing of a symbol can be: not counted itself, it holds two counted productions at most, and few words.
+use Rattle.std.proofs.Common.{◌≡◌, ◌<◌, ◌≤◌, ℕ, ◌+◌, ◌*◌, ◌^◌, Bool, true, false, List, [], ◌∷◌, ◌++◌, length, drop, refl, ap, arith, Option, Some, None, codes, decimal, if◌then◌else◌, nat_lt}
+use Rattle.std.specs.List.{concat}
+use Rattle.std.specs.Prelude.{option_map}
+use Rattle.std.proofs.lemmas.Bool.Decides.{nat_tests}
+use Rattle.std.proofs.lemmas.Fmt.{length-decimal-le}
+use Rattle.std.proofs.lemmas.List.{length-append, length-drop}
+use Rattle.std.proofs.lemmas.Option.{option_and_then_some, cond_some}
+use Rattle.itanium_syntax.specs.declared.context.Context.{Context}
+use Rattle.itanium_syntax.specs.declared.numerals.Radix.{Radix}
+use Rattle.itanium_syntax.specs.Bytes.{begins}
+use Rattle.itanium_syntax.specs.Scalars.{numeral, next_number, past_underscore, index_by, index_of}
+use Rattle.itanium_syntax.specs.Specials.{begins_t_and, special_text, special_close}
+use Rattle.itanium_grammar.specs.Answer.{max_text, after_prefix, suffix, IsReading, IsWithin, HasAnswer, IsAnswer, HasLength}
+use Rattle.itanium_grammar.specs.Tree.{Tree, shape_as, printing, worded, temporary_of, construction_of}
+use Rattle.itanium_grammar.specs.Grammar.{Position, Cost, Name, TypeOf, Thunk, SpecialAs, SymbolAs, Symbol, name, type, thunk, type_special, name_special, temporary_special, construction_special, thunk_special, special_symbol, name_symbol, symbol}
+use Rattle.itanium_grammar.specs.Cases.{SpecialCase, SymbolCase}
+use Rattle.itanium_grammar.proofs.Progress.{symbol_takes}
+use Rattle.itanium_grammar.proofs.Agreement.{one_reading}
+
+-- what special names print
+worded_prints : (word : List ℕ) (t : Tree) (close : List ℕ) → printing (worded word t close) ≡ concat (word ∷ printing t ∷ close ∷ [])
+unfolding shape_as
+worded_prints word t close = refl
+
+temporary_prints : (number : ℕ) (t : Tree) → printing (temporary_of number t) ≡ concat (codes "reference temporary #" ∷ decimal number ∷ codes " for " ∷ printing t ∷ [])
+unfolding shape_as
+temporary_prints number t = refl
+
+construction_prints : (t u : Tree) → printing (construction_of t u) ≡ concat (codes "construction vtable for " ∷ printing t ∷ codes "-in-" ∷ printing u ∷ [])
+unfolding shape_as
+construction_prints t u = refl
+
+-- what a counted production prints isn't longer than its reading is wide
+type_narrow : {x : Context} {p q : Position} {t : Tree} {c : Cost} → TypeOf x p t q c → length (printing t) ≤ c.width
+type_narrow (type a) = omega arith
+
+name_narrow : {x : Context} {p q : Position} {t : Tree} {c : Cost} → Name false x p t q c → length (printing t) ≤ c.width
+name_narrow (name a) = omega arith
+
+thunk_narrow : {x : Context} {p q : Position} {t : Tree} {c : Cost} → Thunk x p t q c → length (printing t) ≤ c.width
+thunk_narrow (thunk found a) = omega arith
+
+-- the words around it
+three_len : (a b c : List ℕ) → length (concat (a ∷ b ∷ c ∷ [])) ≡ length a + length b + length c
+three_len a b c = omega (arith, length-append a (b ++ (c ++ [])), length-append b (c ++ []), length-append c [])
+
+four_len : (a b c d : List ℕ) → length (concat (a ∷ b ∷ c ∷ d ∷ [])) ≡ length a + length b + length c + length d
+four_len a b c d = omega (arith, length-append a (b ++ (c ++ (d ++ []))), three_len b c d)
+
+words_len : (bytes : List ℕ) → length (special_text bytes) ≤ 25
+words_len bytes =
+    go (begins (codes "TV") bytes) (begins (codes "TT") bytes) (begins (codes "TI") bytes) (begins (codes "TS") bytes) (begins (codes "TF") bytes) (begins (codes "TH") bytes) (begins (codes "TW") bytes)
+  where
+    go : (a b c d e f g : Bool)
+        → length (if a then codes "{vtable(" else
+        if b then codes "{vtt(" else
+        if c then codes "typeinfo for " else
+        if d then codes "typeinfo name for " else
+        if e then codes "typeinfo fn for " else
+        if f then codes "TLS init function for " else
+        if g then codes "TLS wrapper function for " else codes "guard variable for ") ≤ 25
+    go true b c d e f g = omega arith
+    go false true c d e f g = omega arith
+    go false false true d e f g = omega arith
+    go false false false true e f g = omega arith
+    go false false false false true f g = omega arith
+    go false false false false false true g = omega arith
+    go false false false false false false true = omega arith
+    go false false false false false false false = omega arith
+
+close_len : (bytes : List ℕ) → length (special_close bytes) ≤ 2
+close_len bytes = go (begins_t_and (codes "VT") bytes)
+  where
+    go : (a : Bool) → length (if a then codes ")}" else []) ≤ 2
+    go true = omega arith
+    go false = omega arith
+
+-- a number that is read fits 64 bits
+next_small : (n i : ℕ) → next_number n ≡ Some i → i < 2 ^ 64
+next_small n i is = let parts = cond_some (nat_lt (n + 1) (2 ^ 64)) (n + 1) i is in grind (arith, nat_tests, parts.0, parts.1)
+
+mapped : (i : ℕ) (o : Option (List ℕ)) (found : ℕ × List ℕ) → option_map (λ (rest : List ℕ). (i, rest)) o ≡ Some found → found.0 ≡ i
+mapped i None found is = cc
+mapped i (Some rest) found is = cc
+
+index_small : (r : Radix) (bytes : List ℕ) (found : ℕ × List ℕ) → index_of r bytes ≡ Some found → found.0 < 2 ^ 64
+unfolding index_of
+index_small r bytes found is = go (past_underscore bytes) is
+  where
+    go : (o : Option (List ℕ)) → index_by r bytes o ≡ Some found → found.0 < 2 ^ 64
+    go (Some rest) e = let zero_is : found.0 ≡ 0 = cc in omega (arith, zero_is)
+    go None e =
+        option_and_then_some _ (numeral r bytes) found e (λ n read more.
+        option_and_then_some _ (next_number n.0) found more (λ i next made.
+        omega (arith, next_small n.0 i next, mapped i (past_underscore n.1) found made)))
+
+enough : 18 ≤ max_text
+unfolding max_text
+enough = omega arith
+
+worded_len : (bytes : List ℕ) (t : Tree) → length (printing t) ≤ max_text → length (concat (special_text bytes ∷ printing t ∷ special_close bytes ∷ [])) ≤ 2 * max_text + 28
+worded_len bytes t narrow = omega (arith, three_len (special_text bytes) (printing t) (special_close bytes), words_len bytes, close_len bytes)
+
+special_wide : {case : SpecialCase} {x : Context} {p q : Position} {t : Tree} {c : Cost} → SpecialAs case x p t q c → c.width ≤ max_text → length (printing t) ≤ 2 * max_text + 28
+special_wide (type_special {p = p} {t = t} a) narrow =
+    rw (worded_prints (special_text p.rest) t (special_close p.rest)) (worded_len p.rest t (omega (arith, type_narrow a)))
+special_wide (name_special {p = p} {t = t} a) narrow =
+    rw (worded_prints (special_text p.rest) t (special_close p.rest)) (worded_len p.rest t (omega (arith, name_narrow a)))
+special_wide (temporary_special {q = q} {t = t} {number = k} {rest = r} a found) narrow =
+    let small = index_small _ q.rest (k, r) found in
+    let digits = length-decimal-le 20 k (omega arith) (omega arith) small in
+    rw (temporary_prints k t)
+    (omega (arith, four_len (codes "reference temporary #") (decimal k) (codes " for ") (printing t), digits, name_narrow a, enough))
+special_wide (construction_special {t = t} {u = u} a found b) narrow =
+    rw (construction_prints u t)
+    (omega (arith, four_len (codes "construction vtable for ") (printing u) (codes "-in-") (printing t), type_narrow a, type_narrow b))
+special_wide (thunk_special a) narrow = omega (arith, thunk_narrow a)
+
+symbol_as_wide : {case : SymbolCase} {x : Context} {p q : Position} {t : Tree} {c : Cost} → SymbolAs case x p t q c → c.width ≤ max_text → length (printing t) ≤ 2 * max_text + 28
+symbol_as_wide (special_symbol a) narrow = special_wide a narrow
+symbol_as_wide (name_symbol a) narrow = omega (arith, name_narrow a)
+
+-- a symbol's printing
+pub symbol_wide : {x : Context} {p q : Position} {t : Tree} {c : Cost} → Symbol x p t q c → c.width ≤ max_text → length (printing t) ≤ 2 * max_text + 28
+symbol_wide (symbol a) narrow = symbol_as_wide a narrow
+
+-- an answer is no longer than the longest printing and its suffix
+pub answer_wide : (bytes answer : List ℕ) (has : HasAnswer bytes answer) → length answer ≤ 2 * max_text + 28 + length (suffix has.next.rest)
+answer_wide bytes answer has =
+    let wide = symbol_wide has.reading.reading has.within.width_fits in
+    omega (arith, ap length has.answer_is, length-append (printing has.tree) (suffix has.next.rest), wide)
+
+-- what is after the prefix, and the suffix in it, is no longer than the symbol
+inside_short : (bytes inside : List ℕ) → after_prefix bytes ≡ Some inside → length inside ≤ length bytes
+inside_short bytes inside is = go (begins (codes "_Z") bytes) (begins (codes "__Z") bytes) is
+  where
+    go : (a b : Bool) → (if a then Some (drop 2 bytes) else if b then Some (drop 3 bytes) else None) ≡ Some inside → length inside ≤ length bytes
+    go true b e = let same : drop 2 bytes ≡ inside = cc in omega (arith, ap length same, length-drop 2 bytes)
+    go false true e = let same : drop 3 bytes ≡ inside = cc in omega (arith, ap length same, length-drop 3 bytes)
+    go false false e = cc
+
+suffix_short : (rest : List ℕ) → length (suffix rest) ≤ length rest
+suffix_short rest = go (begins (codes ".") rest)
+  where
+    go : (a : Bool) → length (if a then rest else []) ≤ length rest
+    go true = omega arith
+    go false = omega arith
+
+pub answer_short : (bytes answer : List ℕ) → HasAnswer bytes answer → length answer ≤ 2 * max_text + 28 + length bytes
+answer_short bytes answer has =
+    let takes = (symbol_takes has.reading.reading).shorter in
+    omega (arith, answer_wide bytes answer has, suffix_short has.next.rest, takes, inside_short bytes has.reading.inside has.reading.prefix)
+
+-- so long is an answer at most
+pub answer_length : (bytes : List ℕ) (answer : Option (List ℕ)) → IsAnswer bytes answer → HasLength bytes answer
+unfolding max_text
+answer_length bytes None none = tt
+answer_length bytes (Some answer) has = λ tree next cost reading within.
+    let same = (one_reading bytes).agree has.tree tree has.next next has.cost cost has.reading reading has.within within in
+    let left : suffix has.next.rest ≡ suffix next.rest = ap (λ (q : Position). suffix q.rest) same.1 in
+    omega (arith, answer_wide bytes answer has, ap length left)
