@@ -1,6 +1,7 @@
 -- What a piece stands for: a shape, its text, and the steps on shapes.
 use Rattle.std.specs.Prelude.{ℕ, ◌+◌, ◌-◌, ◌==◌, ◌||◌, Bool, true, false, if◌then◌else◌, List, [], ◌∷◌, ◌++◌, length}
-use Rattle.std.specs.Prelude.{take, drop, slice_range, slice_get, nat_le, min, Option, Some, None}
+use Rattle.std.specs.Prelude.{take, drop, slice_range, slice_get, slice_index, nat_le, min, codes, Option, Some, None}
+use Prim.Native.String.{String}
 use Rattle.demangle_text.specs.declared.shape.Kind.{Kind}
 use Rattle.demangle_text.specs.declared.shape.Kind.TheVariants.{Array, Function}
 use Rattle.demangle_text.specs.declared.shape.Place.{Place}
@@ -24,7 +25,7 @@ pub record Shape : Type 0 where
 -- the group in its parentheses
 abbrev pub grouped : Option (List ℕ) → List ℕ
 grouped None = []
-grouped (Some group) = 40 ∷ group ++ 41 ∷ []
+grouped (Some group) = codes "(" ++ (group ++ codes ")")
 
 -- the parts of a form, one after another
 abbrev pub form_text : Form → List ℕ
@@ -130,14 +131,18 @@ declared_group kind from at s =
     let form = Declared kind (take from (text s)) (Some group) (drop at (text s)) in
     record s { form = form; own = own_in form s.own }
 
+-- the byte of a letter
+abbrev pub letter : String → ℕ
+letter text = slice_index (codes text) 0
+
 -- a space, `(` or `*`, which a group follows with no gap
 abbrev pub joins_group : ℕ → Bool
-joins_group byte = byte == 32 || byte == 40 || byte == 42
+joins_group byte = byte == letter " " || byte == letter "(" || byte == letter "*"
 
 -- the gap after the last byte of a text, if it has one: nothing, or a space
 abbrev pub gap_after_byte : Option ℕ → List ℕ
 gap_after_byte None = []
-gap_after_byte (Some byte) = if joins_group byte then [] else 32 ∷ []
+gap_after_byte (Some byte) = if joins_group byte then [] else codes " "
 
 -- the gap between a text and a group
 abbrev pub gap_after : List ℕ → List ℕ

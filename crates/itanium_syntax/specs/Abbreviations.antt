@@ -1,17 +1,18 @@
 -- The abbreviations of std (Itanium C++ ABI 5.1.10, "Compression").
-use Rattle.std.specs.Prelude.{ℕ, ◌==◌, List, [], ◌∷◌, codes, Option, Some, None, if◌then◌else◌}
+use Rattle.std.specs.Prelude.{ℕ, List, [], ◌∷◌, codes, Option, Some, None, if◌then◌else◌}
+use Rattle.itanium_syntax.specs.Bytes.{is}
 use Rattle.itanium_syntax.specs.declared.abbreviations.Abbreviation.{Abbreviation}
 use Rattle.itanium_syntax.specs.declared.abbreviations.Abbreviation.TheVariants.{Allocator, BasicString, StdString, Istream, Ostream, Iostream}
 
 -- which name the letter stands for
 abbrev pub abbreviation_letter : ℕ → Option Abbreviation
 abbreviation_letter letter =
-    if letter == 97 then Some Allocator else
-    if letter == 98 then Some BasicString else
-    if letter == 115 then Some StdString else
-    if letter == 105 then Some Istream else
-    if letter == 111 then Some Ostream else
-    if letter == 100 then Some Iostream else None
+    if is "a" letter then Some Allocator else
+    if is "b" letter then Some BasicString else
+    if is "s" letter then Some StdString else
+    if is "i" letter then Some Istream else
+    if is "o" letter then Some Ostream else
+    if is "d" letter then Some Iostream else None
 
 -- the abbreviation that stands in front
 abbrev pub abbreviation_of : List ℕ → Option Abbreviation

@@ -1,5 +1,26 @@
--- What the next bytes are.
-use Rattle.std.specs.Prelude.{ℕ, List, [], ◌∷◌, Bool, true, false, ◌&&◌, ◌||◌, ◌==◌, nat_le, drop, if◌then◌else◌}
+-- What the next bytes are. A letter, and a word, are given as text.
+use Prim.Native.String.{String}
+use Rattle.std.specs.Prelude.{ℕ, List, [], ◌∷◌, codes, Bool, true, false, ◌&&◌, ◌||◌, ◌==◌, nat_le, slice_index, drop, if◌then◌else◌}
+
+-- the byte of a letter
+abbrev pub letter : String → ℕ
+letter text = slice_index (codes text) 0
+
+-- the byte is that letter
+abbrev pub is : String → ℕ → Bool
+is text byte = byte == letter text
+
+-- the byte lies between two letters
+abbrev pub is_between : String → String → ℕ → Bool
+is_between low high byte = nat_le (letter low) byte && nat_le byte (letter high)
+
+-- the byte is a digit
+abbrev pub is_digit : ℕ → Bool
+is_digit byte = is_between "0" "9" byte
+
+-- the byte is an upper-case letter
+abbrev pub is_upper_case : ℕ → Bool
+is_upper_case byte = is_between "A" "Z" byte
 
 -- the bytes begin with the word
 abbrev pub begins : List ℕ → List ℕ → Bool
@@ -7,14 +28,22 @@ begins [] bytes = true
 begins (c ∷ word) [] = false
 begins (c ∷ word) (b ∷ bytes) = (b == c) && begins word bytes
 
--- the next byte lies between two bytes
-abbrev pub begins_between : ℕ → ℕ → List ℕ → Bool
+-- the next byte lies between two letters
+abbrev pub begins_between : String → String → List ℕ → Bool
 begins_between low high [] = false
-begins_between low high (b ∷ bytes) = nat_le low b && nat_le b high
+begins_between low high (b ∷ bytes) = is_between low high b
 
 -- a digit is next
 abbrev pub begins_digit : List ℕ → Bool
-begins_digit bytes = begins_between 48 57 bytes
+begins_digit bytes = begins_between "0" "9" bytes
+
+-- a digit is next that isn't 0
+abbrev pub begins_positive : List ℕ → Bool
+begins_positive bytes = begins_between "1" "9" bytes
+
+-- a lower-case letter is next
+abbrev pub begins_lower_case : List ℕ → Bool
+begins_lower_case bytes = begins_between "a" "z" bytes
 
 -- the byte is one of the word's
 abbrev pub one_of : List ℕ → ℕ → Bool
@@ -28,4 +57,4 @@ begins_one_of word (b ∷ bytes) = one_of word b
 
 -- past a letter that may stand there
 abbrev pub past_letter : ℕ → List ℕ → List ℕ
-past_letter letter bytes = if begins (letter ∷ []) bytes then drop 1 bytes else bytes
+past_letter byte bytes = if begins (byte ∷ []) bytes then drop 1 bytes else bytes

@@ -2,7 +2,7 @@
 use Rattle.std.specs.Prelude.{ℕ, ◌+◌, List, [], ◌∷◌, length, take, drop, Bool, false, not, ◌&&◌, ◌||◌, ◌==◌, nat_lt, codes, if◌then◌else◌, Option, Some, None}
 use Rattle.std.specs.List.{prefix_len}
 use Rattle.std.specs.Str.{is_utf8}
-use Rattle.itanium_syntax.specs.Bytes.{begins, begins_one_of}
+use Rattle.itanium_syntax.specs.Bytes.{is, begins, begins_one_of}
 use Rattle.itanium_syntax.specs.Cases.{LiteralCase, ExternalName, ValueLiteral, NoLiteral, ExpressionCase, PreExpression, AddressExpression, UnaryExpression, PostExpression, BinaryExpression, GreaterExpression, ConditionalExpression, ParameterExpression, LiteralExpression, NoExpression}
 use Rattle.itanium_syntax.specs.Operators.{is_code, operator_here, operator_arity}
 
@@ -18,7 +18,7 @@ literal_case bytes =
 
 -- how many bytes come before the first E: all where there is none
 abbrev pub value_len : List ℕ → ℕ
-value_len bytes = prefix_len (λ b. not (b == 69)) bytes
+value_len bytes = prefix_len (λ b. not (is "E" b)) bytes
 
 -- the value of a literal, all bytes up to the first E, which are UTF-8, and what follows the E
 unfoldable pub literal_value : List ℕ → Option (List ℕ × List ℕ)

@@ -2,7 +2,7 @@
 use Rattle.std.specs.Prelude.{ℕ, List, Bool, true, false, ◌&&◌, ◌||◌, drop, codes, if◌then◌else◌, is_some}
 use Rattle.demangle_quals.specs.declared.quals.Quals.{Quals}
 use Rattle.demangle_quals.specs.Quals.{no_quals}
-use Rattle.itanium_syntax.specs.Bytes.{begins, begins_between, begins_digit, begins_one_of, past_letter}
+use Rattle.itanium_syntax.specs.Bytes.{letter, begins, begins_between, begins_digit, begins_positive, begins_lower_case, begins_one_of, past_letter}
 use Rattle.itanium_syntax.specs.Operators.{operator_here}
 use Rattle.itanium_syntax.specs.Cases.{SymbolCase, SpecialSymbol, NameSymbol, NameCase, NestedName, LocalName, UnscopedName, UnscopedCase, StdName, SubstitutionName, PlainName, FirstCase, ParameterFirst, StdFirst, SubstitutionFirst, NameFirst, ComponentCase, EndOfComponents, ArgsComponent, NameComponent, UnqualifiedCase, ConstructorName, DestructorName, FreeName, FreeCase, SourceName, UnnamedTypeName, LambdaName, ConversionName, LiteralOperatorName, OperatorName, NoName, TagCase, NoTag, NextTag, SubstitutionCase, AbbreviationSubstitution, ComponentSubstitution}
 use Rattle.itanium_syntax.specs.Types.{cv_quals, past_cv, reference_of, past_reference}
@@ -45,12 +45,14 @@ component_case bytes =
 
 -- C1 to C5 of <ctor-dtor-name>
 abbrev pub begins_constructor : List ℕ → Bool
-begins_constructor bytes = begins (codes "C") bytes && begins_between 49 53 (drop 1 bytes)
+begins_constructor bytes = begins (codes "C") bytes && begins_between "1" "5" (drop 1 bytes)
 
 -- D0, D1, D2, D4 and D5 of <ctor-dtor-name>
 abbrev pub begins_destructor : List ℕ → Bool
 begins_destructor bytes =
-    begins (codes "D") bytes && (begins_between 48 50 (drop 1 bytes) || begins_between 52 53 (drop 1 bytes))
+    let number = drop 1 bytes in
+    begins (codes "D") bytes
+    && (begins_between "0" "2" number || begins_between "4" "5" number)
 
 -- an <operator-name>, or no name
 abbrev pub operator_case : List ℕ → FreeCase
@@ -59,7 +61,7 @@ operator_case bytes = if is_some (operator_here bytes) then OperatorName else No
 -- an <unqualified-name> that asks for no scope: it is no <ctor-dtor-name>
 abbrev pub free_case : List ℕ → FreeCase
 free_case bytes =
-    if begins_between 49 57 bytes then SourceName else
+    if begins_positive bytes then SourceName else
     if begins (codes "Ut") bytes then UnnamedTypeName else
     if begins (codes "Ul") bytes then LambdaName else
     if begins (codes "cv") bytes then ConversionName else
@@ -75,7 +77,7 @@ unqualified_case in_scope bytes =
 
 -- a <source-name> is next
 abbrev pub begins_source : List ℕ → Bool
-begins_source bytes = begins_between 49 57 bytes
+begins_source bytes = begins_positive bytes
 
 -- an <abi-tag> or none
 abbrev pub tag_case : List ℕ → TagCase
@@ -83,7 +85,7 @@ tag_case bytes = if begins (codes "B") bytes && begins_digit (drop 1 bytes) then
 
 -- <substitution> after its S: a letter of std, or a number
 abbrev pub substitution_case : List ℕ → SubstitutionCase
-substitution_case bytes = if begins_between 97 122 bytes then AbbreviationSubstitution else ComponentSubstitution
+substitution_case bytes = if begins_lower_case bytes then AbbreviationSubstitution else ComponentSubstitution
 
 -- past the L of an internal name, which a digit follows
 abbrev pub past_internal : List ℕ → List ℕ
@@ -91,7 +93,7 @@ past_internal bytes = if begins (codes "L") bytes && begins_digit (drop 1 bytes)
 
 -- past the M of a data member's initializer
 abbrev pub past_initializer_letter : List ℕ → List ℕ
-past_initializer_letter bytes = past_letter 77 bytes
+past_initializer_letter bytes = past_letter (letter "M") bytes
 
 -- an unnamed namespace has a text of its own
 abbrev pub source_text : List ℕ → List ℕ

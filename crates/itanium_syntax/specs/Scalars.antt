@@ -1,5 +1,6 @@
 -- Numbers and source names: how many bytes stand in front, and what they say (Itanium C++ ABI 5.1.2).
-use Rattle.std.specs.Prelude.{ℕ, ◌+◌, ◌-◌, ◌*◌, ◌^◌, ◌&&◌, ◌==◌, nat_le, nat_lt, if◌then◌else◌, List, [], ◌∷◌, length, take, drop, Option, Some, None, option_and_then, option_map}
+use Rattle.std.specs.Prelude.{ℕ, ◌+◌, ◌-◌, ◌*◌, ◌^◌, ◌&&◌, nat_le, nat_lt, if◌then◌else◌, List, [], ◌∷◌, length, take, drop, Option, Some, None, option_and_then, option_map}
+use Rattle.itanium_syntax.specs.Bytes.{letter, is, is_digit, is_upper_case}
 use Rattle.itanium_syntax.specs.declared.numerals.Radix.{Radix}
 use Rattle.itanium_syntax.specs.declared.numerals.Radix.TheVariants.{Decimal, Base36}
 
@@ -10,10 +11,10 @@ base Base36 = 36
 
 -- what a byte is worth as a digit: 0 to 9, and in base 36 also A to Z
 abbrev pub digit_of : Radix → ℕ → Option ℕ
-digit_of Decimal b = if nat_le 48 b && nat_le b 57 then Some (b - 48) else None
+digit_of Decimal b = if is_digit b then Some (b - letter "0") else None
 digit_of Base36 b =
-    if nat_le 48 b && nat_le b 57 then Some (b - 48) else
-    if nat_le 65 b && nat_le b 90 then Some (b - 55) else None
+    if is_digit b then Some (b - letter "0") else
+    if is_upper_case b then Some (b - letter "A" + 10) else None
 
 -- a digit and those after it, where it is one
 abbrev pub digit_then : Option ℕ → List ℕ → List ℕ
@@ -57,7 +58,7 @@ next_number n = if nat_lt (n + 1) (2 ^ 64) then Some (n + 1) else None
 -- the next byte is `_`, and what follows it
 abbrev pub past_underscore : List ℕ → Option (List ℕ)
 past_underscore [] = None
-past_underscore (b ∷ bytes) = if b == 95 then Some bytes else None
+past_underscore (b ∷ bytes) = if is "_" b then Some bytes else None
 
 -- after the `_` of an index without a numeral; else a numeral, `_`, and the number that follows it
 abbrev pub index_by : Radix → List ℕ → Option (List ℕ) → Option (ℕ × List ℕ)

@@ -1,56 +1,56 @@
 -- The cases of types (Itanium C++ ABI 5.1.5). Of several cases the first one that fits holds.
-use Rattle.std.specs.Prelude.{ℕ, List, [], ◌∷◌, Bool, ◌&&◌, ◌||◌, ◌==◌, nat_lt, length, drop, codes, if◌then◌else◌, Option, Some, None}
+use Rattle.std.specs.Prelude.{ℕ, List, [], ◌∷◌, Bool, ◌&&◌, ◌||◌, nat_lt, length, drop, codes, if◌then◌else◌, Option, Some, None}
 use Rattle.demangle_quals.specs.declared.quals.Quals.{Quals}
 use Rattle.demangle_quals.specs.declared.quals.Pointer.TheVariants as Pointer
 use Rattle.demangle_quals.specs.declared.quals.Reference.{Reference}
 use Rattle.demangle_quals.specs.declared.quals.Reference.TheVariants.{Left, Right}
-use Rattle.itanium_syntax.specs.Bytes.{begins, begins_one_of, past_letter}
+use Rattle.itanium_syntax.specs.Bytes.{letter, is, begins, begins_one_of, past_letter}
 use Rattle.itanium_syntax.specs.Cases.{TypeCase, BuiltinType, ExpansionType, VendorType, ArrayType, FunctionType, MemberType, PointerType, CvType, ElaboratedType, ParameterType, SubstitutionType, UnreadType, NameType, CvCase, CvFunction, CvOther, FunctionCase, ExternFunction, PlainFunction, ParamsCase, NoParams, SomeParams, TypesCase, EndOfTypes, NextType}
 
 -- <builtin-type> of a letter
 abbrev pub letter_text : ℕ → List ℕ
 letter_text letter =
-    if letter == 118 then codes "void" else
-    if letter == 119 then codes "wchar_t" else
-    if letter == 98 then codes "bool" else
-    if letter == 99 then codes "char" else
-    if letter == 97 then codes "signed char" else
-    if letter == 104 then codes "unsigned char" else
-    if letter == 115 then codes "short" else
-    if letter == 116 then codes "unsigned short" else
-    if letter == 105 then codes "int" else
-    if letter == 106 then codes "unsigned int" else
-    if letter == 108 then codes "long" else
-    if letter == 109 then codes "unsigned long" else
-    if letter == 120 then codes "long long" else
-    if letter == 121 then codes "unsigned long long" else
-    if letter == 110 then codes "__int128" else
-    if letter == 111 then codes "unsigned __int128" else
-    if letter == 102 then codes "float" else
-    if letter == 100 then codes "double" else
-    if letter == 101 then codes "long double" else
-    if letter == 103 then codes "__float128" else
-    if letter == 122 then codes "..." else []
+    if is "v" letter then codes "void" else
+    if is "w" letter then codes "wchar_t" else
+    if is "b" letter then codes "bool" else
+    if is "c" letter then codes "char" else
+    if is "a" letter then codes "signed char" else
+    if is "h" letter then codes "unsigned char" else
+    if is "s" letter then codes "short" else
+    if is "t" letter then codes "unsigned short" else
+    if is "i" letter then codes "int" else
+    if is "j" letter then codes "unsigned int" else
+    if is "l" letter then codes "long" else
+    if is "m" letter then codes "unsigned long" else
+    if is "x" letter then codes "long long" else
+    if is "y" letter then codes "unsigned long long" else
+    if is "n" letter then codes "__int128" else
+    if is "o" letter then codes "unsigned __int128" else
+    if is "f" letter then codes "float" else
+    if is "d" letter then codes "double" else
+    if is "e" letter then codes "long double" else
+    if is "g" letter then codes "__float128" else
+    if is "z" letter then codes "..." else []
 
 -- <builtin-type> of D and a letter
 abbrev pub two_letter_text : ℕ → List ℕ
 two_letter_text letter =
-    if letter == 115 then codes "char16_t" else
-    if letter == 105 then codes "char32_t" else
-    if letter == 117 then codes "char8_t" else
-    if letter == 110 then codes "std::nullptr_t" else
-    if letter == 97 then codes "auto" else
-    if letter == 99 then codes "decltype(auto)" else
-    if letter == 104 then codes "half" else
-    if letter == 100 then codes "decimal64" else
-    if letter == 101 then codes "decimal128" else
-    if letter == 102 then codes "decimal32" else []
+    if is "s" letter then codes "char16_t" else
+    if is "i" letter then codes "char32_t" else
+    if is "u" letter then codes "char8_t" else
+    if is "n" letter then codes "std::nullptr_t" else
+    if is "a" letter then codes "auto" else
+    if is "c" letter then codes "decltype(auto)" else
+    if is "h" letter then codes "half" else
+    if is "d" letter then codes "decimal64" else
+    if is "e" letter then codes "decimal128" else
+    if is "f" letter then codes "decimal32" else []
 
 -- the text of a <builtin-type>
 abbrev pub builtin_text : List ℕ → List ℕ
 builtin_text [] = []
 builtin_text (first ∷ []) = letter_text first
-builtin_text (first ∷ second ∷ bytes) = if first == 68 then two_letter_text second else letter_text first
+builtin_text (first ∷ second ∷ bytes) = if is "D" first then two_letter_text second else letter_text first
 
 -- a <builtin-type> is next: a letter, or D and a letter, with a text
 abbrev pub is_builtin : List ℕ → Bool
@@ -82,8 +82,8 @@ type_case bytes =
 -- <CV-qualifiers> ::= [r] [V] [K], and <ref-qualifier> ::= R | O after them
 abbrev pub cv_quals : List ℕ → Quals
 cv_quals bytes =
-    let after_restrict = past_letter 114 bytes in
-    let after_volatile = past_letter 86 after_restrict in
+    let after_restrict = past_letter (letter "r") bytes in
+    let after_volatile = past_letter (letter "V") after_restrict in
     record {
       constant = begins (codes "K") after_volatile;
       volatile = begins (codes "V") after_restrict;
@@ -93,7 +93,7 @@ cv_quals bytes =
 
 -- what is after <CV-qualifiers>
 abbrev pub past_cv : List ℕ → List ℕ
-past_cv bytes = past_letter 75 (past_letter 86 (past_letter 114 bytes))
+past_cv bytes = past_letter (letter "K") (past_letter (letter "V") (past_letter (letter "r") bytes))
 
 -- <ref-qualifier> ::= R | O, where one stands in front
 abbrev pub reference_of : List ℕ → Option Reference
