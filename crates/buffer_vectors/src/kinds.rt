@@ -1,7 +1,7 @@
 //! What the tests of the buffer ask of the form of a piece.
 ghost use Rattle.std.specs.Prelude.{◌≡◌, Some, is_some, true};
 ghost use Rattle.demangle_text.specs.State.{IsLiving, shape};
-ghost use Rattle.demangle_text.specs.Shape.{kind_of, group_of};
+ghost use Rattle.demangle_text.specs.Calls.{kind_of, group_of};
 ghost use Rattle.demangle_text.specs.declared.shape.Kind.TheVariants.{Function};
 
 use demangle_text::{Buffer, Kind, Piece};

@@ -3,7 +3,8 @@ use Rattle.std.proofs.Common.{◌≡◌, ℕ, ◌+◌, ◌-◌, min, false, Opti
 use Rattle.std.proofs.lemmas.List.{length-append, length-take, take-append-drop, append-nil}
 use Rattle.demangle_text.specs.declared.shape.Kind.TheVariants.{Array, Function}
 use Rattle.demangle_text.specs.declared.shape.Place.TheVariants.{Suffix, End}
-use Rattle.demangle_text.specs.Shape.{Form, Plain, Declared, Shape, form_text, inserted, declared_at, flattened, text_len, IsPlain, moved, kind_of, group_of, after_of}
+use Rattle.demangle_text.specs.Shape.{Form, Plain, Declared, Shape, form_text, inserted, declared_at, flattened, text_len, moved}
+use Rattle.demangle_text.specs.Calls.{IsPlain, kind_of, group_of, after_of}
 use Rattle.demangle_edit.specs.Types.{dimension_text, array_shape}
 use Rattle.demangle_edit.proofs.Cuts.{take_front, drop_front}
 

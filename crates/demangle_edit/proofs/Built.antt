@@ -11,11 +11,12 @@ use Rattle.demangle_text.specs.declared.shape.Piece.{Piece}
 use Rattle.demangle_text.specs.declared.shape.Mark.{Mark}
 use Rattle.demangle_text.specs.declared.shape.Place.TheVariants.{End}
 use Rattle.demangle_text.specs.declared.buffer.Buffer.{Buffer}
-use Rattle.demangle_text.specs.Shape.{Shape, Form, Plain, Declared, IsPlain, text, text_len, joined, plain_shape, whole_shape, appended, flattened, flagged, moved}
+use Rattle.demangle_text.specs.Shape.{Shape, Form, Plain, Declared, text, text_len, plain_shape, whole_shape, appended, flattened, flagged, moved}
+use Rattle.demangle_text.specs.Calls.{IsPlain, joined}
 use Rattle.demangle_text.specs.State.{IsLiving, shape, Lives, Opens}
-use Rattle.demangle_edit.specs.Lists.{listed}
+use Rattle.demangle_edit.specs.Lists.{listed, arguments_closed, arguments_shape, pack_shape, lambda_shape}
 use Rattle.demangle_edit.specs.Names.{angle_gap, attached, encoding_shape}
-use Rattle.demangle_edit.specs.Built.{separator, separated, is_first, listed_more, listed_each, arguments_opened, arguments_closed, arguments_begun, arguments_ended, arguments_shape, params_opened, params_closed, pack_shape, lambda_closed, lambda_shape}
+use Rattle.demangle_edit.specs.Built.{separator, separated, is_first, listed_more, listed_each, arguments_opened, arguments_begun, arguments_ended, params_opened, params_closed, lambda_closed}
 use Rattle.demangle_edit.proofs.Insertions.{inserted_twice}
 
 -- the texts of a list, with what stands in front of each

@@ -4,11 +4,13 @@ use Rattle.std.proofs.Math.Seq.{take-append_seam, drop-append_seam}
 use Rattle.std.proofs.lemmas.List.{length-append}
 use Rattle.demangle_text.specs.declared.shape.Kind.TheVariants.{Function}
 use Rattle.demangle_text.specs.declared.shape.Place.TheVariants.{End}
-use Rattle.demangle_text.specs.Shape.{Form, Plain, Declared, Shape, form_text, form_with, text, text_len, plain_shape, appended, joined, declared_at, kind_of, is_plain}
+use Rattle.demangle_text.specs.Shape.{Form, Plain, Declared, Shape, form_text, form_with, text, text_len, plain_shape, appended, declared_at, is_plain}
+use Rattle.demangle_text.specs.Calls.{joined, kind_of}
 use Rattle.demangle_quals.specs.declared.quals.Quals.{Quals}
 use Rattle.demangle_edit.specs.Lists.{listed, params_text}
 use Rattle.demangle_quals.specs.Quals.{words_text, reference_text}
-use Rattle.demangle_edit.specs.Types.{function_shape, function_step}
+use Rattle.demangle_edit.specs.Types.{function_shape}
+use Rattle.demangle_edit.specs.Calls.{function_step}
 
 pub take_front : (t front back : List ℕ) (n : ℕ) → t ≡ front ++ back → n ≡ length front → take n t ≡ front
 take_front t front back n e h = rw (e, h) (take-append_seam front back)

@@ -10,8 +10,10 @@ use Rattle.demangle_quals.specs.declared.quals.Pointer.TheVariants.{Star, Left, 
 use Rattle.std.specs.Prelude.{is_some}
 use Rattle.demangle_text.specs.declared.shape.Kind.TheVariants.{Array, Function}
 use Rattle.demangle_text.specs.declared.shape.Place.TheVariants.{Close, Suffix, End}
-use Rattle.demangle_text.specs.Shape.{Shape, Form, Plain, Declared, kind_of, group_of, CanInsert, IsPlain, IsDeclared, is_plain, text, shortened, appended, inserted, opened_group}
-use Rattle.demangle_edit.specs.Types.{pointed_in, cv_place, is_shortened, collapse_step}
+use Rattle.demangle_text.specs.Shape.{Shape, Form, Plain, Declared, is_plain, text, shortened, appended, inserted, opened_group}
+use Rattle.demangle_text.specs.Calls.{kind_of, group_of, CanInsert, IsPlain, IsDeclared}
+use Rattle.demangle_edit.specs.Types.{pointed_in, cv_place, collapse_step}
+use Rattle.demangle_edit.specs.Calls.{is_shortened}
 
 pub plain_kind : (f : Form) → kind_of f ≡ None → is_plain f ≡ true
 plain_kind (Plain t) e = refl

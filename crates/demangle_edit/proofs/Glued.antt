@@ -10,7 +10,8 @@ use Rattle.demangle_text.specs.Shape.{text, plain_shape}
 use Rattle.demangle_text.specs.State.{shape, Lives, Opens}
 use Rattle.demangle_edit.specs.declared.parts.Glue.{Glue}
 use Rattle.demangle_edit.specs.declared.parts.Glue.TheVariants.{Text, Piece as Part}
-use Rattle.demangle_edit.specs.Lists.{glued, part_text, IsLivingPart}
+use Rattle.demangle_edit.specs.Lists.{glued}
+use Rattle.demangle_edit.specs.Calls.{part_text, IsLivingPart}
 
 -- a text more of those that follow one another
 concat_more : (ts : List (List ℕ)) (t : List ℕ) → concat (ts ++ t ∷ []) ≡ concat ts ++ t

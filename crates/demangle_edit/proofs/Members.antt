@@ -3,8 +3,10 @@ use Rattle.std.proofs.Common.{◌≡◌, ℕ, ◌+◌, ◌-◌, Bool, Option, So
 use Rattle.std.specs.Prelude.{slice_range, slice_index}
 use Rattle.std.proofs.lemmas.List.{length-append, append-nil, get_or_at}
 use Rattle.demangle_text.specs.declared.shape.Kind.TheVariants.{Array, Function}
-use Rattle.demangle_text.specs.Shape.{Form, Plain, Declared, Shape, form_text, text, text_len, IsDeclared, IsPlain, plain_shape, appended, flattened, front_text, grouped, gap_after, flagged, kind_of, after_of, declared_group}
-use Rattle.demangle_edit.specs.Types.{after_text, member_gap, member_pointer_shape}
+use Rattle.demangle_text.specs.Shape.{Form, Plain, Declared, Shape, form_text, text, text_len, plain_shape, appended, flattened, grouped, gap_after, flagged}
+use Rattle.demangle_text.specs.Calls.{IsDeclared, IsPlain, front_text, kind_of, after_of, declared_group}
+use Rattle.demangle_edit.specs.Types.{member_gap, member_pointer_shape}
+use Rattle.demangle_edit.specs.Calls.{after_text}
 use Rattle.demangle_text.specs.declared.shape.Place.TheVariants.{End}
 use Rattle.demangle_edit.proofs.Insertions.{inserted_twice}
 use Rattle.demangle_edit.proofs.Cuts.{take_front, drop_front}

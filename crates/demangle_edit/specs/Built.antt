@@ -1,11 +1,10 @@
 -- Lists that are built as they are read: what opens them, what each text adds, and what closes them.
-use Rattle.std.specs.Prelude.{ℕ, ◌-◌, List, [], ◌∷◌, ◌++◌, map, codes, decimal, Bool, true, false, if◌then◌else◌, nat_eq}
-use Rattle.std.specs.List.{ends_with}
+use Rattle.std.specs.Prelude.{ℕ, ◌-◌, List, [], ◌∷◌, ◌++◌, codes, decimal, Bool, true, false, if◌then◌else◌}
 use Rattle.demangle_quals.specs.declared.quals.Quals.{Quals}
 use Rattle.demangle_quals.specs.Quals.{quals_text}
 use Rattle.demangle_text.specs.Shape.{Shape, text, text_len, plain_shape, whole_shape, with_own, appended, flattened, flagged, moved}
-use Rattle.demangle_edit.specs.Lists.{listed}
 use Rattle.demangle_edit.specs.Names.{angle_gap}
+use Rattle.demangle_edit.specs.Lists.{arguments_closed}
 
 -- what stands in front of a text of a list: nothing in front of the first
 abbrev pub separator : Bool → List ℕ
@@ -37,10 +36,6 @@ listed_each first list (next ∷ rest) = listed_each false (listed_more first li
 abbrev pub arguments_opened : Shape → Shape
 arguments_opened name = flagged true name.ctor (appended (angle_gap (text name) ++ codes "<") (flattened name))
 
--- the end of a list of template arguments, with a space after `>`
-abbrev pub arguments_closed : Shape → Shape
-arguments_closed list = appended (if ends_with nat_eq (text list) (codes ">") then codes " >" else codes ">") list
-
 -- the text of a name with the `<` of its template arguments
 abbrev pub arguments_begun : Shape → Shape
 arguments_begun name = plain_shape (text name ++ (angle_gap (text name) ++ codes "<"))
@@ -52,10 +47,6 @@ arguments_ended len own ctor list =
     let moved_own = moved len (text_len closed - len) own in
     flagged true ctor (with_own moved_own.0 moved_own.1 closed)
 
--- a list of template arguments by itself
-abbrev pub arguments_shape : List Shape → Shape
-arguments_shape args = whole_shape (arguments_closed (plain_shape (codes "<" ++ listed (map text args))))
-
 -- a name that its parameters follow
 abbrev pub params_opened : Shape → Shape
 params_opened name = flagged false name.ctor (appended (codes "(") (flattened name))
@@ -64,15 +55,6 @@ params_opened name = flagged false name.ctor (appended (codes "(") (flattened na
 abbrev pub params_closed : Quals → Shape → Shape
 params_closed quals list = appended (codes ")" ++ quals_text quals) list
 
--- a pack of arguments
-abbrev pub pack_shape : List Shape → Shape
-pack_shape args = plain_shape (listed (map text args))
-
 -- the end of a lambda's parameters, with its number
 abbrev pub lambda_closed : ℕ → Shape → Shape
 lambda_closed number list = whole_shape (appended (codes ")#" ++ (decimal number ++ codes "}")) list)
-
--- a lambda
-abbrev pub lambda_shape : List Shape → ℕ → Shape
-lambda_shape params number =
-    plain_shape (codes "{lambda(" ++ (listed (map text params) ++ (codes ")#" ++ (decimal number ++ codes "}"))))

@@ -1,12 +1,9 @@
 -- The shapes of literals, and of operands of expressions.
 use Rattle.std.specs.Prelude.{ℕ, List, [], ◌++◌, drop, codes, nat_eq, bytes_eq}
-use Rattle.std.specs.Prelude.{Bool, true, not, ◌&&◌, ◌||◌, if◌then◌else◌, Option, Some, None}
+use Rattle.std.specs.Prelude.{Bool, true, not, ◌&&◌, ◌||◌, if◌then◌else◌}
 use Rattle.std.specs.List.{starts_with}
 use Rattle.demangle_text.specs.declared.shape.Place.TheVariants.{Start}
-use Rattle.demangle_text.specs.declared.shape.Piece.{Piece}
-use Rattle.demangle_text.specs.declared.buffer.Buffer.{Buffer}
 use Rattle.demangle_text.specs.Shape.{Shape, text, plain_shape, inserted}
-use Rattle.demangle_text.specs.State.{StaysInPlace, JoinsInPlace, Appends}
 use Rattle.demangle_edit.specs.declared.expressions.LiteralForm.{LiteralForm}
 use Rattle.demangle_edit.specs.declared.expressions.LiteralForm.TheVariants.{Boolean, Null, Integer, Float, Cast}
 
@@ -59,22 +56,6 @@ literal_text Integer type value = value_text value
 literal_text Float type value = float_text value
 literal_text Cast type value = codes "(" ++ type ++ codes ")" ++ value_text value
 
--- where a literal is put, by its form: around its type, where that is shown, and else after the main text
-abbrev pub IsPut : LiteralForm → Buffer → Buffer → Piece → Piece → Type 0
-IsPut Boolean old new type literal = Appends old new literal
-IsPut Null old new type literal = Appends old new literal
-IsPut Integer old new type literal = Appends old new literal
-IsPut Float old new type literal = Appends old new literal
-IsPut Cast old new type literal = StaysInPlace old new type literal
-
--- the same of one that may begin with a parenthesis that is there
-abbrev pub IsPutAfter : LiteralForm → Buffer → Buffer → Piece → Piece → Piece → Type 0
-IsPutAfter Boolean old new paren type literal = Appends old new literal
-IsPutAfter Null old new paren type literal = Appends old new literal
-IsPutAfter Integer old new paren type literal = Appends old new literal
-IsPutAfter Float old new paren type literal = Appends old new literal
-IsPutAfter Cast old new paren type literal = JoinsInPlace old new paren type literal
-
 -- the literal of the type with this value
 abbrev pub literal_shape : Shape → List ℕ → Shape
 literal_shape type value = plain_shape (literal_text (literal_form (text type) (is_minus value)) (text type) value)
@@ -82,10 +63,6 @@ literal_shape type value = plain_shape (literal_text (literal_form (text type) (
 -- whether a type with this text has a literal with this value
 abbrev pub has_literal : List ℕ → List ℕ → Bool
 has_literal type value = has_value (literal_form type (is_minus value)) value
-
--- the literal, where there is one
-abbrev pub literal_step : Shape → List ℕ → Option Shape
-literal_step type value = if has_literal (text type) value then Some (literal_shape type value) else None
 
 -- a text in parentheses
 abbrev pub parenthesized : Shape → Shape

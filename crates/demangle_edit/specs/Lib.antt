@@ -4,3 +4,4 @@ pub mod Built
 pub mod Types
 pub mod Expressions
 pub mod Answers
+pub mod Calls

@@ -1,14 +1,12 @@
 -- Texts that follow one another.
 use Rattle.std.specs.Prelude.{ℕ, List, [], ◌∷◌, ◌++◌, map, codes}
 use Rattle.std.specs.List.{concat}
-use Rattle.demangle_text.specs.declared.shape.Piece.{Piece}
-use Rattle.demangle_text.specs.declared.buffer.Buffer.{Buffer}
 use Rattle.demangle_text.specs.Shape.{Shape, text, plain_shape}
-use Rattle.demangle_text.specs.State.{IsLiving}
 use Rattle.demangle_quals.specs.declared.quals.Quals.{Quals}
 use Rattle.demangle_quals.specs.Quals.{quals_text}
-use Rattle.demangle_edit.specs.declared.parts.Glue.{Glue}
-use Rattle.demangle_edit.specs.declared.parts.Glue.TheVariants.{Text, Piece as Part}
+use Rattle.std.specs.Prelude.{decimal, if◌then◌else◌, nat_eq}
+use Rattle.std.specs.List.{ends_with}
+use Rattle.demangle_text.specs.Shape.{whole_shape, appended}
 
 -- the texts, with a comma and a space between them
 abbrev pub listed : List (List ℕ) → List ℕ
@@ -24,12 +22,19 @@ params_text params quals = codes "(" ++ (listed (map text params) ++ (codes ")" 
 abbrev pub glued : List (List ℕ) → Shape
 glued texts = plain_shape (concat texts)
 
--- the text of a part, where the pieces have these shapes
-abbrev pub part_text : (Piece → Shape) → Glue → List ℕ
-part_text shape_of (Text bytes) = bytes.now
-part_text shape_of (Part piece) = text (shape_of piece)
+-- the end of a list of template arguments, with a space after `>`
+abbrev pub arguments_closed : Shape → Shape
+arguments_closed list = appended (if ends_with nat_eq (text list) (codes ">") then codes " >" else codes ">") list
 
--- a part that is a piece lives
-abbrev pub IsLivingPart : Buffer → Glue → Type 0
-IsLivingPart buf (Text bytes) = Unit {0}
-IsLivingPart buf (Part piece) = IsLiving buf piece
+-- a list of template arguments by itself
+abbrev pub arguments_shape : List Shape → Shape
+arguments_shape args = whole_shape (arguments_closed (plain_shape (codes "<" ++ listed (map text args))))
+
+-- a pack of arguments
+abbrev pub pack_shape : List Shape → Shape
+pack_shape args = plain_shape (listed (map text args))
+
+-- a lambda
+abbrev pub lambda_shape : List Shape → ℕ → Shape
+lambda_shape params number =
+    plain_shape (codes "{lambda(" ++ (listed (map text params) ++ (codes ")#" ++ (decimal number ++ codes "}"))))

@@ -30,16 +30,6 @@ collapse_step rvalue s =
     then Some (if not rvalue && ends_with nat_eq (text s) (codes "&&") then shortened 1 s else s)
     else None
 
--- whether that reference takes a byte of the type away
-abbrev pub is_cut : Bool → Shape → Bool
-is_cut rvalue s = not rvalue && (is_plain s.form && ends_with nat_eq (text s) (codes "&&"))
-
--- whether a pointer or a reference takes a byte of the type away: `&` takes one of `&&`
-abbrev pub is_shortened : Pointer → Shape → Bool
-is_shortened Star s = false
-is_shortened Left s = is_cut false s
-is_shortened Right s = false
-
 -- a pointer or a reference to the type
 abbrev pub pointer_shape : Pointer → Shape → Shape
 pointer_shape Star s = pointed (pointer_text Star) s
@@ -90,18 +80,9 @@ has_array (Declared k before (Some group) after) = true
 has_array (Declared Array before None after) = true
 has_array (Declared Function before None after) = false
 
--- the array of the type, where there is one
-abbrev pub array_step : Option ℕ → Shape → Option Shape
-array_step dimension s = if has_array s.form then Some (array_shape dimension s) else None
-
 -- a space after a text that ends in neither `(` nor a space
 abbrev pub member_gap : List ℕ → List ℕ
 member_gap t = if ends_with nat_eq t (codes "(") || ends_with nat_eq t (codes " ") then [] else codes " "
-
--- what stands after the group of a declarator
-abbrev pub after_text : Form → List ℕ
-after_text (Plain t) = []
-after_text (Declared k before group after) = after
 
 -- no type is a member pointer to an array
 abbrev pub has_member_pointer : Form → Bool
@@ -118,11 +99,6 @@ member_in (Declared k before group after) token s = opened_group token s
 abbrev pub member_pointer_shape : Shape → Shape → Shape
 member_pointer_shape class member = member_in member.form (text class ++ codes "::*") member
 
--- the pointer to a member of the class, where there is one
-abbrev pub member_pointer_step : Shape → Shape → Option Shape
-member_pointer_step class member =
-    if has_member_pointer member.form then Some (member_pointer_shape class member) else None
-
 -- the function type: its last own name is its whole text
 abbrev pub function_shape : Shape → List Shape → Quals → Shape
 function_shape ret params quals =
@@ -132,10 +108,6 @@ function_shape ret params quals =
       templ = false;
       ctor = false;
     })
-
--- what a function returns is plain
-abbrev pub function_step : Shape → List Shape → Quals → Option Shape
-function_step ret params quals = if is_plain ret.form then Some (function_shape ret params quals) else None
 
 -- the expansion of a pack
 abbrev pub expansion_shape : Shape → Shape

@@ -3,11 +3,12 @@ ghost use Rattle.std.specs.Prelude.{◌≡◌, ◌≤◌, ◌++◌, All, map, de
 ghost use Rattle.demangle_text.specs.Shape.{text, text_len, plain_shape, appended};
 ghost use Rattle.demangle_text.specs.State.{IsLiving, shape, Lives, IsEdit, KeepsAll};
 ghost use Rattle.demangle_text.specs.State.{StaysInPlace, JoinsInPlace, Appends};
-ghost use Rattle.demangle_edit.specs.Lists.{glued, part_text, IsLivingPart};
+ghost use Rattle.demangle_edit.specs.Lists.{glued, arguments_closed, pack_shape};
+ghost use Rattle.demangle_edit.specs.Calls.{part_text, IsLivingPart};
 ghost use Rattle.demangle_edit.specs.Built.{separator, separated, followed, listed_more};
-ghost use Rattle.demangle_edit.specs.Built.{arguments_opened, arguments_closed};
+ghost use Rattle.demangle_edit.specs.Built.{arguments_opened};
 ghost use Rattle.demangle_edit.specs.Built.{arguments_begun, arguments_ended};
-ghost use Rattle.demangle_edit.specs.Built.{params_opened, params_closed, pack_shape, lambda_closed};
+ghost use Rattle.demangle_edit.specs.Built.{params_opened, params_closed, lambda_closed};
 
 use crate::appends::{append_piece, range_before};
 use crate::dimensions::{MOST_DIGITS, number_bytes};

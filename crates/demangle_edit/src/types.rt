@@ -1,16 +1,17 @@
 //! Edits that make a type out of types: pointers, references, qualifiers, arrays and functions
 //! (Itanium C++ ABI 5.1.5).
 ghost use Rattle.std.specs.Prelude.{◌≡◌, ◌≢◌, ◌++◌, All, map, codes, is_some, true, false, IfOk, OnOk};
-ghost use Rattle.demangle_text.specs.Shape.{CanInsert, IsPlain, IsDeclared, text, plain_shape, inserted};
-ghost use Rattle.demangle_text.specs.Shape.{kind_of, group_of, gap_after, front_text};
+ghost use Rattle.demangle_text.specs.Shape.{text, plain_shape, inserted};
+ghost use Rattle.demangle_text.specs.Calls.{CanInsert, IsPlain, IsDeclared, kind_of, group_of, front_text};
+ghost use Rattle.demangle_text.specs.Shape.{gap_after};
 ghost use Rattle.demangle_text.specs.State.{IsLiving, shape, Lives, IsEdit, KeepsAll, main_bytes};
 ghost use Rattle.demangle_text.specs.State.{StaysInPlace, IsLeftOrStays, JoinsInPlace, Appends, StandsShortened};
 ghost use Rattle.demangle_edit.specs.Answers.{Answers, IfFound, OnNone};
 ghost use Rattle.demangle_edit.specs.Types.{pointed, collapse_step, pointer_shape, cv_place, cv_shape};
-ghost use Rattle.demangle_edit.specs.Types.{is_cut, is_shortened};
-ghost use Rattle.demangle_edit.specs.Types.{function_step, expansion_shape};
-ghost use Rattle.demangle_edit.specs.Types.{dimension_digits, array_shape, array_step};
-ghost use Rattle.demangle_edit.specs.Types.{member_gap, after_text, member_pointer_shape, member_pointer_step};
+ghost use Rattle.demangle_edit.specs.Calls.{is_cut, is_shortened, function_step, array_step, after_text, member_pointer_step};
+ghost use Rattle.demangle_edit.specs.Types.{expansion_shape};
+ghost use Rattle.demangle_edit.specs.Types.{dimension_digits, array_shape};
+ghost use Rattle.demangle_edit.specs.Types.{member_gap, member_pointer_shape};
 
 use crate::appends::append_piece;
 use crate::dimensions::{MOST_DIGITS, dimension_bytes};

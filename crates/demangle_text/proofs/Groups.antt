@@ -6,7 +6,8 @@ use Rattle.demangle_text.specs.declared.shape.Place.TheVariants.{Suffix}
 use Rattle.demangle_text.specs.Pieces.{Layout}
 use Rattle.demangle_text.specs.Pieces.{Flat, Cut}
 use Rattle.demangle_text.specs.Pieces.{Outline}
-use Rattle.demangle_text.specs.Shape.{Form, Plain, Declared, form_text, front_text, grouped, gap_after, own_in, moved, opened_form, opened_own, opened_group, IsDeclared}
+use Rattle.demangle_text.specs.Shape.{Form, Plain, Declared, form_text, grouped, gap_after, own_in, moved, opened_form, opened_own, opened_group}
+use Rattle.demangle_text.specs.Calls.{front_text, IsDeclared}
 use Rattle.demangle_text.specs.Pieces.{form_of, shape_of, IsOutlined, IsLayout, layout_end, place_at, layout_opened, own_at}
 use Rattle.demangle_text.proofs.Forms.{layout_for, layout_for-form_of, text-form_of}
 use Rattle.demangle_text.proofs.Inserts.{outline_for, shape_of-outline_for, IsOutlined-outline_for, moved_ordered, moved_within, length-inserted}

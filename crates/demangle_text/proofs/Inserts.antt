@@ -8,7 +8,8 @@ use Rattle.demangle_text.specs.declared.shape.Place.TheVariants.{Start, Close, S
 use Rattle.demangle_text.specs.Pieces.{Layout}
 use Rattle.demangle_text.specs.Pieces.{Cut}
 use Rattle.demangle_text.specs.Pieces.{Outline}
-use Rattle.demangle_text.specs.Shape.{Form, Plain, Declared, Shape, form_text, grouped, own_in, moved, form_with, place_in, inserted, appended, CanInsert}
+use Rattle.demangle_text.specs.Shape.{Form, Plain, Declared, Shape, form_text, grouped, own_in, moved, form_with, place_in, inserted, appended}
+use Rattle.demangle_text.specs.Calls.{CanInsert}
 use Rattle.demangle_text.specs.Pieces.{form_of, shape_of, IsOwn, IsOutlined, place_at, layout_with, own_at}
 use Rattle.demangle_text.proofs.Forms.{layout_for, form_of-layout_for, IsLayout-layout_for, layout_for-form_of, text-form_of, parts, closed_parts}
 

@@ -1,5 +1,5 @@
 -- What a piece stands for: a shape, its text, and the steps on shapes.
-use Rattle.std.specs.Prelude.{ℕ, ◌+◌, ◌-◌, ◌==◌, ◌||◌, Bool, true, false, if◌then◌else◌, List, [], ◌∷◌, ◌++◌, length}
+use Rattle.std.specs.Prelude.{ℕ, ◌+◌, ◌-◌, ◌==◌, ◌||◌, Bool, true, false, if◌then◌else◌, List, [], ◌++◌, length}
 use Rattle.std.specs.Prelude.{take, drop, slice_range, slice_get, slice_index, nat_le, min, codes, Option, Some, None}
 use Prim.Native.String.{String}
 use Rattle.demangle_text.specs.declared.shape.Kind.{Kind}
@@ -94,10 +94,6 @@ shortened n s =
     let left = text_len s - n in
     record s { form = Plain (take left (text s)); own = (min s.own.0 left, min s.own.1 left) }
 
--- two texts with bytes between them
-abbrev pub joined : Shape → List ℕ → Shape → Shape
-joined first bytes second = plain_shape (text first ++ bytes ++ text second)
-
 -- its text as a plain shape
 abbrev pub flattened : Shape → Shape
 flattened s = record s { form = Plain (text s) }
@@ -124,13 +120,6 @@ declared_at kind at s =
     let form = Declared kind (take at (text s)) None (drop at (text s)) in
     record s { form = form; own = own_in form s.own }
 
--- declared, with a group between the `(` at one byte and the `)` right before `after`
-abbrev pub declared_group : Kind → ℕ → ℕ → Shape → Shape
-declared_group kind from at s =
-    let group = slice_range (text s) (from + 1) (at - 1) in
-    let form = Declared kind (take from (text s)) (Some group) (drop at (text s)) in
-    record s { form = form; own = own_in form s.own }
-
 -- the byte of a letter
 abbrev pub letter : String → ℕ
 letter text = slice_index (codes text) 0
@@ -147,11 +136,6 @@ gap_after_byte (Some byte) = if joins_group byte then [] else codes " "
 -- the gap between a text and a group
 abbrev pub gap_after : List ℕ → List ℕ
 gap_after t = gap_after_byte (slice_get t (length t - 1))
-
--- all text up to `after`
-abbrev pub front_text : Form → List ℕ
-front_text (Plain t) = t
-front_text (Declared k before group after) = before ++ grouped group
 
 -- all text up to `after` stands before a new group
 abbrev pub opened_form : List ℕ → Form → Form
@@ -175,45 +159,3 @@ opened_group bytes s =
 abbrev pub is_plain : Form → Bool
 is_plain (Plain t) = true
 is_plain (Declared k before group after) = false
-
--- the form is a plain text
-abbrev pub IsPlain : Form → Type 0
-IsPlain (Plain t) = Unit {0}
-IsPlain (Declared k before group after) = ⊥
-
--- the form is a declarator
-abbrev pub IsDeclared : Form → Type 0
-IsDeclared (Plain t) = ⊥
-IsDeclared (Declared k before group after) = Unit {0}
-
--- `Close` asks for a group, and `Suffix` for a declarator without one
-abbrev pub CanInsert : Place → Form → Type 0
-CanInsert Start f = Unit {0}
-CanInsert End f = Unit {0}
-CanInsert Close (Plain t) = ⊥
-CanInsert Close (Declared k before None after) = ⊥
-CanInsert Close (Declared k before (Some group) after) = Unit {0}
-CanInsert Suffix (Plain t) = ⊥
-CanInsert Suffix (Declared k before None after) = Unit {0}
-CanInsert Suffix (Declared k before (Some group) after) = ⊥
-
--- the form isn't a function's
-abbrev pub IsNotFunction : Form → Type 0
-IsNotFunction (Plain t) = Unit {0}
-IsNotFunction (Declared Array before group after) = Unit {0}
-IsNotFunction (Declared Function before group after) = ⊥
-
--- what a declarator declares
-abbrev pub kind_of : Form → Option Kind
-kind_of (Plain t) = None
-kind_of (Declared k before group after) = Some k
-
--- the group, without its parentheses
-abbrev pub group_of : Form → Option (List ℕ)
-group_of (Plain t) = None
-group_of (Declared k before group after) = group
-
--- where `after` begins in the text
-abbrev pub after_of : Form → Option ℕ
-after_of (Plain t) = None
-after_of (Declared k before group after) = Some (length (before ++ grouped group))

@@ -7,7 +7,7 @@ use Rattle.itanium_syntax.specs.Names.{source_text}
 use Rattle.itanium_grammar.specs.Tree.{Tree, shape_as, shape_of, shape_each, bare_shape, name_in, ctor_dtor_of, tagged_with, with_args, local_in, string_literal_of, default_argument_of, trees, in_scope}
 use Rattle.itanium_grammar.specs.Grammar.{Position, Cost, TaggedAs, UnqualifiedAs, Unqualified, AttachedAs, Components, ComponentsAs, EntityAs, no_tag, next_tag, constructor_component, destructor_component, free_component, unqualified, none_attached, args_attached, components, end_of_components, args_component, name_component, string_literal_entity, default_argument_entity, name_entity}
 use Rattle.itanium_demangle.specs.Cases.{TagCase, UnqualifiedCase, AttachedCase, ComponentCase, EntityCase}
-use Rattle.demangle_edit.specs.Built.{arguments_shape}
+use Rattle.demangle_edit.specs.Lists.{arguments_shape}
 use Rattle.itanium_demangle.proofs.Grows.{appended_longer, tagged_longer, attached_longer, ctor_longer, scope_longer, leaf_longer, default_scope_longer, default_entity_longer}
 
 -- of trees

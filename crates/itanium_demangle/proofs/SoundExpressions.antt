@@ -2,7 +2,8 @@
 use Rattle.std.proofs.Common.{◌≡◌, ℕ, suc, ◌+◌, max, true, List, ◌∙◌, sym, arith, Some, codes}
 use Rattle.std.proofs.lemmas.Option.{same_Some, option_and_then_some, cond_some}
 use Rattle.demangle_text.specs.Shape.{Shape, text}
-use Rattle.demangle_edit.specs.Expressions.{has_literal, literal_step}
+use Rattle.demangle_edit.specs.Expressions.{has_literal}
+use Rattle.demangle_edit.specs.Calls.{literal_step}
 use Rattle.itanium_syntax.specs.declared.context.Context.{Context}
 use Rattle.itanium_syntax.specs.Context.{inside_encoding}
 use Rattle.itanium_syntax.specs.Bytes.{begins}

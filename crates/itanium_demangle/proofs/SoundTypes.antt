@@ -4,7 +4,8 @@ use Rattle.std.proofs.lemmas.Option.{same_Some, cond_some, option_and_then_some}
 use Rattle.demangle_text.specs.Shape.{Shape, is_plain}
 use Rattle.demangle_quals.specs.declared.quals.Quals.{Quals}
 use Rattle.demangle_quals.specs.Quals.{no_quals}
-use Rattle.demangle_edit.specs.Types.{has_array, has_member_pointer, array_step, member_pointer_step, function_step}
+use Rattle.demangle_edit.specs.Types.{has_array, has_member_pointer}
+use Rattle.demangle_edit.specs.Calls.{array_step, member_pointer_step, function_step}
 use Rattle.itanium_syntax.specs.declared.context.Context.{Context}
 use Rattle.itanium_syntax.specs.Context.{inside_type}
 use Rattle.itanium_syntax.specs.Scalars.{source_name, optional_number}

@@ -2,7 +2,7 @@
 -- laws here it says what it reads of trees.
 use Rattle.std.specs.Prelude.{◌≡◌, ◌≤◌, ℕ, Bool, true, false, List, map, length, Some, None}
 use Rattle.demangle_text.specs.Shape.{Shape}
-use Rattle.demangle_edit.specs.Built.{arguments_shape}
+use Rattle.demangle_edit.specs.Lists.{arguments_shape}
 use Rattle.demangle_quals.specs.declared.quals.Quals.{Quals}
 use Rattle.itanium_syntax.specs.declared.context.Context.{Context}
 use Rattle.itanium_syntax.specs.Args.{argument_case}

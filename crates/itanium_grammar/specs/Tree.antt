@@ -7,9 +7,8 @@ use Rattle.demangle_quals.specs.declared.quals.Pointer.{Pointer}
 use Rattle.demangle_quals.specs.Quals.{no_quals}
 use Rattle.demangle_edit.specs.Types.{pointer_shape, cv_shape, array_shape, member_pointer_shape, function_shape, expansion_shape}
 use Rattle.std.specs.List.{concat}
-use Rattle.demangle_edit.specs.Lists.{glued}
+use Rattle.demangle_edit.specs.Lists.{glued, arguments_shape, pack_shape, lambda_shape}
 use Rattle.demangle_edit.specs.Expressions.{literal_shape, operand_shape, address_shape}
-use Rattle.demangle_edit.specs.Built.{arguments_shape, pack_shape, lambda_shape}
 use Rattle.demangle_edit.specs.Names.{qualified, default_arg_shape, qualified_ctor, attached, tagged, with_name_qualifiers, encoding_shape}
 use Rattle.itanium_syntax.specs.declared.offsets.Signed.{Signed}
 use Rattle.itanium_syntax.specs.declared.offsets.CallOffset.{CallOffset}

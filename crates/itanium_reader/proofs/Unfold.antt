@@ -7,9 +7,11 @@ use Rattle.std.proofs.lemmas.List.{append-nil, length-append}
 use Rattle.demangle_text.specs.declared.shape.Piece.{Piece}
 use Rattle.demangle_text.specs.declared.buffer.Buffer.{Buffer}
 use Rattle.demangle_text.specs.State.{IsLiving, shape, SameFrame}
-use Rattle.demangle_text.specs.Shape.{Shape, Plain, plain_shape, whole_shape, text, text_len, joined, flattened, moved}
+use Rattle.demangle_text.specs.Shape.{Shape, Plain, plain_shape, whole_shape, text, text_len, flattened, moved}
+use Rattle.demangle_text.specs.Calls.{joined}
 use Rattle.demangle_edit.specs.Names.{angle_gap, attached, qualified, tagged}
-use Rattle.demangle_edit.specs.Built.{separator, separated, listed_more, arguments_closed, arguments_begun, arguments_ended}
+use Rattle.demangle_edit.specs.Built.{separator, separated, listed_more, arguments_begun, arguments_ended}
+use Rattle.demangle_edit.specs.Lists.{arguments_closed}
 use Rattle.demangle_edit.proofs.Built.{begun_list, begun_more, ended_attached}
 use Rattle.itanium_syntax.specs.declared.context.Context.{Context}
 use Rattle.itanium_syntax.specs.declared.numerals.Radix.TheVariants.{Decimal}

@@ -7,9 +7,11 @@ use Rattle.demangle_quals.specs.declared.quals.Quals.{Quals}
 use Rattle.demangle_quals.specs.declared.quals.Pointer.{Pointer}
 use Rattle.demangle_quals.specs.Quals.{no_quals}
 use Rattle.demangle_edit.specs.Names.{qualified, default_arg_shape, qualified_ctor, attached, tagged, with_name_qualifiers}
-use Rattle.demangle_edit.specs.Types.{pointer_shape, cv_shape, array_step, member_pointer_step, function_step, expansion_shape}
-use Rattle.demangle_edit.specs.Expressions.{literal_step, operand_shape, address_shape}
-use Rattle.demangle_edit.specs.Built.{listed_more, arguments_closed, lambda_closed, params_opened, params_closed}
+use Rattle.demangle_edit.specs.Types.{pointer_shape, cv_shape, expansion_shape}
+use Rattle.demangle_edit.specs.Calls.{array_step, member_pointer_step, function_step, literal_step}
+use Rattle.demangle_edit.specs.Expressions.{operand_shape, address_shape}
+use Rattle.demangle_edit.specs.Built.{listed_more, lambda_closed, params_opened, params_closed}
+use Rattle.demangle_edit.specs.Lists.{arguments_closed}
 use Rattle.itanium_syntax.specs.declared.context.Context.{Context}
 use Rattle.itanium_syntax.specs.declared.numerals.Radix.TheVariants.{Decimal, Base36}
 use Rattle.itanium_syntax.specs.Scalars.{source_name, index_of, ordinal, optional_number}

@@ -1,7 +1,8 @@
 //! The calls of a buffer, each repeated where memory is refused. Before it is repeated all must be as it was: two
 //! pieces that live, what is saved, the last scope, and how long the main text is. A refused `close` isn't repeated.
 ghost use Rattle.std.specs.Prelude.{◌≡◌, ◌≤◌, IfOk, OnOk};
-ghost use Rattle.demangle_text.specs.Shape.{IsDeclared, IsPlain, plain_shape, text_len};
+ghost use Rattle.demangle_text.specs.Shape.{plain_shape, text_len};
+ghost use Rattle.demangle_text.specs.Calls.{IsDeclared, IsPlain};
 ghost use Rattle.demangle_text.specs.State.{IsLiving, Lives, shape, frame, inside};
 ghost use Rattle.demangle_text.specs.State.{KeepsAll, IsEdit, SameFrame, Closes};
 

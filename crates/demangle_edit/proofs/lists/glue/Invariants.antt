@@ -1,7 +1,8 @@
 -- all that lived before the mark lives on, and the text has the parts so far
 use Rattle.std.proofs.Common.{take, map}
 use Rattle.demangle_text.specs.State.{shape, Lives, Opens}
-use Rattle.demangle_edit.specs.Lists.{glued, part_text}
+use Rattle.demangle_edit.specs.Lists.{glued}
+use Rattle.demangle_edit.specs.Calls.{part_text}
 use Rattle.demangle_edit.proofs.lists.glue.Given as goal
 
 abbrev pub invariant-loop-part : goal.invariant-loop-part

@@ -1,5 +1,6 @@
 use Rattle.std.proofs.Common.{◌≡◌, false, map, codes, sym, ap, ◌∙◌, is_some}
-use Rattle.demangle_text.specs.Shape.{Shape, joined, kind_of}
+use Rattle.demangle_text.specs.Shape.{Shape}
+use Rattle.demangle_text.specs.Calls.{joined, kind_of}
 use Rattle.demangle_text.specs.State.{shape}
 use Rattle.demangle_text.proofs.Laws.{IsEdit-keeps, IsEdit-trans, StaysInPlace-joined, StaysInPlace-edit, StaysInPlace-trans, StaysInPlace-named}
 use Rattle.demangle_edit.proofs.Cuts.{function_shape_is, function_found}

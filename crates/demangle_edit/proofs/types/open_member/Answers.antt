@@ -1,5 +1,6 @@
 use Rattle.std.proofs.Common.{◌++◌, ◌-◌, ℕ, List, codes, ap, ◌∙◌, refl}
-use Rattle.demangle_text.specs.Shape.{text, text_len, plain_shape, front_text, gap_after}
+use Rattle.demangle_text.specs.Shape.{text, text_len, plain_shape, gap_after}
+use Rattle.demangle_text.specs.Calls.{front_text}
 use Rattle.demangle_text.specs.State.{shape}
 use Rattle.demangle_edit.proofs.Members.{member_pointer_shape_is, closes_at}
 use Rattle.demangle_text.proofs.Laws.{Appends-named}

@@ -1,5 +1,5 @@
 use Rattle.std.proofs.Common.{◌≡◌, ◌+◌, ◌-◌, min, Some, sym, ◌∙◌, arith}
-use Rattle.demangle_text.specs.Shape.{after_of}
+use Rattle.demangle_text.specs.Calls.{after_of}
 use Rattle.demangle_text.specs.State.{shape}
 use Rattle.demangle_edit.proofs.Arrays.{outer_fits, outer_shape}
 use Rattle.demangle_text.proofs.Laws.{StaysInPlace-of, StaysInPlace-named}

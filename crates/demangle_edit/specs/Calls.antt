@@ -1,0 +1,76 @@
+-- What the edits answer where there may be no step, what they take away, and where they put what they answer.
+use Rattle.std.specs.Prelude.{ℕ, List, [], codes, nat_eq}
+use Rattle.std.specs.Prelude.{Bool, false, not, ◌&&◌, if◌then◌else◌, Option, Some, None}
+use Rattle.std.specs.List.{ends_with}
+use Rattle.demangle_text.specs.Shape.{Shape, Form, Plain, Declared, text, is_plain}
+use Rattle.demangle_quals.specs.declared.quals.Quals.{Quals}
+use Rattle.demangle_quals.specs.declared.quals.Pointer.{Pointer}
+use Rattle.demangle_quals.specs.declared.quals.Pointer.TheVariants.{Star, Left, Right}
+use Rattle.demangle_edit.specs.Types.{array_shape, has_array, has_member_pointer, member_pointer_shape, function_shape}
+use Rattle.demangle_text.specs.declared.shape.Piece.{Piece}
+use Rattle.demangle_text.specs.declared.buffer.Buffer.{Buffer}
+use Rattle.demangle_text.specs.State.{StaysInPlace, JoinsInPlace, Appends}
+use Rattle.demangle_edit.specs.declared.expressions.LiteralForm.{LiteralForm}
+use Rattle.demangle_edit.specs.declared.expressions.LiteralForm.TheVariants.{Boolean, Null, Integer, Float, Cast}
+use Rattle.demangle_edit.specs.Expressions.{literal_shape, has_literal}
+use Rattle.demangle_text.specs.State.{IsLiving}
+use Rattle.demangle_edit.specs.declared.parts.Glue.{Glue}
+use Rattle.demangle_edit.specs.declared.parts.Glue.TheVariants.{Text, Piece as Part}
+
+-- whether that reference takes a byte of the type away
+abbrev pub is_cut : Bool → Shape → Bool
+is_cut rvalue s = not rvalue && (is_plain s.form && ends_with nat_eq (text s) (codes "&&"))
+
+-- whether a pointer or a reference takes a byte of the type away: `&` takes one of `&&`
+abbrev pub is_shortened : Pointer → Shape → Bool
+is_shortened Star s = false
+is_shortened Left s = is_cut false s
+is_shortened Right s = false
+
+-- the array of the type, where there is one
+abbrev pub array_step : Option ℕ → Shape → Option Shape
+array_step dimension s = if has_array s.form then Some (array_shape dimension s) else None
+
+-- what stands after the group of a declarator
+abbrev pub after_text : Form → List ℕ
+after_text (Plain t) = []
+after_text (Declared k before group after) = after
+
+-- the pointer to a member of the class, where there is one
+abbrev pub member_pointer_step : Shape → Shape → Option Shape
+member_pointer_step class member =
+    if has_member_pointer member.form then Some (member_pointer_shape class member) else None
+
+-- what a function returns is plain
+abbrev pub function_step : Shape → List Shape → Quals → Option Shape
+function_step ret params quals = if is_plain ret.form then Some (function_shape ret params quals) else None
+
+-- where a literal is put, by its form: around its type, where that is shown, and else after the main text
+abbrev pub IsPut : LiteralForm → Buffer → Buffer → Piece → Piece → Type 0
+IsPut Boolean old new type literal = Appends old new literal
+IsPut Null old new type literal = Appends old new literal
+IsPut Integer old new type literal = Appends old new literal
+IsPut Float old new type literal = Appends old new literal
+IsPut Cast old new type literal = StaysInPlace old new type literal
+
+-- the same of one that may begin with a parenthesis that is there
+abbrev pub IsPutAfter : LiteralForm → Buffer → Buffer → Piece → Piece → Piece → Type 0
+IsPutAfter Boolean old new paren type literal = Appends old new literal
+IsPutAfter Null old new paren type literal = Appends old new literal
+IsPutAfter Integer old new paren type literal = Appends old new literal
+IsPutAfter Float old new paren type literal = Appends old new literal
+IsPutAfter Cast old new paren type literal = JoinsInPlace old new paren type literal
+
+-- the literal, where there is one
+abbrev pub literal_step : Shape → List ℕ → Option Shape
+literal_step type value = if has_literal (text type) value then Some (literal_shape type value) else None
+
+-- the text of a part, where the pieces have these shapes
+abbrev pub part_text : (Piece → Shape) → Glue → List ℕ
+part_text shape_of (Text bytes) = bytes.now
+part_text shape_of (Part piece) = text (shape_of piece)
+
+-- a part that is a piece lives
+abbrev pub IsLivingPart : Buffer → Glue → Type 0
+IsLivingPart buf (Text bytes) = Unit {0}
+IsLivingPart buf (Part piece) = IsLiving buf piece
