@@ -6,7 +6,8 @@
 
 ghost use Rattle.std.specs.Prelude.{◌≡◌, ◌≤◌, ◌*◌, IfOk, OnOk, OnErr, option_map, length};
 ghost use Rattle.itanium_grammar.specs.Answer.{IsAnswer};
-ghost use Rattle.itanium_demangle.specs.Demangler.{IsPrepared, no_run};
+ghost use Rattle.itanium_demangle.specs.Demangler.{IsPrepared};
+ghost use Rattle.itanium_demangle.specs.LastRun.{no_run};
 ghost use Rattle.callers.specs.Component.{IsComponent};
 
 use itanium_demangle::Demangler;

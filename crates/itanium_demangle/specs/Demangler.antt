@@ -8,23 +8,7 @@ use Rattle.demangle_text.specs.Shape.{Shape, text}
 use Rattle.demangle_text.specs.State.{saved, scopes, frame, outermost, main_bytes}
 use Rattle.itanium_grammar.specs.Answer.{after_prefix, HasCounts, HasComponents, HasSaved, HasBounds}
 use Rattle.itanium_demangle.specs.declared.demangler.Demangler.TheInside.{Inside}
-
--- what is left of the last symbol that was prepared
-pub record LastRun : Type 0 where
-  -- its answer
-  pub text : Option (List ℕ)
-  -- the counted productions that were entered
-  pub entered : ℕ
-  -- the most components that were saved at one moment
-  pub most_saved : ℕ
-  -- where it has an answer, the texts of the components that are left saved
-  pub components : List (List ℕ)
-  -- and their shapes
-  pub saved : List Shape
-
--- nothing is left, as on a new value
-abbrev pub no_run : LastRun
-no_run = record { text = None; entered = 0; most_saved = 0; components = []; saved = [] }
+use Rattle.itanium_demangle.specs.LastRun.{LastRun, no_run}
 
 -- the answer: all of the buffer's main text, where there is one
 abbrev pub answer_text : Bool → Option (Box Buffer Global) → Option (List ℕ)

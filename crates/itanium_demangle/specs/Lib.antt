@@ -4,3 +4,4 @@ pub mod Meaning
 pub mod Readers
 pub mod Demangler
 pub mod Examples
+pub mod LastRun

@@ -9,7 +9,8 @@ ghost use Rattle.itanium_grammar.specs.Answer.{IsAnswer, HasOneReading, HasCount
 ghost use Rattle.itanium_grammar.specs.Answer as spec;
 ghost use Rattle.itanium_reader.specs.Parser.{begun};
 ghost use Rattle.itanium_reader.specs.Outcome.{state};
-ghost use Rattle.itanium_demangle.specs.Demangler.{IsPrinted, IsPrepared, IsText, IsEnded, answer_text, component_texts, component_shapes, no_run};
+ghost use Rattle.itanium_demangle.specs.Demangler.{IsPrinted, IsPrepared, IsText, IsEnded, answer_text, component_texts, component_shapes};
+ghost use Rattle.itanium_demangle.specs.LastRun.{no_run};
 
 use crate::mangled_name::read_mangled_name;
 use crate::utf8::is_utf8;

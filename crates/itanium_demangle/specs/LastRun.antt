@@ -1,0 +1,21 @@
+-- What a demangler keeps of the last symbol.
+use Rattle.std.specs.Prelude.{ℕ, List, [], Option, None}
+use Rattle.demangle_text.specs.Shape.{Shape, text}
+use Rattle.demangle_text.specs.State.{saved}
+
+-- what is left of the last symbol that was prepared
+pub record LastRun : Type 0 where
+  -- its answer
+  pub text : Option (List ℕ)
+  -- the counted productions that were entered
+  pub entered : ℕ
+  -- the most components that were saved at one moment
+  pub most_saved : ℕ
+  -- where it has an answer, the texts of the components that are left saved
+  pub components : List (List ℕ)
+  -- and their shapes
+  pub saved : List Shape
+
+-- nothing is left, as on a new value
+abbrev pub no_run : LastRun
+no_run = record { text = None; entered = 0; most_saved = 0; components = []; saved = [] }
