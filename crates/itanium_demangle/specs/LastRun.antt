@@ -1,7 +1,6 @@
 -- What a demangler keeps of the last symbol.
 use Rattle.std.specs.Prelude.{ℕ, List, [], Option, None}
-use Rattle.demangle_text.specs.Shape.{Shape, text}
-use Rattle.demangle_text.specs.State.{saved}
+use Rattle.demangle_text.specs.Shape.{Shape}
 
 -- what is left of the last symbol that was prepared
 pub record LastRun : Type 0 where

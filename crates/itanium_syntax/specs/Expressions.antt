@@ -1,4 +1,5 @@
 -- The cases of literals and of expressions. Of several cases the first one that fits holds.
+use Prim.Native.String.{String}
 use Rattle.std.specs.Prelude.{ℕ, ◌+◌, List, [], ◌∷◌, length, take, drop, Bool, false, not, ◌&&◌, ◌||◌, ◌==◌, nat_lt, codes, if◌then◌else◌, Option, Some, None}
 use Rattle.std.specs.List.{prefix_len}
 use Rattle.std.specs.Str.{is_utf8}
@@ -28,37 +29,21 @@ literal_value bytes =
     then Some (value, drop (value_len bytes + 1) bytes) else None
 
 -- the codes of expressions that aren't read
+abbrev pub refused_codes : List String
+refused_codes =
+    "cl" ∷ "cv" ∷ "tl" ∷ "il" ∷ "dc" ∷ "sc" ∷ "cc" ∷ "rc" ∷ "ti" ∷ "te" ∷ "st" ∷ "sz" ∷ "at" ∷ "az" ∷ "nx" ∷ "so" ∷
+    "dt" ∷ "pt" ∷ "ds" ∷ "sZ" ∷ "sP" ∷ "sp" ∷ "tw" ∷ "tr" ∷ "gs" ∷ "nw" ∷ "na" ∷ "dl" ∷ "da" ∷ []
+
+-- the code is one of these
+abbrev pub is_code_of : List String → ℕ → ℕ → Bool
+is_code_of [] first second = false
+is_code_of (code ∷ []) first second = is_code (codes code) first second
+is_code_of (code ∷ next ∷ table) first second =
+    is_code (codes code) first second || is_code_of (next ∷ table) first second
+
+-- the code of an expression that isn't read
 abbrev pub expression_refused : ℕ → ℕ → Bool
-expression_refused first second =
-    is_code (codes "cl") first second ||
-    is_code (codes "cv") first second ||
-    is_code (codes "tl") first second ||
-    is_code (codes "il") first second ||
-    is_code (codes "dc") first second ||
-    is_code (codes "sc") first second ||
-    is_code (codes "cc") first second ||
-    is_code (codes "rc") first second ||
-    is_code (codes "ti") first second ||
-    is_code (codes "te") first second ||
-    is_code (codes "st") first second ||
-    is_code (codes "sz") first second ||
-    is_code (codes "at") first second ||
-    is_code (codes "az") first second ||
-    is_code (codes "nx") first second ||
-    is_code (codes "so") first second ||
-    is_code (codes "dt") first second ||
-    is_code (codes "pt") first second ||
-    is_code (codes "ds") first second ||
-    is_code (codes "sZ") first second ||
-    is_code (codes "sP") first second ||
-    is_code (codes "sp") first second ||
-    is_code (codes "tw") first second ||
-    is_code (codes "tr") first second ||
-    is_code (codes "gs") first second ||
-    is_code (codes "nw") first second ||
-    is_code (codes "na") first second ||
-    is_code (codes "dl") first second ||
-    is_code (codes "da") first second
+expression_refused first second = is_code_of refused_codes first second
 
 -- such a code is next
 abbrev pub refused_here : List ℕ → Bool

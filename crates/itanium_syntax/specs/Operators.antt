@@ -1,4 +1,5 @@
 -- Operators (Itanium C++ ABI 5.1.3): what follows `operator` in a name, and how many operands an expression has.
+use Prim.Native.String.{String}
 use Rattle.std.specs.Prelude.{ℕ, List, [], ◌∷◌, Bool, false, ◌&&◌, ◌==◌, codes, if◌then◌else◌, Option, Some, None, is_some}
 
 -- the code is the one that the word spells
@@ -6,106 +7,52 @@ abbrev pub is_code : List ℕ → ℕ → ℕ → Bool
 is_code (a ∷ b ∷ []) first second = first == a && second == b
 is_code word first second = false
 
+-- each assignment: its code of <operator-name>, and what follows `operator`
+abbrev pub assignments : List (String × String)
+assignments =
+    ("aS", "=") ∷ ("pL", "+=") ∷ ("mI", "-=") ∷ ("mL", "*=") ∷ ("dV", "/=") ∷ ("rM", "%=") ∷ ("aN", "&=") ∷
+    ("oR", "|=") ∷ ("eO", "^=") ∷ ("lS", "<<=") ∷ ("rS", ">>=") ∷ []
+
+-- each other operator: its code, what follows `operator`, and how many operands an expression of it has
+abbrev pub operators : List (String × String × ℕ)
+operators =
+    ("nw", " new", 2) ∷ ("na", " new[]", 2) ∷ ("dl", " delete", 1) ∷ ("da", " delete[]", 1) ∷ ("ps", "+", 1) ∷
+    ("ng", "-", 1) ∷ ("ad", "&", 1) ∷ ("de", "*", 1) ∷ ("co", "~", 1) ∷ ("pl", "+", 2) ∷ ("mi", "-", 2) ∷
+    ("ml", "*", 2) ∷ ("dv", "/", 2) ∷ ("rm", "%", 2) ∷ ("an", "&", 2) ∷ ("or", "|", 2) ∷ ("eo", "^", 2) ∷
+    ("ls", "<<", 2) ∷ ("rs", ">>", 2) ∷ ("eq", "==", 2) ∷ ("ne", "!=", 2) ∷ ("lt", "<", 2) ∷ ("gt", ">", 2) ∷
+    ("le", "<=", 2) ∷ ("ge", ">=", 2) ∷ ("nt", "!", 1) ∷ ("aa", "&&", 2) ∷ ("oo", "||", 2) ∷ ("pp", "++", 1) ∷
+    ("mm", "--", 1) ∷ ("cm", ",", 2) ∷ ("pm", "->*", 2) ∷ ("pt", "->", 2) ∷ ("cl", "()", 2) ∷ ("ix", "[]", 2) ∷
+    ("qu", "?:", 3) ∷ ("ss", "<=>", 2) ∷ []
+
+-- what follows `operator` for a code in a table of assignments
+abbrev pub assignment_in : List (String × String) → ℕ → ℕ → Option (List ℕ)
+assignment_in [] first second = None
+assignment_in ((code, text) ∷ table) first second =
+    if is_code (codes code) first second then Some (codes text) else assignment_in table first second
+
 -- what follows `operator` for a code of <operator-name> that names an assignment
 abbrev pub assignment_text : ℕ → ℕ → Option (List ℕ)
-assignment_text first second =
-    if is_code (codes "aS") first second then Some (codes "=") else
-    if is_code (codes "pL") first second then Some (codes "+=") else
-    if is_code (codes "mI") first second then Some (codes "-=") else
-    if is_code (codes "mL") first second then Some (codes "*=") else
-    if is_code (codes "dV") first second then Some (codes "/=") else
-    if is_code (codes "rM") first second then Some (codes "%=") else
-    if is_code (codes "aN") first second then Some (codes "&=") else
-    if is_code (codes "oR") first second then Some (codes "|=") else
-    if is_code (codes "eO") first second then Some (codes "^=") else
-    if is_code (codes "lS") first second then Some (codes "<<=") else
-    if is_code (codes "rS") first second then Some (codes ">>=") else
-    None
+assignment_text first second = assignment_in assignments first second
+
+-- what follows `operator` for a code in a table of operators, or else for an assignment
+abbrev pub operator_in : List (String × String × ℕ) → ℕ → ℕ → Option (List ℕ)
+operator_in [] first second = assignment_text first second
+operator_in ((code, text, operands) ∷ table) first second =
+    if is_code (codes code) first second then Some (codes text) else operator_in table first second
 
 -- the same for every code of <operator-name>
 abbrev pub operator_text : ℕ → ℕ → Option (List ℕ)
-operator_text first second =
-    if is_code (codes "nw") first second then Some (codes " new") else
-    if is_code (codes "na") first second then Some (codes " new[]") else
-    if is_code (codes "dl") first second then Some (codes " delete") else
-    if is_code (codes "da") first second then Some (codes " delete[]") else
-    if is_code (codes "ps") first second then Some (codes "+") else
-    if is_code (codes "ng") first second then Some (codes "-") else
-    if is_code (codes "ad") first second then Some (codes "&") else
-    if is_code (codes "de") first second then Some (codes "*") else
-    if is_code (codes "co") first second then Some (codes "~") else
-    if is_code (codes "pl") first second then Some (codes "+") else
-    if is_code (codes "mi") first second then Some (codes "-") else
-    if is_code (codes "ml") first second then Some (codes "*") else
-    if is_code (codes "dv") first second then Some (codes "/") else
-    if is_code (codes "rm") first second then Some (codes "%") else
-    if is_code (codes "an") first second then Some (codes "&") else
-    if is_code (codes "or") first second then Some (codes "|") else
-    if is_code (codes "eo") first second then Some (codes "^") else
-    if is_code (codes "ls") first second then Some (codes "<<") else
-    if is_code (codes "rs") first second then Some (codes ">>") else
-    if is_code (codes "eq") first second then Some (codes "==") else
-    if is_code (codes "ne") first second then Some (codes "!=") else
-    if is_code (codes "lt") first second then Some (codes "<") else
-    if is_code (codes "gt") first second then Some (codes ">") else
-    if is_code (codes "le") first second then Some (codes "<=") else
-    if is_code (codes "ge") first second then Some (codes ">=") else
-    if is_code (codes "nt") first second then Some (codes "!") else
-    if is_code (codes "aa") first second then Some (codes "&&") else
-    if is_code (codes "oo") first second then Some (codes "||") else
-    if is_code (codes "pp") first second then Some (codes "++") else
-    if is_code (codes "mm") first second then Some (codes "--") else
-    if is_code (codes "cm") first second then Some (codes ",") else
-    if is_code (codes "pm") first second then Some (codes "->*") else
-    if is_code (codes "pt") first second then Some (codes "->") else
-    if is_code (codes "cl") first second then Some (codes "()") else
-    if is_code (codes "ix") first second then Some (codes "[]") else
-    if is_code (codes "qu") first second then Some (codes "?:") else
-    if is_code (codes "ss") first second then Some (codes "<=>") else
-    assignment_text first second
+operator_text first second = operator_in operators first second
 
--- how many operands an expression of the code has; an assignment has two
+-- how many operands a code in a table of operators has; an assignment has two
+abbrev pub arity_in : List (String × String × ℕ) → ℕ → ℕ → Option ℕ
+arity_in [] first second = if is_some (assignment_text first second) then Some 2 else None
+arity_in ((code, text, operands) ∷ table) first second =
+    if is_code (codes code) first second then Some operands else arity_in table first second
+
+-- how many operands an expression of the code has
 abbrev pub operator_arity : ℕ → ℕ → Option ℕ
-operator_arity first second =
-    if is_code (codes "nw") first second then Some 2 else
-    if is_code (codes "na") first second then Some 2 else
-    if is_code (codes "dl") first second then Some 1 else
-    if is_code (codes "da") first second then Some 1 else
-    if is_code (codes "ps") first second then Some 1 else
-    if is_code (codes "ng") first second then Some 1 else
-    if is_code (codes "ad") first second then Some 1 else
-    if is_code (codes "de") first second then Some 1 else
-    if is_code (codes "co") first second then Some 1 else
-    if is_code (codes "pl") first second then Some 2 else
-    if is_code (codes "mi") first second then Some 2 else
-    if is_code (codes "ml") first second then Some 2 else
-    if is_code (codes "dv") first second then Some 2 else
-    if is_code (codes "rm") first second then Some 2 else
-    if is_code (codes "an") first second then Some 2 else
-    if is_code (codes "or") first second then Some 2 else
-    if is_code (codes "eo") first second then Some 2 else
-    if is_code (codes "ls") first second then Some 2 else
-    if is_code (codes "rs") first second then Some 2 else
-    if is_code (codes "eq") first second then Some 2 else
-    if is_code (codes "ne") first second then Some 2 else
-    if is_code (codes "lt") first second then Some 2 else
-    if is_code (codes "gt") first second then Some 2 else
-    if is_code (codes "le") first second then Some 2 else
-    if is_code (codes "ge") first second then Some 2 else
-    if is_code (codes "nt") first second then Some 1 else
-    if is_code (codes "aa") first second then Some 2 else
-    if is_code (codes "oo") first second then Some 2 else
-    if is_code (codes "pp") first second then Some 1 else
-    if is_code (codes "mm") first second then Some 1 else
-    if is_code (codes "cm") first second then Some 2 else
-    if is_code (codes "pm") first second then Some 2 else
-    if is_code (codes "pt") first second then Some 2 else
-    if is_code (codes "cl") first second then Some 2 else
-    if is_code (codes "ix") first second then Some 2 else
-    if is_code (codes "qu") first second then Some 3 else
-    if is_code (codes "ss") first second then Some 2 else
-    if is_some (assignment_text first second) then Some 2 else
-    None
+operator_arity first second = arity_in operators first second
 
 -- what follows `operator`, where a code of <operator-name> is next
 abbrev pub operator_here : List ℕ → Option (List ℕ)

@@ -1,4 +1,5 @@
 -- The cases of types (Itanium C++ ABI 5.1.5). Of several cases the first one that fits holds.
+use Prim.Native.String.{String}
 use Rattle.std.specs.Prelude.{ℕ, List, [], ◌∷◌, Bool, ◌&&◌, ◌||◌, nat_lt, length, drop, codes, if◌then◌else◌, Option, Some, None}
 use Rattle.demangle_quals.specs.declared.quals.Quals.{Quals}
 use Rattle.demangle_quals.specs.declared.quals.Pointer.TheVariants as Pointer
@@ -7,44 +8,33 @@ use Rattle.demangle_quals.specs.declared.quals.Reference.TheVariants.{Left, Righ
 use Rattle.itanium_syntax.specs.Bytes.{letter, is, begins, begins_one_of, past_letter}
 use Rattle.itanium_syntax.specs.Cases.{TypeCase, BuiltinType, ExpansionType, VendorType, ArrayType, FunctionType, MemberType, PointerType, CvType, ElaboratedType, ParameterType, SubstitutionType, UnreadType, NameType, CvCase, CvFunction, CvOther, FunctionCase, ExternFunction, PlainFunction, ParamsCase, NoParams, SomeParams, TypesCase, EndOfTypes, NextType}
 
+-- each <builtin-type> of one letter, and what it prints
+abbrev pub letter_texts : List (String × String)
+letter_texts =
+    ("v", "void") ∷ ("w", "wchar_t") ∷ ("b", "bool") ∷ ("c", "char") ∷ ("a", "signed char") ∷
+    ("h", "unsigned char") ∷ ("s", "short") ∷ ("t", "unsigned short") ∷ ("i", "int") ∷ ("j", "unsigned int") ∷
+    ("l", "long") ∷ ("m", "unsigned long") ∷ ("x", "long long") ∷ ("y", "unsigned long long") ∷ ("n", "__int128") ∷
+    ("o", "unsigned __int128") ∷ ("f", "float") ∷ ("d", "double") ∷ ("e", "long double") ∷ ("g", "__float128") ∷
+    ("z", "...") ∷ []
+
+-- each <builtin-type> of D and a letter, by that letter, and what it prints
+abbrev pub two_letter_texts : List (String × String)
+two_letter_texts =
+    ("s", "char16_t") ∷ ("i", "char32_t") ∷ ("u", "char8_t") ∷ ("n", "std::nullptr_t") ∷ ("a", "auto") ∷
+    ("c", "decltype(auto)") ∷ ("h", "half") ∷ ("d", "decimal64") ∷ ("e", "decimal128") ∷ ("f", "decimal32") ∷ []
+
+-- what a letter in a table prints: nothing for one that isn't there
+abbrev pub text_in : List (String × String) → ℕ → List ℕ
+text_in [] letter = []
+text_in ((name, text) ∷ table) letter = if is name letter then codes text else text_in table letter
+
 -- <builtin-type> of a letter
 abbrev pub letter_text : ℕ → List ℕ
-letter_text letter =
-    if is "v" letter then codes "void" else
-    if is "w" letter then codes "wchar_t" else
-    if is "b" letter then codes "bool" else
-    if is "c" letter then codes "char" else
-    if is "a" letter then codes "signed char" else
-    if is "h" letter then codes "unsigned char" else
-    if is "s" letter then codes "short" else
-    if is "t" letter then codes "unsigned short" else
-    if is "i" letter then codes "int" else
-    if is "j" letter then codes "unsigned int" else
-    if is "l" letter then codes "long" else
-    if is "m" letter then codes "unsigned long" else
-    if is "x" letter then codes "long long" else
-    if is "y" letter then codes "unsigned long long" else
-    if is "n" letter then codes "__int128" else
-    if is "o" letter then codes "unsigned __int128" else
-    if is "f" letter then codes "float" else
-    if is "d" letter then codes "double" else
-    if is "e" letter then codes "long double" else
-    if is "g" letter then codes "__float128" else
-    if is "z" letter then codes "..." else []
+letter_text letter = text_in letter_texts letter
 
 -- <builtin-type> of D and a letter
 abbrev pub two_letter_text : ℕ → List ℕ
-two_letter_text letter =
-    if is "s" letter then codes "char16_t" else
-    if is "i" letter then codes "char32_t" else
-    if is "u" letter then codes "char8_t" else
-    if is "n" letter then codes "std::nullptr_t" else
-    if is "a" letter then codes "auto" else
-    if is "c" letter then codes "decltype(auto)" else
-    if is "h" letter then codes "half" else
-    if is "d" letter then codes "decimal64" else
-    if is "e" letter then codes "decimal128" else
-    if is "f" letter then codes "decimal32" else []
+two_letter_text letter = text_in two_letter_texts letter
 
 -- the text of a <builtin-type>
 abbrev pub builtin_text : List ℕ → List ℕ
