@@ -37,7 +37,8 @@ pub struct Demangler {
 }
 
 impl Model for Demangler {
-    ghost use Rattle.itanium_demangle.specs.Demangler.{LastRun, last_run, KeepsAnswer};
+    ghost use Rattle.itanium_demangle.specs.Demangler.{last_run, KeepsAnswer};
+    ghost use Rattle.itanium_demangle.specs.LastRun.{LastRun};
 
     ghost Value = { LastRun };
 
