@@ -2,9 +2,10 @@
 use Rattle.std.proofs.Common.{◌≡◌, ◌+◌, ◌-◌, ◌≤◌, ◌++◌, List, ℕ, Bool, true, false, length, take, drop, slice_range, arith, sym, ap, refl, ◌∙◌}
 use Rattle.std.proofs.lemmas.List.{length-append, length-drop, length-take-le, take_at}
 use Rattle.std.proofs.lemmas.List.Edits.{length-between}
-use Rattle.demangle_text.specs.Pieces.{HasRoom, home_bytes, piece_text}
+use Rattle.growing_text.specs.Room.{HasRoom}
+use Rattle.growing_text.proofs.Rooms.{length-HasRoom, both-put}
+use Rattle.demangle_text.specs.Pieces.{home_bytes, piece_text}
 use Rattle.demangle_text.proofs.Texts.{part-below}
-use Rattle.demangle_text.proofs.Rooms.{length-HasRoom, both-put}
 use Rattle.demangle_text.proofs.parts.insert_joined.Goals as goal
 use Rattle.demangle_text.specs.Flags.{lies_aside}
 
