@@ -18,8 +18,10 @@ pub part-below : (t u : List ℕ) (low a b : ℕ) → a ≤ b → b ≤ low → 
 part-below t u low a b ordered within lt lu e =
     let n = length-take-le low t lt in
     let m = length-take-le low u lu in
-    let one : slice_range u a b ≡ slice_range (take low u) a b = ap (λ (v : List ℕ). slice_range v a b) (sym (take-append-drop low u)) ∙ part-append (take low u) (drop low u) a b ordered (omega arith) in
-    let two : slice_range t a b ≡ slice_range (take low t) a b = ap (λ (v : List ℕ). slice_range v a b) (sym (take-append-drop low t)) ∙ part-append (take low t) (drop low t) a b ordered (omega arith) in
+    let one : slice_range u a b ≡ slice_range (take low u) a b =
+    ap (λ (v : List ℕ). slice_range v a b) (sym (take-append-drop low u)) ∙ part-append (take low u) (drop low u) a b ordered (omega arith) in
+    let two : slice_range t a b ≡ slice_range (take low t) a b =
+    ap (λ (v : List ℕ). slice_range v a b) (sym (take-append-drop low t)) ∙ part-append (take low t) (drop low t) a b ordered (omega arith) in
     one ∙ ap (λ (v : List ℕ). slice_range v a b) e ∙ sym two
 
 -- no byte before a place changes, nor one before an earlier place
@@ -37,7 +39,8 @@ pub record Moves (old new : List ℕ) (low from to dest : ℕ) : Type 0 where
   pub block : slice_range new dest (dest + (to - from)) ≡ slice_range old from to
 
 -- a part of the block
-pub part-moved : (old new : List ℕ) (low from to dest a b : ℕ) → Moves old new low from to dest → a ≤ b → from ≤ a → b ≤ to → slice_range new (dest + (a - from)) (dest + (b - from)) ≡ slice_range old a b
+pub part-moved : (old new : List ℕ) (low from to dest a b : ℕ) → Moves old new low from to dest → a ≤ b → from ≤ a → b ≤ to
+    → slice_range new (dest + (a - from)) (dest + (b - from)) ≡ slice_range old a b
 part-moved old new low from to dest a b m ordered starts ends =
     let one = part-part new dest (dest + (to - from)) (a - from) (b - from) (omega arith) (omega arith) in
     let two = part-part old from to (a - from) (b - from) (omega arith) (omega arith) in

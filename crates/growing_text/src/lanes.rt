@@ -23,8 +23,8 @@ pub(crate) fn copy_text(room: &mut [u8], text: &[u8])
     }
 }
 
-// The text and a byte after it, in room for them, where it has 16 to 128 bytes; most have 33 to 64. Where it has fewer or
-// more, the room stays as it is.
+// The text and a byte after it, in room for them, where it has 16 to 128 bytes; most have 33 to 64. Where it has
+// fewer or more, the room stays as it is.
 #[inline(always)]
 pub(crate) fn copy_ended(room: &mut [u8], text: &[u8], end: u8) -> bool
     requires same { length room.old ≡ length text.now + 1 }

@@ -10,9 +10,9 @@ use std::marker::Model;
 // The least that is reserved, in bytes.
 const FIRST_ROOM: usize = 64;
 
-/// A text that grows: the front of a vector that is as long as what is reserved, which stays reserved until the text is
-/// dropped. Places and lengths are counted in bytes. A call that answers a `Result` fails where memory is refused, and then
-/// the text is as it was.
+/// A text that grows: the front of a vector that is as long as what is reserved, which stays reserved until the text
+/// is dropped. Places and lengths are counted in bytes. A call that answers a `Result` fails where memory is refused,
+/// and then the text is as it was.
 #[derive(Drop)]
 pub struct Text {
     bytes: Vec<u8>,

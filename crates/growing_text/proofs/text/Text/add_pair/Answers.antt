@@ -5,7 +5,9 @@ use Rattle.growing_text.proofs.Rooms.{length-HasRoom, pair-put}
 use Rattle.growing_text.proofs.text.Text.add_pair.Goals as goal
 
 pub put-middle-requires : goal.put-middle-requires
-put-middle-requires c = record { within = omega (arith, length-HasRoom c.args.self.now [] _ _ c.in_ok-add_room.ensures.ok, c.len-from.ensures.value) }
+put-middle-requires c =
+    let long = length-HasRoom c.args.self.now [] _ _ c.in_ok-add_room.ensures.ok in
+    record { within = omega (arith, long, c.len-from.ensures.value) }
 
 pub put-requires : goal.put-requires
 put-requires c =
@@ -31,5 +33,8 @@ put-requires c =
 
 pub returns-clause-ok : goal.returns-clause-ok
 returns-clause-ok c =
-    pair-put c.args.self.now c.add_room.new.self c.args.first.now c.args.second.now c.put-middle.new.self _ (length c.args.first.now + length c.args.second.now) c.len-from.result c.put-middle.result
-    c.in_ok-add_room.ensures.ok c.len-from.ensures.value refl c.put-middle.ensures.value c.put-middle.ensures.ends c.put.ensures.value
+    let one = c.args.first.now in
+    let two = c.args.second.now in
+    let middle = c.put-middle in
+    pair-put c.args.self.now c.add_room.new.self one two middle.new.self _ (length one + length two) c.len-from.result middle.result
+    c.in_ok-add_room.ensures.ok c.len-from.ensures.value refl middle.ensures.value middle.ensures.ends c.put.ensures.value

@@ -6,7 +6,9 @@ use Rattle.growing_text.proofs.Rooms.{length-HasRoom, pair-put, part-put}
 use Rattle.growing_text.proofs.text.Text.add_with_part.Goals as goal
 
 pub put-middle-requires : goal.put-middle-requires
-put-middle-requires c = record { within = omega (arith, length-HasRoom c.args.self.now [] _ _ c.in_ok-add_room.ensures.ok, c.len-end.ensures.value) }
+put-middle-requires c =
+    let long = length-HasRoom c.args.self.now [] _ _ c.in_ok-add_room.ensures.ok in
+    record { within = omega (arith, long, c.len-end.ensures.value) }
 
 pub put_part-requires : goal.put_part-requires
 put_part-requires c =
@@ -43,7 +45,8 @@ returns-clause-ok c =
     let part = slice_range old from to in
     let k : length part ≡ to - from = length-between old from to c.requires.within in
     let same : slice_range mid from to ≡ part =
-    part-put old all c.args.bytes.now mid c.in-Some.n c.len-end.result from to c.in_ok-add_room.ensures.ok c.len-end.ensures.value c.put-middle.ensures.value c.requires.ordered c.requires.within in
+    part-put old all c.args.bytes.now mid c.in-Some.n c.len-end.result from to c.in_ok-add_room.ensures.ok
+    c.len-end.ensures.value c.put-middle.ensures.value c.requires.ordered c.requires.within in
     let is : c.put_part.new.self ≡ take middle mid ++ (part ++ drop (middle + length part) mid) =
     c.put_part.ensures.value ∙ ap (λ (v : List ℕ). take middle mid ++ (v ++ drop (middle + (to - from)) mid)) same
     ∙ ap (λ (i : ℕ). take middle mid ++ (part ++ drop (middle + i) mid)) (sym k) in

@@ -15,7 +15,8 @@ returns-clause-value c =
     let k : at + n - at ≡ n = omega arith in
     let done = front-put ys c.args.bytes.now len at n refl within c.self.invariant in
     let put = with_items_is c.self.inside.bytes (take at r ++ (c.copy_text.new.room ++ drop (at + n - at) (drop at r))) (search (rules, places)) in
+    let put_at : ℕ → List ℕ → List ℕ → List ℕ = λ i bs v. take len (take at v ++ (bs ++ drop i (drop at v))) in
     rw (← c.self.view_is) (ap (take len) put
-    ∙ ap (λ (v : List ℕ). take len (take at v ++ (c.copy_text.new.room ++ drop (at + n - at) (drop at v)))) c.deref_mut.ensures.value
-    ∙ ap (λ (v : List ℕ). take len (take at ys ++ (v ++ drop (at + n - at) (drop at ys)))) c.copy_text.ensures.value
-    ∙ ap (λ (i : ℕ). take len (take at ys ++ (c.args.bytes.now ++ drop i (drop at ys)))) k ∙ done)
+    ∙ ap (put_at (at + n - at) c.copy_text.new.room) c.deref_mut.ensures.value
+    ∙ ap (λ (bs : List ℕ). put_at (at + n - at) bs ys) c.copy_text.ensures.value
+    ∙ ap (λ (i : ℕ). put_at i c.args.bytes.now ys) k ∙ done)
