@@ -167,12 +167,7 @@ impl Text {
     }
 
     /// Puts bytes at the end, and a part of the text once more after them.
-    pub fn add_with_part(
-        &mut self,
-        bytes: &[u8],
-        from: usize,
-        to: usize,
-    ) -> Result<(), AllocError>
+    pub fn add_with_part(&mut self, bytes: &[u8], from: usize, to: usize) -> Result<(), AllocError>
         requires ordered { from ≤ to }
         requires within { to ≤ length self.old }
         ensures ok { OnOk result (self.new ≡ self.old ++ (bytes.now ++ slice_range self.old from to)) }

@@ -22,5 +22,5 @@ returns-clause-ok c =
     let n = length bytes in
     let there = sym (length-take-le at old c.requires.within) in
     let filled = HasRoom-put (take at old) (drop at old) c.open_room.new.self bytes c.put.new.self n 0 at n
-        c.in_ok-open_room.ensures.ok there refl (omega arith) c.put.ensures.value in
+    c.in_ok-open_room.ensures.ok there refl (omega arith) c.put.ensures.value in
     HasRoom-filled (take at old ++ bytes) (drop at old) c.put.new.self filled ∙ append_assoc (take at old) bytes (drop at old)
