@@ -1,4 +1,4 @@
-use Rattle.std.proofs.Common.{rules, ◌≡◌, ℕ, ◌+◌, ◌-◌, ◌≤◌, List, [], ◌∷◌, ◌++◌, length, take, drop, sym, subst, ap, ◌∙◌, arith}
+use Rattle.std.proofs.Common.{rules, ◌≡◌, ℕ, ◌+◌, ◌-◌, ◌≤◌, List, [], ◌∷◌, ◌++◌, length, take, drop, sym, subst, ap, ◌∙◌}
 use Rattle.std.proofs.lemmas.List.{length-append, with_items_is, places}
 use Rattle.growing_text.proofs.Fronts.{front-added}
 use Rattle.growing_text.proofs.text.Text.add_ended_by_lanes.Goals as goal
