@@ -5,6 +5,7 @@ ghost use Rattle.demangle_text.specs.State.{IsLiving, shape, Lives, IsEdit, Keep
 ghost use Rattle.demangle_text.specs.State.{StaysInPlace, IsLeftOrStays, JoinsInPlace, Appends};
 ghost use Rattle.demangle_edit.specs.Answers.{Answers, IfFound, OnNone};
 ghost use Rattle.demangle_edit.specs.Expressions as spec;
+ghost use Rattle.demangle_edit.specs.Calls as calls;
 
 use demangle_text::{Buffer, Piece, Place};
 use std::alloc::AllocError;
@@ -180,7 +181,7 @@ fn print_literal(
     ensures shape { IfOk result (λ p. Lives buf.new p
         (plain_shape (spec.literal_text form (text (shape buf.old ty)) value.now))) }
     ensures edit { OnOk result (IsEdit buf.old buf.new) }
-    ensures put { IfOk result (spec.IsPut form buf.old buf.new ty) }
+    ensures put { IfOk result (calls.IsPut form buf.old buf.new ty) }
 {
     match form {
         LiteralForm::Cast => {
@@ -226,11 +227,11 @@ fn print_literal_of(
 #[tactic(auto, using(demangle_text::proofs::Laws::laws))]
 pub fn write_literal(buf: &mut Buffer, ty: Piece, value: &str) -> Result<Option<Piece>, AllocError>
     requires ty { IsLiving buf.old ty }
-    ensures shape { Answers result buf.new (spec.literal_step (shape buf.old ty) value.now) }
+    ensures shape { Answers result buf.new (calls.literal_step (shape buf.old ty) value.now) }
     ensures edit { OnOk result (IsEdit buf.old buf.new) }
     ensures none { OnNone result (KeepsAll buf.old buf.new) }
     ensures none_main { OnNone result (main_bytes buf.new ≡ main_bytes buf.old) }
-    ensures put { IfFound result (spec.IsPut
+    ensures put { IfFound result (calls.IsPut
         (spec.literal_form (text (shape buf.old ty)) (spec.is_minus value.now)) buf.old buf.new ty) }
 {
     let bytes = value.as_bytes();
@@ -249,7 +250,7 @@ pub fn write_literal_of(
     ty: &[u8],
     value: &str,
 ) -> Result<Option<Piece>, AllocError>
-    ensures shape { Answers result buf.new (spec.literal_step (plain_shape ty.now) value.now) }
+    ensures shape { Answers result buf.new (calls.literal_step (plain_shape ty.now) value.now) }
     ensures edit { OnOk result (IsEdit buf.old buf.new) }
     ensures none { OnNone result (KeepsAll buf.old buf.new) }
     ensures none_main { OnNone result (main_bytes buf.new ≡ main_bytes buf.old) }
@@ -275,11 +276,11 @@ pub fn write_opened_literal(
 ) -> Result<Option<Piece>, AllocError>
     requires paren { Lives buf.old paren (plain_shape (codes "(")) }
     requires ty { IsLiving buf.old ty }
-    ensures shape { Answers result buf.new (spec.literal_step (shape buf.old ty) value.now) }
+    ensures shape { Answers result buf.new (calls.literal_step (shape buf.old ty) value.now) }
     ensures edit { OnOk result (IsEdit buf.old buf.new) }
     ensures none { OnNone result (KeepsAll buf.old buf.new) }
     ensures none_main { OnNone result (main_bytes buf.new ≡ main_bytes buf.old) }
-    ensures put { IfFound result (spec.IsPutAfter
+    ensures put { IfFound result (calls.IsPutAfter
         (spec.literal_form (text (shape buf.old ty)) (spec.is_minus value.now)) buf.old buf.new paren ty) }
 {
     let bytes = value.as_bytes();

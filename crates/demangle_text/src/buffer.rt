@@ -59,9 +59,12 @@ impl Buffer {
     ghost use Rattle.demangle_text.specs.State.{last_args, with_arg, IsAsOld, main_bytes, Stands, StandsAs, StandsShortened};
     ghost use Rattle.demangle_text.specs.State.{frame_start, Frame, IsOlder, KeepsFront, IsEditOf, IsJoinOf};
     ghost use Rattle.demangle_text.specs.Shape.{text, text_len, form_text, plain_shape, inserted, appended};
-    ghost use Rattle.demangle_text.specs.Shape.{opened_group, joined, shortened, CanInsert, IsPlain, IsDeclared};
-    ghost use Rattle.demangle_text.specs.Shape.{flagged, with_own, flattened, whole_shape, own_shape, IsNotFunction};
-    ghost use Rattle.demangle_text.specs.Shape.{kind_of, group_of, after_of, declared_at, declared_group};
+    ghost use Rattle.demangle_text.specs.Shape.{opened_group, shortened};
+    ghost use Rattle.demangle_text.specs.Calls.{joined, CanInsert, IsPlain, IsDeclared};
+    ghost use Rattle.demangle_text.specs.Shape.{flagged, with_own, flattened, whole_shape, own_shape};
+    ghost use Rattle.demangle_text.specs.Calls.{IsNotFunction};
+    ghost use Rattle.demangle_text.specs.Shape.{declared_at};
+    ghost use Rattle.demangle_text.specs.Calls.{kind_of, group_of, after_of, declared_group};
     ghost use Rattle.demangle_text.specs.Pieces.{IsTail, IsSplice, IsAdjacent, IsJoint, IsAt, EndsBy, outline_of, piece_text, own_text};
 
     /// An empty buffer, with no mark open. It takes no memory.

@@ -1,7 +1,7 @@
 //! Symbols whose answers double with each few bytes: each argument names the one before it twice. Those that pass the
 //! limit have no answer.
 
-use crate::tables::{assert_text, assert_unread};
+use crate::tables::assert_text;
 use itanium_demangle::Demangler;
 use std::alloc::Global;
 use std::process::Abort;
@@ -115,10 +115,20 @@ fn sixteen_arguments(rt: HostRuntime) {
     assert_doubling(&rt, rt.alloc(), 16, &expected);
 }
 
+/// The symbol of this count isn't read, and is left in the 17th argument, whose type and list and their two types are
+/// entered after the 69 of sixteen.
+fn assert_left(rt: &impl Abort, alloc: Global, count: usize) {
+    let symbol = doubling(rt, alloc, count);
+    let mut demangler = Demangler::new();
+    let found = demangler.demangle(alloc, &symbol).expect(rt, "no memory");
+    assert!(rt; found.is_none());
+    assert_eq!(rt; demangler.entered(), 73);
+    drop(demangler);
+}
+
 /// Those of 17 arguments would be 1,703,860 bytes, more than the limit; those of 400 couldn't be written down.
 #[test]
 fn more_arguments(rt: HostRuntime) {
-    let seventeen = doubling(&rt, rt.alloc(), 17);
-    let many = doubling(&rt, rt.alloc(), 400);
-    assert_unread(&rt, rt.alloc(), &[seventeen.as_str(), many.as_str()]);
+    assert_left(&rt, rt.alloc(), 17);
+    assert_left(&rt, rt.alloc(), 400);
 }

@@ -296,7 +296,7 @@ fn digits(rt: HostRuntime) {
 }
 
 /// A local name is measured with its encoding, and that with its qualifiers.
-const LOCALS: [Row; 9] = [
+const LOCALS: [Row; 10] = [
     (["_ZZ1fvE", ""], ["f()::", ""], 5),
     (["_ZZ", "vE1x"], ["", "()::x"], 5),
     (["_ZZ1f", "E1x"], ["f(", ")::x"], 6),
@@ -306,6 +306,11 @@ const LOCALS: [Row; 9] = [
     (["_ZZNK1A", "EvE1x"], ["A::", "() const::x"], 14),
     (["_ZZ1fvENK1A", "E"], ["f()::A::", " const"], 14),
     (["_ZZZ1fvENK1A", "EvE1x"], ["f()::A::", "() const::x"], 19),
+    (
+        ["_ZZZ1fvEd_NK1A", "EvE1x"],
+        ["f()::{default arg#1}::A::", "() const::x"],
+        36,
+    ),
 ];
 
 #[test]
@@ -380,6 +385,13 @@ fn long_components_in_lists(rt: HostRuntime) {
     assert_stops(&rt, rt.alloc(), ["NUl", "SH_", "E_E"], 5_000, 5);
     assert_stops(&rt, rt.alloc(), ["Z1g", "SH_", "E1x"], 5_000, 6);
     assert_stops(&rt, rt.alloc(), ["1CI", "SH_", "E"], 5_000, 6);
+}
+
+/// The same where each parameter is a pointer to a component, whose text is its own: entered are the type, what it
+/// returns, and three times a pointer and its component.
+#[test]
+fn long_pointers_in_a_list(rt: HostRuntime) {
+    assert_stops(&rt, rt.alloc(), ["Fv", "PSH_", "E"], 10_000, 8);
 }
 
 /// 1,000 components of a nested name, each with a list of two: the second is too long. Entered are its type and the name,

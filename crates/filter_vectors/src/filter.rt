@@ -122,6 +122,20 @@ fn a_line_of_three_chunks(rt: HostRuntime) {
     assert_filtered_by_chunks(&rt, rt.alloc(), &text, &expected);
 }
 
+/// A name a byte longer than the limit has no answer: its line is written as it is, and the next one has its own.
+#[test]
+fn a_line_past_the_longest_text(rt: HostRuntime) {
+    let mut text = Vec::new(rt.alloc());
+    append(&rt, &mut text, b"_Z1048577", 1);
+    append(&rt, &mut text, b"a", 1_048_577);
+    append(&rt, &mut text, b"\n_Z3foo\n", 1);
+    let mut expected = Vec::new(rt.alloc());
+    append(&rt, &mut expected, b"_Z1048577", 1);
+    append(&rt, &mut expected, b"a", 1_048_577);
+    append(&rt, &mut expected, b"\nfoo\n", 1);
+    assert_filtered_by_chunks(&rt, rt.alloc(), &text, &expected);
+}
+
 #[test]
 fn many_lines(rt: HostRuntime) {
     // 162,000 bytes of symbols: lines are cut where a chunk ends, and their answers are longer than a chunk.

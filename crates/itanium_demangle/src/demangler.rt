@@ -37,7 +37,8 @@ pub struct Demangler {
 }
 
 impl Model for Demangler {
-    ghost use Rattle.itanium_demangle.specs.Demangler.{LastRun, last_run, KeepsAnswer};
+    ghost use Rattle.itanium_demangle.specs.Demangler.{last_run, KeepsAnswer};
+    ghost use Rattle.itanium_demangle.specs.LastRun.{LastRun};
 
     ghost Value = { LastRun };
 
@@ -127,11 +128,13 @@ impl Demangler {
     ///
     /// Any text may be asked. After `_Z` or `__Z` a special name is read where `T` or `G` is next, else a name; the
     /// parameters of a function aren't (Itanium C++ ABI 5.1.2). The answer is the printing, and after it all that
-    /// follows from a dot right after what was read. There is none where the grammar doesn't read the symbol with at
-    /// most `MAX_DEPTH` nested counted productions that print at most `MAX_TEXT` bytes each, or where the printing isn't
-    /// UTF-8. So a text has at most 2,097,180 bytes, and all that follows from the dot: two types, and the 28 bytes of
-    /// `construction vtable for ` and `-in-`. Without such a prefix there is none either, no memory is taken, and both
-    /// counts are 0. An error comes only where memory is refused; then nothing is kept, and the value serves on.
+    /// follows from a dot right after what was read. There is none exactly where no reading nests at most `MAX_DEPTH`
+    /// counted productions within `MAX_TEXT` or the printing isn't UTF-8. Within it is a reading none of whose counted
+    /// productions, also of those that are dropped, prints more bytes. What follows from the dot isn't measured, nor
+    /// are the words of a special name that is no thunk: so a text has at most 2,097,180 bytes, which are two types of
+    /// `MAX_TEXT` and the 28 of `construction vtable for ` and `-in-`, and all that follows from the dot. Without such
+    /// a prefix there is none either, no memory is taken, and both counts are 0. An error comes only where memory is
+    /// refused; then nothing is kept, and the value serves on.
     #[tactic(auto, using(crate::proofs::Rules::answers))]
     pub fn prepare(&mut self, alloc: Global, symbol: &str) -> Result<bool, AllocError>
         ensures answer { IfOk result (λ _. IsAnswer symbol.now self.new.text) }

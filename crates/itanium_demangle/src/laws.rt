@@ -10,8 +10,8 @@ pub fn worked_symbols()
 {}
 
 /// The parsers by which the readers say what they read agree with the grammar within the limits, at each depth: what
-/// one answers is a reading, with which every other agrees, and where it answers none there is no reading; of what isn't
-/// counted itself, none that isn't longer than a counted production may be.
+/// one answers is a reading, with which every other agrees, and where it answers none there is no reading; of what
+/// isn't counted itself, none whose text has at most `MAX_TEXT` bytes.
 #[tactic(auto, using(crate::proofs::Readers::laws_of_readers))]
 pub fn laws_of_readers()
     ensures laws { LawsOfReaders }
