@@ -63,6 +63,15 @@ impl Text {
         self.len = n;
     }
 
+    /// Makes room for n more bytes at the end. The text stays as it is.
+    #[inline(always)]
+    pub fn reserve(&mut self, n: usize) -> Result<(), AllocError>
+        ensures same { self.new ≡ self.old }
+    {
+        let end = self.len;
+        make_room(&mut self.bytes, end, n)
+    }
+
     /// Its bytes.
     #[inline(always)]
     pub fn as_slice(&self) -> &[u8]

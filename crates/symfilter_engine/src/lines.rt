@@ -19,6 +19,9 @@ use std::str;
 /// So many bytes of output are put without waiting for more.
 const OUTPUT_LEN: usize = 32768;
 
+/// So many bytes are reserved for output: more than is waited for.
+const OUTPUT_ROOM: usize = 36864;
+
 /// So many bytes of ordinary lines are put without a copy.
 const LONG_LEN: usize = 16384;
 
@@ -215,6 +218,7 @@ fn write_next<W: Sink>(
         return Ok(ordinary);
     }
     output.clear();
+    output.reserve(OUTPUT_ROOM)?;
     let first = append_next(alloc, demangler, lines, known_utf8, output)?;
     let len = gather_lines(alloc, demangler, lines, known_utf8, first, output);
     put_all(sink, output.as_slice())?;
