@@ -7,7 +7,8 @@ use Rattle.demangle_text.specs.declared.shape.Piece.{Piece}
 use Rattle.demangle_text.specs.Shape.{Shape}
 use Rattle.demangle_text.specs.Pieces.{AreStarts, Store, IsStore, IsPiece, shape_in}
 use Rattle.demangle_text.specs.State.{IsLiving, shape, scopes, parts_at, last_args, with_arg}
-use Rattle.demangle_text.proofs.Texts.{part-append, part-take, slice_get-All}
+use Rattle.growing_text.proofs.Parts.{part-append, part-take}
+use Rattle.demangle_text.proofs.Texts.{slice_get-All}
 
 -- there are as many parts as places
 pub length-parts_at : {X : Type 0} (starts : List ℕ) (xs : List X) → length (parts_at starts xs) ≡ length starts

@@ -3,7 +3,7 @@ use Rattle.std.proofs.Common.{◌≡◌, ℕ, ◌+◌, ◌-◌, ◌≤◌, Bool,
 use Rattle.std.proofs.lemmas.List.{take-take, drop-take, drop-drop}
 use Rattle.demangle_text.specs.declared.shape.Piece.{Piece}
 use Rattle.demangle_text.specs.Pieces.{home_bytes, piece_text}
-use Rattle.demangle_text.proofs.Texts.{part-append}
+use Rattle.growing_text.proofs.Parts.{part-append}
 use Rattle.demangle_text.specs.Flags.{lies_aside}
 
 -- a part stays when the main text grows

@@ -10,7 +10,8 @@ use Rattle.demangle_text.specs.Shape.{text}
 use Rattle.demangle_text.specs.Pieces.{Store, IsStore, IsPiece, IsAt, IsOutlined, outline_of, shape_of, shape_in, piece_text, home_bytes, Extends}
 use Rattle.demangle_text.specs.State.{IsLiving, shape, saved, scopes, main_bytes, Stands, StandsBefore, frame, frame_start, inside, outside, Frame, IsBelow, IsOlder, KeepsAll, IsEdit, Opens, Closes, Lives, parts_at}
 use Rattle.demangle_text.proofs.Forms.{text-form_of}
-use Rattle.demangle_text.proofs.Texts.{part-append, map_same}
+use Rattle.growing_text.proofs.Parts.{part-append}
+use Rattle.demangle_text.proofs.Texts.{map_same}
 use Rattle.demangle_text.specs.Flags.{lies_aside}
 
 home-grown : (main side m n : List ℕ) (h : Bool) → home_bytes (main ++ m) (side ++ n) h ≡ home_bytes main side h ++ home_bytes m n h

@@ -1,21 +1,8 @@
 -- Parts of a text that grows or is moved.
-use Rattle.std.proofs.Common.{◌≡◌, ℕ, ◌+◌, ◌-◌, ◌≤◌, List, [], ◌∷◌, ◌++◌, length, take, drop, slice_range, All, map, slice_get, IfSome, zero, suc, refl, sym, ap, ◌∙◌, arith}
-use Rattle.std.proofs.lemmas.List.{drop-take, take-take, drop-drop, drop-append-le, take-append-le, length-take-le, take-append-drop, length-drop}
+use Rattle.std.proofs.Common.{◌≡◌, ℕ, ◌+◌, ◌-◌, ◌≤◌, List, [], ◌∷◌, length, take, drop, slice_range, All, map, slice_get, IfSome, zero, suc, refl, sym, ap, ◌∙◌, arith}
+use Rattle.std.proofs.lemmas.List.{drop-take, take-take, drop-drop, length-take-le, take-append-drop}
 use Rattle.std.proofs.lemmas.List.Elements.{All-head, All-tail}
-
--- a part of a list that goes on
-pub part-append : {X : Type 0} (xs ys : List X) (a b : ℕ) → a ≤ b → b ≤ length xs → slice_range (xs ++ ys) a b ≡ slice_range xs a b
-part-append xs ys a b ordered within =
-    let le : a ≤ length xs = omega arith in
-    let more : b - a ≤ length (drop a xs) = omega (arith, length-drop a xs) in
-    rw (drop-append-le a xs ys le, take-append-le (b - a) (drop a xs) ys more) refl
-
--- a part of the front of a list
-pub part-take : {X : Type 0} (xs : List X) (n a b : ℕ) → a ≤ b → b ≤ n → slice_range (take n xs) a b ≡ slice_range xs a b
-part-take xs n a b ordered within =
-    let m : n ≡ a + (n - a) = omega arith in
-    let le : b - a ≤ n - a = omega arith in
-    rw (m, drop-take a (n - a) xs, take-take (b - a) (n - a) (drop a xs) le) refl
+use Rattle.growing_text.proofs.Parts.{part-append}
 
 -- a part of a part
 pub part-part : (t : List ℕ) (from to a b : ℕ) → a ≤ b → from + b ≤ to → take (from + b - (from + a)) (drop (from + a) t) ≡ take (b - a) (drop a (take (to - from) (drop from t)))
@@ -31,8 +18,10 @@ pub part-below : (t u : List ℕ) (low a b : ℕ) → a ≤ b → b ≤ low → 
 part-below t u low a b ordered within lt lu e =
     let n = length-take-le low t lt in
     let m = length-take-le low u lu in
-    let one : slice_range u a b ≡ slice_range (take low u) a b = ap (λ (v : List ℕ). slice_range v a b) (sym (take-append-drop low u)) ∙ part-append (take low u) (drop low u) a b ordered (omega arith) in
-    let two : slice_range t a b ≡ slice_range (take low t) a b = ap (λ (v : List ℕ). slice_range v a b) (sym (take-append-drop low t)) ∙ part-append (take low t) (drop low t) a b ordered (omega arith) in
+    let one : slice_range u a b ≡ slice_range (take low u) a b =
+    ap (λ (v : List ℕ). slice_range v a b) (sym (take-append-drop low u)) ∙ part-append (take low u) (drop low u) a b ordered (omega arith) in
+    let two : slice_range t a b ≡ slice_range (take low t) a b =
+    ap (λ (v : List ℕ). slice_range v a b) (sym (take-append-drop low t)) ∙ part-append (take low t) (drop low t) a b ordered (omega arith) in
     one ∙ ap (λ (v : List ℕ). slice_range v a b) e ∙ sym two
 
 -- no byte before a place changes, nor one before an earlier place
@@ -50,7 +39,8 @@ pub record Moves (old new : List ℕ) (low from to dest : ℕ) : Type 0 where
   pub block : slice_range new dest (dest + (to - from)) ≡ slice_range old from to
 
 -- a part of the block
-pub part-moved : (old new : List ℕ) (low from to dest a b : ℕ) → Moves old new low from to dest → a ≤ b → from ≤ a → b ≤ to → slice_range new (dest + (a - from)) (dest + (b - from)) ≡ slice_range old a b
+pub part-moved : (old new : List ℕ) (low from to dest a b : ℕ) → Moves old new low from to dest → a ≤ b → from ≤ a → b ≤ to
+    → slice_range new (dest + (a - from)) (dest + (b - from)) ≡ slice_range old a b
 part-moved old new low from to dest a b m ordered starts ends =
     let one = part-part new dest (dest + (to - from)) (a - from) (b - from) (omega arith) (omega arith) in
     let two = part-part old from to (a - from) (b - from) (omega arith) (omega arith) in

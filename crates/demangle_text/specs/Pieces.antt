@@ -183,12 +183,6 @@ pub record Extends (old new : List ℕ) : Type 0 where
   pub more : List ℕ
   pub all : new ≡ old ++ more
 
--- the text is two others with n bytes between them
-pub record HasRoom (front back all : List ℕ) (n : ℕ) : Type 0 where
-  pub room : List ℕ
-  pub long : length room ≡ n
-  pub parts : all ≡ front ++ (room ++ back)
-
 -- a piece in the main text ends by `low`, or lies in the block from `from` to `to`
 abbrev pub IsApart : ℕ → ℕ → ℕ → Piece → Type 0
 IsApart low from to p = lies_aside p.flags ≡ false → low < p.to_byte → (from ≤ p.from_byte) × (p.to_byte ≤ to)

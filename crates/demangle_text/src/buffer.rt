@@ -9,7 +9,7 @@ use crate::moves::{carry, set_apart};
 use crate::parts::{add_extended, add_joined, add_part, add_spliced, insert_joined};
 use crate::ranges::Ranges;
 use crate::shape::{Kind, Mark, Piece, Place};
-use crate::text::Text;
+use growing_text::Text;
 use std::alloc::{AllocError, Global};
 use std::marker::Model;
 

@@ -17,12 +17,10 @@
 
 mod buffer;
 mod flags;
-mod lanes;
 mod moves;
 mod parts;
 mod ranges;
 mod shape;
-mod text;
 
 pub use crate::buffer::Buffer;
 pub use crate::shape::{Kind, Mark, Piece, Place};

@@ -8,7 +8,7 @@ ghost use Rattle.demangle_text.specs.Pieces.{IsPiece, IsApart, IsAside, EndsBy, 
 use crate::flags::in_side;
 use crate::ranges::{Move, Ranges};
 use crate::shape::Piece;
-use crate::text::Text;
+use growing_text::Text;
 use std::alloc::AllocError;
 
 // The piece with its text at the end of the side text.

@@ -5,7 +5,7 @@ ghost use Rattle.demangle_text.specs.Flags.{lies_aside};
 ghost use Rattle.demangle_text.specs.Pieces.{home_bytes, piece_text, Extends, EndsBy};
 
 use crate::shape::Piece;
-use crate::text::Text;
+use growing_text::Text;
 use std::alloc::AllocError;
 
 // Some bytes of the main or the side text.

@@ -4,5 +4,3 @@ pub mod LineAnswers
 pub mod LineEnds
 pub mod Chunks
 pub mod Copying
-pub mod Gathering
-pub mod Overlaps

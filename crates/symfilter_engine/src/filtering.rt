@@ -7,9 +7,9 @@ ghost use Rattle.symfilter_engine.specs.Progress.{HasCopied, ReadsMore};
 
 use super::ends::{Failed, Sink, Source};
 use super::fault::FilterFault;
-use super::gathered::Gathered;
 use super::line_feeds::ended_len;
 use super::lines::{write_last, write_lines};
+use growing_text::Text;
 use itanium_demangle::Demangler;
 use std::alloc::{AllocError, Global};
 
@@ -122,7 +122,7 @@ fn copy_lines<R: Source, W: Sink>(
         (R.remaining source.old) (R.remaining source.new)
         (W.taken sink.old) (W.taken sink.new) }
 {
-    let mut output = Gathered::new(alloc);
+    let mut output = Text::new(alloc);
     let mut kept = 0;
     'turns: loop {
         let end = read_more(source, chunk, kept)?;

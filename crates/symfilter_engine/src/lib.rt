@@ -5,7 +5,6 @@
 mod ends;
 mod fault;
 mod filtering;
-mod gathered;
 mod line_feeds;
 mod lines;
 mod output;

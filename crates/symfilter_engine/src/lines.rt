@@ -9,15 +9,18 @@ ghost use Rattle.symfilter_engine.specs.Progress.{EndsInLineFeed, AppendsLine, A
 
 use super::ends::Sink;
 use super::fault::FilterFault;
-use super::gathered::Gathered;
 use super::line_feeds::line_end;
 use super::output::put_all;
+use growing_text::Text;
 use itanium_demangle::Demangler;
 use std::alloc::{AllocError, Global};
 use std::str;
 
 /// So many bytes of output are put without waiting for more.
 const OUTPUT_LEN: usize = 32768;
+
+/// So many bytes are reserved for output: more than is waited for.
+const OUTPUT_ROOM: usize = 36864;
 
 /// So many bytes of ordinary lines are put without a copy.
 const LONG_LEN: usize = 16384;
@@ -116,14 +119,14 @@ fn append_line(
     demangler: &mut Demangler,
     line: &[u8],
     known_utf8: bool,
-    output: &mut Gathered,
+    output: &mut Text,
 ) -> Result<(), AllocError>
     requires { IsTrue known_utf8 → IsUtf8 line.now }
     ensures ok { OnOk result (AppendsLine line.now output.old output.new) }
     ensures err { OnErr result (output.new ≡ output.old) }
 {
     let answer = line_answer(alloc, demangler, line, known_utf8)?;
-    output.append_line(answer)
+    output.add_ended(answer, b'\n')
 }
 
 /// Appends what is written for the first of these lines, a run of ordinary ones or one that isn't, and answers how many
@@ -134,7 +137,7 @@ fn append_next(
     demangler: &mut Demangler,
     lines: &[u8],
     known_utf8: bool,
-    output: &mut Gathered,
+    output: &mut Text,
 ) -> Result<usize, AllocError>
     requires some { 0 < length lines.now }
     requires ended { EndsInLineFeed lines.now }
@@ -146,7 +149,7 @@ fn append_next(
 {
     let ordinary = ordinary_len(lines);
     if ordinary > 0 {
-        output.append(&lines[..ordinary])?;
+        output.add_many(&lines[..ordinary])?;
         return Ok(ordinary);
     }
     let Some(end) = line_end(lines) else {
@@ -165,7 +168,7 @@ fn gather_lines(
     lines: &[u8],
     known_utf8: bool,
     gathered: usize,
-    output: &mut Gathered,
+    output: &mut Text,
 ) -> usize
     requires inside { gathered ≤ length lines.now }
     requires so_far { AreLinesFiltered (take gathered lines.now) output.old }
@@ -192,7 +195,7 @@ fn write_next<W: Sink>(
     demangler: &mut Demangler,
     lines: &[u8],
     known_utf8: bool,
-    output: &mut Gathered,
+    output: &mut Text,
     sink: &mut W,
 ) -> Result<usize, FilterFault>
     requires not_failed { W.failed sink.old ≡ false }
@@ -215,6 +218,7 @@ fn write_next<W: Sink>(
         return Ok(ordinary);
     }
     output.clear();
+    output.reserve(OUTPUT_ROOM)?;
     let first = append_next(alloc, demangler, lines, known_utf8, output)?;
     let len = gather_lines(alloc, demangler, lines, known_utf8, first, output);
     put_all(sink, output.as_slice())?;
@@ -226,7 +230,7 @@ pub(crate) fn write_lines<W: Sink>(
     alloc: Global,
     demangler: &mut Demangler,
     lines: &[u8],
-    output: &mut Gathered,
+    output: &mut Text,
     sink: &mut W,
 ) -> Result<(), FilterFault>
     requires not_failed { W.failed sink.old ≡ false }

@@ -2,9 +2,10 @@
 use Rattle.std.proofs.Common.{◌≡◌, ◌+◌, ◌-◌, ◌≤◌, ◌++◌, List, ℕ, Bool, true, false, length, take, drop, slice_range, arith, sym, ap, refl, ◌∙◌}
 use Rattle.std.proofs.lemmas.List.{length-append, length-drop, length-take-le, take_at}
 use Rattle.std.proofs.lemmas.List.Edits.{length-between}
-use Rattle.demangle_text.specs.Pieces.{HasRoom, home_bytes, piece_text}
+use Rattle.growing_text.specs.Room.{HasRoom}
+use Rattle.growing_text.proofs.Rooms.{length-HasRoom, both-put}
+use Rattle.demangle_text.specs.Pieces.{home_bytes, piece_text}
 use Rattle.demangle_text.proofs.Texts.{part-below}
-use Rattle.demangle_text.proofs.Rooms.{length-HasRoom, both-put}
 use Rattle.demangle_text.proofs.parts.insert_joined.Goals as goal
 use Rattle.demangle_text.specs.Flags.{lies_aside}
 
@@ -19,7 +20,8 @@ part-kept main new side false a b at n ordered before place h =
 part-kept main new side true a b at n ordered before place h = refl
 
 -- and lies in the text
-home-longer : (main new side : List ℕ) (h : Bool) (b at n : ℕ) → b ≤ length (home_bytes main side h) → at ≤ length main → HasRoom (take at main) (drop at main) new n → b ≤ length (home_bytes new side h)
+home-longer : (main new side : List ℕ) (h : Bool) (b at n : ℕ) → b ≤ length (home_bytes main side h) → at ≤ length main
+    → HasRoom (take at main) (drop at main) new n → b ≤ length (home_bytes new side h)
 home-longer main new side false b at n within place h = omega (arith, length-HasRoom (take at main) (drop at main) new n h, length-take-le at main place, length-drop at main)
 home-longer main new side true b at n within place h = within
 
@@ -47,13 +49,26 @@ put-requires c =
     let n = c.text_len.ensures.value in
     let low = length-take-le at main c.requires.place in
     let text = piece_text all c.args.side.now p in
+    let longer = home-longer main all c.args.side.now (lies_aside p.flags) p.to_byte at _ c.requires.within c.requires.place h in
     let k : length text ≡ p.to_byte - p.from_byte =
-    length-between (home_bytes all c.args.side.now (lies_aside p.flags)) p.from_byte p.to_byte (home-longer main all c.args.side.now (lies_aside p.flags) p.to_byte at _ c.requires.within c.requires.place h) in
+    length-between (home_bytes all c.args.side.now (lies_aside p.flags)) p.from_byte p.to_byte longer in
     let put = ap length c.put_text-middle.ensures.value in
     let end = c.put_text-middle.ensures.ends in
     let rest = drop (at + (p.to_byte - p.from_byte)) all in
     record {
-      within = omega (arith, long, n, low, k, put, end, length-append (take at all) (text ++ rest), length-append text rest, length-take-le at all (omega (arith, long, low)), length-drop (at + (p.to_byte - p.from_byte)) all);
+      within = omega (
+        arith,
+        long,
+        n,
+        low,
+        k,
+        put,
+        end,
+        length-append (take at all) (text ++ rest),
+        length-append text rest,
+        length-take-le at all (omega (arith, long, low)),
+        length-drop (at + (p.to_byte - p.from_byte)) all,
+      );
     }
 
 pub returns-clause-ok : goal.returns-clause-ok

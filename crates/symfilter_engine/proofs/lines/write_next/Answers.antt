@@ -7,6 +7,9 @@ pub returns-in_err-put_all-clause-err : goal.returns-in_err-put_all-clause-err
 returns-in_err-put_all-clause-err g c =
     at_fault _ (lines_begin c.args.lines.now _ c.ordinary_len-ordinary.result _ _ c.ordinary_len-ordinary.ensures.ordinary c.in_err-put_all.ensures.err)
 
+pub returns-in_err-reserve-clause-err : goal.returns-in_err-reserve-clause-err
+returns-in_err-reserve-clause-err g c = at_fault _ (lines_unwritten c.args.lines.now _)
+
 pub returns-in_err-first-clause-err : goal.returns-in_err-first-clause-err
 returns-in_err-first-clause-err g c = at_fault _ (lines_unwritten c.args.lines.now _)
 

@@ -1,0 +1,4 @@
+pub mod Overlaps
+pub mod Parts
+pub mod Fronts
+pub mod Rooms

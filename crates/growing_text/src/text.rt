@@ -1,0 +1,335 @@
+//! A text that grows.
+ghost use Rattle.std.specs.Prelude.{◌≡◌, ℕ, ◌+◌, ◌-◌, ◌≤◌, List, [], ◌∷◌, ◌++◌, false, length, take, drop, slice_range};
+ghost use Rattle.std.specs.Prelude.{IsTrue, OnOk, OnErr};
+ghost use Rattle.growing_text.specs.Room.{HasRoom};
+
+use crate::lanes::{copy_any_ended, copy_ended, copy_text};
+use std::alloc::{AllocError, Global};
+use std::marker::Model;
+
+// The least that is reserved, in bytes.
+const FIRST_ROOM: usize = 64;
+
+/// A text that grows: the front of a vector that is as long as what is reserved, which stays reserved until the text
+/// is dropped. Places and lengths are counted in bytes. A call that answers a `Result` fails where memory is refused,
+/// and then the text is as it was.
+#[derive(Drop)]
+pub struct Text {
+    bytes: Vec<u8>,
+    len: usize,
+}
+
+impl Model for Text {
+    ghost Value = { List ℕ };
+
+    ghost view = { λ t. take t.len t.bytes.items };
+
+    ghost invariant = { λ t. t.len ≤ length t.bytes.items };
+}
+
+impl Text {
+    /// A text of no bytes. It takes no memory.
+    pub fn new(alloc: Global) -> Self
+        ensures empty { result ≡ [] }
+    {
+        Text {
+            bytes: Vec::new(alloc),
+            len: 0,
+        }
+    }
+
+    /// How many bytes it has.
+    #[inline(always)]
+    pub fn len(&self) -> usize
+        ensures value { result ≡ length self.now }
+    {
+        self.len
+    }
+
+    /// Takes all bytes away.
+    #[inline(always)]
+    pub fn clear(&mut self)
+        ensures empty { self.new ≡ [] }
+    {
+        self.len = 0;
+    }
+
+    /// Keeps the first n bytes, and takes the others away.
+    #[inline(always)]
+    pub fn truncate(&mut self, n: usize)
+        requires within { n ≤ length self.old }
+        ensures value { self.new ≡ take n self.old }
+    {
+        self.len = n;
+    }
+
+    /// Makes room for n more bytes at the end. The text stays as it is.
+    #[inline(always)]
+    pub fn reserve(&mut self, n: usize) -> Result<(), AllocError>
+        ensures same { self.new ≡ self.old }
+    {
+        let end = self.len;
+        make_room(&mut self.bytes, end, n)
+    }
+
+    /// Its bytes.
+    #[inline(always)]
+    pub fn as_slice(&self) -> &[u8]
+        ensures value { result.now ≡ self.now }
+    {
+        &self.bytes[..self.len]
+    }
+
+    /// The bytes from one place up to another.
+    #[inline(always)]
+    pub fn part(&self, from: usize, to: usize) -> &[u8]
+        requires ordered { from ≤ to }
+        requires within { to ≤ length self.now }
+        ensures value { result.now ≡ slice_range self.now from to }
+    {
+        &self.bytes[from..to]
+    }
+
+    /// Puts bytes at the end.
+    #[inline(always)]
+    pub fn add(&mut self, bytes: &[u8]) -> Result<(), AllocError>
+        ensures ok { OnOk result (self.new ≡ self.old ++ bytes.now) }
+        ensures err { OnErr result (self.new ≡ self.old) }
+    {
+        let n = bytes.len();
+        make_room(&mut self.bytes, self.len, n)?;
+        let to = self.len + n;
+        copy_text(&mut self.bytes[self.len..to], bytes);
+        self.len = to;
+        Ok(())
+    }
+
+    /// Puts bytes at the end out of line, and by no lanes: for those that are many.
+    #[inline(never)]
+    pub fn add_many(&mut self, bytes: &[u8]) -> Result<(), AllocError>
+        ensures ok { OnOk result (self.new ≡ self.old ++ bytes.now) }
+        ensures err { OnErr result (self.new ≡ self.old) }
+    {
+        let n = bytes.len();
+        make_room(&mut self.bytes, self.len, n)?;
+        let end = self.len + n;
+        self.bytes[self.len..end].copy_from_slice(bytes);
+        self.len = end;
+        Ok(())
+    }
+
+    /// Puts bytes at the end, and one byte after them. It is inlined for 16 to 128 bytes.
+    #[inline(always)]
+    pub fn add_ended(&mut self, bytes: &[u8], end: u8) -> Result<(), AllocError>
+        ensures ok { OnOk result (self.new ≡ self.old ++ (bytes.now ++ end ∷ [])) }
+        ensures err { OnErr result (self.new ≡ self.old) }
+    {
+        if self.add_ended_by_lanes(bytes, end) {
+            return Ok(());
+        }
+        self.add_any_ended(bytes, end)
+    }
+
+    // The same where there is room, and where lanes can put so many bytes. Elsewhere nothing is put.
+    #[inline(always)]
+    fn add_ended_by_lanes(&mut self, bytes: &[u8], end: u8) -> bool
+        ensures put { IsTrue result → self.new ≡ self.old ++ (bytes.now ++ end ∷ []) }
+        ensures not_put { result ≡ false → self.new ≡ self.old }
+    {
+        let n = bytes.len() + 1;
+        if self.bytes.len() - self.len < n {
+            return false;
+        }
+        let to = self.len + n;
+        if !copy_ended(&mut self.bytes[self.len..to], bytes, end) {
+            return false;
+        }
+        self.len = to;
+        true
+    }
+
+    // The same for any bytes, out of line, and with room made where there is too little.
+    #[inline(never)]
+    fn add_any_ended(&mut self, bytes: &[u8], end: u8) -> Result<(), AllocError>
+        ensures ok { OnOk result (self.new ≡ self.old ++ (bytes.now ++ end ∷ [])) }
+        ensures err { OnErr result (self.new ≡ self.old) }
+    {
+        let n = bytes.len() + 1;
+        make_room(&mut self.bytes, self.len, n)?;
+        let to = self.len + n;
+        copy_any_ended(&mut self.bytes[self.len..to], bytes, end);
+        self.len = to;
+        Ok(())
+    }
+
+    /// Puts two texts at the end, one after the other.
+    #[inline(always)]
+    pub fn add_pair(&mut self, first: &[u8], second: &[u8]) -> Result<(), AllocError>
+        ensures ok { OnOk result (self.new ≡ self.old ++ (first.now ++ second.now)) }
+        ensures err { OnErr result (self.new ≡ self.old) }
+    {
+        let from = self.len();
+        self.add_room(first.len() + second.len())?;
+        let middle = self.put(from, first);
+        self.put(middle, second);
+        Ok(())
+    }
+
+    /// Puts bytes at the end, and a part of the text once more after them.
+    pub fn add_with_part(&mut self, bytes: &[u8], from: usize, to: usize) -> Result<(), AllocError>
+        requires ordered { from ≤ to }
+        requires within { to ≤ length self.old }
+        ensures ok { OnOk result (self.new ≡ self.old ++ (bytes.now ++ slice_range self.old from to)) }
+        ensures err { OnErr result (self.new ≡ self.old) }
+    {
+        let Some(n) = bytes.len().checked_add(to - from) else {
+            return Err(AllocError);
+        };
+        let end = self.len();
+        self.add_room(n)?;
+        let middle = self.put(end, bytes);
+        self.put_part(middle, from, to);
+        Ok(())
+    }
+
+    /// Puts a part of the text once more at the end.
+    #[inline(always)]
+    pub fn repeat(&mut self, from: usize, to: usize) -> Result<(), AllocError>
+        requires ordered { from ≤ to }
+        requires within { to ≤ length self.old }
+        ensures ok { OnOk result (self.new ≡ self.old ++ slice_range self.old from to) }
+        ensures err { OnErr result (self.new ≡ self.old) }
+    {
+        let end = self.len();
+        self.add_room(to - from)?;
+        self.put_part(end, from, to);
+        Ok(())
+    }
+
+    /// Puts bytes at a place: what lies after it moves on.
+    pub fn insert(&mut self, at: usize, bytes: &[u8]) -> Result<(), AllocError>
+        requires within { at ≤ length self.old }
+        ensures ok { OnOk result (self.new ≡ take at self.old ++ (bytes.now ++ drop at self.old)) }
+        ensures err { OnErr result (self.new ≡ self.old) }
+    {
+        self.open_room(at, bytes.len())?;
+        self.put(at, bytes);
+        Ok(())
+    }
+
+    /// Puts three texts at a place, one after the other: what lies after it moves on.
+    pub fn insert_three(
+        &mut self,
+        at: usize,
+        front: &[u8],
+        bytes: &[u8],
+        back: &[u8],
+    ) -> Result<(), AllocError>
+        requires within { at ≤ length self.old }
+        ensures ok { OnOk result (self.new ≡ take at self.old
+            ++ ((front.now ++ (bytes.now ++ back.now)) ++ drop at self.old)) }
+        ensures err { OnErr result (self.new ≡ self.old) }
+    {
+        let Some(n) = (front.len() + back.len()).checked_add(bytes.len()) else {
+            return Err(AllocError);
+        };
+        self.open_room(at, n)?;
+        let first = self.put(at, front);
+        let second = self.put(first, bytes);
+        self.put(second, back);
+        Ok(())
+    }
+
+    /// Puts n bytes at the end, which are to be put over: nothing is said of them.
+    #[inline(always)]
+    pub fn add_room(&mut self, n: usize) -> Result<(), AllocError>
+        ensures ok { OnOk result (HasRoom self.old [] self.new n) }
+        ensures err { OnErr result (self.new ≡ self.old) }
+    {
+        make_room(&mut self.bytes, self.len, n)?;
+        self.len += n;
+        Ok(())
+    }
+
+    /// Puts n bytes at a place, which are to be put over: nothing is said of them. What lies after the place moves on.
+    #[inline(always)]
+    pub fn open_room(&mut self, at: usize, n: usize) -> Result<(), AllocError>
+        requires within { at ≤ length self.old }
+        ensures ok { OnOk result (HasRoom (take at self.old) (drop at self.old) self.new n) }
+        ensures err { OnErr result (self.new ≡ self.old) }
+    {
+        let len = self.len;
+        make_room(&mut self.bytes, len, n)?;
+        self.bytes.copy_within(at..len, at + n);
+        self.len = len + n;
+        Ok(())
+    }
+
+    /// Puts bytes at a place, over those that stood there, and answers where they end.
+    #[inline(always)]
+    pub fn put(&mut self, at: usize, bytes: &[u8]) -> usize
+        requires within { at + length bytes.now ≤ length self.old }
+        ensures value { self.new ≡ take at self.old ++ (bytes.now ++ drop (at + length bytes.now) self.old) }
+        ensures ends { result ≡ at + length bytes.now }
+    {
+        copy_text(&mut self.bytes[at..at + bytes.len()], bytes);
+        at + bytes.len()
+    }
+
+    /// Puts a part of the text at a place after it, over the bytes that stood there, and answers where it ends.
+    #[inline(always)]
+    pub fn put_part(&mut self, at: usize, from: usize, to: usize) -> usize
+        requires ordered { from ≤ to }
+        requires before { to ≤ at }
+        requires within { at + (to - from) ≤ length self.old }
+        ensures value { self.new ≡ take at self.old
+            ++ (slice_range self.old from to ++ drop (at + (to - from)) self.old) }
+        ensures ends { result ≡ at + (to - from) }
+    {
+        let (front, rest) = self.bytes.split_at_mut(at);
+        let n = to - from;
+        copy_text(&mut rest[..n], &front[from..to]);
+        at + n
+    }
+
+    /// Moves a part of the text down to a place, and takes away what stood between them and after the part.
+    pub fn keep(&mut self, at: usize, from: usize, to: usize)
+        requires before { at ≤ from }
+        requires ordered { from ≤ to }
+        requires within { to ≤ length self.old }
+        ensures value { self.new ≡ take at self.old ++ slice_range self.old from to }
+    {
+        self.bytes.copy_within(from..to, at);
+        self.len = at + (to - from);
+    }
+}
+
+// Room for n more bytes after the first ones.
+#[inline(always)]
+fn make_room(bytes: &mut Vec<u8>, len: usize, n: usize) -> Result<(), AllocError>
+    requires within { len ≤ length bytes.old.items }
+    ensures front { take len bytes.new.items ≡ take len bytes.old.items }
+    ensures within { len ≤ length bytes.new.items }
+    ensures room { OnOk result (len + n ≤ length bytes.new.items) }
+{
+    if bytes.len() - len < n {
+        return grow(bytes, len, n);
+    }
+    Ok(())
+}
+
+// The same where there is too little.
+#[cold]
+#[inline(never)]
+fn grow(bytes: &mut Vec<u8>, len: usize, n: usize) -> Result<(), AllocError>
+    requires within { len ≤ length bytes.old.items }
+    ensures front { take len bytes.new.items ≡ take len bytes.old.items }
+    ensures within { len ≤ length bytes.new.items }
+    ensures room { OnOk result (len + n ≤ length bytes.new.items) }
+{
+    let Some(want) = len.checked_add(n) else {
+        return Err(AllocError);
+    };
+    let twice = bytes.len().saturating_mul(2);
+    bytes.resize(want.max(twice).max(FIRST_ROOM), 0)
+}

@@ -1,6 +1,0 @@
-use Rattle.std.proofs.Common.{arith}
-use Rattle.symfilter_engine.proofs.Overlaps.{overlapping}
-use Rattle.symfilter_engine.proofs.gathered.by_sixty_four.Goals as goal
-
-pub returns : goal.returns
-returns c = record { value = overlapping c.args.room.now c.args.bytes.now 64 c.requires.same c.requires.least (omega arith) }
