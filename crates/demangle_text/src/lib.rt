@@ -18,10 +18,12 @@
 mod buffer;
 mod flags;
 mod lanes;
+mod lists;
 mod moves;
 mod parts;
 mod ranges;
 mod shape;
+mod splices;
 mod text;
 
 pub use crate::buffer::Buffer;
