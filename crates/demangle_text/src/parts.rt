@@ -163,7 +163,7 @@ pub(crate) fn add_joined(
 // The text of a piece at a place of the main text, by which it ends if it lies there, over the bytes that stood there:
 // where it ends.
 #[inline(always)]
-fn put_text(main: &mut Text, side: &Text, at: usize, piece: Piece) -> usize
+pub(crate) fn put_text(main: &mut Text, side: &Text, at: usize, piece: Piece) -> usize
     requires ordered { piece.from_byte ≤ piece.to_byte }
     requires within { piece.to_byte ≤ length (home_bytes main.old side.now (lies_aside piece.flags)) }
     requires before { EndsBy at piece }
@@ -177,30 +177,4 @@ fn put_text(main: &mut Text, side: &Text, at: usize, piece: Piece) -> usize
     } else {
         main.put_part(at, piece.from_byte, piece.to_byte)
     }
-}
-
-// The text of a piece and bytes at a place of the main text, by which the piece ends if it lies there: what lies after
-// the place moves on.
-pub(crate) fn insert_joined(
-    main: &mut Text,
-    side: &Text,
-    at: usize,
-    first: Piece,
-    bytes: &[u8],
-) -> Result<(), AllocError>
-    requires place { at ≤ length main.old }
-    requires ordered { first.from_byte ≤ first.to_byte }
-    requires within { first.to_byte ≤ length (home_bytes main.old side.now (lies_aside first.flags)) }
-    requires before { EndsBy at first }
-    ensures ok { OnOk result (main.new ≡ take at main.old
-        ++ ((piece_text main.old side.now first ++ bytes.now) ++ drop at main.old)) }
-    ensures err { OnErr result (main.new ≡ main.old) }
-{
-    let Some(n) = first.text_len().checked_add(bytes.len()) else {
-        return Err(AllocError);
-    };
-    main.open_room(at, n)?;
-    let middle = put_text(main, side, at, first);
-    main.put(middle, bytes);
-    Ok(())
 }

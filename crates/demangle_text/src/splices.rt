@@ -3,7 +3,7 @@ ghost use Rattle.std.specs.Prelude.{◌≡◌, ◌-◌, ◌≤◌, ◌++◌, len
 
 use crate::buffer::Buffer;
 use crate::moves::{carry, set_apart};
-use crate::parts::{add_extended, add_joined, add_part, add_spliced, insert_joined};
+use crate::parts::{add_extended, add_joined, add_part, add_spliced, put_text};
 use crate::shape::Piece;
 use std::alloc::AllocError;
 
@@ -22,6 +22,7 @@ crate::specs::State::inside, crate::specs::State::outside,
 crate::specs::State::saved, crate::specs::State::scopes,),)]
 impl Buffer {
     ghost use Rattle.demangle_text.specs.State.{IsLiving, KeepsAll, IsEdit};
+    ghost use Rattle.demangle_text.specs.Gaps.{IsGap};
     ghost use Rattle.demangle_text.specs.Pieces.{IsTail, IsSplice, IsAdjacent, IsJoint, IsAt, EndsBy, outline_of};
     ghost use Rattle.demangle_text.specs.Pieces.{piece_text, own_text};
 
@@ -168,15 +169,13 @@ impl Buffer {
         Ok(())
     }
 
-    // Bytes at a place of the main text that has bytes after it.
-    #[inline(never)]
-    fn insert_within(&mut self, at: usize, bytes: &[u8]) -> Result<(), AllocError>
+    // Room of n bytes at a place of the main text since the innermost mark: what lies after it moves on.
+    #[inline(always)]
+    fn open_gap(&mut self, at: usize, n: usize) -> Result<(), AllocError>
         requires inner { self.old.frame_main ≤ at }
         requires within { at ≤ length self.old.main_text }
-        ensures edit { OnOk result (IsEdit self.old self.new) }
+        ensures gap { OnOk result (IsGap self.old self.new at n) }
         ensures err { OnErr result (KeepsAll self.old self.new) }
-        ensures main { OnOk result (self.new.main_text ≡ take at self.old.main_text
-            ++ (bytes.now ++ drop at self.old.main_text)) }
         ensures main_err { OnErr result (self.new.main_text ≡ self.old.main_text) }
     {
         let len = self.main.len();
@@ -189,9 +188,26 @@ impl Buffer {
             at,
             len,
         )?;
-        self.main.insert(at, bytes)?;
-        carry(&mut self.saved, at, at, len, at + bytes.len());
-        carry(&mut self.args, at, at, len, at + bytes.len());
+        self.main.open_room(at, n)?;
+        let dest = at + (self.main.len() - len);
+        carry(&mut self.saved, at, at, len, dest);
+        carry(&mut self.args, at, at, len, dest);
+        Ok(())
+    }
+
+    // Bytes at a place of the main text that has bytes after it.
+    #[inline(never)]
+    fn insert_within(&mut self, at: usize, bytes: &[u8]) -> Result<(), AllocError>
+        requires inner { self.old.frame_main ≤ at }
+        requires within { at ≤ length self.old.main_text }
+        ensures edit { OnOk result (IsEdit self.old self.new) }
+        ensures err { OnErr result (KeepsAll self.old self.new) }
+        ensures main { OnOk result (self.new.main_text ≡ take at self.old.main_text
+            ++ (bytes.now ++ drop at self.old.main_text)) }
+        ensures main_err { OnErr result (self.new.main_text ≡ self.old.main_text) }
+    {
+        self.open_gap(at, bytes.len())?;
+        self.main.put(at, bytes);
         Ok(())
     }
 
@@ -411,20 +427,13 @@ impl Buffer {
             ++ ((front.now ++ (bytes.now ++ back.now)) ++ drop at self.old.main_text)) }
         ensures main_err { OnErr result (self.new.main_text ≡ self.old.main_text) }
     {
-        let len = self.main.len();
-        set_apart(
-            self.main.as_slice(),
-            &mut self.side,
-            &mut self.saved,
-            &mut self.args,
-            at,
-            at,
-            len,
-        )?;
-        self.main.insert_three(at, front, bytes, back)?;
-        let next = at + (self.main.len() - len);
-        carry(&mut self.saved, at, at, len, next);
-        carry(&mut self.args, at, at, len, next);
+        let Some(n) = (front.len() + back.len()).checked_add(bytes.len()) else {
+            return Err(AllocError);
+        };
+        self.open_gap(at, n)?;
+        let first = self.main.put(at, front);
+        let second = self.main.put(first, bytes);
+        self.main.put(second, back);
         Ok(())
     }
 
@@ -503,20 +512,12 @@ impl Buffer {
             ++ drop at self.old.main_text)) }
         ensures main_err { OnErr result (self.new.main_text ≡ self.old.main_text) }
     {
-        let len = self.main.len();
-        set_apart(
-            self.main.as_slice(),
-            &mut self.side,
-            &mut self.saved,
-            &mut self.args,
-            at,
-            at,
-            len,
-        )?;
-        insert_joined(&mut self.main, &self.side, at, first, bytes)?;
-        let dest = at + (self.main.len() - len);
-        carry(&mut self.saved, at, at, len, dest);
-        carry(&mut self.args, at, at, len, dest);
+        let Some(n) = first.text_len().checked_add(bytes.len()) else {
+            return Err(AllocError);
+        };
+        self.open_gap(at, n)?;
+        let middle = put_text(&mut self.main, &self.side, at, first);
+        self.main.put(middle, bytes);
         Ok(())
     }
 
