@@ -1,7 +1,12 @@
--- A gap in the main text: bytes that are filled in later, while all else stays as it is.
+-- A gap in the main text, what fills it, and what else stays as it is.
 use Rattle.std.specs.Prelude.{◌≡◌, ℕ, List, ◌++◌, length, take, drop}
 use Rattle.demangle_text.specs.Pieces.{Store, IsStore, Extends, HasRoom}
 use Rattle.demangle_text.specs.State.{IsEdit}
+use Rattle.demangle_text.specs.declared.parts.Three.{Three}
+
+-- three texts, one after the other
+abbrev pub in_order : Three → List ℕ
+in_order texts = texts.front.now ++ (texts.bytes.now ++ texts.back.now)
 
 -- the store where bytes stand at a place of this main text
 abbrev pub with_gap_filled : List ℕ → ℕ → List ℕ → Store → Store

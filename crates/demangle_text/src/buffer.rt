@@ -4,6 +4,8 @@ ghost use Rattle.std.specs.Prelude.{OnOk, OnErr, slice_range, slice_index, is_so
 ghost use Rattle.demangle_text.specs.Shape.{gap_after};
 
 use crate::flags::{flagged, is_ctor, is_grouped, is_templ, plain};
+use crate::moves::Lists;
+use crate::parts::Three;
 use crate::ranges::Ranges;
 use crate::shape::{Kind, Mark, Piece, Place};
 use crate::text::Text;
@@ -13,12 +15,10 @@ use std::marker::Model;
 /// A buffer of pieces, with a list of saved shapes and a list of scopes.
 #[derive(Drop)]
 pub struct Buffer {
-    // The texts of pieces: what is made stands in the main text, and what a move would tear in the side text.
+    // What is made stands in the main text. What is kept of it is named by both lists, which have the side text.
     pub(crate) main: Text,
-    pub(crate) side: Text,
-    pub(crate) saved: Ranges,
-    // The arguments of all scopes, and where those of each scope begin.
-    pub(crate) args: Ranges,
+    pub(crate) lists: Lists,
+    // Where the arguments of each scope begin.
     pub(crate) starts: Vec<usize>,
     // How long both texts were at the innermost mark.
     pub(crate) frame_main: usize,
@@ -71,9 +71,11 @@ impl Buffer {
     {
         Buffer {
             main: Text::new(alloc),
-            side: Text::new(alloc),
-            saved: Ranges::new(alloc),
-            args: Ranges::new(alloc),
+            lists: Lists {
+                side: Text::new(alloc),
+                saved: Ranges::new(alloc),
+                args: Ranges::new(alloc),
+            },
             starts: Vec::new(alloc),
             frame_main: 0,
             frame_side: 0,
@@ -89,11 +91,11 @@ impl Buffer {
         ensures no_bytes { main_bytes self.new ≡ [] }
         ensures from_start { frame_start (frame self.new) ≡ 0 }
     {
-        self.saved.clear();
-        self.args.clear();
+        self.lists.saved.clear();
+        self.lists.args.clear();
         self.starts.clear();
         self.main.clear();
-        self.side.clear();
+        self.lists.side.clear();
         self.frame_main = 0;
         self.frame_side = 0;
     }
@@ -108,7 +110,7 @@ impl Buffer {
     {
         let mark = Mark {
             inside_main: self.main.len(),
-            inside_side: self.side.len(),
+            inside_side: self.lists.side.len(),
             outside_main: self.frame_main,
             outside_side: self.frame_side,
         };
@@ -287,7 +289,12 @@ impl Buffer {
     {
         let at = piece.place(Place::Suffix);
         let front = group_front(&self.bytes(piece)[..at]);
-        let from = self.splice_three(piece, at, front, bytes, b")")?;
+        let texts = Three {
+            front,
+            bytes,
+            back: b")",
+        };
+        let from = self.splice_three(piece, at, texts)?;
         let n = front.len() + bytes.len() + 1;
         Ok(piece.with_group(at, n, bytes.len() + 2, from, self.main.len()))
     }
@@ -352,7 +359,7 @@ impl Buffer {
         ensures older { (f : Frame) (from to : ℕ) → IsOlder piece f → Stands piece from to → to ≤ frame_start f }
     {
         if piece.is_aside() {
-            self.side.part(piece.from_byte, piece.to_byte)
+            self.lists.side.part(piece.from_byte, piece.to_byte)
         } else {
             self.main.part(piece.from_byte, piece.to_byte)
         }

@@ -47,7 +47,7 @@ impl Buffer {
         ensures main { main_bytes self.new ≡ main_bytes self.old }
         ensures err { OnErr result (KeepsAll self.old self.new) }
     {
-        self.saved.push(piece, self.main.len())?;
+        self.lists.saved.push(piece, self.main.len())?;
         Ok(())
     }
 
@@ -61,7 +61,7 @@ impl Buffer {
         ensures main { main_bytes self.new ≡ main_bytes self.old }
     {
         let last = self.saved_len() - 1;
-        self.saved.truncate(last);
+        self.lists.saved.truncate(last);
     }
 
     /// A piece of the saved shape with this index, from 0, or `None` past the last one.
@@ -70,7 +70,7 @@ impl Buffer {
         ensures shape { option_map (shape self.now) result ≡ slice_get (saved self.now) i }
         ensures living { IfSome result (IsLiving self.now) }
     {
-        self.saved.get(i)
+        self.lists.saved.get(i)
     }
 
     /// How many shapes are saved.
@@ -78,7 +78,7 @@ impl Buffer {
     pub fn saved_len(&self) -> usize
         ensures value { result ≡ length (saved self.now) }
     {
-        self.saved.len()
+        self.lists.saved.len()
     }
 
     /// Opens a scope, which is the last one then and has no argument. After `AllocError` all is as
@@ -90,7 +90,7 @@ impl Buffer {
         ensures main { main_bytes self.new ≡ main_bytes self.old }
         ensures err { OnErr result (KeepsAll self.old self.new) }
     {
-        let start = self.args.len();
+        let start = self.lists.args.len();
         self.starts.push(start)?;
         Ok(())
     }
@@ -120,7 +120,7 @@ impl Buffer {
         ensures main { main_bytes self.new ≡ main_bytes self.old }
         ensures err { OnErr result (KeepsAll self.old self.new) }
     {
-        self.args.push(piece, self.main.len())?;
+        self.lists.args.push(piece, self.main.len())?;
         Ok(())
     }
 
@@ -136,7 +136,7 @@ impl Buffer {
             return None;
         }
         let start = self.starts[count - 1];
-        self.args.get_from(start, i)
+        self.lists.args.get_from(start, i)
     }
 
     /// How many scopes are open.
@@ -157,7 +157,7 @@ impl Buffer {
     {
         if n < self.scopes() {
             let start = self.starts[n];
-            self.args.truncate(start);
+            self.lists.args.truncate(start);
             self.starts.truncate(n);
         }
     }

@@ -2,11 +2,20 @@
 ghost use Rattle.std.specs.Prelude.{◌≡◌, ℕ, ◌+◌, ◌-◌, ◌<◌, ◌≤◌, ◌++◌, length, take, drop, slice_range, IfOk, OnOk};
 ghost use Rattle.std.specs.Prelude.{OnErr};
 ghost use Rattle.demangle_text.specs.Flags.{lies_aside};
+ghost use Rattle.demangle_text.specs.Gaps.{in_order};
 ghost use Rattle.demangle_text.specs.Pieces.{home_bytes, piece_text, Extends, EndsBy};
 
 use crate::shape::Piece;
 use crate::text::Text;
 use std::alloc::AllocError;
+
+// Three texts that are put somewhere, one after the other.
+#[derive(Clone, Copy)]
+pub(crate) struct Three<'a> {
+    pub(crate) front: &'a [u8],
+    pub(crate) bytes: &'a [u8],
+    pub(crate) back: &'a [u8],
+}
 
 // Some bytes of the main or the side text.
 #[inline(always)]
@@ -35,22 +44,20 @@ fn splice_parts(
     side: &Text,
     piece: Piece,
     at: usize,
-    front: &[u8],
-    bytes: &[u8],
-    back: &[u8],
+    texts: Three<'_>,
 ) -> Result<(), AllocError>
     requires ordered { piece.from_byte ≤ piece.to_byte }
     requires within { piece.to_byte ≤ length (home_bytes main.old side.now (lies_aside piece.flags)) }
     requires place { at ≤ piece.to_byte - piece.from_byte }
     ensures ok { OnOk result (main.new ≡ main.old ++ (take at (piece_text main.old side.now piece)
-        ++ ((front.now ++ (bytes.now ++ back.now)) ++ drop at (piece_text main.old side.now piece)))) }
+        ++ (in_order texts.entry ++ drop at (piece_text main.old side.now piece)))) }
     ensures grows { Extends main.old main.new }
 {
     let middle = piece.from_byte + at;
     add_part(main, side, piece.is_aside(), piece.from_byte, middle)?;
-    main.add(front)?;
-    main.add(bytes)?;
-    main.add(back)?;
+    main.add(texts.front)?;
+    main.add(texts.bytes)?;
+    main.add(texts.back)?;
     add_part(main, side, piece.is_aside(), middle, piece.to_byte)?;
     Ok(())
 }
@@ -61,19 +68,17 @@ pub(crate) fn add_spliced(
     side: &Text,
     piece: Piece,
     at: usize,
-    front: &[u8],
-    bytes: &[u8],
-    back: &[u8],
+    texts: Three<'_>,
 ) -> Result<(), AllocError>
     requires ordered { piece.from_byte ≤ piece.to_byte }
     requires within { piece.to_byte ≤ length (home_bytes main.old side.now (lies_aside piece.flags)) }
     requires place { at ≤ piece.to_byte - piece.from_byte }
     ensures ok { OnOk result (main.new ≡ main.old ++ (take at (piece_text main.old side.now piece)
-        ++ ((front.now ++ (bytes.now ++ back.now)) ++ drop at (piece_text main.old side.now piece)))) }
+        ++ (in_order texts.entry ++ drop at (piece_text main.old side.now piece)))) }
     ensures err { OnErr result (main.new ≡ main.old) }
 {
     let len = main.len();
-    match splice_parts(main, side, piece, at, front, bytes, back) {
+    match splice_parts(main, side, piece, at, texts) {
         Ok(()) => Ok(()),
         Err(error) => {
             main.truncate(len);

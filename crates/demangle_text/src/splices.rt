@@ -2,8 +2,8 @@
 ghost use Rattle.std.specs.Prelude.{◌≡◌, ◌-◌, ◌≤◌, ◌++◌, length, take, drop, IfOk, OnOk, OnErr, true, slice_range};
 
 use crate::buffer::Buffer;
-use crate::moves::{carry, set_apart};
-use crate::parts::{add_extended, add_joined, add_part, add_spliced, put_text};
+use crate::parts::{Three, add_extended, add_joined, add_part, add_spliced, put_text};
+use crate::ranges::Block;
 use crate::shape::Piece;
 use std::alloc::AllocError;
 
@@ -22,7 +22,7 @@ crate::specs::State::inside, crate::specs::State::outside,
 crate::specs::State::saved, crate::specs::State::scopes,),)]
 impl Buffer {
     ghost use Rattle.demangle_text.specs.State.{IsLiving, KeepsAll, IsEdit};
-    ghost use Rattle.demangle_text.specs.Gaps.{IsGap};
+    ghost use Rattle.demangle_text.specs.Gaps.{IsGap, in_order};
     ghost use Rattle.demangle_text.specs.Pieces.{IsTail, IsSplice, IsAdjacent, IsJoint, IsAt, EndsBy, outline_of};
     ghost use Rattle.demangle_text.specs.Pieces.{piece_text, own_text};
 
@@ -92,18 +92,14 @@ impl Buffer {
         ensures main { OnOk result (self.new.main_text ≡ take at self.old.main_text
             ++ slice_range self.old.main_text from to) }
     {
-        set_apart(
-            self.main.as_slice(),
-            &mut self.side,
-            &mut self.saved,
-            &mut self.args,
-            at,
+        let block = Block {
+            low: at,
             from,
-            to,
-        )?;
+            end: to,
+        };
+        self.lists.set_apart(self.main.as_slice(), block)?;
         self.main.keep(at, from, to);
-        carry(&mut self.saved, at, from, to, at);
-        carry(&mut self.args, at, from, to, at);
+        self.lists.carry(block, at);
         Ok(())
     }
 
@@ -121,7 +117,7 @@ impl Buffer {
         let from = self.main.len();
         add_part(
             &mut self.main,
-            &self.side,
+            &self.lists.side,
             piece.is_aside(),
             piece.from_byte,
             piece.to_byte,
@@ -179,19 +175,15 @@ impl Buffer {
         ensures main_err { OnErr result (self.new.main_text ≡ self.old.main_text) }
     {
         let len = self.main.len();
-        set_apart(
-            self.main.as_slice(),
-            &mut self.side,
-            &mut self.saved,
-            &mut self.args,
-            at,
-            at,
-            len,
-        )?;
+        let rest = Block {
+            low: at,
+            from: at,
+            end: len,
+        };
+        self.lists.set_apart(self.main.as_slice(), rest)?;
         self.main.open_room(at, n)?;
         let dest = at + (self.main.len() - len);
-        carry(&mut self.saved, at, at, len, dest);
-        carry(&mut self.args, at, at, len, dest);
+        self.lists.carry(rest, dest);
         Ok(())
     }
 
@@ -233,7 +225,12 @@ impl Buffer {
         if at == piece.text_len() {
             return self.extend_elsewhere(piece, bytes, b"");
         }
-        self.splice_elsewhere(piece, at, b"", bytes, b"")
+        let texts = Three {
+            front: b"",
+            bytes,
+            back: b"",
+        };
+        self.splice_elsewhere(piece, at, texts)
     }
 
     // `extend_copy` of the piece's text alone. It is inlined, so that this second piece is made on no other way.
@@ -260,19 +257,16 @@ impl Buffer {
         &mut self,
         piece: Piece,
         at: usize,
-        front: &[u8],
-        bytes: &[u8],
-        back: &[u8],
+        texts: Three<'_>,
     ) -> Result<usize, AllocError>
         requires living { IsLiving self.old piece }
         requires within { at ≤ piece.to_byte - piece.from_byte }
         requires apart { IsTail self.old piece → ⊥ }
-        ensures splice { IfOk result (IsSplice self.old self.new piece at
-            (front.now ++ (bytes.now ++ back.now))) }
+        ensures splice { IfOk result (IsSplice self.old self.new piece at (in_order texts.entry)) }
         ensures kept { KeepsAll self.old self.new }
         ensures main_err { OnErr result (self.new.main_text ≡ self.old.main_text) }
     {
-        self.splice_copy(piece.alone(), at, front, bytes, back)
+        self.splice_copy(piece.alone(), at, texts)
     }
 
     // The text of a piece that doesn't stand at the end, with both texts after it, at the end of the main text: where
@@ -292,7 +286,7 @@ impl Buffer {
         ensures main_err { OnErr result (self.new.main_text ≡ self.old.main_text) }
     {
         let from = self.main.len();
-        add_extended(&mut self.main, &self.side, piece, first, second)?;
+        add_extended(&mut self.main, &self.lists.side, piece, first, second)?;
         Ok(from)
     }
 
@@ -303,20 +297,17 @@ impl Buffer {
         &mut self,
         piece: Piece,
         at: usize,
-        front: &[u8],
-        bytes: &[u8],
-        back: &[u8],
+        texts: Three<'_>,
     ) -> Result<usize, AllocError>
         requires living { IsLiving self.old piece }
         requires within { at ≤ piece.to_byte - piece.from_byte }
         requires apart { IsTail self.old piece → ⊥ }
-        ensures splice { IfOk result (IsSplice self.old self.new piece at
-            (front.now ++ (bytes.now ++ back.now))) }
+        ensures splice { IfOk result (IsSplice self.old self.new piece at (in_order texts.entry)) }
         ensures kept { KeepsAll self.old self.new }
         ensures main_err { OnErr result (self.new.main_text ≡ self.old.main_text) }
     {
         let from = self.main.len();
-        add_spliced(&mut self.main, &self.side, piece, at, front, bytes, back)?;
+        add_spliced(&mut self.main, &self.lists.side, piece, at, texts)?;
         Ok(from)
     }
 
@@ -369,7 +360,7 @@ impl Buffer {
             return Ok(piece.from_byte);
         }
         let from = self.main.len();
-        add_joined(&mut self.main, &self.side, piece, between, name)?;
+        add_joined(&mut self.main, &self.lists.side, piece, between, name)?;
         Ok(from)
     }
 
@@ -392,48 +383,39 @@ impl Buffer {
         &mut self,
         piece: Piece,
         at: usize,
-        front: &[u8],
-        bytes: &[u8],
-        back: &[u8],
+        texts: Three<'_>,
     ) -> Result<usize, AllocError>
         requires living { IsLiving self.old piece }
         requires within { at ≤ piece.to_byte - piece.from_byte }
-        ensures splice { IfOk result (IsSplice self.old self.new piece at
-            (front.now ++ (bytes.now ++ back.now))) }
+        ensures splice { IfOk result (IsSplice self.old self.new piece at (in_order texts.entry)) }
         ensures edit { OnOk result (IsEdit self.old self.new) }
         ensures err { OnErr result (KeepsAll self.old self.new) }
         ensures main_err { OnErr result (self.new.main_text ≡ self.old.main_text) }
     {
         if self.is_tail(piece) {
-            self.insert_three(piece.from_byte + at, front, bytes, back)?;
+            self.insert_three(piece.from_byte + at, texts)?;
             return Ok(piece.from_byte);
         }
-        self.splice_elsewhere(piece, at, front, bytes, back)
+        self.splice_elsewhere(piece, at, texts)
     }
 
     // Three texts at a place of the main text since the innermost mark: what lies after it moves on.
-    fn insert_three(
-        &mut self,
-        at: usize,
-        front: &[u8],
-        bytes: &[u8],
-        back: &[u8],
-    ) -> Result<(), AllocError>
+    fn insert_three(&mut self, at: usize, texts: Three<'_>) -> Result<(), AllocError>
         requires inner { self.old.frame_main ≤ at }
         requires within { at ≤ length self.old.main_text }
         ensures edit { OnOk result (IsEdit self.old self.new) }
         ensures err { OnErr result (KeepsAll self.old self.new) }
         ensures main { OnOk result (self.new.main_text ≡ take at self.old.main_text
-            ++ ((front.now ++ (bytes.now ++ back.now)) ++ drop at self.old.main_text)) }
+            ++ (in_order texts.entry ++ drop at self.old.main_text)) }
         ensures main_err { OnErr result (self.new.main_text ≡ self.old.main_text) }
     {
-        let Some(n) = (front.len() + back.len()).checked_add(bytes.len()) else {
+        let Some(n) = (texts.front.len() + texts.back.len()).checked_add(texts.bytes.len()) else {
             return Err(AllocError);
         };
         self.open_gap(at, n)?;
-        let first = self.main.put(at, front);
-        let second = self.main.put(first, bytes);
-        self.main.put(second, back);
+        let first = self.main.put(at, texts.front);
+        let second = self.main.put(first, texts.bytes);
+        self.main.put(second, texts.back);
         Ok(())
     }
 
@@ -494,7 +476,7 @@ impl Buffer {
             return Ok(second.from_byte);
         }
         let from = self.main.len();
-        add_joined(&mut self.main, &self.side, first, bytes, second)?;
+        add_joined(&mut self.main, &self.lists.side, first, bytes, second)?;
         Ok(from)
     }
 
@@ -516,7 +498,7 @@ impl Buffer {
             return Err(AllocError);
         };
         self.open_gap(at, n)?;
-        let middle = put_text(&mut self.main, &self.side, at, first);
+        let middle = put_text(&mut self.main, &self.lists.side, at, first);
         self.main.put(middle, bytes);
         Ok(())
     }

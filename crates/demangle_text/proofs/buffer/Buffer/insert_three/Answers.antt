@@ -1,6 +1,7 @@
 -- The three texts fill a gap for them.
-use Rattle.std.proofs.Common.{◌≡◌, ◌++◌, length, take, drop, sym, arith}
+use Rattle.std.proofs.Common.{◌≡◌, ◌+◌, ◌++◌, ℕ, length, take, drop, ap, sym, arith}
 use Rattle.std.proofs.lemmas.List.{length-append, length-take-le}
+use Rattle.demangle_text.specs.Pieces.{Store}
 use Rattle.demangle_text.specs.View.{store_of}
 use Rattle.demangle_text.specs.Gaps.{IsGap}
 use Rattle.demangle_text.proofs.Rooms.{room-fits, fits-first, fits-second, three-put}
@@ -12,7 +13,7 @@ put-first-requires c =
     let old = c.args.self.now.main_text in
     let at = c.args.at in
     let g = IsGap-same c.args.self.now _ (store_of c.self.inside) at c.in-Some.n c.self.view_is c.in_ok-open_gap.ensures.gap in
-    record { within = room-fits (take at old) (drop at old) c.self.inside.main c.in-Some.n at (length c.args.front.now) g.room (sym (length-take-le at old c.requires.within)) (omega arith) }
+    record { within = room-fits (take at old) (drop at old) c.self.inside.main c.in-Some.n at (length c.args.texts.front.now) g.room (sym (length-take-le at old c.requires.within)) (omega arith) }
 
 pub put-second-requires : goal.put-second-requires
 put-second-requires c =
@@ -20,7 +21,7 @@ put-second-requires c =
     let at = c.args.at in
     let g = IsGap-same c.args.self.now _ (store_of c.self.inside) at c.in-Some.n c.self.view_is c.in_ok-open_gap.ensures.gap in
     record {
-      within = fits-first (take at old) (drop at old) c.self.inside.main c.args.front.now c.args.bytes.now c.args.back.now c.put-first.new.self c.put-first.new.self c.in-Some.n at c.put-first.result 0
+      within = fits-first (take at old) (drop at old) c.self.inside.main c.args.texts.front.now c.args.texts.bytes.now c.args.texts.back.now c.put-first.new.self c.put-first.new.self c.in-Some.n at c.put-first.result 0
           g.room (sym (length-take-le at old c.requires.within)) (omega arith) c.put-first.ensures.value c.put-first.ensures.ends;
     }
 
@@ -30,23 +31,23 @@ put-requires c =
     let at = c.args.at in
     let g = IsGap-same c.args.self.now _ (store_of c.self.inside) at c.in-Some.n c.self.view_is c.in_ok-open_gap.ensures.gap in
     record {
-      within = fits-second (take at old) (drop at old) c.self.inside.main c.args.front.now c.args.bytes.now c.args.back.now c.put-first.new.self c.put-second.new.self c.in-Some.n at c.put-first.result c.put-second.result
+      within = fits-second (take at old) (drop at old) c.self.inside.main c.args.texts.front.now c.args.texts.bytes.now c.args.texts.back.now c.put-first.new.self c.put-second.new.self c.in-Some.n at c.put-first.result c.put-second.result
           g.room (sym (length-take-le at old c.requires.within)) (omega arith) c.put-first.ensures.value c.put-first.ensures.ends c.put-second.ensures.value c.put-second.ensures.ends;
     }
 
 gap : (c : goal.After-put) → IsGap c.args.self.now (store_of c.self.inside) c.args.at c.in-Some.n
 gap c = IsGap-same c.args.self.now _ (store_of c.self.inside) c.args.at c.in-Some.n c.self.view_is c.in_ok-open_gap.ensures.gap
 
-main : (c : goal.After-put) → c.put.new.self ≡ take c.args.at c.args.self.now.main_text ++ ((c.args.front.now ++ (c.args.bytes.now ++ c.args.back.now)) ++ drop c.args.at c.args.self.now.main_text)
+main : (c : goal.After-put) → c.put.new.self ≡ take c.args.at c.args.self.now.main_text ++ ((c.args.texts.front.now ++ (c.args.texts.bytes.now ++ c.args.texts.back.now)) ++ drop c.args.at c.args.self.now.main_text)
 main c =
     let old = c.args.self.now.main_text in
     let at = c.args.at in
-    three-put (take at old) (drop at old) c.self.inside.main c.args.front.now c.args.bytes.now c.args.back.now c.put-first.new.self c.put-second.new.self c.in-Some.n at c.put-first.result c.put-second.result
+    three-put (take at old) (drop at old) c.self.inside.main c.args.texts.front.now c.args.texts.bytes.now c.args.texts.back.now c.put-first.new.self c.put-second.new.self c.in-Some.n at c.put-first.result c.put-second.result
     (gap c).room (sym (length-take-le at old c.requires.within)) (omega arith) c.put-first.ensures.value c.put-first.ensures.ends c.put-second.ensures.value c.put-second.ensures.ends
     _ c.put.ensures.value
 
-long : (c : goal.After-put) → length (c.args.front.now ++ (c.args.bytes.now ++ c.args.back.now)) ≡ c.in-Some.n
-long c = omega (arith, length-append c.args.front.now (c.args.bytes.now ++ c.args.back.now), length-append c.args.bytes.now c.args.back.now)
+long : (c : goal.After-put) → length (c.args.texts.front.now ++ (c.args.texts.bytes.now ++ c.args.texts.back.now)) ≡ c.in-Some.n
+long c = omega (arith, length-append c.args.texts.front.now (c.args.texts.bytes.now ++ c.args.texts.back.now), length-append c.args.texts.bytes.now c.args.texts.back.now)
 
 pub invariant_of-self : goal.invariant_of-self
 invariant_of-self c = IsStore-filled c.args.self.now (store_of c.self.inside) c.args.at c.in-Some.n (gap c) _ _ (long c) (main c)

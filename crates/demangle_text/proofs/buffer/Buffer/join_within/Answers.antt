@@ -1,7 +1,7 @@
 -- The text and the bytes fill a gap for both.
-use Rattle.std.proofs.Common.{◌≡◌, ◌+◌, ◌-◌, ◌++◌, List, ℕ, length, take, drop, ap, sym, ◌∙◌, arith}
+use Rattle.std.proofs.Common.{◌≡◌, ◌+◌, ◌-◌, ◌≤◌, ◌++◌, List, ℕ, length, take, drop, ap, sym, ◌∙◌, arith}
 use Rattle.std.proofs.lemmas.List.{length-append, length-drop, length-take-le}
-use Rattle.demangle_text.specs.Pieces.{piece_text}
+use Rattle.demangle_text.specs.Pieces.{Store, piece_text}
 use Rattle.demangle_text.specs.State.{IsLiving}
 use Rattle.demangle_text.specs.View.{store_of}
 use Rattle.demangle_text.specs.Gaps.{IsGap}
@@ -32,7 +32,7 @@ put-requires c =
     let g = IsGap-same c.args.self.now _ (store_of c.self.inside) at n c.self.view_is c.in_ok-open_gap.ensures.gap in
     let all = c.self.inside.main in
     let same = text-kept c.args.self.now (store_of c.self.inside) at n g c.requires.within p c.requires.living c.requires.before in
-    let text = piece_text all c.self.inside.side p in
+    let text = piece_text all c.self.inside.lists.side p in
     let long : length text ≡ k = ap length same ∙ length-text c.args.self.now p c.requires.living in
     let whole = length-gap c.args.self.now.main_text all at n c.requires.within g.room in
     let put = ap length c.put_text-middle.ensures.value in

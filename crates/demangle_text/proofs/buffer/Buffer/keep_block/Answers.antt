@@ -9,7 +9,7 @@ use Rattle.demangle_text.proofs.buffer.Buffer.keep_block.Goals as goal
 low : (s b : Store) (at : ℕ) → s ≡ b → b.frame_main ≡ at → s.frame_main ≤ at
 low s b at same mark = omega (arith, ap (λ (v : Store). v.frame_main) same, mark)
 
-moves : (c : goal.After-carry-2) → Moves (store_of c.self.inside).main_text c.keep.new.self c.args.at c.args.from c.args.to c.args.at
+moves : (c : goal.After-carry) → Moves (store_of c.self.inside).main_text c.keep.new.self c.args.at c.args.from c.args.to c.args.at
 moves c =
     let s = store_of c.self.inside in
     let same = c.self.view_is in
@@ -20,11 +20,11 @@ moves c =
 pub invariant_of-self-2 : goal.invariant_of-self-2
 invariant_of-self-2 c =
     let a = c.in_ok-set_apart.ensures in
-    IsStore-after (store_of c.self.inside) _ _ _ _ c.as_slice.ensures.value c.set_apart.ensures.aside _ _ _ _ _ _ _ c.self.invariant
-    a.saved_apart a.args_apart c.carry.ensures.value c.carry-2.ensures.value (moves c) (low _ _ c.args.at c.self.view_is c.requires.mark)
+    rw c.carry.ensures.side (IsStore-after (store_of c.self.inside) _ _ _ _ c.as_slice.ensures.value c.set_apart.ensures.aside _ _ _ _ _ _ _ c.self.invariant
+    a.saved_apart a.args_apart c.carry.ensures.saved c.carry.ensures.args (moves c) (low _ _ c.args.at c.self.view_is c.requires.mark))
 
 pub returns-clause-edit : goal.returns-clause-edit
 returns-clause-edit c =
     let a = c.in_ok-set_apart.ensures in
-    rw (← c.self.view_is) (IsEdit-after (store_of c.self.inside) _ _ _ _ c.as_slice.ensures.value c.set_apart.ensures.aside _ _ _ _ _ _ _ c.self.invariant
-    a.saved_apart a.args_apart c.carry.ensures.value c.carry-2.ensures.value (moves c) (low _ _ c.args.at c.self.view_is c.requires.mark))
+    rw (← c.self.view_is, c.carry.ensures.side) (IsEdit-after (store_of c.self.inside) _ _ _ _ c.as_slice.ensures.value c.set_apart.ensures.aside _ _ _ _ _ _ _ c.self.invariant
+    a.saved_apart a.args_apart c.carry.ensures.saved c.carry.ensures.args (moves c) (low _ _ c.args.at c.self.view_is c.requires.mark))

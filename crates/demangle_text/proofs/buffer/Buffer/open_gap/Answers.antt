@@ -40,12 +40,7 @@ carry-requires-clause-fits c =
     let n = length-gap c.self.inside.main c.open_room.new.self c.args.at c.args.n (place _ _ _ c.self.view_is c.requires.within) c.in_ok-open_room.ensures.ok in
     omega (arith, n, place _ _ _ c.self.view_is c.requires.within, c.len-len.ensures.value, c.len.ensures.value, c.len.type_inv)
 
-pub carry-requires-2-clause-fits : goal.carry-requires-2-clause-fits
-carry-requires-2-clause-fits c =
-    let n = length-gap c.self.inside.main c.open_room.new.self c.args.at c.args.n (place _ _ _ c.self.view_is c.requires.within) c.in_ok-open_room.ensures.ok in
-    omega (arith, n, place _ _ _ c.self.view_is c.requires.within, c.len-len.ensures.value, c.len.ensures.value, c.len.type_inv)
-
-moved_by : (c : goal.After-carry-2) → c.args.at + (c.len.result - c.len-len.result) ≡ c.args.at + c.args.n
+moved_by : (c : goal.After-carry) → c.args.at + (c.len.result - c.len-len.result) ≡ c.args.at + c.args.n
 moved_by c =
     let n = length-gap c.self.inside.main c.open_room.new.self c.args.at c.args.n (place _ _ _ c.self.view_is c.requires.within) c.in_ok-open_room.ensures.ok in
     omega (arith, n, c.len-len.ensures.value, c.len.ensures.value)
@@ -53,15 +48,15 @@ moved_by c =
 pub invariant_of-self-2 : goal.invariant_of-self-2
 invariant_of-self-2 c =
     let a = c.in_ok-set_apart.ensures in
-    IsStore-opened (store_of c.self.inside) _ _ _ _ _ _ c.args.at c.args.n _ _ c.as_slice.ensures.value c.set_apart.ensures.aside
-    a.saved_apart a.args_apart c.carry.ensures.value c.carry-2.ensures.value
+    rw c.carry.ensures.side (IsStore-opened (store_of c.self.inside) _ _ _ _ _ _ c.args.at c.args.n _ _ c.as_slice.ensures.value c.set_apart.ensures.aside
+    a.saved_apart a.args_apart c.carry.ensures.saved c.carry.ensures.args
     c.self.invariant (low _ _ c.args.at c.self.view_is c.requires.inner) (place _ _ c.args.at c.self.view_is c.requires.within) c.len-len.ensures.value (moved_by c)
-    _ c.in_ok-open_room.ensures.ok
+    _ c.in_ok-open_room.ensures.ok)
 
 pub returns-clause-gap : goal.returns-clause-gap
 returns-clause-gap c =
     let a = c.in_ok-set_apart.ensures in
-    rw (← c.self.view_is) (IsGap-opened (store_of c.self.inside) _ _ _ _ _ _ c.args.at c.args.n _ _ c.as_slice.ensures.value c.set_apart.ensures.aside
-    a.saved_apart a.args_apart c.carry.ensures.value c.carry-2.ensures.value
+    rw (← c.self.view_is, c.carry.ensures.side) (IsGap-opened (store_of c.self.inside) _ _ _ _ _ _ c.args.at c.args.n _ _ c.as_slice.ensures.value c.set_apart.ensures.aside
+    a.saved_apart a.args_apart c.carry.ensures.saved c.carry.ensures.args
     c.self.invariant (low _ _ c.args.at c.self.view_is c.requires.inner) (place _ _ c.args.at c.self.view_is c.requires.within) c.len-len.ensures.value (moved_by c)
     _ c.in_ok-open_room.ensures.ok)
