@@ -1,9 +1,9 @@
 -- A gap in the main text, and what fills it.
-use Rattle.std.proofs.Common.{◌≡◌, ℕ, ◌+◌, ◌-◌, ◌≤◌, Bool, true, false, List, ◌++◌, length, take, drop, slice_range, All, map, refl, sym, ap, ◌∙◌, subst, arith, append_assoc}
+use Rattle.std.proofs.Common.{◌≡◌, ℕ, ◌+◌, ◌≤◌, Bool, true, false, List, ◌++◌, length, take, drop, slice_range, All, map, refl, sym, ap, ◌∙◌, subst, arith, append_assoc}
 use Rattle.std.proofs.lemmas.List.{length-append, length-drop, length-take-le, take_at}
 use Rattle.demangle_text.specs.declared.shape.Piece.{Piece}
 use Rattle.demangle_text.specs.Flags.{lies_aside}
-use Rattle.demangle_text.specs.Pieces.{Store, IsStore, IsApart, IsAside, EndsBy, Extends, HasRoom, carried, home_bytes, piece_text}
+use Rattle.demangle_text.specs.Pieces.{Store, IsStore, IsApart, IsAside, EndsBy, HasRoom, carried, home_bytes, piece_text}
 use Rattle.demangle_text.specs.State.{IsLiving, IsEdit}
 use Rattle.demangle_text.specs.Gaps.{IsGap}
 use Rattle.demangle_text.proofs.Texts.{Moves, part-append, part-below}

@@ -1,6 +1,6 @@
 //! A buffer of pieces over one main text and one side text.
-ghost use Rattle.std.specs.Prelude.{◌≡◌, ℕ, ◌+◌, ◌-◌, ◌<◌, ◌≤◌, [], ◌∷◌, ◌++◌, length, take, if◌then◌else◌, IfOk};
-ghost use Rattle.std.specs.Prelude.{OnOk, OnErr, slice_range, slice_index, is_some};
+ghost use Rattle.std.specs.Prelude.{◌≡◌, ℕ, ◌+◌, ◌-◌, ◌<◌, ◌≤◌, [], ◌++◌, length, take, IfOk};
+ghost use Rattle.std.specs.Prelude.{OnOk, OnErr, slice_range, slice_index, is_some, codes};
 ghost use Rattle.demangle_text.specs.Shape.{gap_after};
 
 use crate::flags::{flagged, is_ctor, is_grouped, is_templ, plain};
@@ -274,6 +274,16 @@ impl Buffer {
         Ok(piece.with_bytes(place, at, bytes.len(), from, self.main.len()))
     }
 
+    /// What opens a group after a text: a space unless the text is empty or ends in a space, `(` or `*`, and `(`.
+    pub fn group_opening(before: &[u8]) -> &'static [u8]
+        ensures value { result.now ≡ gap_after before.now ++ codes "(" }
+    {
+        match before.last() {
+            Some(byte) if !matches!(*byte, b' ' | b'(' | b'*') => b" (",
+            _ => b"(",
+        }
+    }
+
     /// The declarator with a new group of the bytes, after all text up to its `after`, and after a
     /// space where that text isn't empty and doesn't end in a space, `(` or `*`. Ends pieces, copies
     /// a text, and keeps all after `AllocError`, as `append` does.
@@ -288,7 +298,7 @@ impl Buffer {
         ensures main_err { OnErr result (main_bytes self.new ≡ main_bytes self.old) }
     {
         let at = piece.place(Place::Suffix);
-        let front = group_front(&self.bytes(piece)[..at]);
+        let front = Buffer::group_opening(&self.bytes(piece)[..at]);
         let texts = Three {
             front,
             bytes,
@@ -537,21 +547,4 @@ impl Buffer {
     {
         piece.declared(kind, Some(from), at)
     }
-}
-
-// Whether a space goes between a text and a group.
-fn needs_gap(text: &[u8]) -> bool
-    ensures value { gap_after text.now ≡ (if result then 32 ∷ [] else []) }
-{
-    match text.last() {
-        Some(byte) => !matches!(*byte, b' ' | b'(' | b'*'),
-        None => false,
-    }
-}
-
-// What is inserted after a text for a group, in front of its bytes: the gap and `(`.
-fn group_front(text: &[u8]) -> &'static [u8]
-    ensures text { result.now ≡ gap_after text.now ++ 40 ∷ [] }
-{
-    if needs_gap(text) { b" (" } else { b"(" }
 }

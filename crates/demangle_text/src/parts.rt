@@ -38,6 +38,23 @@ pub(crate) fn add_part(
     }
 }
 
+// What was added after the first bytes goes again where an error came.
+#[inline(always)]
+fn taken_back(main: &mut Text, len: usize, added: Result<(), AllocError>) -> Result<(), AllocError>
+    requires within { len ≤ length main.old }
+    ensures same { result ≡ added }
+    ensures ok { OnOk result (main.new ≡ main.old) }
+    ensures err { OnErr result (main.new ≡ take len main.old) }
+{
+    match added {
+        Ok(()) => Ok(()),
+        Err(error) => {
+            main.truncate(len);
+            Err(error)
+        }
+    }
+}
+
 // The text of a piece with three texts at a place of it, or a part of that where memory is refused.
 fn splice_parts(
     main: &mut Text,
@@ -78,13 +95,8 @@ pub(crate) fn add_spliced(
     ensures err { OnErr result (main.new ≡ main.old) }
 {
     let len = main.len();
-    match splice_parts(main, side, piece, at, texts) {
-        Ok(()) => Ok(()),
-        Err(error) => {
-            main.truncate(len);
-            Err(error)
-        }
-    }
+    let added = splice_parts(main, side, piece, at, texts);
+    taken_back(main, len, added)
 }
 
 // The text of a piece and two texts after it. After an error the main text is as it was.
@@ -101,15 +113,10 @@ pub(crate) fn add_extended(
         ++ (piece_text main.old side.now piece ++ (first.now ++ second.now))) }
     ensures err { OnErr result (main.new ≡ main.old) }
 {
-    let end = main.len();
+    let len = main.len();
     add_part(main, side, piece.is_aside(), piece.from_byte, piece.to_byte)?;
-    match main.add_pair(first, second) {
-        Ok(()) => Ok(()),
-        Err(error) => {
-            main.truncate(end);
-            Err(error)
-        }
-    }
+    let added = main.add_pair(first, second);
+    taken_back(main, len, added)
 }
 
 // Two texts with bytes between them, or a part of that where memory is refused.
@@ -155,14 +162,9 @@ pub(crate) fn add_joined(
         ++ bytes.now ++ piece_text main.old side.now second)) }
     ensures err { OnErr result (main.new ≡ main.old) }
 {
-    let before = main.len();
-    match join_parts(main, side, first, bytes, second) {
-        Ok(()) => Ok(()),
-        Err(error) => {
-            main.truncate(before);
-            Err(error)
-        }
-    }
+    let len = main.len();
+    let added = join_parts(main, side, first, bytes, second);
+    taken_back(main, len, added)
 }
 
 // The text of a piece at a place of the main text, by which it ends if it lies there, over the bytes that stood there:

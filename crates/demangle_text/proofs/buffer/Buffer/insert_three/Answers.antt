@@ -1,7 +1,6 @@
 -- The three texts fill a gap for them.
-use Rattle.std.proofs.Common.{◌≡◌, ◌+◌, ◌++◌, ℕ, length, take, drop, ap, sym, arith}
+use Rattle.std.proofs.Common.{◌≡◌, ◌++◌, length, take, drop, sym, arith}
 use Rattle.std.proofs.lemmas.List.{length-append, length-take-le}
-use Rattle.demangle_text.specs.Pieces.{Store}
 use Rattle.demangle_text.specs.View.{store_of}
 use Rattle.demangle_text.specs.Gaps.{IsGap}
 use Rattle.demangle_text.proofs.Rooms.{room-fits, fits-first, fits-second, three-put}

@@ -1,6 +1,5 @@
 -- The bytes fill a gap for them.
-use Rattle.std.proofs.Common.{◌≡◌, ◌+◌, ◌++◌, ℕ, length, take, drop, ap, refl, arith}
-use Rattle.demangle_text.specs.Pieces.{Store}
+use Rattle.std.proofs.Common.{◌≡◌, ◌++◌, length, take, drop, refl, arith}
 use Rattle.demangle_text.specs.View.{store_of}
 use Rattle.demangle_text.specs.Gaps.{IsGap}
 use Rattle.demangle_text.proofs.Gaps.{IsGap-same, IsStore-filled, IsEdit-filled, length-gap, one-put}

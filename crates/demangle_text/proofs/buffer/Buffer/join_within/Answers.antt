@@ -1,7 +1,7 @@
 -- The text and the bytes fill a gap for both.
-use Rattle.std.proofs.Common.{◌≡◌, ◌+◌, ◌-◌, ◌≤◌, ◌++◌, List, ℕ, length, take, drop, ap, sym, ◌∙◌, arith}
+use Rattle.std.proofs.Common.{◌≡◌, ◌+◌, ◌-◌, ◌++◌, List, ℕ, length, take, drop, ap, sym, ◌∙◌, arith}
 use Rattle.std.proofs.lemmas.List.{length-append, length-drop, length-take-le}
-use Rattle.demangle_text.specs.Pieces.{Store, piece_text}
+use Rattle.demangle_text.specs.Pieces.{piece_text}
 use Rattle.demangle_text.specs.State.{IsLiving}
 use Rattle.demangle_text.specs.View.{store_of}
 use Rattle.demangle_text.specs.Gaps.{IsGap}
