@@ -9,8 +9,9 @@ use demangle_edit::{
     Glue, Pointer, Quals, Reference, address, append_number, apply_name_qualifiers,
     attach_template_args, begin_arguments, close_default_arg, close_lambda, close_params,
     collapse_ref, default_arg, end_arguments, expand, format_params, function_type, glue,
-    list_next, open_default_arg, open_params, qualify, qualify_ctor, qualify_text, separate, subexpr, tag, wrap_array, wrap_cv, wrap_member_pointer, wrap_pointer,
-    write_literal, write_literal_of, write_opened_literal,
+    list_next, open_default_arg, open_params, qualify, qualify_ctor, qualify_text, separate,
+    subexpr, tag, wrap_array, wrap_cv, wrap_member_pointer, wrap_pointer, write_literal,
+    write_literal_of, write_opened_literal,
 };
 use demangle_text::{Buffer, Kind, Piece};
 use std::alloc::Global;
@@ -495,7 +496,11 @@ fn arguments_built_as_a_text(rt: HostRuntime) {
 #[tactic(auto, using(demangle_text::proofs::Laws::laws))]
 fn assert_no_arguments(rt: &impl Abort, buf: &mut Buffer) {
     let operator = push(rt, buf, b"operator<");
-    let (len, own, ctor) = (buf.len(operator), buf.own_range(operator), buf.ctor(operator));
+    let (len, own, ctor) = (
+        buf.len(operator),
+        buf.own_range(operator),
+        buf.ctor(operator),
+    );
     let opened = begin_arguments(buf, operator).expect(rt, "no memory");
     let whole = end_arguments(buf, opened, len, own, ctor).expect(rt, "no memory");
     assert_named(rt, buf, whole, b"operator< <>", 0, 9);
