@@ -15,8 +15,9 @@ use std::marker::Model;
 /// A buffer of pieces, with a list of saved shapes and a list of scopes.
 #[derive(Drop)]
 pub struct Buffer {
-    // What is made stands in the main text. What is kept of it is named by both lists, which have the side text.
+    // What is made stands in the main text.
     pub(crate) main: Text,
+    // What is saved and the arguments of all scopes, with the texts of these that a move would have torn.
     pub(crate) lists: Lists,
     // Where the arguments of each scope begin.
     pub(crate) starts: Vec<usize>,
