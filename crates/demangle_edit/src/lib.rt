@@ -11,7 +11,7 @@
 //! entity is read, and `close_default_arg` joins the two after it. Both give the same shape.
 //!
 //! A list after a name is put together from pieces (`attach_template_args`, `format_params`), or built as it is
-//! read: what opens it, then for each text `separate` before it is read and `list_next` after it (`join` of the
+//! read: what opens it, then `separate` before each text but the first, and `list_next` after each (`join` of the
 //! buffer in a list that `begin_arguments` began), then what closes it. Both give the same shape.
 #![tactic(auto)]
 
@@ -27,8 +27,8 @@ pub use crate::expressions::{
     address, subexpr, write_literal, write_literal_of, write_opened_literal,
 };
 pub use crate::lists::{
-    append_number, begin_arguments, close_arguments, close_lambda, close_params, end_arguments,
-    glue, list_next, open_arguments, open_params, separate,
+    append_number, begin_arguments, close_lambda, close_params, end_arguments, glue, list_next,
+    open_params, separate,
 };
 pub use crate::names::{
     apply_name_qualifiers, attach_template_args, close_default_arg, default_arg, format_params,

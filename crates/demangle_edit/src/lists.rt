@@ -1,5 +1,5 @@
 //! Texts that follow one another, and lists that are built as they are read.
-ghost use Rattle.std.specs.Prelude.{◌≡◌, ◌≤◌, ◌++◌, All, map, decimal, IfOk, OnOk};
+ghost use Rattle.std.specs.Prelude.{◌≡◌, ◌≤◌, ◌++◌, All, map, decimal, IfOk, OnOk, false};
 ghost use Rattle.demangle_text.specs.Shape.{text, text_len, plain_shape, appended};
 ghost use Rattle.demangle_text.specs.State.{IsLiving, shape, Lives, IsEdit, KeepsAll};
 ghost use Rattle.demangle_text.specs.State.{StaysInPlace, JoinsInPlace, Appends};
@@ -12,7 +12,6 @@ ghost use Rattle.demangle_edit.specs.Built.{params_opened, params_closed, lambda
 
 use crate::appends::{append_piece, range_before};
 use crate::dimensions::{MOST_DIGITS, number_bytes};
-use crate::names::gap_before_args;
 use crate::parts::Glue;
 use demangle_quals::{Quals, reference_bytes};
 use demangle_text::{Buffer, Piece};
@@ -99,25 +98,25 @@ pub(crate) fn list_more(
     append_piece(buf, list, separator_bytes(first), next)
 }
 
-/// A list that is built as it is read, before its next text: `, ` at its end, and nothing before the
-/// first text. A plain piece with the last own name and the flags that the list had.
+/// A list that is built as it is read, before a text that isn't its first: `, ` at its end. A plain
+/// piece with the last own name and the flags that the list had.
 ///
-/// The list is what `open_arguments` or `open_params` answers, or a piece of the bytes that open it:
-/// `{lambda(` for a lambda, none for a pack. Of each text `separate` comes before it is read, and
-/// `list_next` after it; after `begin_arguments` it is `join` of the buffer that comes after it. A
-/// pack needs no end but `whole` of the buffer.
+/// The list is what `begin_arguments` or `open_params` answers, or a piece of the bytes that open it:
+/// `{lambda(` for a lambda, none for a pack. Of each text but the first `separate` comes before it is
+/// read, and of each `list_next` after it; after `begin_arguments` it is `join` of the buffer that
+/// comes after it. A pack needs no end but `whole` of the buffer.
 ///
 /// An error comes where memory is refused, and then only `clear` of the buffer is promised.
 #[inline(always)]
 #[tactic(auto, using(demangle_text::proofs::Laws::laws))]
-pub fn separate(buf: &mut Buffer, list: Piece, first: bool) -> Result<Piece, AllocError>
+pub fn separate(buf: &mut Buffer, list: Piece) -> Result<Piece, AllocError>
     requires list { IsLiving buf.old list }
-    ensures shape { IfOk result (λ p. Lives buf.new p (separated first (shape buf.old list))) }
+    ensures shape { IfOk result (λ p. Lives buf.new p (separated false (shape buf.old list))) }
     ensures edit { OnOk result (IsEdit buf.old buf.new) }
     ensures in_place { IfOk result (λ p. StaysInPlace buf.old buf.new list p) }
 {
     let plain = buf.plain(list);
-    buf.append(plain, separator_bytes(first))
+    buf.append(plain, b", ")
 }
 
 /// A list that is built as it is read, with the text of the piece at its end. A plain piece with the
@@ -137,15 +136,11 @@ pub fn list_next(buf: &mut Buffer, list: Piece, next: Piece) -> Result<Piece, Al
     append_piece(buf, list, b"", next)
 }
 
-/// The name with the `<` of its template arguments, after a space where the name ends in `<`. A
-/// plain piece with the last own name and the flag `ctor` of the name; `templ` holds.
-///
-/// With each argument by `separate` and `list_next` and then `close_arguments` it is what `attach_template_args`
-/// makes of the name and the list. An error comes where memory is refused, and then only `clear` of
-/// the buffer is promised.
+// The name with the `<` of its template arguments, after a space where the name ends in `<`. A
+// plain piece with the last own name and the flag `ctor` of the name; `templ` holds.
 #[inline(always)]
 #[tactic(auto, using(demangle_text::proofs::Laws::laws, crate::proofs::Insertions::insertions))]
-pub fn open_arguments(buf: &mut Buffer, name: Piece) -> Result<Piece, AllocError>
+fn open_arguments(buf: &mut Buffer, name: Piece) -> Result<Piece, AllocError>
     requires name { IsLiving buf.old name }
     ensures shape { IfOk result (λ p. Lives buf.new p (arguments_opened (shape buf.old name))) }
     ensures edit { OnOk result (IsEdit buf.old buf.new) }
@@ -162,12 +157,10 @@ pub fn open_arguments(buf: &mut Buffer, name: Piece) -> Result<Piece, AllocError
     Ok(buf.with_flags(opened, true, ctor))
 }
 
-/// The list of template arguments with its `>`, after a space where its text ends in `>`.
-///
-/// An error comes where memory is refused, and then only `clear` of the buffer is promised.
+// The list of template arguments with its `>`, after a space where its text ends in `>`.
 #[inline(always)]
 #[tactic(auto, using(demangle_text::proofs::Laws::laws))]
-pub fn close_arguments(buf: &mut Buffer, list: Piece) -> Result<Piece, AllocError>
+fn close_arguments(buf: &mut Buffer, list: Piece) -> Result<Piece, AllocError>
     requires list { IsLiving buf.old list }
     ensures shape { IfOk result (λ p. Lives buf.new p (arguments_closed (shape buf.old list))) }
     ensures edit { OnOk result (IsEdit buf.old buf.new) }
@@ -183,7 +176,7 @@ pub fn close_arguments(buf: &mut Buffer, list: Piece) -> Result<Piece, AllocErro
 
 /// The text of the name with the `<` of its template arguments, after a space where it ends in `<`, as a plain piece.
 ///
-/// The list is built as a text: each argument by `separate` and then `join` of the buffer. `end_arguments` gives it
+/// The list is built as a text: `separate` before each argument but the first, and `join` of the buffer after each. `end_arguments` gives it
 /// what the name was. An error comes where memory is refused, and then only `clear` of the buffer is promised.
 #[inline(always)]
 #[tactic(auto, using(demangle_text::proofs::Laws::laws, crate::proofs::Built::begun_text))]
@@ -231,7 +224,7 @@ pub fn end_arguments(
 /// The name with the `(` of its parameters. A plain piece with the last own name and the flag `ctor`
 /// of the name; `templ` doesn't hold.
 ///
-/// With each parameter by `separate` and `list_next` and then `close_params` it is what `format_params` makes of
+/// With `separate` before each parameter but the first, `list_next` after each and then `close_params` it is what `format_params` makes of
 /// the name, the parameters and the qualifiers. An error comes where memory is refused, and then
 /// only `clear` of the buffer is promised.
 #[tactic(auto, using(demangle_text::proofs::Laws::laws))]

@@ -149,7 +149,7 @@ pub fn qualify_ctor(buf: &mut Buffer, scope: Piece, destructor: bool) -> Result<
 
 // What stands between a name's text and its template arguments.
 #[inline(always)]
-pub(crate) fn gap_before_args(name: &[u8]) -> &'static [u8]
+fn gap_before_args(name: &[u8]) -> &'static [u8]
     ensures value { result.now ≡ angle_gap name.now }
 {
     if name.ends_with(b"<") { b" " } else { b"" }

@@ -268,23 +268,6 @@ fn append_member(buf: &mut Buffer, class: Piece, member: Piece) -> Result<Piece,
     buf.append(begun, b"::*")
 }
 
-// What opens a group after a text: a space unless the text is empty or ends in a space, `(` or
-// `*`, and `(`.
-fn group_opening(text: &[u8]) -> &'static [u8]
-    ensures value { result.now ≡ gap_after text.now ++ codes "(" }
-{
-    match text.last() {
-        Some(byte) => {
-            if matches!(*byte, b' ' | b'(' | b'*') {
-                b"("
-            } else {
-                b" ("
-            }
-        }
-        None => b"(",
-    }
-}
-
 // The text of a declarator, cut where `after` begins.
 #[tactic(auto, using(crate::proofs::Members::members))]
 fn cut_declarator(buf: &Buffer, piece: Piece) -> (Piece, Piece)
@@ -318,7 +301,7 @@ fn join_member(
     ensures kept { OnOk result (KeepsAll buf.old buf.new) }
     ensures appends { IfOk result (λ p. Appends buf.old buf.new p) }
 {
-    let opening = group_opening(buf.bytes(front));
+    let opening = Buffer::group_opening(buf.bytes(front));
     let mark = buf.open();
     let begun = buf.join(front, opening, class)?;
     let whole = buf.join(begun, b"::*)", after)?;

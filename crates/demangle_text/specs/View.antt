@@ -6,9 +6,9 @@ use Rattle.demangle_text.specs.Pieces.{Store, IsStore}
 abbrev pub store_of : Inside → Store
 store_of a = record {
   main_text = a.main;
-  side_text = a.side;
-  saved_pieces = a.saved;
-  arg_pieces = a.args;
+  side_text = a.lists.side;
+  saved_pieces = a.lists.saved;
+  arg_pieces = a.lists.args;
   scope_starts = a.starts.items;
   frame_main = a.frame_main;
   frame_side = a.frame_side;

@@ -1,12 +1,11 @@
 //! A buffer of pieces over one main text and one side text.
-ghost use Rattle.std.specs.Prelude.{◌≡◌, ℕ, ◌+◌, ◌-◌, ◌<◌, ◌≤◌, [], ◌∷◌, ◌++◌, length, take, drop, if◌then◌else◌, IfOk};
-ghost use Rattle.std.specs.Prelude.{OnOk, OnErr, IfSome, Some, true, option_map, slice_get, slice_range, slice_index};
-ghost use Rattle.std.specs.Prelude.{is_some};
-ghost use Rattle.demangle_text.specs.Shape.{gap_after, grouped};
+ghost use Rattle.std.specs.Prelude.{◌≡◌, ℕ, ◌+◌, ◌-◌, ◌<◌, ◌≤◌, [], ◌++◌, length, take, IfOk};
+ghost use Rattle.std.specs.Prelude.{OnOk, OnErr, slice_range, slice_index, is_some, codes};
+ghost use Rattle.demangle_text.specs.Shape.{gap_after};
 
 use crate::flags::{flagged, is_ctor, is_grouped, is_templ, plain};
-use crate::moves::{carry, set_apart};
-use crate::parts::{add_extended, add_joined, add_part, add_spliced, insert_joined};
+use crate::moves::Lists;
+use crate::parts::Three;
 use crate::ranges::Ranges;
 use crate::shape::{Kind, Mark, Piece, Place};
 use growing_text::Text;
@@ -16,16 +15,15 @@ use std::marker::Model;
 /// A buffer of pieces, with a list of saved shapes and a list of scopes.
 #[derive(Drop)]
 pub struct Buffer {
-    // The texts of pieces: what is made stands in the main text, and what a move would tear in the side text.
-    main: Text,
-    side: Text,
-    saved: Ranges,
-    // The arguments of all scopes, and where those of each scope begin.
-    args: Ranges,
-    starts: Vec<usize>,
+    // What is made stands in the main text.
+    pub(crate) main: Text,
+    // What is saved and the arguments of all scopes, with the texts of these that a move would have torn.
+    pub(crate) lists: Lists,
+    // Where the arguments of each scope begin.
+    pub(crate) starts: Vec<usize>,
     // How long both texts were at the innermost mark.
-    frame_main: usize,
-    frame_side: usize,
+    pub(crate) frame_main: usize,
+    pub(crate) frame_side: usize,
 }
 
 impl Model for Buffer {
@@ -54,18 +52,15 @@ crate::specs::State::inside, crate::specs::State::outside,
 // Lists.
 crate::specs::State::saved, crate::specs::State::scopes,),)]
 impl Buffer {
-    ghost use Rattle.demangle_text.specs.State.{IsLiving, shape, saved, scopes, frame, inside, outside, outermost};
-    ghost use Rattle.demangle_text.specs.State.{Lives, KeepsAll, SameFrame, SameLists, IsEdit, Opens, Closes};
-    ghost use Rattle.demangle_text.specs.State.{last_args, with_arg, IsAsOld, main_bytes, Stands, StandsAs, StandsShortened};
-    ghost use Rattle.demangle_text.specs.State.{frame_start, Frame, IsOlder, KeepsFront, IsEditOf, IsJoinOf};
-    ghost use Rattle.demangle_text.specs.Shape.{text, text_len, form_text, plain_shape, inserted, appended};
-    ghost use Rattle.demangle_text.specs.Shape.{opened_group, shortened};
-    ghost use Rattle.demangle_text.specs.Calls.{joined, CanInsert, IsPlain, IsDeclared};
-    ghost use Rattle.demangle_text.specs.Shape.{flagged, with_own, flattened, whole_shape, own_shape};
-    ghost use Rattle.demangle_text.specs.Calls.{IsNotFunction};
+    ghost use Rattle.demangle_text.specs.State.{IsLiving, shape, saved, scopes, frame, inside, outermost, Lives};
+    ghost use Rattle.demangle_text.specs.State.{KeepsAll, IsEdit, Opens, Closes, IsAsOld, main_bytes, Stands};
+    ghost use Rattle.demangle_text.specs.State.{StandsAs, StandsShortened, frame_start, Frame, IsOlder, KeepsFront};
+    ghost use Rattle.demangle_text.specs.State.{IsEditOf, IsJoinOf};
+    ghost use Rattle.demangle_text.specs.Shape.{text, text_len, plain_shape, inserted, appended, opened_group};
+    ghost use Rattle.demangle_text.specs.Shape.{shortened, flagged, with_own, flattened, whole_shape, own_shape};
     ghost use Rattle.demangle_text.specs.Shape.{declared_at};
-    ghost use Rattle.demangle_text.specs.Calls.{kind_of, group_of, after_of, declared_group};
-    ghost use Rattle.demangle_text.specs.Pieces.{IsTail, IsSplice, IsAdjacent, IsJoint, IsAt, EndsBy, outline_of, piece_text, own_text};
+    ghost use Rattle.demangle_text.specs.Calls.{joined, CanInsert, IsPlain, IsDeclared, IsNotFunction, kind_of};
+    ghost use Rattle.demangle_text.specs.Calls.{group_of, after_of, declared_group};
 
     /// An empty buffer, with no mark open. It takes no memory.
     pub fn new(alloc: Global) -> Self
@@ -77,9 +72,11 @@ impl Buffer {
     {
         Buffer {
             main: Text::new(alloc),
-            side: Text::new(alloc),
-            saved: Ranges::new(alloc),
-            args: Ranges::new(alloc),
+            lists: Lists {
+                side: Text::new(alloc),
+                saved: Ranges::new(alloc),
+                args: Ranges::new(alloc),
+            },
             starts: Vec::new(alloc),
             frame_main: 0,
             frame_side: 0,
@@ -95,11 +92,11 @@ impl Buffer {
         ensures no_bytes { main_bytes self.new ≡ [] }
         ensures from_start { frame_start (frame self.new) ≡ 0 }
     {
-        self.saved.clear();
-        self.args.clear();
+        self.lists.saved.clear();
+        self.lists.args.clear();
         self.starts.clear();
         self.main.clear();
-        self.side.clear();
+        self.lists.side.clear();
         self.frame_main = 0;
         self.frame_side = 0;
     }
@@ -114,7 +111,7 @@ impl Buffer {
     {
         let mark = Mark {
             inside_main: self.main.len(),
-            inside_side: self.side.len(),
+            inside_side: self.lists.side.len(),
             outside_main: self.frame_main,
             outside_side: self.frame_side,
         };
@@ -155,87 +152,6 @@ impl Buffer {
         self.settle(mark.inside_main, piece)?;
         self.frame_main = mark.outside_main;
         self.frame_side = mark.outside_side;
-        Ok(())
-    }
-
-    // The text of a piece becomes all of the main text since the innermost mark.
-    #[inline(always)]
-    fn settle(&mut self, at: usize, piece: &mut Piece) -> Result<(), AllocError>
-        requires mark { self.old.frame_main ≡ at }
-        requires living { IsLiving self.old piece.old }
-        ensures edit { OnOk result (IsEdit self.old self.new) }
-        ensures main { OnOk result (self.new.main_text ≡ take at self.old.main_text
-            ++ piece_text self.old.main_text self.old.side_text piece.old) }
-        ensures stands { OnOk result (IsAt piece.new at (length self.new.main_text)) }
-        ensures outline { OnOk result (outline_of piece.new ≡ outline_of piece.old) }
-        ensures within { at ≤ length self.old.main_text }
-    {
-        let len = self.main.len();
-        if !piece.is_aside() && piece.from_byte == at && piece.to_byte == len {
-            return Ok(());
-        }
-        self.settle_elsewhere(at, piece)
-    }
-
-    // The same of a piece that stands elsewhere.
-    #[inline(always)]
-    fn settle_elsewhere(&mut self, at: usize, piece: &mut Piece) -> Result<(), AllocError>
-        requires mark { self.old.frame_main ≡ at }
-        requires living { IsLiving self.old piece.old }
-        ensures edit { OnOk result (IsEdit self.old self.new) }
-        ensures main { OnOk result (self.new.main_text ≡ take at self.old.main_text
-            ++ piece_text self.old.main_text self.old.side_text piece.old) }
-        ensures stands { OnOk result (IsAt piece.new at (length self.new.main_text)) }
-        ensures outline { OnOk result (outline_of piece.new ≡ outline_of piece.old) }
-    {
-        self.move_down(at, piece.alone())?;
-        *piece = piece.moved_to(at, self.main.len());
-        Ok(())
-    }
-
-    // The text of a piece that stands elsewhere becomes all of the main text since the innermost mark.
-    #[cold]
-    #[inline(never)]
-    fn move_down(&mut self, at: usize, piece: Piece) -> Result<(), AllocError>
-        requires mark { self.old.frame_main ≡ at }
-        requires living { IsLiving self.old piece }
-        ensures edit { OnOk result (IsEdit self.old self.new) }
-        ensures main { OnOk result (self.new.main_text ≡ take at self.old.main_text
-            ++ piece_text self.old.main_text self.old.side_text piece) }
-    {
-        if piece.is_aside() || piece.from_byte < at {
-            let from = self.copy_text(piece)?;
-            if from == at {
-                return Ok(());
-            }
-            let to = self.main.len();
-            return self.keep_block(at, from, to);
-        }
-        self.keep_block(at, piece.from_byte, piece.to_byte)
-    }
-
-    // A block of the main text moves down to the innermost mark, and all else since the mark goes.
-    fn keep_block(&mut self, at: usize, from: usize, to: usize) -> Result<(), AllocError>
-        requires mark { self.old.frame_main ≡ at }
-        requires before { at ≤ from }
-        requires ordered { from ≤ to }
-        requires within { to ≤ length self.old.main_text }
-        ensures edit { OnOk result (IsEdit self.old self.new) }
-        ensures main { OnOk result (self.new.main_text ≡ take at self.old.main_text
-            ++ slice_range self.old.main_text from to) }
-    {
-        set_apart(
-            self.main.as_slice(),
-            &mut self.side,
-            &mut self.saved,
-            &mut self.args,
-            at,
-            from,
-            to,
-        )?;
-        self.main.keep(at, from, to);
-        carry(&mut self.saved, at, from, to, at);
-        carry(&mut self.args, at, from, to, at);
         Ok(())
     }
 
@@ -280,199 +196,6 @@ impl Buffer {
         Ok(piece.moved_to(from, self.main.len()))
     }
 
-    // The text of a piece at the end of the main text: where it begins.
-    #[inline(never)]
-    fn copy_text(&mut self, piece: Piece) -> Result<usize, AllocError>
-        requires living { IsLiving self.old piece }
-        ensures from { IfOk result (λ from. from ≡ length self.old.main_text) }
-        ensures inner { self.old.frame_main ≤ length self.old.main_text }
-        ensures kept { KeepsAll self.old self.new }
-        ensures main { OnOk result (self.new.main_text ≡ self.old.main_text
-            ++ piece_text self.old.main_text self.old.side_text piece) }
-        ensures main_err { OnErr result (self.new.main_text ≡ self.old.main_text) }
-    {
-        let from = self.main.len();
-        add_part(
-            &mut self.main,
-            &self.side,
-            piece.is_aside(),
-            piece.from_byte,
-            piece.to_byte,
-        )?;
-        Ok(from)
-    }
-
-    // Whether the piece lies in the main text, from the innermost mark or later up to the end.
-    #[inline(always)]
-    fn is_tail(&self, piece: Piece) -> bool
-        ensures tail { result ≡ true → IsTail self.now piece }
-        ensures other { IsTail self.now piece → result ≡ true }
-    {
-        !piece.is_aside() && self.frame_main <= piece.from_byte && piece.to_byte == self.main.len()
-    }
-
-    // Bytes at a place of the main text since the innermost mark: what lies after it moves on.
-    #[inline(always)]
-    fn insert_at(&mut self, at: usize, bytes: &[u8]) -> Result<(), AllocError>
-        requires inner { self.old.frame_main ≤ at }
-        requires within { at ≤ length self.old.main_text }
-        ensures edit { OnOk result (IsEdit self.old self.new) }
-        ensures err { OnErr result (KeepsAll self.old self.new) }
-        ensures main { OnOk result (self.new.main_text ≡ take at self.old.main_text
-            ++ (bytes.now ++ drop at self.old.main_text)) }
-        ensures main_err { OnErr result (self.new.main_text ≡ self.old.main_text) }
-    {
-        if at == self.main.len() {
-            return self.add_bytes(bytes);
-        }
-        if bytes.is_empty() {
-            return Ok(());
-        }
-        self.insert_within(at, bytes)
-    }
-
-    // Bytes at the end of the main text.
-    #[inline(always)]
-    fn add_bytes(&mut self, bytes: &[u8]) -> Result<(), AllocError>
-        ensures kept { KeepsAll self.old self.new }
-        ensures main { OnOk result (self.new.main_text ≡ self.old.main_text ++ bytes.now) }
-        ensures main_err { OnErr result (self.new.main_text ≡ self.old.main_text) }
-    {
-        self.main.add(bytes)?;
-        Ok(())
-    }
-
-    // Bytes at a place of the main text that has bytes after it.
-    #[inline(never)]
-    fn insert_within(&mut self, at: usize, bytes: &[u8]) -> Result<(), AllocError>
-        requires inner { self.old.frame_main ≤ at }
-        requires within { at ≤ length self.old.main_text }
-        ensures edit { OnOk result (IsEdit self.old self.new) }
-        ensures err { OnErr result (KeepsAll self.old self.new) }
-        ensures main { OnOk result (self.new.main_text ≡ take at self.old.main_text
-            ++ (bytes.now ++ drop at self.old.main_text)) }
-        ensures main_err { OnErr result (self.new.main_text ≡ self.old.main_text) }
-    {
-        let len = self.main.len();
-        set_apart(
-            self.main.as_slice(),
-            &mut self.side,
-            &mut self.saved,
-            &mut self.args,
-            at,
-            at,
-            len,
-        )?;
-        self.main.insert(at, bytes)?;
-        carry(&mut self.saved, at, at, len, at + bytes.len());
-        carry(&mut self.args, at, at, len, at + bytes.len());
-        Ok(())
-    }
-
-    // The text of a piece with bytes at a place of it, at the end of the main text: where it begins.
-    #[inline(always)]
-    fn splice(&mut self, piece: Piece, at: usize, bytes: &[u8]) -> Result<usize, AllocError>
-        requires living { IsLiving self.old piece }
-        requires within { at ≤ piece.to_byte - piece.from_byte }
-        ensures splice { IfOk result (IsSplice self.old self.new piece at bytes.now) }
-        ensures edit { OnOk result (IsEdit self.old self.new) }
-        ensures err { OnErr result (KeepsAll self.old self.new) }
-        ensures main_err { OnErr result (self.new.main_text ≡ self.old.main_text) }
-    {
-        if self.is_tail(piece) {
-            self.insert_at(piece.from_byte + at, bytes)?;
-            return Ok(piece.from_byte);
-        }
-        if at == piece.text_len() {
-            return self.extend_elsewhere(piece, bytes, b"");
-        }
-        self.splice_elsewhere(piece, at, b"", bytes, b"")
-    }
-
-    // `extend_copy` of the piece's text alone. It is inlined, so that this second piece is made on no other way.
-    #[inline(always)]
-    fn extend_elsewhere(
-        &mut self,
-        piece: Piece,
-        first: &[u8],
-        second: &[u8],
-    ) -> Result<usize, AllocError>
-        requires living { IsLiving self.old piece }
-        requires apart { IsTail self.old piece → ⊥ }
-        ensures splice { IfOk result (IsSplice self.old self.new piece (piece.to_byte - piece.from_byte)
-            (first.now ++ second.now)) }
-        ensures kept { KeepsAll self.old self.new }
-        ensures main_err { OnErr result (self.new.main_text ≡ self.old.main_text) }
-    {
-        self.extend_copy(piece.alone(), first, second)
-    }
-
-    // `splice_copy` of the piece's text alone, inlined as well.
-    #[inline(always)]
-    fn splice_elsewhere(
-        &mut self,
-        piece: Piece,
-        at: usize,
-        front: &[u8],
-        bytes: &[u8],
-        back: &[u8],
-    ) -> Result<usize, AllocError>
-        requires living { IsLiving self.old piece }
-        requires within { at ≤ piece.to_byte - piece.from_byte }
-        requires apart { IsTail self.old piece → ⊥ }
-        ensures splice { IfOk result (IsSplice self.old self.new piece at
-            (front.now ++ (bytes.now ++ back.now))) }
-        ensures kept { KeepsAll self.old self.new }
-        ensures main_err { OnErr result (self.new.main_text ≡ self.old.main_text) }
-    {
-        self.splice_copy(piece.alone(), at, front, bytes, back)
-    }
-
-    // The text of a piece that doesn't stand at the end, with both texts after it, at the end of the main text: where
-    // it begins.
-    #[inline(never)]
-    fn extend_copy(
-        &mut self,
-        piece: Piece,
-        first: &[u8],
-        second: &[u8],
-    ) -> Result<usize, AllocError>
-        requires living { IsLiving self.old piece }
-        requires apart { IsTail self.old piece → ⊥ }
-        ensures splice { IfOk result (IsSplice self.old self.new piece (piece.to_byte - piece.from_byte)
-            (first.now ++ second.now)) }
-        ensures kept { KeepsAll self.old self.new }
-        ensures main_err { OnErr result (self.new.main_text ≡ self.old.main_text) }
-    {
-        let from = self.main.len();
-        add_extended(&mut self.main, &self.side, piece, first, second)?;
-        Ok(from)
-    }
-
-    // The text of a piece that doesn't stand at the end, with three texts at a place of it, at the end of the main
-    // text: where it begins.
-    #[inline(never)]
-    fn splice_copy(
-        &mut self,
-        piece: Piece,
-        at: usize,
-        front: &[u8],
-        bytes: &[u8],
-        back: &[u8],
-    ) -> Result<usize, AllocError>
-        requires living { IsLiving self.old piece }
-        requires within { at ≤ piece.to_byte - piece.from_byte }
-        requires apart { IsTail self.old piece → ⊥ }
-        ensures splice { IfOk result (IsSplice self.old self.new piece at
-            (front.now ++ (bytes.now ++ back.now))) }
-        ensures kept { KeepsAll self.old self.new }
-        ensures main_err { OnErr result (self.new.main_text ≡ self.old.main_text) }
-    {
-        let from = self.main.len();
-        add_spliced(&mut self.main, &self.side, piece, at, front, bytes, back)?;
-        Ok(from)
-    }
-
     /// The piece with the bytes at the end of its text. It ends the other pieces made since the
     /// innermost mark. A piece that stands up to the end of the main text, from the innermost mark
     /// or later, stays there; the text of any other is copied to the end first. After `AllocError`
@@ -513,39 +236,6 @@ impl Buffer {
         Ok(piece.with_bytes(Place::End, at, n, from, self.main.len()))
     }
 
-    // The text of a piece with both texts after it, at the end of the main text: where it begins.
-    #[inline(always)]
-    fn splice_pair(
-        &mut self,
-        piece: Piece,
-        first: &[u8],
-        second: &[u8],
-    ) -> Result<usize, AllocError>
-        requires living { IsLiving self.old piece }
-        ensures splice { IfOk result (IsSplice self.old self.new piece (piece.to_byte - piece.from_byte)
-            (first.now ++ second.now)) }
-        ensures edit { OnOk result (IsEdit self.old self.new) }
-        ensures err { OnErr result (KeepsAll self.old self.new) }
-        ensures main_err { OnErr result (self.new.main_text ≡ self.old.main_text) }
-    {
-        if self.is_tail(piece) {
-            self.add_pair(first, second)?;
-            return Ok(piece.from_byte);
-        }
-        self.extend_elsewhere(piece, first, second)
-    }
-
-    // Two texts at the end of the main text.
-    #[inline(always)]
-    fn add_pair(&mut self, first: &[u8], second: &[u8]) -> Result<(), AllocError>
-        ensures kept { KeepsAll self.old self.new }
-        ensures main { OnOk result (self.new.main_text ≡ self.old.main_text ++ (first.now ++ second.now)) }
-        ensures main_err { OnErr result (self.new.main_text ≡ self.old.main_text) }
-    {
-        self.main.add_pair(first, second)?;
-        Ok(())
-    }
-
     /// The piece with the bytes and then its own last own name at the end of its text. Ends pieces,
     /// copies a text, and keeps all after `AllocError`, as `append` does.
     #[inline(always)]
@@ -564,40 +254,6 @@ impl Buffer {
         let n = between.len() + (piece.own_end - piece.own_start);
         let at = piece.place(Place::End);
         Ok(piece.with_bytes(Place::End, at, n, from, to))
-    }
-
-    // The text of a piece with bytes and its last own name after it, at the end of the main text: where it begins.
-    #[inline(never)]
-    fn splice_own(&mut self, piece: Piece, between: &[u8]) -> Result<usize, AllocError>
-        requires living { IsLiving self.old piece }
-        ensures splice { IfOk result (IsSplice self.old self.new piece (piece.to_byte - piece.from_byte)
-            (between.now ++ own_text self.old.main_text self.old.side_text piece)) }
-        ensures edit { OnOk result (IsEdit self.old self.new) }
-        ensures err { OnErr result (KeepsAll self.old self.new) }
-        ensures main_err { OnErr result (self.new.main_text ≡ self.old.main_text) }
-    {
-        let name = piece.own_name();
-        if self.is_tail(piece) {
-            self.add_with_part(between, name.from_byte, name.to_byte)?;
-            return Ok(piece.from_byte);
-        }
-        let from = self.main.len();
-        add_joined(&mut self.main, &self.side, piece, between, name)?;
-        Ok(from)
-    }
-
-    // Bytes at the end of the main text, and a part of it once more after them.
-    #[inline(always)]
-    fn add_with_part(&mut self, bytes: &[u8], from: usize, to: usize) -> Result<(), AllocError>
-        requires ordered { from ≤ to }
-        requires within { to ≤ length self.old.main_text }
-        ensures kept { KeepsAll self.old self.new }
-        ensures main { OnOk result (self.new.main_text ≡ self.old.main_text
-            ++ (bytes.now ++ slice_range self.old.main_text from to)) }
-        ensures main_err { OnErr result (self.new.main_text ≡ self.old.main_text) }
-    {
-        self.main.add_with_part(bytes, from, to)?;
-        Ok(())
     }
 
     /// The piece with the bytes at a place of its text: `Close` asks for a group, `Suffix` for a
@@ -619,6 +275,16 @@ impl Buffer {
         Ok(piece.with_bytes(place, at, bytes.len(), from, self.main.len()))
     }
 
+    /// What opens a group after a text: a space unless the text is empty or ends in a space, `(` or `*`, and `(`.
+    pub fn group_opening(before: &[u8]) -> &'static [u8]
+        ensures value { result.now ≡ gap_after before.now ++ codes "(" }
+    {
+        match before.last() {
+            Some(byte) if !matches!(*byte, b' ' | b'(' | b'*') => b" (",
+            _ => b"(",
+        }
+    }
+
     /// The declarator with a new group of the bytes, after all text up to its `after`, and after a
     /// space where that text isn't empty and doesn't end in a space, `(` or `*`. Ends pieces, copies
     /// a text, and keeps all after `AllocError`, as `append` does.
@@ -633,67 +299,15 @@ impl Buffer {
         ensures main_err { OnErr result (main_bytes self.new ≡ main_bytes self.old) }
     {
         let at = piece.place(Place::Suffix);
-        let front = group_front(&self.bytes(piece)[..at]);
-        let from = self.splice_three(piece, at, front, bytes, b")")?;
+        let front = Buffer::group_opening(&self.bytes(piece)[..at]);
+        let texts = Three {
+            front,
+            bytes,
+            back: b")",
+        };
+        let from = self.splice_three(piece, at, texts)?;
         let n = front.len() + bytes.len() + 1;
         Ok(piece.with_group(at, n, bytes.len() + 2, from, self.main.len()))
-    }
-
-    // The text of a piece with three texts at a place of it, at the end of the main text: where it begins.
-    fn splice_three(
-        &mut self,
-        piece: Piece,
-        at: usize,
-        front: &[u8],
-        bytes: &[u8],
-        back: &[u8],
-    ) -> Result<usize, AllocError>
-        requires living { IsLiving self.old piece }
-        requires within { at ≤ piece.to_byte - piece.from_byte }
-        ensures splice { IfOk result (IsSplice self.old self.new piece at
-            (front.now ++ (bytes.now ++ back.now))) }
-        ensures edit { OnOk result (IsEdit self.old self.new) }
-        ensures err { OnErr result (KeepsAll self.old self.new) }
-        ensures main_err { OnErr result (self.new.main_text ≡ self.old.main_text) }
-    {
-        if self.is_tail(piece) {
-            self.insert_three(piece.from_byte + at, front, bytes, back)?;
-            return Ok(piece.from_byte);
-        }
-        self.splice_elsewhere(piece, at, front, bytes, back)
-    }
-
-    // Three texts at a place of the main text since the innermost mark: what lies after it moves on.
-    fn insert_three(
-        &mut self,
-        at: usize,
-        front: &[u8],
-        bytes: &[u8],
-        back: &[u8],
-    ) -> Result<(), AllocError>
-        requires inner { self.old.frame_main ≤ at }
-        requires within { at ≤ length self.old.main_text }
-        ensures edit { OnOk result (IsEdit self.old self.new) }
-        ensures err { OnErr result (KeepsAll self.old self.new) }
-        ensures main { OnOk result (self.new.main_text ≡ take at self.old.main_text
-            ++ ((front.now ++ (bytes.now ++ back.now)) ++ drop at self.old.main_text)) }
-        ensures main_err { OnErr result (self.new.main_text ≡ self.old.main_text) }
-    {
-        let len = self.main.len();
-        set_apart(
-            self.main.as_slice(),
-            &mut self.side,
-            &mut self.saved,
-            &mut self.args,
-            at,
-            at,
-            len,
-        )?;
-        self.main.insert_three(at, front, bytes, back)?;
-        let next = at + (self.main.len() - len);
-        carry(&mut self.saved, at, at, len, next);
-        carry(&mut self.args, at, at, len, next);
-        Ok(())
     }
 
     /// The plain piece without its last n bytes. Its last own name is what is left of it. The main
@@ -737,107 +351,6 @@ impl Buffer {
         Ok(Piece::whole_at(from, self.main.len()))
     }
 
-    // Both texts with bytes between them, at the end of the main text: where they begin there.
-    #[inline(always)]
-    fn join_texts(&mut self, first: Piece, bytes: &[u8], second: Piece) -> Result<usize, AllocError>
-        requires first_living { IsLiving self.old first }
-        requires second_living { IsLiving self.old second }
-        ensures joint { IfOk result (IsJoint self.old self.new first bytes.now second) }
-        ensures edit { OnOk result (IsEdit self.old self.new) }
-        ensures err { OnErr result (KeepsAll self.old self.new) }
-        ensures main_err { OnErr result (self.new.main_text ≡ self.old.main_text) }
-    {
-        if self.are_adjacent(first, second) {
-            self.insert_at(second.from_byte, bytes)?;
-            return Ok(first.from_byte);
-        }
-        self.join_apart(first, bytes, second)
-    }
-
-    // `join_elsewhere` of the texts alone, inlined as well.
-    #[inline(always)]
-    fn join_apart(&mut self, first: Piece, bytes: &[u8], second: Piece) -> Result<usize, AllocError>
-        requires first_living { IsLiving self.old first }
-        requires second_living { IsLiving self.old second }
-        requires apart { IsAdjacent self.old first second → ⊥ }
-        ensures joint { IfOk result (IsJoint self.old self.new first bytes.now second) }
-        ensures edit { OnOk result (IsEdit self.old self.new) }
-        ensures err { OnErr result (KeepsAll self.old self.new) }
-        ensures main_err { OnErr result (self.new.main_text ≡ self.old.main_text) }
-    {
-        self.join_elsewhere(first.alone(), bytes, second.alone())
-    }
-
-    // The same of texts that aren't adjacent at the end.
-    #[inline(never)]
-    fn join_elsewhere(
-        &mut self,
-        first: Piece,
-        bytes: &[u8],
-        second: Piece,
-    ) -> Result<usize, AllocError>
-        requires first_living { IsLiving self.old first }
-        requires second_living { IsLiving self.old second }
-        requires apart { IsAdjacent self.old first second → ⊥ }
-        ensures joint { IfOk result (IsJoint self.old self.new first bytes.now second) }
-        ensures edit { OnOk result (IsEdit self.old self.new) }
-        ensures err { OnErr result (KeepsAll self.old self.new) }
-        ensures main_err { OnErr result (self.new.main_text ≡ self.old.main_text) }
-    {
-        if self.is_tail(second) && first.ends_by(second.from_byte) {
-            self.join_within(second.from_byte, first, bytes)?;
-            return Ok(second.from_byte);
-        }
-        let from = self.main.len();
-        add_joined(&mut self.main, &self.side, first, bytes, second)?;
-        Ok(from)
-    }
-
-    // The text of a piece and bytes at a place of the main text since the innermost mark, by which the piece ends if it
-    // lies there: what lies after the place moves on.
-    fn join_within(&mut self, at: usize, first: Piece, bytes: &[u8]) -> Result<(), AllocError>
-        requires inner { self.old.frame_main ≤ at }
-        requires within { at ≤ length self.old.main_text }
-        requires living { IsLiving self.old first }
-        requires before { EndsBy at first }
-        ensures edit { OnOk result (IsEdit self.old self.new) }
-        ensures err { OnErr result (KeepsAll self.old self.new) }
-        ensures main { OnOk result (self.new.main_text ≡ take at self.old.main_text
-            ++ ((piece_text self.old.main_text self.old.side_text first ++ bytes.now)
-            ++ drop at self.old.main_text)) }
-        ensures main_err { OnErr result (self.new.main_text ≡ self.old.main_text) }
-    {
-        let len = self.main.len();
-        set_apart(
-            self.main.as_slice(),
-            &mut self.side,
-            &mut self.saved,
-            &mut self.args,
-            at,
-            at,
-            len,
-        )?;
-        insert_joined(&mut self.main, &self.side, at, first, bytes)?;
-        let dest = at + (self.main.len() - len);
-        carry(&mut self.saved, at, at, len, dest);
-        carry(&mut self.args, at, at, len, dest);
-        Ok(())
-    }
-
-    // Whether the second piece begins where the first ends, and both stand up to the end of the main text, from the
-    // innermost mark or later.
-    #[inline(always)]
-    fn are_adjacent(&self, first: Piece, second: Piece) -> bool
-        ensures adjacent { result ≡ true → IsAdjacent self.now first second }
-        ensures other { IsAdjacent self.now first second → result ≡ true }
-    {
-        !first.is_aside()
-            && self.frame_main <= first.from_byte
-            && first.to_byte == second.from_byte
-            && !second.is_aside()
-            && second.to_byte == self.main.len()
-    }
-
     /// The main text.
     #[inline(always)]
     pub fn main_bytes(&self) -> &[u8]
@@ -857,7 +370,7 @@ impl Buffer {
         ensures older { (f : Frame) (from to : ℕ) → IsOlder piece f → Stands piece from to → to ≤ frame_start f }
     {
         if piece.is_aside() {
-            self.side.part(piece.from_byte, piece.to_byte)
+            self.lists.side.part(piece.from_byte, piece.to_byte)
         } else {
             self.main.part(piece.from_byte, piece.to_byte)
         }
@@ -1035,160 +548,4 @@ impl Buffer {
     {
         piece.declared(kind, Some(from), at)
     }
-
-    /// Adds the shape of the piece to the end of the saved ones. After `AllocError` all is as it
-    /// was.
-    #[inline(always)]
-    pub fn save(&mut self, piece: Piece) -> Result<(), AllocError>
-        requires living { IsLiving self.old piece }
-        ensures saved { OnOk result (saved self.new ≡ saved self.old ++ shape self.old piece ∷ []) }
-        ensures scopes { scopes self.new ≡ scopes self.old }
-        ensures kept { SameFrame self.old self.new }
-        ensures main { main_bytes self.new ≡ main_bytes self.old }
-        ensures err { OnErr result (KeepsAll self.old self.new) }
-    {
-        self.save_in_place(&piece)
-    }
-
-    /// As `save`, of a piece that stays where it is kept.
-    #[inline(always)]
-    pub fn save_in_place(&mut self, piece: &Piece) -> Result<(), AllocError>
-        requires living { IsLiving self.old piece.now }
-        ensures saved { OnOk result (saved self.new ≡ saved self.old ++ shape self.old piece.now ∷ []) }
-        ensures scopes { scopes self.new ≡ scopes self.old }
-        ensures kept { SameFrame self.old self.new }
-        ensures main { main_bytes self.new ≡ main_bytes self.old }
-        ensures err { OnErr result (KeepsAll self.old self.new) }
-    {
-        self.saved.push(piece, self.main.len())?;
-        Ok(())
-    }
-
-    /// Takes the last saved shape out.
-    #[inline(always)]
-    pub fn unsave(&mut self)
-        requires some { 0 < length (saved self.old) }
-        ensures saved { saved self.new ≡ take (length (saved self.old) - 1) (saved self.old) }
-        ensures scopes { scopes self.new ≡ scopes self.old }
-        ensures kept { SameFrame self.old self.new }
-        ensures main { main_bytes self.new ≡ main_bytes self.old }
-    {
-        let last = self.saved_len() - 1;
-        self.saved.truncate(last);
-    }
-
-    /// A piece of the saved shape with this index, from 0, or `None` past the last one.
-    #[inline(always)]
-    pub fn saved(&self, i: usize) -> Option<Piece>
-        ensures shape { option_map (shape self.now) result ≡ slice_get (saved self.now) i }
-        ensures living { IfSome result (IsLiving self.now) }
-    {
-        self.saved.get(i)
-    }
-
-    /// How many shapes are saved.
-    #[inline(always)]
-    pub fn saved_len(&self) -> usize
-        ensures value { result ≡ length (saved self.now) }
-    {
-        self.saved.len()
-    }
-
-    /// Opens a scope, which is the last one then and has no argument. After `AllocError` all is as
-    /// it was.
-    pub fn open_scope(&mut self) -> Result<(), AllocError>
-        ensures scopes { OnOk result (scopes self.new ≡ scopes self.old ++ [] ∷ []) }
-        ensures saved { saved self.new ≡ saved self.old }
-        ensures kept { SameFrame self.old self.new }
-        ensures main { main_bytes self.new ≡ main_bytes self.old }
-        ensures err { OnErr result (KeepsAll self.old self.new) }
-    {
-        let start = self.args.len();
-        self.starts.push(start)?;
-        Ok(())
-    }
-
-    /// Adds the shape of the piece to the end of the last scope. After `AllocError` all is as it
-    /// was.
-    pub fn push_arg(&mut self, piece: Piece) -> Result<(), AllocError>
-        requires living { IsLiving self.old piece }
-        requires open { 0 < length (scopes self.old) }
-        ensures scopes { OnOk result (scopes self.new ≡ with_arg (shape self.old piece) (scopes self.old)) }
-        ensures saved { saved self.new ≡ saved self.old }
-        ensures kept { SameFrame self.old self.new }
-        ensures main { main_bytes self.new ≡ main_bytes self.old }
-        ensures err { OnErr result (KeepsAll self.old self.new) }
-    {
-        self.push_arg_in_place(&piece)
-    }
-
-    /// As `push_arg`, of a piece that stays where it is kept.
-    #[inline(always)]
-    pub fn push_arg_in_place(&mut self, piece: &Piece) -> Result<(), AllocError>
-        requires living { IsLiving self.old piece.now }
-        requires open { 0 < length (scopes self.old) }
-        ensures scopes { OnOk result (scopes self.new ≡ with_arg (shape self.old piece.now) (scopes self.old)) }
-        ensures saved { saved self.new ≡ saved self.old }
-        ensures kept { SameFrame self.old self.new }
-        ensures main { main_bytes self.new ≡ main_bytes self.old }
-        ensures err { OnErr result (KeepsAll self.old self.new) }
-    {
-        self.args.push(piece, self.main.len())?;
-        Ok(())
-    }
-
-    /// A piece of the argument of the last scope with this index, from 0. `None` past the last
-    /// argument, and where no scope is open.
-    #[inline(always)]
-    pub fn arg(&self, i: usize) -> Option<Piece>
-        ensures shape { option_map (shape self.now) result ≡ slice_get (last_args (scopes self.now)) i }
-        ensures living { IfSome result (IsLiving self.now) }
-    {
-        let count = self.scopes();
-        if count == 0 {
-            return None;
-        }
-        let start = self.starts[count - 1];
-        self.args.get_from(start, i)
-    }
-
-    /// How many scopes are open.
-    #[inline(always)]
-    pub fn scopes(&self) -> usize
-        ensures value { result ≡ length (scopes self.now) }
-    {
-        self.starts.len()
-    }
-
-    /// Drops all scopes past the first n, with their arguments.
-    pub fn keep_scopes(&mut self, n: usize)
-        requires within { n ≤ length (scopes self.old) }
-        ensures scopes { scopes self.new ≡ take n (scopes self.old) }
-        ensures saved { saved self.new ≡ saved self.old }
-        ensures kept { SameFrame self.old self.new }
-        ensures main { main_bytes self.new ≡ main_bytes self.old }
-    {
-        if n < self.scopes() {
-            let start = self.starts[n];
-            self.args.truncate(start);
-            self.starts.truncate(n);
-        }
-    }
-}
-
-// Whether a space goes between a text and a group.
-fn needs_gap(text: &[u8]) -> bool
-    ensures value { gap_after text.now ≡ (if result then 32 ∷ [] else []) }
-{
-    match text.last() {
-        Some(byte) => !matches!(*byte, b' ' | b'(' | b'*'),
-        None => false,
-    }
-}
-
-// What is inserted after a text for a group, in front of its bytes: the gap and `(`.
-fn group_front(text: &[u8]) -> &'static [u8]
-    ensures text { result.now ≡ gap_after text.now ++ 40 ∷ [] }
-{
-    if needs_gap(text) { b" (" } else { b"(" }
 }

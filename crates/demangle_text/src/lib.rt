@@ -17,10 +17,12 @@
 
 mod buffer;
 mod flags;
+mod lists;
 mod moves;
 mod parts;
 mod ranges;
 mod shape;
+mod splices;
 
 pub use crate::buffer::Buffer;
 pub use crate::shape::{Kind, Mark, Piece, Place};

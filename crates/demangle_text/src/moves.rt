@@ -6,10 +6,51 @@ ghost use Rattle.demangle_text.specs.Flags.{lies_aside};
 ghost use Rattle.demangle_text.specs.Pieces.{IsPiece, IsApart, IsAside, EndsBy, Extends, shape_in, outline_of, carried};
 
 use crate::flags::in_side;
-use crate::ranges::{Move, Ranges};
+use crate::ranges::{Block, Move, Ranges};
 use crate::shape::Piece;
 use growing_text::Text;
 use std::alloc::AllocError;
+
+// The saved pieces, the arguments of all scopes, and the side text, which has the texts of them that a move would tear.
+#[derive(Drop)]
+pub(crate) struct Lists {
+    pub(crate) side: Text,
+    pub(crate) saved: Ranges,
+    pub(crate) args: Ranges,
+}
+
+impl Lists {
+    // Sets aside the texts of all pieces of both lists that a move of the block would tear.
+    pub(crate) fn set_apart(&mut self, main: &[u8], block: Block) -> Result<(), AllocError>
+        requires saved { All (IsPiece main.now self.old.side) self.old.saved }
+        requires args { All (IsPiece main.now self.old.side) self.old.args }
+        ensures aside { IsAside main.now self.old.side self.new.side self.old.saved self.new.saved
+            self.old.args self.new.args }
+        ensures saved_apart { OnOk result (All (IsApart block.low block.from block.end) self.new.saved) }
+        ensures args_apart { OnOk result (All (IsApart block.low block.from block.end) self.new.args) }
+    {
+        evict(main, &mut self.side, &mut self.saved, block)?;
+        evict(main, &mut self.side, &mut self.args, block)
+    }
+
+    // Carries all pieces of both lists that lie in the block, which was moved to `dest`.
+    #[inline(always)]
+    pub(crate) fn carry(&mut self, block: Block, dest: usize)
+        requires saved_ordered { All (λ p. p.from_byte ≤ p.to_byte) self.old.saved }
+        requires args_ordered { All (λ p. p.from_byte ≤ p.to_byte) self.old.args }
+        requires ordered { block.from ≤ block.end }
+        requires saved_apart { All (IsApart block.low block.from block.end) self.old.saved }
+        requires args_apart { All (IsApart block.low block.from block.end) self.old.args }
+        requires fits { dest + (block.end - block.from) < 2 ^ 64 }
+        ensures saved { self.new.saved ≡ map (carried block.low block.from dest) self.old.saved }
+        ensures args { self.new.args ≡ map (carried block.low block.from dest) self.old.args }
+        ensures side { self.new.side ≡ self.old.side }
+    {
+        let by = Move { block, dest };
+        self.saved.carry(by);
+        self.args.carry(by);
+    }
+}
 
 // The piece with its text at the end of the side text.
 fn set_aside(main: &[u8], side: &mut Text, piece: Piece) -> Result<Piece, AllocError>
@@ -32,26 +73,19 @@ fn set_aside(main: &[u8], side: &mut Text, piece: Piece) -> Result<Piece, AllocE
     })
 }
 
-// A kept piece before a block is moved down or up from `low` on: one that would be torn is set aside.
-fn evict_one(
-    main: &[u8],
-    side: &mut Text,
-    piece: Piece,
-    low: usize,
-    from: usize,
-    to: usize,
-) -> Result<Piece, AllocError>
+// A kept piece before a block is moved: one that would be torn is set aside.
+fn evict_one(main: &[u8], side: &mut Text, piece: Piece, block: Block) -> Result<Piece, AllocError>
     requires lies { IsPiece main.now side.old piece }
     ensures side { Extends side.old side.new }
     ensures lies { IfOk result (IsPiece main.now side.new) }
     ensures shape { IfOk result (λ p. shape_in main.now side.new p ≡ shape_in main.now side.old piece) }
-    ensures apart { IfOk result (IsApart low from to) }
+    ensures apart { IfOk result (IsApart block.low block.from block.end) }
     ensures ends { IfOk result (λ p. (end : ℕ) → EndsBy end piece → EndsBy end p) }
 {
-    if piece.is_aside() || piece.to_byte <= low {
+    if piece.is_aside() || piece.to_byte <= block.low {
         return Ok(piece);
     }
-    if from <= piece.from_byte && piece.to_byte <= to {
+    if block.from <= piece.from_byte && piece.to_byte <= block.end {
         return Ok(piece);
     }
     set_aside(main, side, piece)
@@ -59,26 +93,19 @@ fn evict_one(
 
 // Sets aside the texts of all pieces of a list that would be torn.
 #[inline(always)]
-pub(crate) fn evict(
-    main: &[u8],
-    side: &mut Text,
-    pieces: &mut Ranges,
-    low: usize,
-    from: usize,
-    to: usize,
-) -> Result<(), AllocError>
+fn evict(main: &[u8], side: &mut Text, pieces: &mut Ranges, block: Block) -> Result<(), AllocError>
     requires lie { All (IsPiece main.now side.old) pieces.old }
     ensures side { Extends side.old side.new }
     ensures lie { All (IsPiece main.now side.new) pieces.new }
     ensures shapes { map (shape_in main.now side.new) pieces.new ≡ map (shape_in main.now side.old) pieces.old }
     ensures long { length pieces.new ≡ length pieces.old }
-    ensures apart { OnOk result (All (IsApart low from to) pieces.new) }
+    ensures apart { OnOk result (All (IsApart block.low block.from block.end) pieces.new) }
 {
-    let first = pieces.count_by(low);
+    let first = pieces.count_by(block.low);
     if first == pieces.len() {
         return Ok(());
     }
-    evict_each(main, side, pieces, first, low, from, to)
+    evict_each(main, side, pieces, first, block)
 }
 
 // The same from the first piece on that a move can reach, piece by piece.
@@ -87,59 +114,20 @@ fn evict_each(
     side: &mut Text,
     pieces: &mut Ranges,
     first: usize,
-    low: usize,
-    from: usize,
-    to: usize,
+    block: Block,
 ) -> Result<(), AllocError>
     requires lie { All (IsPiece main.now side.old) pieces.old }
     requires first { first ≤ length pieces.old }
-    requires below { AllWithin (EndsBy low) pieces.old 0 first }
+    requires below { AllWithin (EndsBy block.low) pieces.old 0 first }
     ensures side { Extends side.old side.new }
     ensures lie { All (IsPiece main.now side.new) pieces.new }
     ensures shapes { map (shape_in main.now side.new) pieces.new ≡ map (shape_in main.now side.old) pieces.old }
     ensures long { length pieces.new ≡ length pieces.old }
-    ensures apart { OnOk result (All (IsApart low from to) pieces.new) }
+    ensures apart { OnOk result (All (IsApart block.low block.from block.end) pieces.new) }
 {
     for i in first..pieces.len() {
-        let piece = evict_one(main, side, pieces.at(i), low, from, to)?;
+        let piece = evict_one(main, side, pieces.at(i), block)?;
         pieces.set(i, piece);
     }
     Ok(())
-}
-
-// The same for both lists.
-pub(crate) fn set_apart(
-    main: &[u8],
-    side: &mut Text,
-    saved: &mut Ranges,
-    args: &mut Ranges,
-    low: usize,
-    from: usize,
-    to: usize,
-) -> Result<(), AllocError>
-    requires saved { All (IsPiece main.now side.old) saved.old }
-    requires args { All (IsPiece main.now side.old) args.old }
-    ensures aside { IsAside main.now side.old side.new saved.old saved.new args.old args.new }
-    ensures saved_apart { OnOk result (All (IsApart low from to) saved.new) }
-    ensures args_apart { OnOk result (All (IsApart low from to) args.new) }
-{
-    evict(main, side, saved, low, from, to)?;
-    evict(main, side, args, low, from, to)
-}
-
-// Carries all pieces of a list that lie in the block, which was moved to `dest`.
-#[inline(always)]
-pub(crate) fn carry(pieces: &mut Ranges, low: usize, from: usize, to: usize, dest: usize)
-    requires ordered { All (λ p. p.from_byte ≤ p.to_byte) pieces.old }
-    requires block { from ≤ to }
-    requires apart { All (IsApart low from to) pieces.old }
-    requires fits { dest + (to - from) < 2 ^ 64 }
-    ensures value { pieces.new ≡ map (carried low from dest) pieces.old }
-{
-    pieces.carry(Move {
-        low: low,
-        from: from,
-        end: to,
-        dest: dest,
-    });
 }

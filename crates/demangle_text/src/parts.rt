@@ -2,11 +2,20 @@
 ghost use Rattle.std.specs.Prelude.{◌≡◌, ℕ, ◌+◌, ◌-◌, ◌<◌, ◌≤◌, ◌++◌, length, take, drop, slice_range, IfOk, OnOk};
 ghost use Rattle.std.specs.Prelude.{OnErr};
 ghost use Rattle.demangle_text.specs.Flags.{lies_aside};
+ghost use Rattle.demangle_text.specs.Gaps.{in_order};
 ghost use Rattle.demangle_text.specs.Pieces.{home_bytes, piece_text, Extends, EndsBy};
 
 use crate::shape::Piece;
 use growing_text::Text;
 use std::alloc::AllocError;
+
+// Three texts that are put somewhere, one after the other.
+#[derive(Clone, Copy)]
+pub(crate) struct Three<'a> {
+    pub(crate) front: &'a [u8],
+    pub(crate) bytes: &'a [u8],
+    pub(crate) back: &'a [u8],
+}
 
 // Some bytes of the main or the side text.
 #[inline(always)]
@@ -29,28 +38,43 @@ pub(crate) fn add_part(
     }
 }
 
+// What was added after the first bytes goes again where an error came.
+#[inline(always)]
+fn taken_back(main: &mut Text, len: usize, added: Result<(), AllocError>) -> Result<(), AllocError>
+    requires within { len ≤ length main.old }
+    ensures same { result ≡ added }
+    ensures ok { OnOk result (main.new ≡ main.old) }
+    ensures err { OnErr result (main.new ≡ take len main.old) }
+{
+    match added {
+        Ok(()) => Ok(()),
+        Err(error) => {
+            main.truncate(len);
+            Err(error)
+        }
+    }
+}
+
 // The text of a piece with three texts at a place of it, or a part of that where memory is refused.
 fn splice_parts(
     main: &mut Text,
     side: &Text,
     piece: Piece,
     at: usize,
-    front: &[u8],
-    bytes: &[u8],
-    back: &[u8],
+    texts: Three<'_>,
 ) -> Result<(), AllocError>
     requires ordered { piece.from_byte ≤ piece.to_byte }
     requires within { piece.to_byte ≤ length (home_bytes main.old side.now (lies_aside piece.flags)) }
     requires place { at ≤ piece.to_byte - piece.from_byte }
     ensures ok { OnOk result (main.new ≡ main.old ++ (take at (piece_text main.old side.now piece)
-        ++ ((front.now ++ (bytes.now ++ back.now)) ++ drop at (piece_text main.old side.now piece)))) }
+        ++ (in_order texts.entry ++ drop at (piece_text main.old side.now piece)))) }
     ensures grows { Extends main.old main.new }
 {
     let middle = piece.from_byte + at;
     add_part(main, side, piece.is_aside(), piece.from_byte, middle)?;
-    main.add(front)?;
-    main.add(bytes)?;
-    main.add(back)?;
+    main.add(texts.front)?;
+    main.add(texts.bytes)?;
+    main.add(texts.back)?;
     add_part(main, side, piece.is_aside(), middle, piece.to_byte)?;
     Ok(())
 }
@@ -61,25 +85,18 @@ pub(crate) fn add_spliced(
     side: &Text,
     piece: Piece,
     at: usize,
-    front: &[u8],
-    bytes: &[u8],
-    back: &[u8],
+    texts: Three<'_>,
 ) -> Result<(), AllocError>
     requires ordered { piece.from_byte ≤ piece.to_byte }
     requires within { piece.to_byte ≤ length (home_bytes main.old side.now (lies_aside piece.flags)) }
     requires place { at ≤ piece.to_byte - piece.from_byte }
     ensures ok { OnOk result (main.new ≡ main.old ++ (take at (piece_text main.old side.now piece)
-        ++ ((front.now ++ (bytes.now ++ back.now)) ++ drop at (piece_text main.old side.now piece)))) }
+        ++ (in_order texts.entry ++ drop at (piece_text main.old side.now piece)))) }
     ensures err { OnErr result (main.new ≡ main.old) }
 {
     let len = main.len();
-    match splice_parts(main, side, piece, at, front, bytes, back) {
-        Ok(()) => Ok(()),
-        Err(error) => {
-            main.truncate(len);
-            Err(error)
-        }
-    }
+    let added = splice_parts(main, side, piece, at, texts);
+    taken_back(main, len, added)
 }
 
 // The text of a piece and two texts after it. After an error the main text is as it was.
@@ -96,15 +113,10 @@ pub(crate) fn add_extended(
         ++ (piece_text main.old side.now piece ++ (first.now ++ second.now))) }
     ensures err { OnErr result (main.new ≡ main.old) }
 {
-    let end = main.len();
+    let len = main.len();
     add_part(main, side, piece.is_aside(), piece.from_byte, piece.to_byte)?;
-    match main.add_pair(first, second) {
-        Ok(()) => Ok(()),
-        Err(error) => {
-            main.truncate(end);
-            Err(error)
-        }
-    }
+    let added = main.add_pair(first, second);
+    taken_back(main, len, added)
 }
 
 // Two texts with bytes between them, or a part of that where memory is refused.
@@ -150,20 +162,15 @@ pub(crate) fn add_joined(
         ++ bytes.now ++ piece_text main.old side.now second)) }
     ensures err { OnErr result (main.new ≡ main.old) }
 {
-    let before = main.len();
-    match join_parts(main, side, first, bytes, second) {
-        Ok(()) => Ok(()),
-        Err(error) => {
-            main.truncate(before);
-            Err(error)
-        }
-    }
+    let len = main.len();
+    let added = join_parts(main, side, first, bytes, second);
+    taken_back(main, len, added)
 }
 
 // The text of a piece at a place of the main text, by which it ends if it lies there, over the bytes that stood there:
 // where it ends.
 #[inline(always)]
-fn put_text(main: &mut Text, side: &Text, at: usize, piece: Piece) -> usize
+pub(crate) fn put_text(main: &mut Text, side: &Text, at: usize, piece: Piece) -> usize
     requires ordered { piece.from_byte ≤ piece.to_byte }
     requires within { piece.to_byte ≤ length (home_bytes main.old side.now (lies_aside piece.flags)) }
     requires before { EndsBy at piece }
@@ -177,30 +184,4 @@ fn put_text(main: &mut Text, side: &Text, at: usize, piece: Piece) -> usize
     } else {
         main.put_part(at, piece.from_byte, piece.to_byte)
     }
-}
-
-// The text of a piece and bytes at a place of the main text, by which the piece ends if it lies there: what lies after
-// the place moves on.
-pub(crate) fn insert_joined(
-    main: &mut Text,
-    side: &Text,
-    at: usize,
-    first: Piece,
-    bytes: &[u8],
-) -> Result<(), AllocError>
-    requires place { at ≤ length main.old }
-    requires ordered { first.from_byte ≤ first.to_byte }
-    requires within { first.to_byte ≤ length (home_bytes main.old side.now (lies_aside first.flags)) }
-    requires before { EndsBy at first }
-    ensures ok { OnOk result (main.new ≡ take at main.old
-        ++ ((piece_text main.old side.now first ++ bytes.now) ++ drop at main.old)) }
-    ensures err { OnErr result (main.new ≡ main.old) }
-{
-    let Some(n) = first.text_len().checked_add(bytes.len()) else {
-        return Err(AllocError);
-    };
-    main.open_room(at, n)?;
-    let middle = put_text(main, side, at, first);
-    main.put(middle, bytes);
-    Ok(())
 }

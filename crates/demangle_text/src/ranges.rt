@@ -24,12 +24,18 @@ pub(crate) struct Ranges {
     count: usize,
 }
 
-// A block of the main text, and where it goes. What ends by `low` stays.
+// A block of the main text that goes elsewhere. What ends by `low` stays.
 #[derive(Clone, Copy)]
-pub(crate) struct Move {
+pub(crate) struct Block {
     pub(crate) low: usize,
     pub(crate) from: usize,
     pub(crate) end: usize,
+}
+
+// A block of the main text, and where it goes.
+#[derive(Clone, Copy)]
+pub(crate) struct Move {
+    pub(crate) block: Block,
     pub(crate) dest: usize,
 }
 
@@ -165,12 +171,12 @@ impl Ranges {
     #[inline(always)]
     pub(crate) fn carry(&mut self, by: Move)
         requires ordered { All (λ p. p.from_byte ≤ p.to_byte) self.old }
-        requires block { by.from ≤ by.end }
-        requires apart { All (IsApart by.low by.from by.end) self.old }
-        requires fits { by.dest + (by.end - by.from) < 2 ^ 64 }
-        ensures value { self.new ≡ map (carried by.low by.from by.dest) self.old }
+        requires block { by.block.from ≤ by.block.end }
+        requires apart { All (IsApart by.block.low by.block.from by.block.end) self.old }
+        requires fits { by.dest + (by.block.end - by.block.from) < 2 ^ 64 }
+        ensures value { self.new ≡ map (carried by.block.low by.block.from by.dest) self.old }
     {
-        let first = self.count_by(by.low);
+        let first = self.count_by(by.block.low);
         if first == self.count {
             return;
         }
@@ -183,15 +189,15 @@ impl Ranges {
 fn carry_each(kept: &mut Vec<Kept>, first: usize, count: usize, reach: usize, by: Move)
     requires first { first ≤ count }
     requires reached { AreReached (pieces_of kept.old.items) (reaches_of kept.old.items) count }
-    requires below { AllWithin (EndsBy by.low) (pieces_of kept.old.items) 0 first }
+    requires below { AllWithin (EndsBy by.block.low) (pieces_of kept.old.items) 0 first }
     requires ends { AllWithin (EndsBy reach) (pieces_of kept.old.items) 0 first }
     requires ordered { All (λ p. p.from_byte ≤ p.to_byte) (take count (pieces_of kept.old.items)) }
-    requires block { by.from ≤ by.end }
-    requires apart { All (IsApart by.low by.from by.end) (take count (pieces_of kept.old.items)) }
-    requires fits { by.dest + (by.end - by.from) < 2 ^ 64 }
+    requires block { by.block.from ≤ by.block.end }
+    requires apart { All (IsApart by.block.low by.block.from by.block.end) (take count (pieces_of kept.old.items)) }
+    requires fits { by.dest + (by.block.end - by.block.from) < 2 ^ 64 }
     ensures reached { AreReached (pieces_of kept.new.items) (reaches_of kept.new.items) count }
     ensures value { take count (pieces_of kept.new.items)
-        ≡ map (carried by.low by.from by.dest) (take count (pieces_of kept.old.items)) }
+        ≡ map (carried by.block.low by.block.from by.dest) (take count (pieces_of kept.old.items)) }
 {
     let mut reach = reach;
     for i in first..count {
@@ -221,17 +227,17 @@ fn put(kept: &mut Vec<Kept>, at: usize, piece: &Piece, end: usize)
 // A kept piece after the block was moved.
 fn carry_one(piece: Piece, by: &Move) -> Piece
     requires ordered { piece.from_byte ≤ piece.to_byte }
-    requires block { by.now.from ≤ by.now.end }
-    requires apart { IsApart by.now.low by.now.from by.now.end piece }
-    requires fits { by.now.dest + (by.now.end - by.now.from) < 2 ^ 64 }
-    ensures value { result ≡ carried by.now.low by.now.from by.now.dest piece }
+    requires block { by.now.block.from ≤ by.now.block.end }
+    requires apart { IsApart by.now.block.low by.now.block.from by.now.block.end piece }
+    requires fits { by.now.dest + (by.now.block.end - by.now.block.from) < 2 ^ 64 }
+    ensures value { result ≡ carried by.now.block.low by.now.block.from by.now.dest piece }
 {
-    if piece.is_aside() || piece.to_byte <= by.low {
+    if piece.is_aside() || piece.to_byte <= by.block.low {
         return piece;
     }
     Piece {
-        from_byte: by.dest + (piece.from_byte - by.from),
-        to_byte: by.dest + (piece.to_byte - by.from),
+        from_byte: by.dest + (piece.from_byte - by.block.from),
+        to_byte: by.dest + (piece.to_byte - by.block.from),
         ..piece
     }
 }

@@ -7,11 +7,11 @@ use crate::pieces::{
 };
 use demangle_edit::{
     Glue, Pointer, Quals, Reference, address, append_number, apply_name_qualifiers,
-    attach_template_args, begin_arguments, close_arguments, close_default_arg, close_lambda,
-    close_params, collapse_ref, default_arg, end_arguments, expand, format_params, function_type,
-    glue, list_next, open_arguments, open_default_arg, open_params, qualify, qualify_ctor,
-    qualify_text, separate, subexpr, tag, wrap_array, wrap_cv, wrap_member_pointer, wrap_pointer,
-    write_literal, write_literal_of, write_opened_literal,
+    attach_template_args, begin_arguments, close_default_arg, close_lambda, close_params,
+    collapse_ref, default_arg, end_arguments, expand, format_params, function_type, glue,
+    list_next, open_default_arg, open_params, qualify, qualify_ctor, qualify_text, separate,
+    subexpr, tag, wrap_array, wrap_cv, wrap_member_pointer, wrap_pointer, write_literal,
+    write_literal_of, write_opened_literal,
 };
 use demangle_text::{Buffer, Kind, Piece};
 use std::alloc::Global;
@@ -438,15 +438,24 @@ fn parameters_of_a_name(rt: HostRuntime) {
     drop(buf);
 }
 
-/// A list that is built as it is read, with one text more.
+/// A list that is built as it is read, with its first text.
 #[tactic(auto, using(demangle_text::proofs::Laws::laws))]
-fn with_text(rt: &impl Abort, buf: &mut Buffer, list: Piece, first: bool, text: &[u8]) -> Piece
+fn with_first(rt: &impl Abort, buf: &mut Buffer, list: Piece, text: &[u8]) -> Piece
     requires living { IsLiving buf.old list }
     ensures living { IsLiving buf.new result }
 {
-    let list = separate(buf, list, first).expect(rt, "no memory");
     let next = push(rt, buf, text);
     list_next(buf, list, next).expect(rt, "no memory")
+}
+
+/// The list with one text more.
+#[tactic(auto, using(demangle_text::proofs::Laws::laws))]
+fn with_text(rt: &impl Abort, buf: &mut Buffer, list: Piece, text: &[u8]) -> Piece
+    requires living { IsLiving buf.old list }
+    ensures living { IsLiving buf.new result }
+{
+    let list = separate(buf, list).expect(rt, "no memory");
+    with_first(rt, buf, list, text)
 }
 
 #[test]
@@ -455,26 +464,11 @@ fn parameters_built_on_a_name(rt: HostRuntime) {
     let mut buf = Buffer::new(rt.alloc());
     let name = named(&rt, &mut buf, b"f<int>", 0, 1, true, false);
     let opened = open_params(&mut buf, name).expect(&rt, "no memory");
-    let one = with_text(&rt, &mut buf, opened, true, b"int");
-    let two = with_text(&rt, &mut buf, one, false, b"char");
+    let one = with_first(&rt, &mut buf, opened, b"int");
+    let two = with_text(&rt, &mut buf, one, b"char");
     let encoding = close_params(&mut buf, two, CONSTANT).expect(&rt, "no memory");
     assert_named(&rt, &buf, encoding, b"f<int>(int, char) const", 0, 1);
     assert_flags(&rt, &buf, encoding, false, false);
-    drop(buf);
-}
-
-#[test]
-#[tactic(auto, using(demangle_text::proofs::Laws::laws))]
-fn arguments_built_on_a_name(rt: HostRuntime) {
-    let mut buf = Buffer::new(rt.alloc());
-    let name = named(&rt, &mut buf, b"A::f", 3, 4, false, false);
-    let opened = open_arguments(&mut buf, name).expect(&rt, "no memory");
-    let one = with_text(&rt, &mut buf, opened, true, b"A");
-    let two = with_text(&rt, &mut buf, one, false, b"B<A, A>");
-    let whole = close_arguments(&mut buf, two).expect(&rt, "no memory");
-    assert_named(&rt, &buf, whole, b"A::f<A, B<A, A> >", 3, 4);
-    assert_flags(&rt, &buf, whole, true, false);
-    assert_no_arguments(&rt, &mut buf);
     drop(buf);
 }
 
@@ -485,12 +479,16 @@ fn arguments_built_as_a_text(rt: HostRuntime) {
     let name = named(&rt, &mut buf, b"A::f", 3, 4, false, false);
     let (len, own, ctor) = (buf.len(name), buf.own_range(name), buf.ctor(name));
     let opened = begin_arguments(&mut buf, name).expect(&rt, "no memory");
-    let argument = push(&rt, &mut buf, b"B<A>");
-    let list = buf.join(opened, b"", argument).expect(&rt, "no memory");
-    let whole = end_arguments(&mut buf, list, len, own, ctor).expect(&rt, "no memory");
-    assert_named(&rt, &buf, whole, b"A::f<B<A> >", 3, 4);
+    let first = push(&rt, &mut buf, b"A");
+    let one = buf.join(opened, b"", first).expect(&rt, "no memory");
+    let list = separate(&mut buf, one).expect(&rt, "no memory");
+    let second = push(&rt, &mut buf, b"B<A, A>");
+    let two = buf.join(list, b"", second).expect(&rt, "no memory");
+    let whole = end_arguments(&mut buf, two, len, own, ctor).expect(&rt, "no memory");
+    assert_named(&rt, &buf, whole, b"A::f<A, B<A, A> >", 3, 4);
     assert_flags(&rt, &buf, whole, true, false);
-    assert_eq!(&rt; buf.main_bytes(), b"A::f<B<A> >".as_slice());
+    assert_eq!(&rt; buf.main_bytes(), b"A::f<A, B<A, A> >".as_slice());
+    assert_no_arguments(&rt, &mut buf);
     drop(buf);
 }
 
@@ -498,8 +496,13 @@ fn arguments_built_as_a_text(rt: HostRuntime) {
 #[tactic(auto, using(demangle_text::proofs::Laws::laws))]
 fn assert_no_arguments(rt: &impl Abort, buf: &mut Buffer) {
     let operator = push(rt, buf, b"operator<");
-    let opened = open_arguments(buf, operator).expect(rt, "no memory");
-    let whole = close_arguments(buf, opened).expect(rt, "no memory");
+    let (len, own, ctor) = (
+        buf.len(operator),
+        buf.own_range(operator),
+        buf.ctor(operator),
+    );
+    let opened = begin_arguments(buf, operator).expect(rt, "no memory");
+    let whole = end_arguments(buf, opened, len, own, ctor).expect(rt, "no memory");
     assert_named(rt, buf, whole, b"operator< <>", 0, 9);
 }
 
@@ -507,8 +510,8 @@ fn assert_no_arguments(rt: &impl Abort, buf: &mut Buffer) {
 #[tactic(auto, using(demangle_text::proofs::Laws::laws))]
 fn assert_lambda(rt: &impl Abort, buf: &mut Buffer) {
     let opened = push(rt, buf, b"{lambda(");
-    let one = with_text(rt, buf, opened, true, b"auto");
-    let two = with_text(rt, buf, one, false, b"auto");
+    let one = with_first(rt, buf, opened, b"auto");
+    let two = with_text(rt, buf, one, b"auto");
     let lambda = close_lambda(buf, two, 1).expect(rt, "no memory");
     assert_named(rt, buf, lambda, b"{lambda(auto, auto)#1}", 0, 22);
 }
@@ -517,8 +520,8 @@ fn assert_lambda(rt: &impl Abort, buf: &mut Buffer) {
 #[tactic(auto, using(demangle_text::proofs::Laws::laws))]
 fn assert_pack(rt: &impl Abort, buf: &mut Buffer) {
     let opened = push(rt, buf, b"");
-    let one = with_text(rt, buf, opened, true, b"Bar");
-    let two = with_text(rt, buf, one, false, b"Baz");
+    let one = with_first(rt, buf, opened, b"Bar");
+    let two = with_text(rt, buf, one, b"Baz");
     let pack = buf.whole(two);
     assert_named(rt, buf, pack, b"Bar, Baz", 0, 8);
 }

@@ -282,7 +282,7 @@ impl<'a> Reader<'a> {
         if first {
             return Ok(self.buffer.plain(list));
         }
-        separate(&mut self.buffer, list, false)
+        separate(&mut self.buffer, list)
     }
 
     /// A list begins, and opens a scope where it is to.

@@ -12,7 +12,7 @@ loop-i-init c = record {
   lie = c.requires.lie;
   shapes = refl;
   long = refl;
-  apart = within-apart c.args.pieces.now c.args.low c.args.from c.args.to c.args.first c.requires.below;
+  apart = within-apart c.args.pieces.now c.args.block.low c.args.block.from c.args.block.end c.args.first c.requires.below;
 }
 
 pub set-requires-clause-ends : goal.set-requires-clause-ends
@@ -39,5 +39,5 @@ loop-i-preserved c =
       lie = replaced_lie main side new c.loop-i.pieces i q q e c.loop-i.invariant.lie c.in_ok-piece.ensures.lies;
       shapes = replaced_shapes main side new c.loop-i.pieces i c.at.result q there e c.loop-i.invariant.lie (rw (← c.at.ensures.value) c.in_ok-piece.ensures.shape) ∙ c.loop-i.invariant.shapes;
       long = length-set c.loop-i.pieces i q ∙ c.loop-i.invariant.long;
-      apart = AllWithin-more_set c.loop-i.pieces i q there (IsApart c.args.low c.args.from c.args.to) c.loop-i.invariant.apart c.in_ok-piece.ensures.apart;
+      apart = AllWithin-more_set c.loop-i.pieces i q there (IsApart c.args.block.low c.args.block.from c.args.block.end) c.loop-i.invariant.apart c.in_ok-piece.ensures.apart;
     })

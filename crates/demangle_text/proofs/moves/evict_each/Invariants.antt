@@ -9,5 +9,5 @@ invariant-loop-i l = record {
   lie : All (IsPiece l.main l.side) l.pieces;
   shapes : map (shape_in l.main l.side) l.pieces ≡ map (shape_in l.fn.main l.fn.side) l.fn.pieces;
   long : length l.pieces ≡ length l.fn.pieces;
-  apart : AllWithin (IsApart l.low l.from l.to) l.pieces 0 l.i;
+  apart : AllWithin (IsApart l.block.low l.block.from l.block.end) l.pieces 0 l.i;
 }

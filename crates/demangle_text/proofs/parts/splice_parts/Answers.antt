@@ -10,9 +10,9 @@ three-added old one two new a b c by_one by_two by_new =
 
 pub returns-clause-ok : goal.returns-clause-ok
 returns-clause-ok c =
-    let a = c.args.front.now in
-    let b = c.args.bytes.now in
-    let d = c.args.back.now in
+    let a = c.args.texts.front.now in
+    let b = c.args.texts.bytes.now in
+    let d = c.args.texts.back.now in
     let both = three-added c.add_part.new.main c.add.new.self c.add-2.new.self c.add-3.new.self a b d c.in_ok-add.ensures.ok c.in_ok-add-2.ensures.ok c.in_ok-add-3.ensures.ok in
     let home = (λ (main new : List ℕ) (from to : ℕ) (h : Bool). new ≡ main ++ slice_range (home_bytes main c.args.side.now h) from to) in
     let middle = c.args.piece.from_byte + c.args.at in

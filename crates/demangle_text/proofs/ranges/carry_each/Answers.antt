@@ -11,7 +11,7 @@ pub loop-i-init : goal.loop-i-init
 loop-i-init c =
     let xs = pieces_of c.args.kept.now.items in
     record {
-      value = over_start c.args.by.low c.args.by.from c.args.by.dest xs c.args.first c.requires.below;
+      value = over_start c.args.by.block.low c.args.by.block.from c.args.by.dest xs c.args.first c.requires.below;
       reached = reached-fewer xs (reaches_of c.args.kept.now.items) c.args.count c.args.first c.requires.first c.requires.reached;
       ends = c.requires.ends;
       long = refl;
@@ -28,7 +28,7 @@ carry_one-piece-requires-clause-ordered c =
     let there : i < length xs = omega (arith, lt, r.within, r.room) in
     let here : i < length ks = omega (arith, there, c.loop-i.invariant.long, length-map c.args.kept.now.items (λ (k : Kept). k.piece)) in
     let is : k.piece ≡ get_or (pieces_of ks) i k.piece = ap (λ (k : Kept). k.piece) c.index.ensures ∙ sym (get_or-map (λ (k : Kept). k.piece) ks i k k.piece here) in
-    let was = is ∙ over_at (carried c.args.by.low c.args.by.from c.args.by.dest) xs (pieces_of ks) i k.piece there c.loop-i.invariant.value ∙ sym (get_or-take c.args.count xs i k.piece lt) in
+    let was = is ∙ over_at (carried c.args.by.block.low c.args.by.block.from c.args.by.dest) xs (pieces_of ks) i k.piece there c.loop-i.invariant.value ∙ sym (get_or-take c.args.count xs i k.piece lt) in
     let all : i < length (take c.args.count xs) = omega (arith, lt, r.within, r.room, length-take-le c.args.count xs) in
     subst (λ q. q.from_byte ≤ q.to_byte) (sym was) (c.requires.ordered i k.piece all)
 
@@ -43,9 +43,9 @@ carry_one-piece-requires-clause-apart c =
     let there : i < length xs = omega (arith, lt, r.within, r.room) in
     let here : i < length ks = omega (arith, there, c.loop-i.invariant.long, length-map c.args.kept.now.items (λ (k : Kept). k.piece)) in
     let is : k.piece ≡ get_or (pieces_of ks) i k.piece = ap (λ (k : Kept). k.piece) c.index.ensures ∙ sym (get_or-map (λ (k : Kept). k.piece) ks i k k.piece here) in
-    let was = is ∙ over_at (carried c.args.by.low c.args.by.from c.args.by.dest) xs (pieces_of ks) i k.piece there c.loop-i.invariant.value ∙ sym (get_or-take c.args.count xs i k.piece lt) in
+    let was = is ∙ over_at (carried c.args.by.block.low c.args.by.block.from c.args.by.dest) xs (pieces_of ks) i k.piece there c.loop-i.invariant.value ∙ sym (get_or-take c.args.count xs i k.piece lt) in
     let all : i < length (take c.args.count xs) = omega (arith, lt, r.within, r.room, length-take-le c.args.count xs) in
-    subst (IsApart c.args.by.low c.args.by.from c.args.by.end) (sym was) (c.requires.apart i k.piece all)
+    subst (IsApart c.args.by.block.low c.args.by.block.from c.args.by.block.end) (sym was) (c.requires.apart i k.piece all)
 
 pub loop-i-preserved : goal.loop-i-preserved
 loop-i-preserved c =
@@ -63,7 +63,7 @@ loop-i-preserved c =
     let q = c.carry_one-piece.result in
     record {
       value = c.put.ensures.value ∙ rw c.carry_one-piece.ensures.value (
-          map_over_more (carried c.args.by.low c.args.by.from c.args.by.dest) xs ys i _ there c.loop-i.invariant.value is);
+          map_over_more (carried c.args.by.block.low c.args.by.block.from c.args.by.dest) xs ys i _ there c.loop-i.invariant.value is);
       reached = c.put.ensures.reached;
       ends = rw c.put.ensures.value (AllWithin-more_set ys i q within (EndsBy c.reached-reach.result)
           (within-ends ys c.loop-i.reach c.reached-reach.result i c.reached-reach.ensures.more c.loop-i.invariant.ends) c.reached-reach.ensures.ends);

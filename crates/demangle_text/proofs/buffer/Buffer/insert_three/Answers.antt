@@ -1,72 +1,84 @@
--- What would be torn is set aside, and then the rest moves on with the three texts in front of it.
-use Rattle.std.proofs.Common.{◌≡◌, ◌≤◌, ◌+◌, ◌-◌, ◌++◌, ℕ, length, ap, subst, arith, ◌∙◌}
-use Rattle.demangle_text.specs.Pieces.{Store}
+-- The three texts fill a gap for them.
+use Rattle.std.proofs.Common.{◌≡◌, ◌++◌, length, take, drop, sym, arith}
+use Rattle.std.proofs.lemmas.List.{length-append, length-take-le}
 use Rattle.demangle_text.specs.View.{store_of}
-use Rattle.demangle_text.specs.State.{KeepsAll}
-use Rattle.demangle_text.proofs.States.{on_err_from}
-use Rattle.demangle_text.proofs.Inserts.{length-inserted}
-use Rattle.demangle_text.proofs.Texts.{Moves}
-use Rattle.demangle_text.proofs.Carried.{Moves-inserted, KeepsAll-aside, IsStore-after, IsEdit-after}
+use Rattle.demangle_text.specs.Gaps.{IsGap, in_order}
+use Rattle.demangle_text.proofs.Rooms.{room-fits, fits-first, fits-second, three-put}
+use Rattle.demangle_text.proofs.Gaps.{IsGap-same, IsStore-filled, IsEdit-filled}
 use Rattle.demangle_text.proofs.buffer.Buffer.insert_three.Goals as goal
 
-pub returns-in_err-set_apart-clause-err : goal.returns-in_err-set_apart-clause-err
-returns-in_err-set_apart-clause-err c =
-    let same : KeepsAll c.args.self.now _ = rw (← c.self.view_is) (KeepsAll-aside (store_of c.self.inside) _ _ _ _ c.as_slice.ensures.value c.set_apart.ensures.aside) in
-    on_err_from c.from_residual.result same
+pub put-first-requires : goal.put-first-requires
+put-first-requires c =
+    let old = c.args.self.now.main_text in
+    let at = c.args.at in
+    let n = c.in-Some.n in
+    let g = IsGap-same c.args.self.now _ (store_of c.self.inside) at n c.self.view_is c.in_ok-open_gap.ensures.gap in
+    let low = sym (length-take-le at old c.requires.within) in
+    record {
+      within = room-fits (take at old) (drop at old) c.self.inside.main n at (length c.args.texts.front.now)
+          g.room low (omega arith);
+    }
 
-pub returns-in_err-insert_three-clause-err : goal.returns-in_err-insert_three-clause-err
-returns-in_err-insert_three-clause-err c =
-    let same : KeepsAll c.args.self.now _ =
-    rw (← c.self.view_is, c.in_err-insert_three.ensures.err) (KeepsAll-aside (store_of c.self.inside) _ _ _ _ c.as_slice.ensures.value c.set_apart.ensures.aside) in
-    on_err_from c.from_residual-in_err-insert_three.result same
+pub put-second-requires : goal.put-second-requires
+put-second-requires c =
+    let old = c.args.self.now.main_text in
+    let at = c.args.at in
+    let n = c.in-Some.n in
+    let t = c.args.texts in
+    let one = c.put-first in
+    let g = IsGap-same c.args.self.now _ (store_of c.self.inside) at n c.self.view_is c.in_ok-open_gap.ensures.gap in
+    let low = sym (length-take-le at old c.requires.within) in
+    record {
+      within = fits-first (take at old) (drop at old) c.self.inside.main t.front.now t.bytes.now t.back.now
+          one.new.self one.new.self n at one.result 0 g.room low (omega arith) one.ensures.value one.ensures.ends;
+    }
 
-pub overflow_sub-next : goal.overflow_sub-next
-overflow_sub-next c =
-    let main = c.self.inside.main in
-    let more = c.args.front.now ++ (c.args.bytes.now ++ c.args.back.now) in
-    let n : length c.insert_three.new.self ≡ length main + length more = ap length c.in_ok-insert_three.ensures.ok ∙ length-inserted main more c.args.at in
-    omega (arith, n, c.len-len.ensures.value, c.len.ensures.value)
+pub put-requires : goal.put-requires
+put-requires c =
+    let old = c.args.self.now.main_text in
+    let at = c.args.at in
+    let n = c.in-Some.n in
+    let t = c.args.texts in
+    let one = c.put-first in
+    let two = c.put-second in
+    let g = IsGap-same c.args.self.now _ (store_of c.self.inside) at n c.self.view_is c.in_ok-open_gap.ensures.gap in
+    let low = sym (length-take-le at old c.requires.within) in
+    record {
+      within = fits-second (take at old) (drop at old) c.self.inside.main t.front.now t.bytes.now t.back.now
+          one.new.self two.new.self n at one.result two.result g.room low (omega arith)
+          one.ensures.value one.ensures.ends two.ensures.value two.ensures.ends;
+    }
 
-pub overflow_add-next : goal.overflow_add-next
-overflow_add-next c =
-    omega (arith, c.requires.within, ap (λ (b : Store). length b.main_text) c.self.view_is, c.len-len.ensures.value, c.len.type_inv)
+gap : (c : goal.After-put) → IsGap c.args.self.now (store_of c.self.inside) c.args.at c.in-Some.n
+gap c =
+    IsGap-same c.args.self.now _ (store_of c.self.inside) c.args.at c.in-Some.n c.self.view_is
+    c.in_ok-open_gap.ensures.gap
 
-pub carry-requires-clause-fits : goal.carry-requires-clause-fits
-carry-requires-clause-fits c =
-    let main = c.self.inside.main in
-    let more = c.args.front.now ++ (c.args.bytes.now ++ c.args.back.now) in
-    let n : length c.insert_three.new.self ≡ length main + length more = ap length c.in_ok-insert_three.ensures.ok ∙ length-inserted main more c.args.at in
-    omega (arith, n, c.requires.within, ap (λ (b : Store). length b.main_text) c.self.view_is, c.len-len.ensures.value, c.len.ensures.value, c.len.type_inv)
+main : (c : goal.After-put) → c.put.new.self
+    ≡ take c.args.at c.args.self.now.main_text ++ (in_order c.args.texts ++ drop c.args.at c.args.self.now.main_text)
+main c =
+    let old = c.args.self.now.main_text in
+    let at = c.args.at in
+    let t = c.args.texts in
+    let one = c.put-first in
+    let two = c.put-second in
+    let low = sym (length-take-le at old c.requires.within) in
+    three-put (take at old) (drop at old) c.self.inside.main t.front.now t.bytes.now t.back.now
+    one.new.self two.new.self c.in-Some.n at one.result two.result (gap c).room low (omega arith)
+    one.ensures.value one.ensures.ends two.ensures.value two.ensures.ends _ c.put.ensures.value
 
-pub carry-requires-2-clause-fits : goal.carry-requires-2-clause-fits
-carry-requires-2-clause-fits c =
-    let main = c.self.inside.main in
-    let more = c.args.front.now ++ (c.args.bytes.now ++ c.args.back.now) in
-    let n : length c.insert_three.new.self ≡ length main + length more = ap length c.in_ok-insert_three.ensures.ok ∙ length-inserted main more c.args.at in
-    omega (arith, n, c.requires.within, ap (λ (b : Store). length b.main_text) c.self.view_is, c.len-len.ensures.value, c.len.ensures.value, c.len.type_inv)
+long : (c : goal.After-put) → length (in_order c.args.texts) ≡ c.in-Some.n
+long c =
+    let t = c.args.texts in
+    omega (arith, length-append t.front.now (t.bytes.now ++ t.back.now), length-append t.bytes.now t.back.now)
 
-moves : (c : goal.After-carry-2) → Moves (store_of c.self.inside).main_text c.insert_three.new.self c.args.at c.args.at c.len-len.result (c.args.at + (c.len.result - c.len-len.result))
-moves c =
-    let main = c.self.inside.main in
-    let more = c.args.front.now ++ (c.args.bytes.now ++ c.args.back.now) in
-    let ok = c.in_ok-insert_three.ensures.ok in
-    let n : length c.insert_three.new.self ≡ length main + length more = ap length ok ∙ length-inserted main more c.args.at in
-    let within : c.args.at ≤ length main = omega (arith, c.requires.within, ap (λ (b : Store). length b.main_text) c.self.view_is) in
-    let by : c.args.at + length more ≡ c.args.at + (c.len.result - c.len-len.result) = omega (arith, n, c.len-len.ensures.value, c.len.ensures.value) in
-    subst (λ (d : ℕ). Moves main c.insert_three.new.self c.args.at c.args.at c.len-len.result d) by
-    (Moves-inserted main more c.insert_three.new.self c.args.at c.len-len.result within c.len-len.ensures.value ok)
-
-low : (s b : Store) (at : ℕ) → s ≡ b → b.frame_main ≤ at → s.frame_main ≤ at
-low s b at same inner = omega (arith, ap (λ (v : Store). v.frame_main) same, inner)
-
-pub invariant_of-self-2 : goal.invariant_of-self-2
-invariant_of-self-2 c =
-    let a = c.in_ok-set_apart.ensures in
-    IsStore-after (store_of c.self.inside) _ _ _ _ c.as_slice.ensures.value c.set_apart.ensures.aside _ _ _ _ _ _ _ c.self.invariant
-    a.saved_apart a.args_apart c.carry.ensures.value c.carry-2.ensures.value (moves c) (low _ _ c.args.at c.self.view_is c.requires.inner)
+pub invariant_of-self : goal.invariant_of-self
+invariant_of-self c =
+    IsStore-filled c.args.self.now (store_of c.self.inside) c.args.at c.in-Some.n (gap c) _ _ (long c) (main c)
 
 pub returns-clause-edit : goal.returns-clause-edit
 returns-clause-edit c =
-    let a = c.in_ok-set_apart.ensures in
-    rw (← c.self.view_is) (IsEdit-after (store_of c.self.inside) _ _ _ _ c.as_slice.ensures.value c.set_apart.ensures.aside _ _ _ _ _ _ _ c.self.invariant
-    a.saved_apart a.args_apart c.carry.ensures.value c.carry-2.ensures.value (moves c) (low _ _ c.args.at c.self.view_is c.requires.inner))
+    IsEdit-filled c.args.self.now (store_of c.self.inside) c.args.at c.in-Some.n (gap c) _ _ (long c) (main c)
+
+pub returns-clause-main : goal.returns-clause-main
+returns-clause-main c = main c

@@ -1,72 +1,110 @@
--- What would be torn is set aside, and then the rest moves on with the text and the bytes in front of it.
-use Rattle.std.proofs.Common.{◌≡◌, ◌≤◌, ◌+◌, ◌-◌, ◌++◌, ℕ, length, ap, subst, arith, ◌∙◌}
-use Rattle.demangle_text.specs.Pieces.{Store, piece_text}
+-- The text and the bytes fill a gap for both.
+use Rattle.std.proofs.Common.{◌≡◌, ◌+◌, ◌-◌, ◌++◌, List, ℕ, length, take, drop, ap, sym, ◌∙◌, arith}
+use Rattle.std.proofs.lemmas.List.{length-append, length-drop, length-take-le}
+use Rattle.demangle_text.specs.Pieces.{piece_text}
+use Rattle.demangle_text.specs.State.{IsLiving}
 use Rattle.demangle_text.specs.View.{store_of}
-use Rattle.demangle_text.specs.State.{KeepsAll}
-use Rattle.demangle_text.proofs.States.{on_err_from}
-use Rattle.demangle_text.proofs.Inserts.{length-inserted}
-use Rattle.demangle_text.proofs.Texts.{Moves}
-use Rattle.demangle_text.proofs.Carried.{Moves-inserted, KeepsAll-aside, IsStore-after, IsEdit-after}
+use Rattle.demangle_text.specs.Gaps.{IsGap}
+use Rattle.demangle_text.proofs.Rooms.{both-put}
+use Rattle.demangle_text.proofs.Tails.{length-text}
+use Rattle.demangle_text.proofs.Gaps.{IsGap-same, IsStore-filled, IsEdit-filled, length-gap, text-kept, within-kept}
 use Rattle.demangle_text.proofs.buffer.Buffer.join_within.Goals as goal
 
-pub returns-in_err-set_apart-clause-err : goal.returns-in_err-set_apart-clause-err
-returns-in_err-set_apart-clause-err c =
-    let same : KeepsAll c.args.self.now _ = rw (← c.self.view_is) (KeepsAll-aside (store_of c.self.inside) _ _ _ _ c.as_slice.ensures.value c.set_apart.ensures.aside) in
-    on_err_from c.from_residual.result same
+pub put_text-middle-requires : goal.put_text-middle-requires
+unfolding IsLiving
+put_text-middle-requires c =
+    let b = c.args.self.now in
+    let s = store_of c.self.inside in
+    let at = c.args.at in
+    let n = c.in-Some.n in
+    let g = IsGap-same b _ s at n c.self.view_is c.in_ok-open_gap.ensures.gap in
+    let whole = length-gap b.main_text c.self.inside.main at n c.requires.within g.room in
+    record {
+      ordered = c.requires.living.ordered;
+      within = within-kept b s at n g c.requires.within c.args.first c.requires.living;
+      before = c.requires.before;
+      room = omega (arith, whole, c.requires.within, c.text_len.ensures.value);
+    }
 
-pub returns-in_err-insert_joined-clause-err : goal.returns-in_err-insert_joined-clause-err
-returns-in_err-insert_joined-clause-err c =
-    let same : KeepsAll c.args.self.now _ =
-    rw (← c.self.view_is, c.in_err-insert_joined.ensures.err) (KeepsAll-aside (store_of c.self.inside) _ _ _ _ c.as_slice.ensures.value c.set_apart.ensures.aside) in
-    on_err_from c.from_residual-in_err-insert_joined.result same
+pub put-requires : goal.put-requires
+put-requires c =
+    let b = c.args.self.now in
+    let s = store_of c.self.inside in
+    let at = c.args.at in
+    let n = c.in-Some.n in
+    let p = c.args.first in
+    let k = p.to_byte - p.from_byte in
+    let g = IsGap-same b _ s at n c.self.view_is c.in_ok-open_gap.ensures.gap in
+    let all = c.self.inside.main in
+    let same = text-kept b s at n g c.requires.within p c.requires.living c.requires.before in
+    let text = piece_text all c.self.inside.lists.side p in
+    let long : length text ≡ k = ap length same ∙ length-text b p c.requires.living in
+    let whole = length-gap b.main_text all at n c.requires.within g.room in
+    let put = ap length c.put_text-middle.ensures.value in
+    let rest = drop (at + k) all in
+    record {
+      within = omega (
+        arith,
+        whole,
+        c.text_len.ensures.value,
+        c.requires.within,
+        long,
+        put,
+        c.put_text-middle.ensures.ends,
+        length-append (take at all) (text ++ rest),
+        length-append text rest,
+        length-take-le at all (omega (arith, whole, c.requires.within)),
+        length-drop (at + k) all,
+      );
+    }
 
-pub overflow_sub-dest : goal.overflow_sub-dest
-overflow_sub-dest c =
-    let main = c.self.inside.main in
-    let more = piece_text main c.set_apart.new.side c.args.first ++ c.args.bytes.now in
-    let n : length c.insert_joined.new.main ≡ length main + length more = ap length c.in_ok-insert_joined.ensures.ok ∙ length-inserted main more c.args.at in
-    omega (arith, n, c.len-len.ensures.value, c.len.ensures.value)
+gap : (c : goal.After-put) → IsGap c.args.self.now (store_of c.self.inside) c.args.at c.in-Some.n
+gap c =
+    IsGap-same c.args.self.now _ (store_of c.self.inside) c.args.at c.in-Some.n c.self.view_is
+    c.in_ok-open_gap.ensures.gap
 
-pub overflow_add-dest : goal.overflow_add-dest
-overflow_add-dest c =
-    omega (arith, c.requires.within, ap (λ (b : Store). length b.main_text) c.self.view_is, c.len-len.ensures.value, c.len.type_inv)
+-- what fills the gap
+abbrev added : goal.After-put → List ℕ
+added c = piece_text c.args.self.now.main_text c.args.self.now.side_text c.args.first ++ c.args.bytes.now
 
-pub carry-requires-clause-fits : goal.carry-requires-clause-fits
-carry-requires-clause-fits c =
-    let main = c.self.inside.main in
-    let more = piece_text main c.set_apart.new.side c.args.first ++ c.args.bytes.now in
-    let n : length c.insert_joined.new.main ≡ length main + length more = ap length c.in_ok-insert_joined.ensures.ok ∙ length-inserted main more c.args.at in
-    omega (arith, n, c.requires.within, ap (λ (b : Store). length b.main_text) c.self.view_is, c.len-len.ensures.value, c.len.ensures.value, c.len.type_inv)
+main : (c : goal.After-put) → c.put.new.self
+    ≡ take c.args.at c.args.self.now.main_text ++ (added c ++ drop c.args.at c.args.self.now.main_text)
+main c =
+    let b = c.args.self.now in
+    let at = c.args.at in
+    let p = c.args.first in
+    let bytes = c.args.bytes.now in
+    let all = c.self.inside.main in
+    let mid = c.put_text-middle.new.main in
+    let k = p.to_byte - p.from_byte in
+    let text = piece_text b.main_text b.side_text p in
+    let long : length text ≡ k = length-text b p c.requires.living in
+    let n = c.in-Some.n in
+    let low = sym (length-take-le at b.main_text c.requires.within) in
+    let put = c.put_text-middle.ensures in
+    let same =
+    text-kept b (store_of c.self.inside) at n (gap c) c.requires.within p c.requires.living c.requires.before in
+    let is : mid ≡ take at all ++ (text ++ drop (at + k) all) =
+    put.value ∙ ap (λ (v : List ℕ). take at all ++ (v ++ drop (at + k) all)) same in
+    let done : c.put.new.self ≡ take (at + k) mid ++ (bytes ++ drop (at + k + length bytes) mid) =
+    c.put.ensures.value ∙ ap (λ (i : ℕ). take i mid ++ (bytes ++ drop (i + length bytes) mid)) put.ends in
+    both-put (take at b.main_text) (drop at b.main_text) all text bytes mid _ n at k (gap c).room low (sym long)
+    (omega (arith, c.text_len.ensures.value)) is done
 
-pub carry-requires-2-clause-fits : goal.carry-requires-2-clause-fits
-carry-requires-2-clause-fits c =
-    let main = c.self.inside.main in
-    let more = piece_text main c.set_apart.new.side c.args.first ++ c.args.bytes.now in
-    let n : length c.insert_joined.new.main ≡ length main + length more = ap length c.in_ok-insert_joined.ensures.ok ∙ length-inserted main more c.args.at in
-    omega (arith, n, c.requires.within, ap (λ (b : Store). length b.main_text) c.self.view_is, c.len-len.ensures.value, c.len.ensures.value, c.len.type_inv)
+long : (c : goal.After-put) → length (added c) ≡ c.in-Some.n
+long c =
+    let b = c.args.self.now in
+    let p = c.args.first in
+    let both = length-append (piece_text b.main_text b.side_text p) c.args.bytes.now in
+    omega (arith, both, length-text b p c.requires.living, c.text_len.ensures.value)
 
-moves : (c : goal.After-carry-2) → Moves (store_of c.self.inside).main_text c.insert_joined.new.main c.args.at c.args.at c.len-len.result (c.args.at + (c.len.result - c.len-len.result))
-moves c =
-    let main = c.self.inside.main in
-    let more = piece_text main c.set_apart.new.side c.args.first ++ c.args.bytes.now in
-    let ok = c.in_ok-insert_joined.ensures.ok in
-    let n : length c.insert_joined.new.main ≡ length main + length more = ap length ok ∙ length-inserted main more c.args.at in
-    let within : c.args.at ≤ length main = omega (arith, c.requires.within, ap (λ (b : Store). length b.main_text) c.self.view_is) in
-    let dest : c.args.at + length more ≡ c.args.at + (c.len.result - c.len-len.result) = omega (arith, n, c.len-len.ensures.value, c.len.ensures.value) in
-    subst (λ (d : ℕ). Moves main c.insert_joined.new.main c.args.at c.args.at c.len-len.result d) dest
-    (Moves-inserted main more c.insert_joined.new.main c.args.at c.len-len.result within c.len-len.ensures.value ok)
-
-low : (s b : Store) (at : ℕ) → s ≡ b → b.frame_main ≤ at → s.frame_main ≤ at
-low s b at same inner = omega (arith, ap (λ (v : Store). v.frame_main) same, inner)
-
-pub invariant_of-self-2 : goal.invariant_of-self-2
-invariant_of-self-2 c =
-    let a = c.in_ok-set_apart.ensures in
-    IsStore-after (store_of c.self.inside) _ _ _ _ c.as_slice.ensures.value c.set_apart.ensures.aside _ _ _ _ _ _ _ c.self.invariant
-    a.saved_apart a.args_apart c.carry.ensures.value c.carry-2.ensures.value (moves c) (low _ _ c.args.at c.self.view_is c.requires.inner)
+pub invariant_of-self : goal.invariant_of-self
+invariant_of-self c =
+    IsStore-filled c.args.self.now (store_of c.self.inside) c.args.at c.in-Some.n (gap c) _ _ (long c) (main c)
 
 pub returns-clause-edit : goal.returns-clause-edit
 returns-clause-edit c =
-    let a = c.in_ok-set_apart.ensures in
-    rw (← c.self.view_is) (IsEdit-after (store_of c.self.inside) _ _ _ _ c.as_slice.ensures.value c.set_apart.ensures.aside _ _ _ _ _ _ _ c.self.invariant
-    a.saved_apart a.args_apart c.carry.ensures.value c.carry-2.ensures.value (moves c) (low _ _ c.args.at c.self.view_is c.requires.inner))
+    IsEdit-filled c.args.self.now (store_of c.self.inside) c.args.at c.in-Some.n (gap c) _ _ (long c) (main c)
+
+pub returns-clause-main : goal.returns-clause-main
+returns-clause-main c = main c

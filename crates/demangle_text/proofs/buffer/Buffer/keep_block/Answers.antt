@@ -9,22 +9,32 @@ use Rattle.demangle_text.proofs.buffer.Buffer.keep_block.Goals as goal
 low : (s b : Store) (at : ℕ) → s ≡ b → b.frame_main ≡ at → s.frame_main ≤ at
 low s b at same mark = omega (arith, ap (λ (v : Store). v.frame_main) same, mark)
 
-moves : (c : goal.After-carry-2) → Moves (store_of c.self.inside).main_text c.keep.new.self c.args.at c.args.from c.args.to c.args.at
+moves : (c : goal.After-carry)
+    → Moves (store_of c.self.inside).main_text c.keep.new.self c.args.at c.args.from c.args.to c.args.at
 moves c =
     let s = store_of c.self.inside in
     let same = c.self.view_is in
-    let within : c.args.at ≤ length s.main_text = omega (arith, c.self.invariant.main_frame, c.requires.mark, ap (λ (b : Store). b.frame_main) same) in
-    let ends : c.args.to ≤ length s.main_text = omega (arith, c.requires.within, ap (λ (b : Store). length b.main_text) same) in
-    Moves-kept s.main_text c.keep.new.self c.args.at c.args.from c.args.to within c.requires.ordered ends c.keep.ensures.value
+    let frame = ap (λ (b : Store). b.frame_main) same in
+    let all = ap (λ (b : Store). length b.main_text) same in
+    let within : c.args.at ≤ length s.main_text = omega (arith, c.self.invariant.main_frame, c.requires.mark, frame) in
+    let ends : c.args.to ≤ length s.main_text = omega (arith, c.requires.within, all) in
+    Moves-kept s.main_text c.keep.new.self c.args.at c.args.from c.args.to within c.requires.ordered ends
+    c.keep.ensures.value
 
 pub invariant_of-self-2 : goal.invariant_of-self-2
 invariant_of-self-2 c =
     let a = c.in_ok-set_apart.ensures in
-    IsStore-after (store_of c.self.inside) _ _ _ _ c.as_slice.ensures.value c.set_apart.ensures.aside _ _ _ _ _ _ _ c.self.invariant
-    a.saved_apart a.args_apart c.carry.ensures.value c.carry-2.ensures.value (moves c) (low _ _ c.args.at c.self.view_is c.requires.mark)
+    let e = c.carry.ensures in
+    rw e.side
+    (IsStore-after (store_of c.self.inside) _ _ _ _ c.as_slice.ensures.value c.set_apart.ensures.aside
+    _ _ _ _ _ _ _ c.self.invariant a.saved_apart a.args_apart e.saved e.args
+    (moves c) (low _ _ c.args.at c.self.view_is c.requires.mark))
 
 pub returns-clause-edit : goal.returns-clause-edit
 returns-clause-edit c =
     let a = c.in_ok-set_apart.ensures in
-    rw (← c.self.view_is) (IsEdit-after (store_of c.self.inside) _ _ _ _ c.as_slice.ensures.value c.set_apart.ensures.aside _ _ _ _ _ _ _ c.self.invariant
-    a.saved_apart a.args_apart c.carry.ensures.value c.carry-2.ensures.value (moves c) (low _ _ c.args.at c.self.view_is c.requires.mark))
+    let e = c.carry.ensures in
+    rw (← c.self.view_is, e.side)
+    (IsEdit-after (store_of c.self.inside) _ _ _ _ c.as_slice.ensures.value c.set_apart.ensures.aside
+    _ _ _ _ _ _ _ c.self.invariant a.saved_apart a.args_apart e.saved e.args
+    (moves c) (low _ _ c.args.at c.self.view_is c.requires.mark))

@@ -15,9 +15,9 @@ length-three : (front bytes : List ℕ) → length (front ++ (bytes ++ 41 ∷ []
 length-three front bytes = omega (arith, length-append front (bytes ++ 41 ∷ []), length-append bytes (41 ∷ []))
 
 -- the place lies in the text
-pub slice_bounds-group_front-end : goal.slice_bounds-group_front-end
+pub slice_bounds-group_opening-end : goal.slice_bounds-group_opening-end
 unfolding IsLiving
-slice_bounds-group_front-end c =
+slice_bounds-group_opening-end c =
     let b = c.args.self.now in
     let p = c.args.piece in
     let t = piece_text b.main_text b.side_text p in
@@ -28,13 +28,13 @@ slice_bounds-group_front-end c =
 
 pub with_group-requires-clause-own_fits : goal.with_group-requires-clause-own_fits
 with_group-requires-clause-own_fits c =
-    let front = c.group_front-front.result.now in
+    let front = c.group_opening-front.result.now in
     let fits = own-fits c.args.self.now c.splice_three.new.self c.args.piece c.place-at.result (front ++ (c.args.bytes.now ++ 41 ∷ [])) c.in_ok-from.from c.requires.living c.in_ok-from.ensures.splice in
     omega (arith, fits, length-three front c.args.bytes.now, c.len.ensures.value, c.len.type_inv, ap (λ (b : Store). length b.main_text) c.self.view_is)
 
 pub with_group-requires-clause-layout_fits : goal.with_group-requires-clause-layout_fits
 with_group-requires-clause-layout_fits c =
-    let front = c.group_front-front.result.now in
+    let front = c.group_opening-front.result.now in
     let fits = layout-fits c.args.self.now c.splice_three.new.self c.args.piece c.place-at.result (front ++ (c.args.bytes.now ++ 41 ∷ [])) c.in_ok-from.from c.requires.living c.in_ok-from.ensures.splice in
     omega (arith, fits, length-three front c.args.bytes.now, c.len.ensures.value, c.len.type_inv, ap (λ (b : Store). length b.main_text) c.self.view_is)
 
@@ -47,7 +47,7 @@ returns-clause-shape c =
     let from = c.in_ok-from.from in
     let at = c.place-at.result in
     let bytes = c.args.bytes.now in
-    let front = c.group_front-front.result.now in
+    let front = c.group_opening-front.result.now in
     let all = front ++ (bytes ++ 41 ∷ []) in
     let by = length front + length bytes + 1 in
     let m = c.with_group.ensures in
@@ -55,7 +55,7 @@ returns-clause-shape c =
     let k : c.len.result ≡ length n.main_text = c.len.ensures.value ∙ ap (λ (s : Store). length s.main_text) c.self.view_is in
     let j : by ≡ length all = omega (arith, length-three front bytes) in
     let gap : front ≡ gap_after (take at t) ++ 40 ∷ [] =
-    c.group_front-front.ensures.text ∙ ap (λ (v : List ℕ). gap_after (take at v) ++ 40 ∷ []) (c.bytes.ensures.value ∙ text_is b p c.requires.living) in
+    c.group_opening-front.ensures.value ∙ ap (λ (v : List ℕ). gap_after (take at v) ++ 40 ∷ []) (c.bytes.ensures.value ∙ text_is b p c.requires.living) in
     let is : all ≡ group_text bytes (take at t) =
     ap (λ (v : List ℕ). v ++ (bytes ++ 41 ∷ [])) gap ∙ append_assoc (gap_after (take at t)) (40 ∷ []) (bytes ++ 41 ∷ []) in
     Lives-opened b n p at all from c.requires.living c.in_ok-from.ensures.splice q (subst (IsAt q from) k m.stands)
@@ -73,7 +73,7 @@ returns-clause-edit_of c =
     let q = c.with_group.result in
     let from = c.in_ok-from.from in
     let at = c.place-at.result in
-    let all = c.group_front-front.result.now ++ (c.args.bytes.now ++ 41 ∷ []) in
+    let all = c.group_opening-front.result.now ++ (c.args.bytes.now ++ 41 ∷ []) in
     let s = c.in_ok-from.ensures.splice in
     let k : c.len.result ≡ length n.main_text = c.len.ensures.value ∙ ap (λ (b : Store). length b.main_text) c.self.view_is in
     let stands = subst (IsAt q from) k c.with_group.ensures.stands in

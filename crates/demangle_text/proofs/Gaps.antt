@@ -1,0 +1,118 @@
+-- A gap in the main text, and what fills it.
+use Rattle.std.proofs.Common.{◌≡◌, ℕ, ◌+◌, ◌≤◌, Bool, true, false, List, ◌++◌, length, take, drop, slice_range, All, map}
+use Rattle.std.proofs.Common.{refl, sym, ap, ◌∙◌, subst, arith, append_assoc}
+use Rattle.std.proofs.lemmas.List.{length-append, length-drop, length-take-le, take_at}
+use Rattle.demangle_text.specs.declared.shape.Piece.{Piece}
+use Rattle.demangle_text.specs.Flags.{lies_aside}
+use Rattle.demangle_text.specs.Pieces.{Store, IsStore, IsApart, IsAside, EndsBy, HasRoom, carried}
+use Rattle.demangle_text.specs.Pieces.{home_bytes, piece_text}
+use Rattle.demangle_text.specs.State.{IsLiving, IsEdit}
+use Rattle.demangle_text.specs.Gaps.{IsGap}
+use Rattle.demangle_text.proofs.Texts.{Moves, part-append, part-below}
+use Rattle.demangle_text.proofs.Rooms.{length-HasRoom, HasRoom-put, HasRoom-filled}
+use Rattle.demangle_text.proofs.Carried.{Moves-inserted, IsStore-after, IsEdit-after}
+
+-- how long the text with the gap is
+pub length-gap : (old new : List ℕ) (at n : ℕ) → at ≤ length old → HasRoom (take at old) (drop at old) new n
+    → length new ≡ length old + n
+length-gap old new at n within h =
+    omega (arith, length-HasRoom (take at old) (drop at old) new n h, length-take-le at old within, length-drop at old)
+
+-- what would be torn is set aside, and all after a place moves on by n bytes
+module _ (s : Store) (m side : List ℕ) (saved args saved' args' : List Piece) (at n len dest : ℕ)
+    (same : m ≡ s.main_text) (a : IsAside m s.side_text side s.saved_pieces saved s.arg_pieces args)
+    (saved_apart : All (IsApart at at len) saved) (args_apart : All (IsApart at at len) args)
+    (by_saved : saved' ≡ map (carried at at dest) saved) (by_args : args' ≡ map (carried at at dest) args)
+    (i : IsStore s) (inner : s.frame_main ≤ at) (within : at ≤ length s.main_text)
+    (by_len : len ≡ length s.main_text) (by_dest : dest ≡ at + n) where
+  abbrev gapped : List ℕ → Store
+  gapped main = record s { main_text = main; side_text = side; saved_pieces = saved'; arg_pieces = args' }
+
+  module _ (main bytes : List ℕ) (long : length bytes ≡ n)
+      (is : main ≡ take at s.main_text ++ (bytes ++ drop at s.main_text)) where
+    moves : Moves s.main_text main at at len dest
+    moves =
+        subst (λ (d : ℕ). Moves s.main_text main at at len d) (ap (λ (k : ℕ). at + k) long ∙ sym by_dest)
+        (Moves-inserted s.main_text bytes main at len within by_len is)
+
+    IsStore-gapped : IsStore (gapped main)
+    IsStore-gapped =
+        IsStore-after s m side saved args same a at at len dest main saved' args' i
+        saved_apart args_apart by_saved by_args moves inner
+
+    IsEdit-gapped : IsEdit s (gapped main)
+    IsEdit-gapped =
+        IsEdit-after s m side saved args same a at at len dest main saved' args' i
+        saved_apart args_apart by_saved by_args moves inner
+
+  module _ (main : List ℕ) (h : HasRoom (take at s.main_text) (drop at s.main_text) main n) where
+    pub IsStore-opened : IsStore (gapped main)
+    IsStore-opened = IsStore-gapped main h.room h.long h.parts
+
+    pub IsGap-opened : IsGap s (gapped main) at n
+    IsGap-opened = record {
+      room = h;
+      side = a.side;
+      consistent = λ bytes long. IsStore-gapped _ bytes long refl;
+      edit = λ bytes long. IsEdit-gapped _ bytes long refl;
+    }
+
+-- the same store has the gap
+pub IsGap-same : (old new s : Store) (at n : ℕ) → s ≡ new → IsGap old new at n → IsGap old s at n
+IsGap-same old new s at n same gap = subst (λ (b : Store). IsGap old b at n) (sym same) gap
+
+-- the gap is filled
+module _ (old s : Store) (at n : ℕ) (gap : IsGap old s at n) (bytes main : List ℕ) (long : length bytes ≡ n)
+    (is : main ≡ take at old.main_text ++ (bytes ++ drop at old.main_text)) where
+  pub IsStore-filled : IsStore (record s { main_text = main })
+  IsStore-filled = subst (λ (v : List ℕ). IsStore (record s { main_text = v })) (sym is) (gap.consistent bytes long)
+
+  pub IsEdit-filled : IsEdit old (record s { main_text = main })
+  IsEdit-filled = subst (λ (v : List ℕ). IsEdit old (record s { main_text = v })) (sym is) (gap.edit bytes long)
+
+-- by one text
+pub one-put : (old all bytes new : List ℕ) (at : ℕ) → at ≤ length old
+    → HasRoom (take at old) (drop at old) all (length bytes)
+    → new ≡ take at all ++ (bytes ++ drop (at + length bytes) all) → new ≡ take at old ++ (bytes ++ drop at old)
+one-put old all bytes new at within h is =
+    let low = sym (length-take-le at old within) in
+    HasRoom-filled (take at old ++ bytes) (drop at old) new
+    (HasRoom-put (take at old) (drop at old) all bytes new (length bytes) 0 at (length bytes) h low refl (omega arith) is)
+    ∙ append_assoc (take at old) bytes (drop at old)
+
+-- a part of what stands before the gap stays
+part-before : (old new : List ℕ) (at n a b : ℕ) → at ≤ length old → HasRoom (take at old) (drop at old) new n
+    → a ≤ b → b ≤ at → slice_range new a b ≡ slice_range old a b
+part-before old new at n a b place h ordered before =
+    let low = length-take-le at old place in
+    let same : take at new ≡ take at old =
+    ap (take at) h.parts ∙ take_at (take at old) (h.room ++ drop at old) at low in
+    part-below old new at a b ordered before place (omega (arith, length-gap old new at n place h)) same
+
+part-kept : (old new : Store) (at n a b : ℕ) (h : Bool) → IsGap old new at n → at ≤ length old.main_text → a ≤ b
+    → b ≤ length (home_bytes old.main_text old.side_text h) → (h ≡ false → b ≤ at)
+    → slice_range (home_bytes new.main_text new.side_text h) a b ≡ slice_range (home_bytes old.main_text old.side_text h) a b
+part-kept old new at n a b false gap place ordered within before =
+    part-before old.main_text new.main_text at n a b place gap.room ordered (before refl)
+part-kept old new at n a b true gap place ordered within before =
+    ap (λ (v : List ℕ). slice_range v a b) gap.side.all
+    ∙ part-append old.side_text gap.side.more a b ordered within
+
+home-longer : (old new : Store) (at n b : ℕ) (h : Bool) → IsGap old new at n → at ≤ length old.main_text
+    → b ≤ length (home_bytes old.main_text old.side_text h) → b ≤ length (home_bytes new.main_text new.side_text h)
+home-longer old new at n b false gap place within =
+    omega (arith, length-gap old.main_text new.main_text at n place gap.room, within)
+home-longer old new at n b true gap place within =
+    omega (arith, ap length gap.side.all, length-append old.side_text gap.side.more, within)
+
+-- a piece that ends by the place keeps its text
+module _ (old new : Store) (at n : ℕ) (gap : IsGap old new at n) (place : at ≤ length old.main_text)
+    (p : Piece) (lies : IsLiving old p) where
+  pub text-kept : EndsBy at p → piece_text new.main_text new.side_text p ≡ piece_text old.main_text old.side_text p
+  unfolding IsLiving
+  text-kept before =
+      part-kept old new at n p.from_byte p.to_byte (lies_aside p.flags) gap place lies.ordered lies.within before
+
+  pub within-kept : p.to_byte ≤ length (home_bytes new.main_text new.side_text (lies_aside p.flags))
+  unfolding IsLiving
+  within-kept = home-longer old new at n p.to_byte (lies_aside p.flags) gap place lies.within

@@ -1,0 +1,20 @@
+-- A gap in the main text, what fills it, and what else stays as it is.
+use Rattle.std.specs.Prelude.{◌≡◌, ℕ, List, ◌++◌, length, take, drop}
+use Rattle.demangle_text.specs.Pieces.{Store, IsStore, Extends, HasRoom}
+use Rattle.demangle_text.specs.State.{IsEdit}
+use Rattle.demangle_text.specs.declared.parts.Three.{Three}
+
+-- three texts, one after the other
+abbrev pub in_order : Three → List ℕ
+in_order texts = texts.front.now ++ (texts.bytes.now ++ texts.back.now)
+
+-- the store where bytes stand at a place of this main text
+abbrev pub with_gap_filled : List ℕ → ℕ → List ℕ → Store → Store
+with_gap_filled main at bytes s = record s { main_text = take at main ++ (bytes ++ drop at main) }
+
+-- the main text has a gap of n bytes at a place, and the step is an edit, whatever bytes fill the gap
+pub record IsGap (old new : Store) (at n : ℕ) : Type 0 where
+  pub room : HasRoom (take at old.main_text) (drop at old.main_text) new.main_text n
+  pub side : Extends old.side_text new.side_text
+  pub consistent : (bytes : List ℕ) → length bytes ≡ n → IsStore (with_gap_filled old.main_text at bytes new)
+  pub edit : (bytes : List ℕ) → length bytes ≡ n → IsEdit old (with_gap_filled old.main_text at bytes new)

@@ -1,0 +1,164 @@
+//! The list of saved shapes, and the list of scopes.
+ghost use Rattle.std.specs.Prelude.{◌≡◌, ◌-◌, ◌<◌, ◌≤◌, [], ◌∷◌, ◌++◌, length, take, OnOk, OnErr, IfSome, option_map};
+ghost use Rattle.std.specs.Prelude.{slice_get};
+
+use crate::buffer::Buffer;
+use crate::shape::Piece;
+use std::alloc::AllocError;
+
+#[tactic(auto,
+// The lemmas for what is kept.
+using(crate::proofs::States::states), unfolding(
+// Pieces.
+crate::specs::State::IsLiving, crate::specs::State::shape,
+// Where they stand.
+crate::specs::State::main_bytes, crate::specs::State::Stands, crate::specs::State::frame_start,
+// How old they are.
+crate::specs::State::frame, crate::specs::State::outermost, crate::specs::State::IsOlder, crate::specs::State::IsAsOld,
+// Marks.
+crate::specs::State::inside, crate::specs::State::outside,
+// Lists.
+crate::specs::State::saved, crate::specs::State::scopes,),)]
+impl Buffer {
+    ghost use Rattle.demangle_text.specs.State.{IsLiving, shape, saved, scopes, KeepsAll, SameFrame, last_args};
+    ghost use Rattle.demangle_text.specs.State.{with_arg, main_bytes};
+
+    /// Adds the shape of the piece to the end of the saved ones. After `AllocError` all is as it
+    /// was.
+    #[inline(always)]
+    pub fn save(&mut self, piece: Piece) -> Result<(), AllocError>
+        requires living { IsLiving self.old piece }
+        ensures saved { OnOk result (saved self.new ≡ saved self.old ++ shape self.old piece ∷ []) }
+        ensures scopes { scopes self.new ≡ scopes self.old }
+        ensures kept { SameFrame self.old self.new }
+        ensures main { main_bytes self.new ≡ main_bytes self.old }
+        ensures err { OnErr result (KeepsAll self.old self.new) }
+    {
+        self.save_in_place(&piece)
+    }
+
+    /// As `save`, of a piece that stays where it is kept.
+    #[inline(always)]
+    pub fn save_in_place(&mut self, piece: &Piece) -> Result<(), AllocError>
+        requires living { IsLiving self.old piece.now }
+        ensures saved { OnOk result (saved self.new ≡ saved self.old ++ shape self.old piece.now ∷ []) }
+        ensures scopes { scopes self.new ≡ scopes self.old }
+        ensures kept { SameFrame self.old self.new }
+        ensures main { main_bytes self.new ≡ main_bytes self.old }
+        ensures err { OnErr result (KeepsAll self.old self.new) }
+    {
+        self.lists.saved.push(piece, self.main.len())?;
+        Ok(())
+    }
+
+    /// Takes the last saved shape out.
+    #[inline(always)]
+    pub fn unsave(&mut self)
+        requires some { 0 < length (saved self.old) }
+        ensures saved { saved self.new ≡ take (length (saved self.old) - 1) (saved self.old) }
+        ensures scopes { scopes self.new ≡ scopes self.old }
+        ensures kept { SameFrame self.old self.new }
+        ensures main { main_bytes self.new ≡ main_bytes self.old }
+    {
+        let last = self.saved_len() - 1;
+        self.lists.saved.truncate(last);
+    }
+
+    /// A piece of the saved shape with this index, from 0, or `None` past the last one.
+    #[inline(always)]
+    pub fn saved(&self, i: usize) -> Option<Piece>
+        ensures shape { option_map (shape self.now) result ≡ slice_get (saved self.now) i }
+        ensures living { IfSome result (IsLiving self.now) }
+    {
+        self.lists.saved.get(i)
+    }
+
+    /// How many shapes are saved.
+    #[inline(always)]
+    pub fn saved_len(&self) -> usize
+        ensures value { result ≡ length (saved self.now) }
+    {
+        self.lists.saved.len()
+    }
+
+    /// Opens a scope, which is the last one then and has no argument. After `AllocError` all is as
+    /// it was.
+    pub fn open_scope(&mut self) -> Result<(), AllocError>
+        ensures scopes { OnOk result (scopes self.new ≡ scopes self.old ++ [] ∷ []) }
+        ensures saved { saved self.new ≡ saved self.old }
+        ensures kept { SameFrame self.old self.new }
+        ensures main { main_bytes self.new ≡ main_bytes self.old }
+        ensures err { OnErr result (KeepsAll self.old self.new) }
+    {
+        let start = self.lists.args.len();
+        self.starts.push(start)?;
+        Ok(())
+    }
+
+    /// Adds the shape of the piece to the end of the last scope. After `AllocError` all is as it
+    /// was.
+    pub fn push_arg(&mut self, piece: Piece) -> Result<(), AllocError>
+        requires living { IsLiving self.old piece }
+        requires open { 0 < length (scopes self.old) }
+        ensures scopes { OnOk result (scopes self.new ≡ with_arg (shape self.old piece) (scopes self.old)) }
+        ensures saved { saved self.new ≡ saved self.old }
+        ensures kept { SameFrame self.old self.new }
+        ensures main { main_bytes self.new ≡ main_bytes self.old }
+        ensures err { OnErr result (KeepsAll self.old self.new) }
+    {
+        self.push_arg_in_place(&piece)
+    }
+
+    /// As `push_arg`, of a piece that stays where it is kept.
+    #[inline(always)]
+    pub fn push_arg_in_place(&mut self, piece: &Piece) -> Result<(), AllocError>
+        requires living { IsLiving self.old piece.now }
+        requires open { 0 < length (scopes self.old) }
+        ensures scopes { OnOk result (scopes self.new ≡ with_arg (shape self.old piece.now) (scopes self.old)) }
+        ensures saved { saved self.new ≡ saved self.old }
+        ensures kept { SameFrame self.old self.new }
+        ensures main { main_bytes self.new ≡ main_bytes self.old }
+        ensures err { OnErr result (KeepsAll self.old self.new) }
+    {
+        self.lists.args.push(piece, self.main.len())?;
+        Ok(())
+    }
+
+    /// A piece of the argument of the last scope with this index, from 0. `None` past the last
+    /// argument, and where no scope is open.
+    #[inline(always)]
+    pub fn arg(&self, i: usize) -> Option<Piece>
+        ensures shape { option_map (shape self.now) result ≡ slice_get (last_args (scopes self.now)) i }
+        ensures living { IfSome result (IsLiving self.now) }
+    {
+        let count = self.scopes();
+        if count == 0 {
+            return None;
+        }
+        let start = self.starts[count - 1];
+        self.lists.args.get_from(start, i)
+    }
+
+    /// How many scopes are open.
+    #[inline(always)]
+    pub fn scopes(&self) -> usize
+        ensures value { result ≡ length (scopes self.now) }
+    {
+        self.starts.len()
+    }
+
+    /// Drops all scopes past the first n, with their arguments.
+    pub fn keep_scopes(&mut self, n: usize)
+        requires within { n ≤ length (scopes self.old) }
+        ensures scopes { scopes self.new ≡ take n (scopes self.old) }
+        ensures saved { saved self.new ≡ saved self.old }
+        ensures kept { SameFrame self.old self.new }
+        ensures main { main_bytes self.new ≡ main_bytes self.old }
+    {
+        if n < self.scopes() {
+            let start = self.starts[n];
+            self.lists.args.truncate(start);
+            self.starts.truncate(n);
+        }
+    }
+}
