@@ -4,12 +4,13 @@ use Rattle.std.proofs.Common.{refl, sym, ap, ◌∙◌, subst, arith, append_ass
 use Rattle.std.proofs.lemmas.List.{length-append, length-drop, length-take-le, take_at}
 use Rattle.demangle_text.specs.declared.shape.Piece.{Piece}
 use Rattle.demangle_text.specs.Flags.{lies_aside}
-use Rattle.demangle_text.specs.Pieces.{Store, IsStore, IsApart, IsAside, EndsBy, HasRoom, carried}
+use Rattle.demangle_text.specs.Pieces.{Store, IsStore, IsApart, IsAside, EndsBy, carried}
+use Rattle.growing_text.specs.Room.{HasRoom}
 use Rattle.demangle_text.specs.Pieces.{home_bytes, piece_text}
 use Rattle.demangle_text.specs.State.{IsLiving, IsEdit}
 use Rattle.demangle_text.specs.Gaps.{IsGap}
 use Rattle.demangle_text.proofs.Texts.{Moves, part-append, part-below}
-use Rattle.demangle_text.proofs.Rooms.{length-HasRoom, HasRoom-put, HasRoom-filled}
+use Rattle.growing_text.proofs.Rooms.{length-HasRoom, HasRoom-put, HasRoom-filled}
 use Rattle.demangle_text.proofs.Carried.{Moves-inserted, IsStore-after, IsEdit-after}
 
 -- how long the text with the gap is

@@ -1,6 +1,7 @@
 -- A gap in the main text, what fills it, and what else stays as it is.
 use Rattle.std.specs.Prelude.{◌≡◌, ℕ, List, ◌++◌, length, take, drop}
-use Rattle.demangle_text.specs.Pieces.{Store, IsStore, Extends, HasRoom}
+use Rattle.demangle_text.specs.Pieces.{Store, IsStore, Extends}
+use Rattle.growing_text.specs.Room.{HasRoom}
 use Rattle.demangle_text.specs.State.{IsEdit}
 use Rattle.demangle_text.specs.declared.parts.Three.{Three}
 

@@ -3,7 +3,7 @@ use Rattle.std.proofs.Common.{◌≡◌, ◌++◌, length, take, drop, sym, arit
 use Rattle.std.proofs.lemmas.List.{length-append, length-take-le}
 use Rattle.demangle_text.specs.View.{store_of}
 use Rattle.demangle_text.specs.Gaps.{IsGap, in_order}
-use Rattle.demangle_text.proofs.Rooms.{room-fits, fits-first, fits-second, three-put}
+use Rattle.growing_text.proofs.Rooms.{room-fits, fits-first, fits-second, three-put}
 use Rattle.demangle_text.proofs.Gaps.{IsGap-same, IsStore-filled, IsEdit-filled}
 use Rattle.demangle_text.proofs.buffer.Buffer.insert_three.Goals as goal
 

@@ -5,7 +5,7 @@ use Rattle.demangle_text.specs.Pieces.{piece_text}
 use Rattle.demangle_text.specs.State.{IsLiving}
 use Rattle.demangle_text.specs.View.{store_of}
 use Rattle.demangle_text.specs.Gaps.{IsGap}
-use Rattle.demangle_text.proofs.Rooms.{both-put}
+use Rattle.growing_text.proofs.Rooms.{both-put}
 use Rattle.demangle_text.proofs.Tails.{length-text}
 use Rattle.demangle_text.proofs.Gaps.{IsGap-same, IsStore-filled, IsEdit-filled, length-gap, text-kept, within-kept}
 use Rattle.demangle_text.proofs.buffer.Buffer.join_within.Goals as goal

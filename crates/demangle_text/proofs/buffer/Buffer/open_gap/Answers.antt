@@ -1,6 +1,7 @@
 -- What would be torn is set aside, and then the rest moves on.
 use Rattle.std.proofs.Common.{◌≡◌, ◌≤◌, ◌+◌, ◌-◌, List, ℕ, length, take, drop, ap, arith}
-use Rattle.demangle_text.specs.Pieces.{Store, HasRoom}
+use Rattle.demangle_text.specs.Pieces.{Store}
+use Rattle.growing_text.specs.Room.{HasRoom}
 use Rattle.demangle_text.specs.View.{store_of}
 use Rattle.demangle_text.specs.State.{KeepsAll}
 use Rattle.demangle_text.proofs.States.{on_err_from}
