@@ -9,7 +9,8 @@ use Rattle.growing_text.specs.Room.{HasRoom}
 use Rattle.demangle_text.specs.Pieces.{home_bytes, piece_text}
 use Rattle.demangle_text.specs.State.{IsLiving, IsEdit}
 use Rattle.demangle_text.specs.Gaps.{IsGap}
-use Rattle.demangle_text.proofs.Texts.{Moves, part-append, part-below}
+use Rattle.demangle_text.proofs.Texts.{Moves, part-below}
+use Rattle.growing_text.proofs.Parts.{part-append}
 use Rattle.growing_text.proofs.Rooms.{length-HasRoom, HasRoom-put, HasRoom-filled}
 use Rattle.demangle_text.proofs.Carried.{Moves-inserted, IsStore-after, IsEdit-after}
 
