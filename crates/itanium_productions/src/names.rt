@@ -1,5 +1,5 @@
 //! Names (Itanium C++ ABI 5.1.2).
-ghost use Rattle.std.specs.Prelude.{◌≡◌, ◌<◌, length, option_map, None, Some, IfSome, OnOk, true};
+ghost use Rattle.std.specs.Prelude.{◌≡◌, ◌<◌, length, option_map, None, Some, IfSome, OnOk, true, false};
 ghost use Rattle.demangle_text.specs.State.{IsLiving, shape, IsRun, SameFrame, saved};
 ghost use Rattle.itanium_syntax.specs.Names.{free_case, first_case, unscoped_case, saves_first};
 ghost use Rattle.itanium_syntax.specs.Context.{inside_lambda};
@@ -437,6 +437,7 @@ pub(crate) fn read_bare_name(
 ) -> Result<Quals, Stop>
     requires room { HasRoom 1 (state reader.old) }
     ensures reads { GivesBareName result reader.new (spec.parse_bare_name depth context (state reader.old)) }
+    ensures fits { OnOk result (spec.is_wide (shape reader.new.buffer.value reader.new.found) ≡ false) }
     ensures run { OnOk result (IsRun reader.old.buffer.value reader.new.buffer.value) }
     ensures refused { depth ≡ 0 → reader.new.entered ≡ reader.old.entered }
     ensures bounds { Bounds 1 result (state reader.old) (state reader.new) }
@@ -479,9 +480,12 @@ pub(crate) fn read_name(reader: &mut Reader, depth: usize, context: Context) -> 
 {
     let shown = shows_words(name_case(reader.rest), context.shown);
     let quals = read_bare_name(reader, depth, context)?;
-    reader.print_quals(quals, shown)?;
-    if reader.is_wide(reader.found) {
-        return Err(Stop::Unread);
+    // Without qualifiers it is what was measured.
+    if quals.is_set() {
+        reader.print_quals(quals, shown)?;
+        if reader.is_wide(reader.found) {
+            return Err(Stop::Unread);
+        }
     }
     Ok(())
 }
