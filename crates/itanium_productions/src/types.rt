@@ -47,7 +47,7 @@ pub(crate) fn read_type_attached(
 }
 
 /// `<type>`, within `depth` open productions.
-#[tactic(auto, using(itanium_reader::proofs::Rules::types))]
+#[tactic(auto, using(itanium_reader::proofs::Rules::builtin_literals))]
 #[cycle(reader)]
 pub(crate) fn read_type(reader: &mut Reader, depth: usize, context: Context) -> Result<(), Stop>
     requires room { HasRoom 2 (state reader.old) }
@@ -62,8 +62,13 @@ pub(crate) fn read_type(reader: &mut Reader, depth: usize, context: Context) -> 
     }
     reader.entered += 1;
     let inside = context.inside_type();
+    // A builtin type is short, and a name is measured by its own reader.
     match type_case(reader.rest) {
-        TypeCase::BuiltinType => reader.read_builtin()?,
+        TypeCase::BuiltinType => {
+            reader.read_builtin()?;
+            return Ok(());
+        }
+        TypeCase::NameType => return read_name_type(reader, depth - 1, inside),
         TypeCase::UnreadType => return Err(Stop::Unread),
         TypeCase::ExpansionType => read_expansion(reader, depth - 1, inside)?,
         TypeCase::VendorType => reader.read_vendor()?,
@@ -75,7 +80,6 @@ pub(crate) fn read_type(reader: &mut Reader, depth: usize, context: Context) -> 
         TypeCase::ElaboratedType => read_elaborated(reader, depth - 1, inside)?,
         TypeCase::ParameterType => read_parameter_type(reader, depth - 1, inside)?,
         TypeCase::SubstitutionType => read_substitution_type(reader, depth - 1, inside)?,
-        TypeCase::NameType => read_name_type(reader, depth - 1, inside)?,
     }
     if reader.is_wide(reader.found) {
         return Err(Stop::Unread);
@@ -255,6 +259,7 @@ pub(crate) fn read_name_type(
 ) -> Result<(), Stop>
     requires room { HasRoom 1 (state reader.old) }
     ensures reads { Gives result reader.new (spec.saved_by (spec.parse_name depth context) (state reader.old)) }
+    ensures fits { OnOk result (spec.is_wide (shape reader.new.buffer.value reader.new.found) ≡ false) }
     ensures run { OnOk result (IsRun reader.old.buffer.value reader.new.buffer.value) }
     ensures bounds { Bounds 1 result (state reader.old) (state reader.new) }
     ensures saved { SavedBounds 0 result (state reader.old) (state reader.new) }
