@@ -318,8 +318,8 @@ fn local_names(rt: HostRuntime) {
     assert_all(&rt, rt.alloc(), &LOCALS);
 }
 
-/// Return types, which are dropped, and are measured all the same. `T_` is an empty pack: so its type is nothing but the
-/// list, and that is at the limit, around a name, a pack and an expression.
+/// Return types, which are dropped, and are measured all the same. `T_` is an empty pack: so its type is nothing but
+/// the list, and that is at the limit, around a name, a pack and an expression.
 #[test]
 fn dropped_types(rt: HostRuntime) {
     let f = "f<int>()::x";
@@ -343,8 +343,8 @@ fn types_dropped_inside(rt: HostRuntime) {
     assert_dropped(&rt, rt.alloc(), ["_Z1fIZ1gIiE", "vE1xE"], argument, 0);
 }
 
-/// What isn't printed isn't measured: the name of an anonymous namespace, the value of a null pointer, zeros in front of
-/// a number, and a function's parameters; nor is what follows from a dot.
+/// What isn't printed isn't measured: the name of an anonymous namespace, the value of a null pointer, zeros in front
+/// of a number, and a function's parameters; nor is what follows from a dot.
 #[test]
 fn what_is_not_printed(rt: HostRuntime) {
     let namespace = with_letters(&rt, rt.alloc(), ["_Z1048577_GLOBAL__N", ""], LIMIT + 1 - 10);
@@ -375,9 +375,9 @@ fn assert_stops(rt: &impl Abort, alloc: Global, parts: [&str; 3], count: usize, 
     drop(demangler);
 }
 
-/// Three components are longer than the limit, and two aren't. So of 5,000 three are entered, and around them: a type and
-/// what it returns; a pack; a lambda's type and name; a local name's type, itself and its `g`; a type, its name and its
-/// list.
+/// Three components are longer than the limit, and two aren't. So of 5,000 three are entered, and around them: a type
+/// and what it returns; a pack; a lambda's type and name; a local name's type, itself and its `g`; a type, its name and
+/// its list.
 #[test]
 fn long_components_in_lists(rt: HostRuntime) {
     assert_stops(&rt, rt.alloc(), ["Fv", "SH_", "E"], 5_000, 5);
@@ -394,8 +394,8 @@ fn long_pointers_in_a_list(rt: HostRuntime) {
     assert_stops(&rt, rt.alloc(), ["Fv", "PSH_", "E"], 10_000, 8);
 }
 
-/// 1,000 components of a nested name, each with a list of two: the second is too long. Entered are its type and the name,
-/// and two lists with two types each.
+/// 1,000 components of a nested name, each with a list of two: the second is too long. Entered are its type and the
+/// name, and two lists with two types each.
 #[test]
 fn long_components_of_a_nested_name(rt: HostRuntime) {
     assert_stops(&rt, rt.alloc(), ["N", "1CISH_SH_E", "E"], 1_000, 8);

@@ -21,8 +21,8 @@ state_at p entered most_saved = record {
   most_saved = most_saved;
 }
 
--- the grammar reads these bytes within the limits: there is a tree that shows as what was found, what its reading leaves
--- is this state, with its count and its peak added, and every reading within the limits agrees with it
+-- the grammar reads these bytes within the limits: there is a tree that shows as what was found, what its reading
+-- leaves is this state, with its count and its peak added, and every reading within the limits agrees with it
 pub record HasReading {T A : Type 0} (R : T → Position → Cost → Type 0) (show : T → A)
     (depth entered most_saved : ℕ) (found : A) (after : ParserState) : Type 0 where
   pub tree : T

@@ -111,8 +111,8 @@ HasSaved symbol (Some answer) shapes =
     → shapes ≡ map shape_of next.saved
 HasSaved symbol None shapes = shapes ≡ []
 
--- where there is an answer, it is at most so long that two types of the longest text fit in it, with the 28 bytes of the
--- words around them, and the suffix of every reading within the limits
+-- where there is an answer, it is at most so long that two types of the longest text fit in it, with the 28 bytes of
+-- the words around them, and the suffix of every reading within the limits
 abbrev pub HasLength : List ℕ → Option (List ℕ) → Type 0
 HasLength symbol (Some answer) =
     (tree : Tree) (next : Position) (cost : Cost)

@@ -22,8 +22,8 @@ use itanium_syntax::scalar::source_name;
 use itanium_syntax::types::{builtin_text, past_builtin};
 use std::alloc::{AllocError, Global};
 
-/// The most bytes that a counted production of a symbol may print, also one that is dropped: a name, a type, an argument
-/// list, a pack, a thunk or an expression.
+/// The most bytes that a counted production of a symbol may print, also one that is dropped: a name, a type, an
+/// argument list, a pack, a thunk or an expression.
 pub const MAX_TEXT: usize = 1_048_576;
 
 /// The limit as a number of bytes.
