@@ -176,8 +176,9 @@ fn close_arguments(buf: &mut Buffer, list: Piece) -> Result<Piece, AllocError>
 
 /// The text of the name with the `<` of its template arguments, after a space where it ends in `<`, as a plain piece.
 ///
-/// The list is built as a text: `separate` before each argument but the first, and `join` of the buffer after each. `end_arguments` gives it
-/// what the name was. An error comes where memory is refused, and then only `clear` of the buffer is promised.
+/// The list is built as a text: `separate` before each argument but the first, and `join` of the buffer after each.
+/// `end_arguments` gives it what the name was. An error comes where memory is refused, and then only `clear` of the
+/// buffer is promised.
 #[inline(always)]
 #[tactic(auto, using(demangle_text::proofs::Laws::laws, crate::proofs::Built::begun_text))]
 pub fn begin_arguments(buf: &mut Buffer, name: Piece) -> Result<Piece, AllocError>
@@ -224,9 +225,9 @@ pub fn end_arguments(
 /// The name with the `(` of its parameters. A plain piece with the last own name and the flag `ctor`
 /// of the name; `templ` doesn't hold.
 ///
-/// With `separate` before each parameter but the first, `list_next` after each and then `close_params` it is what `format_params` makes of
-/// the name, the parameters and the qualifiers. An error comes where memory is refused, and then
-/// only `clear` of the buffer is promised.
+/// With `separate` before each parameter but the first, `list_next` after each and then `close_params` it is what
+/// `format_params` makes of the name, the parameters and the qualifiers. An error comes where memory is refused, and
+/// then only `clear` of the buffer is promised.
 #[tactic(auto, using(demangle_text::proofs::Laws::laws))]
 pub fn open_params(buf: &mut Buffer, name: Piece) -> Result<Piece, AllocError>
     requires name { IsLiving buf.old name }
