@@ -45,11 +45,16 @@ fn with_letters(rt: &impl Abort, alloc: Global, parts: [&str; 2], len: usize) ->
     filled(rt, alloc, before, "a", len, after)
 }
 
+/// A source name of so many letters, between these.
+fn around_source(rt: &impl Abort, alloc: Global, before: &str, len: usize, after: &str) -> String {
+    let front = format!(in alloc; "{before}{len}").expect(rt, "no memory");
+    filled(rt, alloc, &front, "a", len, after)
+}
+
 /// The text with a source name of so many letters between its parts.
 fn with_source(rt: &impl Abort, alloc: Global, parts: [&str; 2], len: usize) -> String {
     let [before, after] = parts;
-    let front = format!(in alloc; "{before}{len}").expect(rt, "no memory");
-    filled(rt, alloc, &front, "a", len, after)
+    around_source(rt, alloc, before, len, after)
 }
 
 /// The symbol has this answer, or none. A message has the note alone, since the texts are long.
@@ -236,10 +241,10 @@ fn specials(rt: HostRuntime) {
 #[test]
 fn two_types(rt: HostRuntime) {
     let class = with_source(&rt, rt.alloc(), ["_ZTC", "0_"], LIMIT);
-    let symbol = with_source(&rt, rt.alloc(), [&class, ""], LIMIT);
-    let wider = with_source(&rt, rt.alloc(), [&class, ""], LIMIT + 1);
+    let symbol = around_source(&rt, rt.alloc(), &class, LIMIT, "");
+    let wider = around_source(&rt, rt.alloc(), &class, LIMIT + 1, "");
     let front = with_letters(&rt, rt.alloc(), ["construction vtable for ", "-in-"], LIMIT);
-    let answer = with_letters(&rt, rt.alloc(), [&front, ""], LIMIT);
+    let answer = filled(&rt, rt.alloc(), &front, "a", LIMIT, "");
     assert_limit(&rt, rt.alloc(), &symbol, &answer, &wider, "TC");
 }
 
