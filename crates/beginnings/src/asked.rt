@@ -15,7 +15,7 @@ pub struct Asked {
 }
 
 /// The text with a tab for each `\t`.
-fn plain(alloc: Global, text: &str) -> Result<String, AllocError> {
+fn with_tabs(alloc: Global, text: &str) -> Result<String, AllocError> {
     text.replace(alloc, "\\t", "\t")
 }
 
@@ -46,11 +46,11 @@ impl Asked {
 
     /// Asks the symbol of a record, or each beginning of a symbol that stands alone in its line.
     pub fn ask_line<R: Print + AllocGlobal>(&mut self, rt: &R, line: &str) -> io::Result<()> {
-        let all = plain(rt.alloc(), line)?;
+        let all = with_tabs(rt.alloc(), line)?;
         let Some((symbol, _)) = line.split_once('\t') else {
             return self.ask_beginnings(rt, &all);
         };
-        let symbol = plain(rt.alloc(), symbol)?;
+        let symbol = with_tabs(rt.alloc(), symbol)?;
         self.ask(rt, &symbol, Some(all.as_str()))
     }
 

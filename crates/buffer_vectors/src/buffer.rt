@@ -209,11 +209,11 @@ fn saved_names_around_an_insertion(rt: HostRuntime) {
 #[tactic(auto, using(demangle_text::proofs::Laws::laws, demangle_text::proofs::Laws::runs))]
 fn texts_that_meet_are_joined_where_they_stand(rt: HostRuntime) {
     let mut buf = Buffer::new(rt.alloc());
-    let scope = buf.push(b"A").expect(&rt, "no memory");
-    buf.save(scope).expect(&rt, "no memory");
+    let parent = buf.push(b"A").expect(&rt, "no memory");
+    buf.save(parent).expect(&rt, "no memory");
     let leaf = buf.push(b"B").expect(&rt, "no memory");
     buf.save(leaf).expect(&rt, "no memory");
-    let joined = buf.join(scope, b"::", leaf).expect(&rt, "no memory");
+    let joined = buf.join(parent, b"::", leaf).expect(&rt, "no memory");
     assert_text(&rt, &buf, joined, b"A::B");
     assert_main(&rt, &buf, b"A::B");
     assert_saved(&rt, &buf, 1, b"B");
@@ -308,7 +308,7 @@ fn argument_of_the_outer_scope(rt: HostRuntime) {
 #[tactic(auto, using(demangle_text::proofs::Laws::laws, demangle_text::proofs::Laws::runs))]
 fn second_text_is_joined_where_it_stands(rt: HostRuntime) {
     let mut buf = Buffer::new(rt.alloc());
-    let scope = buf.push(b"A").expect(&rt, "no memory");
+    let parent = buf.push(b"A").expect(&rt, "no memory");
     buf.push(b"xy").expect(&rt, "no memory");
     let leaf = buf.push(b"B<int>").expect(&rt, "no memory");
     let named = buf.own_at(leaf, 0, 1);
@@ -317,7 +317,7 @@ fn second_text_is_joined_where_it_stands(rt: HostRuntime) {
     let inner = buf.own_at(leaf, 2, 5);
     let argument = buf.own(inner);
     buf.save(argument).expect(&rt, "no memory");
-    let joined = buf.join(scope, b"::", leaf).expect(&rt, "no memory");
+    let joined = buf.join(parent, b"::", leaf).expect(&rt, "no memory");
     assert_text(&rt, &buf, joined, b"A::B<int>");
     assert_own(&rt, &buf, joined, 0, 9);
     assert_main(&rt, &buf, b"AxyA::B<int>");
@@ -333,13 +333,13 @@ fn kept_texts_around_a_join(rt: HostRuntime) {
     let text = buf.push(b"A::B").expect(&rt, "no memory");
     buf.save(text).expect(&rt, "no memory");
     let front = buf.own_at(text, 0, 1);
-    let scope = buf.own(front);
-    buf.save(scope).expect(&rt, "no memory");
+    let parent = buf.own(front);
+    buf.save(parent).expect(&rt, "no memory");
     let back = buf.own_at(text, 3, 4);
     let leaf = buf.own(back);
     buf.open_scope().expect(&rt, "no memory");
     buf.push_arg(leaf).expect(&rt, "no memory");
-    let joined = buf.join(scope, b".", leaf).expect(&rt, "no memory");
+    let joined = buf.join(parent, b".", leaf).expect(&rt, "no memory");
     assert_text(&rt, &buf, joined, b"A.B");
     assert_main(&rt, &buf, b"A::A.B");
     assert_saved(&rt, &buf, 0, b"A::B");

@@ -7,28 +7,28 @@ use Rattle.demangle_quals.specs.declared.quals.Quals.{Quals}
 use Rattle.demangle_quals.specs.Quals.{words_text, reference_text, has_quals}
 use Rattle.demangle_edit.specs.Lists.{params_text}
 
--- the leaf as a plain text, with its scope and `::` in front
+-- the leaf as a plain text, with its parent and `::` in front
 abbrev pub qualified : Shape → Shape → Shape
-qualified scope leaf = inserted Start (text scope ++ codes "::") (flattened leaf)
+qualified parent leaf = inserted Start (text parent ++ codes "::") (flattened leaf)
 
--- the scope as a plain text, with `::{default arg#k}::` after it, k being the number of a default argument
+-- the parent as a plain text, with `::{default arg#k}::` after it, k being the number of a default argument
 abbrev pub default_arg_opened : Shape → ℕ → Shape
-default_arg_opened scope number =
-    appended (codes "::{default arg#" ++ (decimal number ++ codes "}::")) (flattened scope)
+default_arg_opened parent number =
+    appended (codes "::{default arg#" ++ (decimal number ++ codes "}::")) (flattened parent)
 
 -- the entity as a plain text, with the text in front that opens its default argument
 abbrev pub default_arg_closed : Shape → Shape → Shape
 default_arg_closed opened entity = inserted Start (text opened) (flattened entity)
 
--- the entity as a plain text, in the default argument of a scope with this number
+-- the entity as a plain text, in the default argument of a parent with this number
 abbrev pub default_arg_shape : Shape → ℕ → Shape → Shape
-default_arg_shape scope number entity = default_arg_closed (default_arg_opened scope number) entity
+default_arg_shape parent number entity = default_arg_closed (default_arg_opened parent number) entity
 
--- the constructor of a scope, or its destructor: the last own name is all after the `::`
+-- the constructor of a parent, or its destructor: the last own name is all after the `::`
 abbrev pub qualified_ctor : Shape → Bool → Shape
-qualified_ctor scope destructor =
-    let before = text scope ++ codes "::" in
-    let name = (if destructor then codes "~" else []) ++ text (own_shape scope) in
+qualified_ctor parent destructor =
+    let before = text parent ++ codes "::" in
+    let name = (if destructor then codes "~" else []) ++ text (own_shape parent) in
     record { form = Plain (before ++ name); own = (length before, length (before ++ name)); templ = false; ctor = true }
 
 -- a space after a text that ends in `<`

@@ -222,8 +222,7 @@ fn print_literal_of(
 /// parentheses and then the digits. `-` stands in front of the digits, or of their brackets. A plain
 /// piece whose last own name is the whole, with no flag set.
 ///
-/// `None`, and all stays, for a `bool` without minus whose value is neither `0` nor `1`. An error
-/// comes where memory is refused, and then only `clear` of the buffer is promised.
+/// `None`, and all stays, for a `bool` without minus whose value is neither `0` nor `1`.
 #[tactic(auto, using(demangle_text::proofs::Laws::laws))]
 pub fn write_literal(buf: &mut Buffer, ty: Piece, value: &str) -> Result<Option<Piece>, AllocError>
     requires ty { IsLiving buf.old ty }
@@ -295,8 +294,6 @@ pub fn write_opened_literal(
 
 /// An operand of an expression: where `paren` holds its text in parentheses, as a plain piece whose
 /// last own name is the whole, with no flag set; else the piece itself.
-///
-/// An error comes where memory is refused, and then only `clear` of the buffer is promised.
 #[tactic(auto, using(demangle_text::proofs::Laws::laws))]
 pub fn subexpr(buf: &mut Buffer, piece: Piece, paren: bool) -> Result<Piece, AllocError>
     requires piece { IsLiving buf.old piece }
@@ -313,8 +310,6 @@ pub fn subexpr(buf: &mut Buffer, piece: Piece, paren: bool) -> Result<Piece, All
 
 /// The address of what the piece names, `&` in front of its text. What it declares and the flags
 /// stay, and its last own name moves on; of a function it is the whole text.
-///
-/// An error comes where memory is refused, and then only `clear` of the buffer is promised.
 #[tactic(auto, using(demangle_text::proofs::Laws::laws))]
 pub fn address(buf: &mut Buffer, piece: Piece) -> Result<Piece, AllocError>
     requires piece { IsLiving buf.old piece }

@@ -1,8 +1,8 @@
 //! The steps from the shapes of a tree's parts to the shape of the tree, as edits of a buffer's pieces.
 //!
 //! Each edit ends the pieces that were made since the innermost open mark, but for the one that it answers. What is
-//! older keeps its shape, and so do the saved components and the arguments of the scopes. After an `AllocError` `clear`
-//! of the buffer is the only call that is promised.
+//! older keeps its shape, and so do the saved components and the arguments of the scopes. An error comes only where
+//! memory is refused, and then `clear` of the buffer is the only call that is promised.
 //!
 //! Most edits of a piece that stands up to the end of the main text, from that mark or later, are done where it stands,
 //! and leave no other byte there (`in_place`). The others put their text at the end (`appends`).

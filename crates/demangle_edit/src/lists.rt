@@ -38,8 +38,6 @@ fn with_part(buf: &mut Buffer, all: Piece, part: &Glue) -> Result<Piece, AllocEr
 
 /// The parts, one after the other, as a plain piece whose last own name is the whole, with no flag
 /// set. Of no parts it is empty.
-///
-/// An error comes where memory is refused, and then only `clear` of the buffer is promised.
 #[tactic(auto, using(demangle_text::proofs::Laws::laws))]
 pub fn glue(buf: &mut Buffer, parts: &[Glue]) -> Result<Piece, AllocError>
     requires parts { All (IsLivingPart buf.old) parts.now }
@@ -105,8 +103,6 @@ pub(crate) fn list_more(
 /// `{lambda(` for a lambda, none for a pack. Of each text but the first `separate` comes before it is
 /// read, and of each `list_next` after it; after `begin_arguments` it is `join` of the buffer that
 /// comes after it. A pack needs no end but `whole` of the buffer.
-///
-/// An error comes where memory is refused, and then only `clear` of the buffer is promised.
 #[inline(always)]
 #[tactic(auto, using(demangle_text::proofs::Laws::laws))]
 pub fn separate(buf: &mut Buffer, list: Piece) -> Result<Piece, AllocError>
@@ -121,8 +117,6 @@ pub fn separate(buf: &mut Buffer, list: Piece) -> Result<Piece, AllocError>
 
 /// A list that is built as it is read, with the text of the piece at its end. A plain piece with the
 /// last own name and the flags that the list had.
-///
-/// An error comes where memory is refused, and then only `clear` of the buffer is promised.
 #[inline(always)]
 #[tactic(auto, using(demangle_text::proofs::Laws::laws))]
 pub fn list_next(buf: &mut Buffer, list: Piece, next: Piece) -> Result<Piece, AllocError>
@@ -177,8 +171,7 @@ fn close_arguments(buf: &mut Buffer, list: Piece) -> Result<Piece, AllocError>
 /// The text of the name with the `<` of its template arguments, after a space where it ends in `<`, as a plain piece.
 ///
 /// The list is built as a text: `separate` before each argument but the first, and `join` of the buffer after each.
-/// `end_arguments` gives it what the name was. An error comes where memory is refused, and then only `clear` of the
-/// buffer is promised.
+/// `end_arguments` gives it what the name was.
 #[inline(always)]
 #[tactic(auto, using(demangle_text::proofs::Laws::laws, crate::proofs::Built::begun_text))]
 pub fn begin_arguments(buf: &mut Buffer, name: Piece) -> Result<Piece, AllocError>
@@ -195,8 +188,6 @@ pub fn begin_arguments(buf: &mut Buffer, name: Piece) -> Result<Piece, AllocErro
 /// The list that `begin_arguments` began, with its `>`, after a space where its text ends in `>`. `len`, `own` and
 /// `ctor` are those that the name had; the last own name moves as an insertion at `len` moves it. A plain piece;
 /// `templ` holds.
-///
-/// An error comes where memory is refused, and then only `clear` of the buffer is promised.
 #[inline(always)]
 #[tactic(auto, using(demangle_text::proofs::Laws::laws))]
 pub fn end_arguments(
@@ -226,8 +217,7 @@ pub fn end_arguments(
 /// of the name; `templ` doesn't hold.
 ///
 /// With `separate` before each parameter but the first, `list_next` after each and then `close_params` it is what
-/// `format_params` makes of the name, the parameters and the qualifiers. An error comes where memory is refused, and
-/// then only `clear` of the buffer is promised.
+/// `format_params` makes of the name, the parameters and the qualifiers.
 #[tactic(auto, using(demangle_text::proofs::Laws::laws))]
 pub fn open_params(buf: &mut Buffer, name: Piece) -> Result<Piece, AllocError>
     requires name { IsLiving buf.old name }
@@ -243,8 +233,6 @@ pub fn open_params(buf: &mut Buffer, name: Piece) -> Result<Piece, AllocError>
 
 /// The list of parameters with its `)` and the qualifiers of the function: the words and then the
 /// reference.
-///
-/// An error comes where memory is refused, and then only `clear` of the buffer is promised.
 #[tactic(auto, using(demangle_text::proofs::Laws::laws, crate::proofs::Insertions::insertions))]
 pub fn close_params(buf: &mut Buffer, list: Piece, quals: Quals) -> Result<Piece, AllocError>
     requires list { IsLiving buf.old list }
@@ -258,8 +246,6 @@ pub fn close_params(buf: &mut Buffer, list: Piece, quals: Quals) -> Result<Piece
 }
 
 /// The piece with the number at the end of its text, in decimal digits without leading zeros.
-///
-/// An error comes where memory is refused, and then only `clear` of the buffer is promised.
 #[tactic(auto, using(demangle_text::proofs::Laws::laws))]
 pub fn append_number(buf: &mut Buffer, piece: Piece, number: u64) -> Result<Piece, AllocError>
     requires piece { IsLiving buf.old piece }
@@ -275,8 +261,6 @@ pub fn append_number(buf: &mut Buffer, piece: Piece, number: u64) -> Result<Piec
 
 /// The list of a lambda's parameters with `)#`, the lambda's number and `}`. The whole text is its
 /// last own name.
-///
-/// An error comes where memory is refused, and then only `clear` of the buffer is promised.
 #[tactic(auto, using(demangle_text::proofs::Laws::laws, crate::proofs::Insertions::insertions))]
 pub fn close_lambda(buf: &mut Buffer, list: Piece, number: u64) -> Result<Piece, AllocError>
     requires list { IsLiving buf.old list }

@@ -13,62 +13,56 @@ use demangle_quals::{Quals, reference_bytes};
 use demangle_text::{Buffer, Piece};
 use std::alloc::AllocError;
 
-/// The leaf in its scope, `scope::leaf`, as a plain piece with the last own name and the flags of
+/// The leaf in its parent, `parent::leaf`, as a plain piece with the last own name and the flags of
 /// the leaf.
-///
-/// An error comes where memory is refused, and then only `clear` of the buffer is promised.
 #[tactic(auto, using(demangle_text::proofs::Laws::laws))]
-pub fn qualify(buf: &mut Buffer, scope: Piece, leaf: Piece) -> Result<Piece, AllocError>
-    requires scope { IsLiving buf.old scope }
+pub fn qualify(buf: &mut Buffer, parent: Piece, leaf: Piece) -> Result<Piece, AllocError>
+    requires parent { IsLiving buf.old parent }
     requires leaf { IsLiving buf.old leaf }
     ensures shape { IfOk result (λ p. Lives buf.new p
-        (qualified (shape buf.old scope) (shape buf.old leaf))) }
+        (qualified (shape buf.old parent) (shape buf.old leaf))) }
     ensures edit { OnOk result (IsEdit buf.old buf.new) }
-    ensures in_place { IfOk result (λ p. JoinsInPlace buf.old buf.new scope leaf p) }
+    ensures in_place { IfOk result (λ p. JoinsInPlace buf.old buf.new parent leaf p) }
 {
-    let before = buf.len(scope);
+    let before = buf.len(parent);
     let (from, to) = buf.own_range(leaf);
     let (templ, ctor) = (buf.templ(leaf), buf.ctor(leaf));
-    let whole = buf.join(scope, b"::", leaf)?;
+    let whole = buf.join(parent, b"::", leaf)?;
     // The check learns here that the length fits 64 bits, and so does each place in the text.
     let _len = buf.len(whole);
     let named = buf.own_at(whole, before + 2 + from, before + 2 + to);
     Ok(buf.with_flags(named, templ, ctor))
 }
 
-/// A text in a scope, `scope::text`, as a plain piece whose last own name is the text, with no flag
+/// A text in a parent, `parent::text`, as a plain piece whose last own name is the text, with no flag
 /// set.
-///
-/// An error comes where memory is refused, and then only `clear` of the buffer is promised.
 #[inline(always)]
 #[tactic(auto, using(demangle_text::proofs::Laws::laws))]
-pub fn qualify_text(buf: &mut Buffer, scope: Piece, text: &[u8]) -> Result<Piece, AllocError>
-    requires scope { IsLiving buf.old scope }
+pub fn qualify_text(buf: &mut Buffer, parent: Piece, text: &[u8]) -> Result<Piece, AllocError>
+    requires parent { IsLiving buf.old parent }
     ensures shape { IfOk result (λ p. Lives buf.new p
-        (qualified (shape buf.old scope) (plain_shape text.now))) }
+        (qualified (shape buf.old parent) (plain_shape text.now))) }
     ensures edit { OnOk result (IsEdit buf.old buf.new) }
-    ensures in_place { IfOk result (λ p. StaysInPlace buf.old buf.new scope p) }
+    ensures in_place { IfOk result (λ p. StaysInPlace buf.old buf.new parent p) }
 {
-    let before = buf.len(scope);
-    let plain = buf.plain(scope);
+    let before = buf.len(parent);
+    let plain = buf.plain(parent);
     let whole = buf.append_pair(plain, b"::", text)?;
     let end = buf.len(whole);
     let named = buf.own_at(whole, before + 2, end);
     Ok(buf.with_flags(named, false, false))
 }
 
-/// What stands in front of an entity in a default argument of a scope, `scope::{default arg#k}::` with k for its
-/// number, as a plain piece with the last own name and the flags of the scope.
-///
-/// An error comes where memory is refused, and then only `clear` of the buffer is promised.
+/// What stands in front of an entity in a default argument of a parent, `parent::{default arg#k}::` with k for its
+/// number, as a plain piece with the last own name and the flags of the parent.
 #[tactic(auto, using(demangle_text::proofs::Laws::laws, crate::proofs::Insertions::insertions))]
-pub fn open_default_arg(buf: &mut Buffer, scope: Piece, number: u64) -> Result<Piece, AllocError>
-    requires scope { IsLiving buf.old scope }
-    ensures shape { IfOk result (λ p. Lives buf.new p (default_arg_opened (shape buf.old scope) number)) }
+pub fn open_default_arg(buf: &mut Buffer, parent: Piece, number: u64) -> Result<Piece, AllocError>
+    requires parent { IsLiving buf.old parent }
+    ensures shape { IfOk result (λ p. Lives buf.new p (default_arg_opened (shape buf.old parent) number)) }
     ensures edit { OnOk result (IsEdit buf.old buf.new) }
-    ensures in_place { IfOk result (λ p. StaysInPlace buf.old buf.new scope p) }
+    ensures in_place { IfOk result (λ p. StaysInPlace buf.old buf.new parent p) }
 {
-    let plain = buf.plain(scope);
+    let plain = buf.plain(parent);
     let opened = buf.append(plain, b"::{default arg#")?;
     let numbered = append_number(buf, opened, number)?;
     buf.append(numbered, b"}::")
@@ -76,8 +70,6 @@ pub fn open_default_arg(buf: &mut Buffer, scope: Piece, number: u64) -> Result<P
 
 /// The entity after what opens its default argument, as a plain piece with the last own name and the flags of the
 /// entity.
-///
-/// An error comes where memory is refused, and then only `clear` of the buffer is promised.
 #[tactic(auto, using(demangle_text::proofs::Laws::laws))]
 pub fn close_default_arg(
     buf: &mut Buffer,
@@ -101,45 +93,41 @@ pub fn close_default_arg(
     Ok(buf.with_flags(named, templ, ctor))
 }
 
-/// The entity in a default argument of a scope, `scope::{default arg#k}::entity` with k for its number, as a plain
+/// The entity in a default argument of a parent, `parent::{default arg#k}::entity` with k for its number, as a plain
 /// piece with the last own name and the flags of the entity.
-///
-/// An error comes where memory is refused, and then only `clear` of the buffer is promised.
 #[tactic(auto, using(demangle_text::proofs::Laws::laws))]
 pub fn default_arg(
     buf: &mut Buffer,
-    scope: Piece,
+    parent: Piece,
     number: u64,
     entity: Piece,
 ) -> Result<Piece, AllocError>
-    requires scope { IsLiving buf.old scope }
+    requires parent { IsLiving buf.old parent }
     requires entity { IsLiving buf.old entity }
     ensures shape { IfOk result (λ p. Lives buf.new p
-        (default_arg_shape (shape buf.old scope) number (shape buf.old entity))) }
+        (default_arg_shape (shape buf.old parent) number (shape buf.old entity))) }
     ensures edit { OnOk result (IsEdit buf.old buf.new) }
     ensures appends { IfOk result (λ p. Appends buf.old buf.new p) }
 {
     let mark = buf.open();
-    let opened = open_default_arg(buf, scope, number)?;
+    let opened = open_default_arg(buf, parent, number)?;
     let named = close_default_arg(buf, opened, entity)?;
     buf.close(mark, named)
 }
 
-/// The constructor of a scope, `scope::name` with the last own name of the scope, or its
+/// The constructor of a parent, `parent::name` with the last own name of the parent, or its
 /// destructor, which has a `~` in front of that name. A plain piece; its last own name is all after
 /// the `::`. Of the flags `ctor` holds alone.
-///
-/// An error comes where memory is refused, and then only `clear` of the buffer is promised.
 #[tactic(auto, using(demangle_text::proofs::Laws::laws))]
-pub fn qualify_ctor(buf: &mut Buffer, scope: Piece, destructor: bool) -> Result<Piece, AllocError>
-    requires scope { IsLiving buf.old scope }
+pub fn qualify_ctor(buf: &mut Buffer, parent: Piece, destructor: bool) -> Result<Piece, AllocError>
+    requires parent { IsLiving buf.old parent }
     ensures shape { IfOk result (λ p. Lives buf.new p
-        (qualified_ctor (shape buf.old scope) destructor)) }
+        (qualified_ctor (shape buf.old parent) destructor)) }
     ensures edit { OnOk result (IsEdit buf.old buf.new) }
-    ensures in_place { IfOk result (λ p. StaysInPlace buf.old buf.new scope p) }
+    ensures in_place { IfOk result (λ p. StaysInPlace buf.old buf.new parent p) }
 {
-    let before = buf.len(scope);
-    let name = buf.plain(scope);
+    let before = buf.len(parent);
+    let name = buf.plain(parent);
     let between: &[u8] = if destructor { b"::~" } else { b"::" };
     let whole = buf.append_own(name, between)?;
     let len = buf.len(whole);
@@ -158,8 +146,6 @@ fn gap_before_args(name: &[u8]) -> &'static [u8]
 /// The name with the list of its template arguments after it, and a space between them where the
 /// name ends in `<`. A plain piece with the last own name and the flag `ctor` of the name; `templ`
 /// holds.
-///
-/// An error comes where memory is refused, and then only `clear` of the buffer is promised.
 #[inline(always)]
 #[tactic(auto, using(demangle_text::proofs::Laws::laws))]
 pub fn attach_template_args(buf: &mut Buffer, name: Piece, args: Piece) -> Result<Piece, AllocError>
@@ -179,8 +165,6 @@ pub fn attach_template_args(buf: &mut Buffer, name: Piece, args: Piece) -> Resul
 /// The name of a function with its parameters in parentheses, `, ` between them, and its
 /// qualifiers: the words and then the reference. A plain piece with the last own name and the flag
 /// `ctor` of the name; `templ` doesn't hold. Of no parameters it is `name()`.
-///
-/// An error comes where memory is refused, and then only `clear` of the buffer is promised.
 #[tactic(auto, using(demangle_text::proofs::Laws::laws))]
 pub fn format_params(
     buf: &mut Buffer,
@@ -206,8 +190,6 @@ pub fn format_params(
 
 /// The name with an ABI tag after it, `name[abi:tag]`, as a plain piece with the last own name and
 /// the flags of the name.
-///
-/// An error comes where memory is refused, and then only `clear` of the buffer is promised.
 #[tactic(auto, using(demangle_text::proofs::Laws::laws, crate::proofs::Insertions::insertions))]
 pub fn tag(buf: &mut Buffer, name: Piece, text: &[u8]) -> Result<Piece, AllocError>
     requires name { IsLiving buf.old name }
@@ -224,8 +206,6 @@ pub fn tag(buf: &mut Buffer, name: Piece, text: &[u8]) -> Result<Piece, AllocErr
 /// The name with its qualifiers after it: the words ` const`, ` volatile` and ` restrict` only
 /// where they are shown, and then the reference. A plain piece with the last own name and the flags
 /// of the name, also where nothing is printed. Without qualifiers the answer is the name itself.
-///
-/// An error comes where memory is refused, and then only `clear` of the buffer is promised.
 #[tactic(auto, using(demangle_text::proofs::Laws::laws))]
 pub fn apply_name_qualifiers(
     buf: &mut Buffer,

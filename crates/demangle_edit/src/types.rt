@@ -40,8 +40,6 @@ fn wrap_token(buf: &mut Buffer, inner: Piece, token: &[u8]) -> Result<Piece, All
 /// A pointer or a reference to the type: `*`, `&` or `&&` at the end of a plain text or of a group.
 /// A declarator without group gets a group for it. A reference to a plain text that ends in `&`
 /// collapses, as `collapse_ref` has it. The flags stay.
-///
-/// An error comes where memory is refused, and then only `clear` of the buffer is promised.
 #[tactic(auto, using(demangle_text::proofs::Laws::laws, crate::proofs::Declarators::declarators))]
 pub fn wrap_pointer(buf: &mut Buffer, inner: Piece, kind: Pointer) -> Result<Piece, AllocError>
     requires inner { IsLiving buf.old inner }
@@ -71,8 +69,7 @@ pub fn wrap_pointer(buf: &mut Buffer, inner: Piece, kind: Pointer) -> Result<Pie
 /// the text without its last byte, in all other cases the piece itself. `rvalue` says that the
 /// reference is `&&`.
 ///
-/// `None`, and all stays, where the piece is a declarator or its text doesn't end in `&`. An error
-/// comes where memory is refused, and then only `clear` of the buffer is promised.
+/// `None`, and all stays, where the piece is a declarator or its text doesn't end in `&`.
 #[tactic(auto, using(demangle_text::proofs::Laws::laws, crate::proofs::Declarators::declarators))]
 pub fn collapse_ref(
     buf: &mut Buffer,
@@ -124,8 +121,6 @@ fn words_place(buf: &Buffer, inner: Piece) -> Place
 /// The type with the words ` const`, ` volatile` and ` restrict` of its qualifiers: at the end of
 /// the group, for an array without group in front of its dimensions, else at the end of the text.
 /// The flags stay, and the reference of the qualifiers isn't printed.
-///
-/// An error comes where memory is refused, and then only `clear` of the buffer is promised.
 #[tactic(auto, using(demangle_text::proofs::Laws::laws, crate::proofs::Declarators::declarators))]
 pub fn wrap_cv(buf: &mut Buffer, inner: Piece, quals: Quals) -> Result<Piece, AllocError>
     requires inner { IsLiving buf.old inner }
@@ -209,8 +204,7 @@ fn outer_dimension(
 /// group or after a plain text; for an array without group `[n]` after the first byte of what
 /// follows its name, so that the outer dimension stands first. The flags stay.
 ///
-/// `None`, and all stays, for a function without group. An error comes where memory is refused, and
-/// then only `clear` of the buffer is promised.
+/// `None`, and all stays, for a function without group.
 #[tactic(auto, using(demangle_text::proofs::Laws::laws, crate::proofs::Declarators::declarators))]
 pub fn wrap_array(
     buf: &mut Buffer,
@@ -334,8 +328,7 @@ fn open_member(buf: &mut Buffer, class: Piece, member: Piece) -> Result<Piece, A
 /// space, unless the text ends in a space or `(`), or in a new group of a function. The flags are
 /// those of the member.
 ///
-/// `None`, and all stays, for an array. An error comes where memory is refused, and then only
-/// `clear` of the buffer is promised.
+/// `None`, and all stays, for an array.
 #[tactic(auto, using(demangle_text::proofs::Laws::laws, crate::proofs::Declarators::declarators))]
 pub fn wrap_member_pointer(
     buf: &mut Buffer,
@@ -371,8 +364,7 @@ pub fn wrap_member_pointer(
 /// parameters in parentheses with `, ` between them, then the qualifiers. Its last own name is its
 /// whole text, and no flag holds.
 ///
-/// `None`, and all stays, where what is returned is a declarator. An error comes where memory is
-/// refused, and then only `clear` of the buffer is promised.
+/// `None`, and all stays, where what is returned is a declarator.
 #[tactic(auto, using(demangle_text::proofs::Laws::laws, crate::proofs::Declarators::declarators))]
 pub fn function_type(
     buf: &mut Buffer,
@@ -405,8 +397,6 @@ pub fn function_type(
 
 /// The expansion of a pack, `...` at the end of the text of the type. What it declares and the
 /// flags stay, and but for a function the last own name.
-///
-/// An error comes where memory is refused, and then only `clear` of the buffer is promised.
 pub fn expand(buf: &mut Buffer, inner: Piece) -> Result<Piece, AllocError>
     requires inner { IsLiving buf.old inner }
     ensures shape { IfOk result (λ p. Lives buf.new p (expansion_shape (shape buf.old inner))) }

@@ -70,7 +70,7 @@ below_main f true n o e = absurd (let h : ⊥ = cc in h)
 le_trans : (a b c : ℕ) → a ≤ b → b ≤ c → a ≤ c
 le_trans a b c h k = omega arith
 
--- a step that moves a block: the kept pieces go with it, and what is older than the frame stays
+-- a call that moves a block: the kept pieces go with it, and what is older than the frame stays
 module _ (s t : Store) (low from to dest : ℕ) (m : Moves s.main_text t.main_text low from to dest) (inner : s.frame_main ≤ low)
     (saved_apart : All (IsApart low from to) s.saved_pieces) (args_apart : All (IsApart low from to) s.arg_pieces)
     (by_side : t.side_text ≡ s.side_text) (by_saved : t.saved_pieces ≡ map (carried low from dest) s.saved_pieces) (by_args : t.arg_pieces ≡ map (carried low from dest) s.arg_pieces)

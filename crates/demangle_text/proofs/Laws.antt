@@ -32,7 +32,7 @@ SameLists-trans old mid new a b = record { saved_same = b.saved_same ∙ a.saved
 pub IsEdit-keeps : (old new : Store) → KeepsAll old new → IsEdit old new
 IsEdit-keeps old new u = record { pieces = λ p h _. u.pieces p h; frame_same = u.frame_same; lists = u.lists; front = u.front }
 
--- the main text before a mark that stays the innermost one, over two steps
+-- the main text before a mark that stays the innermost one, over two calls
 KeepsFront-trans : (old mid new : Store) → frame mid ≡ frame old → KeepsFront old mid → KeepsFront mid new → KeepsFront old new
 KeepsFront-trans old mid new same a b =
     subst (λ (f : Frame). take (frame_start f) (main_bytes new) ≡ take (frame_start f) (main_bytes mid)) same b ∙ a

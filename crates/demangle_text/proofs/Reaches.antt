@@ -26,18 +26,18 @@ reached-fewer ps rs c n le h = record {
 }
 
 -- what holds of the pieces before an index where another piece is put
-within-put : (P : Piece → Type 0) (ps : List Piece) (i n : ℕ) (p : Piece) → n ≤ i → AllWithin P ps 0 n → AllWithin P (set ps i p) 0 n
-within-put P ps i n p le h k d a b = subst P (sym (get_or-set_other ps i k p d (λ e. absurd (omega (arith, e, b, le))))) (h k d a b)
+within-set_kept : (P : Piece → Type 0) (ps : List Piece) (i n : ℕ) (p : Piece) → n ≤ i → AllWithin P ps 0 n → AllWithin P (set ps i p) 0 n
+within-set_kept P ps i n p le h k d a b = subst P (sym (get_or-set_other ps i k p d (λ e. absurd (omega (arith, e, b, le))))) (h k d a b)
 
 -- a piece after the first ones, with a byte by which it and all before it end
-pub reached-put : (ps : List Piece) (rs : List ℕ) (i : ℕ) (p : Piece) (end : ℕ) → AreReached ps rs i → i < length rs → AllWithin (EndsBy end) ps 0 i → EndsBy end p → AreReached (set ps i p) (set rs i end) (i + 1)
-reached-put ps rs i p end h room all last = record {
+pub reached-set_kept : (ps : List Piece) (rs : List ℕ) (i : ℕ) (p : Piece) (end : ℕ) → AreReached ps rs i → i < length rs → AllWithin (EndsBy end) ps 0 i → EndsBy end p → AreReached (set ps i p) (set rs i end) (i + 1)
+reached-set_kept ps rs i p end h room all last = record {
   within = omega (arith, room, length-set rs i end);
   room = omega (arith, h.room, length-set rs i end, length-set ps i p);
   ends = λ j lt. elim (cases_lt j i) [
     | inl below ↦
         subst (λ m. AllWithin (EndsBy m) (set ps i p) 0 (j + 1)) (sym (get_or-set_other rs i j end 0 (λ e. absurd (omega (arith, e, below)))))
-        (within-put (EndsBy (get_or rs j 0)) ps i (j + 1) p (omega (arith, below)) (h.ends j below))
+        (within-set_kept (EndsBy (get_or rs j 0)) ps i (j + 1) p (omega (arith, below)) (h.ends j below))
     | inr above ↦
         let e : j ≡ i = omega (arith, lt, above) in
         let here = AllWithin-more_set ps i p (omega (arith, room, h.room)) (EndsBy end) all last in

@@ -314,10 +314,10 @@ Lives-joined b n first second q bytes from one two i stands outline =
     }
 
 -- a text that became all of the main text since a place
-pub Lives-settled : (b n : Store) (p q : Piece) (at : ℕ) → IsLiving b p → at ≤ length b.main_text → n.main_text ≡ take at b.main_text ++ piece_text b.main_text b.side_text p
+pub Lives-kept_only : (b n : Store) (p q : Piece) (at : ℕ) → IsLiving b p → at ≤ length b.main_text → n.main_text ≡ take at b.main_text ++ piece_text b.main_text b.side_text p
     → IsAt q at (length n.main_text) → outline_of q ≡ outline_of p → Lives n q (shape b p)
 unfolding IsLiving shape
-Lives-settled b n p q at lies within is stands outline =
+Lives-kept_only b n p q at lies within is stands outline =
     let t = piece_text b.main_text b.side_text p in
     let low = length-take-le at b.main_text within in
     let there : IsAt q q.from_byte (length n.main_text) = record { in_main = stands.in_main; begins = refl; ends = stands.ends } in
@@ -326,8 +326,8 @@ Lives-settled b n p q at lies within is stands outline =
     record { living = lives.living; shape_is = lives.shape_is ∙ ap (shape_of t) outline }
 
 -- a text that stands there already
-pub settled-already : (b : Store) (p : Piece) (at : ℕ) → (lies_aside p.flags) ≡ false → p.from_byte ≡ at → p.to_byte ≡ length b.main_text → b.main_text ≡ take at b.main_text ++ piece_text b.main_text b.side_text p
-settled-already b p at home begins ends =
+pub kept_only-already : (b : Store) (p : Piece) (at : ℕ) → (lies_aside p.flags) ≡ false → p.from_byte ≡ at → p.to_byte ≡ length b.main_text → b.main_text ≡ take at b.main_text ++ piece_text b.main_text b.side_text p
+kept_only-already b p at home begins ends =
     let text : piece_text b.main_text b.side_text p ≡ drop at b.main_text =
     ap (λ (h : Bool). slice_range (home_bytes b.main_text b.side_text h) p.from_byte p.to_byte) home
     ∙ take_all (p.to_byte - p.from_byte) (drop p.from_byte b.main_text) (omega (arith, ends, length-drop p.from_byte b.main_text))
@@ -335,8 +335,8 @@ settled-already b p at home begins ends =
     sym (take-append-drop at b.main_text) ∙ ap (λ (v : List ℕ). take at b.main_text ++ v) (sym text)
 
 -- a copy at the end that becomes the block
-pub settled-copy : (main mid t : List ℕ) (at from to : ℕ) → mid ≡ main ++ t → at ≤ length main → from ≡ length main → to ≡ length mid → take at mid ++ slice_range mid from to ≡ take at main ++ t
-settled-copy main mid t at from to is within starts ends =
+pub kept_only-copy : (main mid t : List ℕ) (at from to : ℕ) → mid ≡ main ++ t → at ≤ length main → from ≡ length main → to ≡ length mid → take at mid ++ slice_range mid from to ≡ take at main ++ t
+kept_only-copy main mid t at from to is within starts ends =
     let low = ap (take at) is ∙ take-append-le at main t within in
     let block = take_all (to - from) (drop from mid) (omega (arith, ends, length-drop from mid)) ∙ ap (drop from) is ∙ drop_at main t from (sym starts) in
     ap (λ (v : List ℕ). v ++ slice_range mid from to) low ∙ ap (λ (v : List ℕ). take at main ++ v) block

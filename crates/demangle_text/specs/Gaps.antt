@@ -13,7 +13,7 @@ in_order texts = texts.front.now ++ (texts.bytes.now ++ texts.back.now)
 abbrev pub with_gap_filled : List ℕ → ℕ → List ℕ → Store → Store
 with_gap_filled main at bytes s = record s { main_text = take at main ++ (bytes ++ drop at main) }
 
--- the main text has a gap of n bytes at a place, and the step is an edit, whatever bytes fill the gap
+-- the main text has a gap of n bytes at a place, and the call is an edit, whatever bytes fill the gap
 pub record IsGap (old new : Store) (at n : ℕ) : Type 0 where
   pub room : HasRoom (take at old.main_text) (drop at old.main_text) new.main_text n
   pub side : Extends old.side_text new.side_text

@@ -113,7 +113,7 @@ pub record KeepsAll (old new : Store) : Type 0 where
   pub lists : SameLists old new
   pub front : KeepsFront old new
 
--- a step inside the innermost mark: what was made before it keeps its shape, both lists stay, and so does the main text
+-- a call inside the innermost mark: what was made before it keeps its shape, both lists stay, and so does the main text
 -- before it
 pub record IsEdit (old new : Store) : Type 0 where
   pub pieces : KeepsOlder (frame old) old new

@@ -3,7 +3,7 @@ ghost use Rattle.std.specs.Prelude.{◌≡◌, ℕ, ◌+◌, ◌-◌, ◌<◌, �
 ghost use Rattle.std.specs.Prelude.{OnOk, OnErr, slice_range, slice_index, is_some, codes};
 ghost use Rattle.demangle_text.specs.Shape.{gap_after};
 
-use crate::flags::{flagged, is_ctor, is_grouped, is_templ, plain};
+use crate::flags::{flagged, is_ctor, is_grouped, is_templ, plain_flags};
 use crate::moves::Lists;
 use crate::parts::Three;
 use crate::ranges::Ranges;
@@ -149,7 +149,7 @@ impl Buffer {
             ≡ take (frame_start (inside mark)) (main_bytes self.old) ++ text (shape self.old piece.old)) }
         ensures stands { OnOk result (Stands piece.new (frame_start (inside mark)) (length (main_bytes self.new))) }
     {
-        self.settle(mark.inside_main, piece)?;
+        self.keep_only(mark.inside_main, piece)?;
         self.frame_main = mark.outside_main;
         self.frame_side = mark.outside_side;
         Ok(())
@@ -442,7 +442,7 @@ impl Buffer {
         is_ctor(piece.flags)
     }
 
-    /// The same shape with these flags. The answer is as old as the piece.
+    /// The shape with these flags. The answer is as old as the piece.
     #[inline(always)]
     pub fn with_flags(&self, piece: Piece, templ: bool, ctor: bool) -> Piece
         requires living { IsLiving self.now piece }
@@ -456,7 +456,7 @@ impl Buffer {
         }
     }
 
-    /// The same shape, which isn't a function's, with these bytes of its text as its last own name.
+    /// The shape, which isn't a function's, with these bytes of its text as its last own name.
     /// The answer is as old as the piece.
     #[inline(always)]
     pub fn own_at(&self, piece: Piece, from: usize, to: usize) -> Piece
@@ -475,7 +475,7 @@ impl Buffer {
         }
     }
 
-    /// The same shape with its whole text as its last own name. The answer is as old as the piece.
+    /// The shape with its whole text as its last own name. The answer is as old as the piece.
     #[inline(always)]
     pub fn whole(&self, piece: Piece) -> Piece
         requires living { IsLiving self.now piece }
@@ -502,7 +502,7 @@ impl Buffer {
         Piece {
             group_start: 0,
             after_start: 0,
-            flags: plain(piece.flags),
+            flags: plain_flags(piece.flags),
             ..piece
         }
     }

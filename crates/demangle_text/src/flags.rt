@@ -91,7 +91,7 @@ fn kind_number(kind: Kind) -> usize
     }
 }
 
-/// The same of a text in the main text.
+/// The number of a text in the main text.
 #[inline(always)]
 pub(crate) fn in_main(flags: usize) -> usize
     ensures aside { lies_aside result ≡ false }
@@ -100,7 +100,7 @@ pub(crate) fn in_main(flags: usize) -> usize
     with_lowest(false, above_lowest(flags))
 }
 
-/// The same of a text in the side text.
+/// The number of a text in the side text.
 #[inline(always)]
 pub(crate) fn in_side(flags: usize) -> usize
     ensures aside { lies_aside result ≡ true }
@@ -109,7 +109,7 @@ pub(crate) fn in_side(flags: usize) -> usize
     with_lowest(true, above_lowest(flags))
 }
 
-/// The same with these two flags.
+/// The number with these two flags.
 #[inline(always)]
 pub(crate) fn flagged(flags: usize, templ: bool, ctor: bool) -> usize
     ensures aside { lies_aside result ≡ lies_aside flags }
@@ -121,7 +121,7 @@ pub(crate) fn flagged(flags: usize, templ: bool, ctor: bool) -> usize
     with_lowest(is_aside(flags), with_lowest(templ, with_lowest(ctor, rest)))
 }
 
-/// The same where the text lies and with its two flags, of another kind, with a group or without one.
+/// The number of another kind, with a group or without one. Where the text lies stays, and so do the two flags.
 #[inline(always)]
 fn with_kind(flags: usize, grouped: bool, number: usize) -> usize
     requires small { number < 4 }
@@ -135,9 +135,9 @@ fn with_kind(flags: usize, grouped: bool, number: usize) -> usize
     with_lowest(is_aside(flags), with_lowest(is_templ(flags), last))
 }
 
-/// The same of a plain shape.
+/// The number of a plain shape.
 #[inline(always)]
-pub(crate) fn plain(flags: usize) -> usize
+pub(crate) fn plain_flags(flags: usize) -> usize
     ensures aside { lies_aside result ≡ lies_aside flags }
     ensures templ { templ_by result ≡ templ_by flags }
     ensures ctor { ctor_by result ≡ ctor_by flags }
@@ -146,9 +146,9 @@ pub(crate) fn plain(flags: usize) -> usize
     with_kind(flags, false, 0)
 }
 
-/// The same of a declarator of this kind, with a group or without one.
+/// The number of a declarator of this kind, with a group or without one.
 #[inline(always)]
-pub(crate) fn declared(flags: usize, kind: Kind, grouped: bool) -> usize
+pub(crate) fn declared_flags(flags: usize, kind: Kind, grouped: bool) -> usize
     ensures aside { lies_aside result ≡ lies_aside flags }
     ensures templ { templ_by result ≡ templ_by flags }
     ensures ctor { ctor_by result ≡ ctor_by flags }
@@ -172,11 +172,11 @@ pub(crate) fn alone_in_main() -> usize
 
 /// A plain shape in the same text, with no flag.
 #[inline(always)]
-pub(crate) fn alone(flags: usize) -> usize
+pub(crate) fn alone_flags(flags: usize) -> usize
     ensures aside { lies_aside result ≡ lies_aside flags }
     ensures templ { templ_by result ≡ false }
     ensures ctor { ctor_by result ≡ false }
     ensures kind { kind_by result ≡ None }
 {
-    plain(flagged(flags, false, false))
+    plain_flags(flagged(flags, false, false))
 }

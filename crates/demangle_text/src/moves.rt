@@ -108,7 +108,7 @@ fn evict(main: &[u8], side: &mut Text, pieces: &mut Ranges, block: Block) -> Res
     evict_each(main, side, pieces, first, block)
 }
 
-// The same from the first piece on that a move can reach, piece by piece.
+// `evict` from the first piece on that a move can reach, piece by piece.
 fn evict_each(
     main: &[u8],
     side: &mut Text,
@@ -126,7 +126,7 @@ fn evict_each(
     ensures apart { OnOk result (All (IsApart block.low block.from block.end) pieces.new) }
 {
     for i in first..pieces.len() {
-        let piece = evict_one(main, side, pieces.at(i), block)?;
+        let piece = evict_one(main, side, pieces.piece_at(i), block)?;
         pieces.set(i, piece);
     }
     Ok(())

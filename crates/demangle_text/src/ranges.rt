@@ -110,7 +110,7 @@ impl Ranges {
     }
 
     #[inline(always)]
-    pub(crate) fn at(&self, i: usize) -> Piece
+    pub(crate) fn piece_at(&self, i: usize) -> Piece
         requires within { i < length self.now }
         ensures value { result ≡ slice_index_or self.now i result }
     {
@@ -162,7 +162,7 @@ impl Ranges {
         if at == self.kept.len() {
             more(&mut self.kept)?;
         }
-        put(&mut self.kept, at, piece, end);
+        set_kept(&mut self.kept, at, piece, end);
         self.count = at + 1;
         Ok(())
     }
@@ -203,13 +203,13 @@ fn carry_each(kept: &mut Vec<Kept>, first: usize, count: usize, reach: usize, by
     for i in first..count {
         let piece = carry_one(kept[i].piece, &by);
         reach = reached(reach, &piece);
-        put(kept, i, &piece, reach);
+        set_kept(kept, i, &piece, reach);
     }
 }
 
 // Puts a piece after the first ones. It and all before it end by a byte of the main text.
 #[inline(always)]
-fn put(kept: &mut Vec<Kept>, at: usize, piece: &Piece, end: usize)
+fn set_kept(kept: &mut Vec<Kept>, at: usize, piece: &Piece, end: usize)
     requires reached { AreReached (pieces_of kept.old.items) (reaches_of kept.old.items) at }
     requires room { at < length kept.old.items }
     requires ends { AllWithin (EndsBy end) (pieces_of kept.old.items) 0 at }

@@ -6,7 +6,8 @@ ghost use Rattle.demangle_text.specs.Shape.{moved};
 ghost use Rattle.demangle_text.specs.Flags.{lies_aside, templ_by, ctor_by, grouped_by, kind_by, group_from};
 
 use crate::flags::{
-    alone, alone_in_main, declared, declares, in_main, is_aside, is_grouped, plain,
+    alone_flags, alone_in_main, declared_flags, declares, in_main, is_aside, is_grouped,
+    plain_flags,
 };
 
 /// What a declarator declares.
@@ -89,7 +90,7 @@ impl Piece {
         ensures outline { outline_of result ≡ whole_outline (self.to_byte - self.from_byte) }
     {
         Piece {
-            flags: alone(self.flags),
+            flags: alone_flags(self.flags),
             ..Piece::whole_at(self.from_byte, self.to_byte)
         }
     }
@@ -108,12 +109,12 @@ impl Piece {
         let from = self.from_byte + self.own_start;
         let to = self.from_byte + self.own_end;
         Piece {
-            flags: alone(self.flags),
+            flags: alone_flags(self.flags),
             ..Piece::whole_at(from, to)
         }
     }
 
-    // The same outline over other bytes of the main text.
+    // Its outline over other bytes of the main text.
     #[inline(always)]
     pub(crate) fn moved_to(self, from: usize, to: usize) -> Piece
         ensures stands { IsAt result from to }
@@ -266,7 +267,7 @@ impl Piece {
             own_end,
             group_start: self.after_start + n - m,
             after_start: self.after_start + n,
-            flags: declared(in_main(self.flags), kind, true),
+            flags: declared_flags(in_main(self.flags), kind, true),
         }
     }
 
@@ -285,7 +286,7 @@ impl Piece {
             to_byte: self.to_byte - n,
             own_start: self.own_start.min(left),
             own_end: self.own_end.min(left),
-            flags: plain(self.flags),
+            flags: plain_flags(self.flags),
             ..self
         }
     }
@@ -311,7 +312,7 @@ impl Piece {
             own_end,
             group_start: group.unwrap_or(0),
             after_start: at,
-            flags: declared(self.flags, kind, group.is_some()),
+            flags: declared_flags(self.flags, kind, group.is_some()),
             ..self
         }
     }

@@ -28,7 +28,7 @@ impl Buffer {
 
     // The text of a piece becomes all of the main text since the innermost mark.
     #[inline(always)]
-    pub(crate) fn settle(&mut self, at: usize, piece: &mut Piece) -> Result<(), AllocError>
+    pub(crate) fn keep_only(&mut self, at: usize, piece: &mut Piece) -> Result<(), AllocError>
         requires mark { self.old.frame_main ≡ at }
         requires living { IsLiving self.old piece.old }
         ensures edit { OnOk result (IsEdit self.old self.new) }
@@ -42,12 +42,12 @@ impl Buffer {
         if !piece.is_aside() && piece.from_byte == at && piece.to_byte == len {
             return Ok(());
         }
-        self.settle_elsewhere(at, piece)
+        self.keep_only_elsewhere(at, piece)
     }
 
-    // The same of a piece that stands elsewhere.
+    // `keep_only` of a piece that stands elsewhere.
     #[inline(always)]
-    fn settle_elsewhere(&mut self, at: usize, piece: &mut Piece) -> Result<(), AllocError>
+    fn keep_only_elsewhere(&mut self, at: usize, piece: &mut Piece) -> Result<(), AllocError>
         requires mark { self.old.frame_main ≡ at }
         requires living { IsLiving self.old piece.old }
         ensures edit { OnOk result (IsEdit self.old self.new) }
@@ -455,7 +455,7 @@ impl Buffer {
         self.join_elsewhere(first.alone(), bytes, second.alone())
     }
 
-    // The same of texts that aren't adjacent at the end.
+    // `join_texts` of texts that aren't adjacent at the end.
     #[inline(never)]
     fn join_elsewhere(
         &mut self,

@@ -39,7 +39,7 @@ pub(crate) fn open_doubling(rt: &impl Abort, alloc: Global, count: usize) -> Str
     symbol
 }
 
-/// The same, and the `E` of the list.
+/// `open_doubling`, and the `E` of the list.
 fn doubling(rt: &impl Abort, alloc: Global, count: usize) -> String {
     let mut symbol = open_doubling(rt, alloc, count);
     symbol.push('E').expect(rt, "no memory");

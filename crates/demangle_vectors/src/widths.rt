@@ -96,7 +96,7 @@ fn assert_row(rt: &impl Abort, alloc: Global, row: &Row) {
     assert_limit(rt, alloc, &at_limit, &text, &wider, symbol[0]);
 }
 
-/// The same of a symbol whose answer has none of the letters.
+/// `assert_row` of a symbol whose answer has none of the letters.
 fn assert_dropped(rt: &impl Abort, alloc: Global, symbol: [&str; 2], answer: &str, beside: usize) {
     let len = LIMIT.saturating_sub(beside);
     let at_limit = with_source(rt, alloc, symbol, len);
@@ -337,7 +337,7 @@ fn dropped_types(rt: HostRuntime) {
     assert_dropped(&rt, rt.alloc(), ["_ZZ1fIJEET_IXL_Z", "EEEvE1x"], empty, 2);
 }
 
-/// The same further inside: in a return type's own return type, in a return type's thunk, whose local name is three
+/// Such types further inside: in a return type's own return type, in a return type's thunk, whose local name is three
 /// bytes longer, and in a template argument.
 #[test]
 fn types_dropped_inside(rt: HostRuntime) {
@@ -392,16 +392,16 @@ fn long_components_in_lists(rt: HostRuntime) {
     assert_stops(&rt, rt.alloc(), ["1CI", "SH_", "E"], 5_000, 6);
 }
 
-/// The same where each parameter is a pointer to a component, whose text is its own: entered are the type, what it
+/// A list in which each parameter is a pointer to a component, whose text is its own: entered are the type, what it
 /// returns, and three times a pointer and its component.
 #[test]
 fn long_pointers_in_a_list(rt: HostRuntime) {
     assert_stops(&rt, rt.alloc(), ["Fv", "PSH_", "E"], 10_000, 8);
 }
 
-/// 1,000 components of a nested name, each with a list of two: the second is too long. Entered are its type and the
+/// 1,000 segments of a nested name, each with a list of two: the second is too long. Entered are its type and the
 /// name, and two lists with two types each.
 #[test]
-fn long_components_of_a_nested_name(rt: HostRuntime) {
+fn long_segments_of_a_nested_name(rt: HostRuntime) {
     assert_stops(&rt, rt.alloc(), ["N", "1CISH_SH_E", "E"], 1_000, 8);
 }

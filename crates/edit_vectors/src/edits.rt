@@ -35,9 +35,9 @@ const ALL_QUALS: Quals = Quals {
 #[tactic(auto, using(demangle_text::proofs::Laws::laws))]
 fn a_name_grows_in_the_main_text(rt: HostRuntime) {
     let mut buf = Buffer::new(rt.alloc());
-    let scope = push(&rt, &mut buf, b"A");
+    let parent = push(&rt, &mut buf, b"A");
     let leaf = push(&rt, &mut buf, b"B");
-    let name = qualify(&mut buf, scope, leaf).expect(&rt, "no memory");
+    let name = qualify(&mut buf, parent, leaf).expect(&rt, "no memory");
     assert_eq!(&rt; buf.main_bytes(), b"A::B".as_slice());
     let pointer = wrap_pointer(&mut buf, name, Pointer::Star).expect(&rt, "no memory");
     assert_eq!(&rt; buf.main_bytes(), b"A::B*".as_slice());
@@ -50,8 +50,8 @@ fn a_name_grows_in_the_main_text(rt: HostRuntime) {
 #[tactic(auto, using(demangle_text::proofs::Laws::laws))]
 fn a_default_argument_grows_in_the_main_text(rt: HostRuntime) {
     let mut buf = Buffer::new(rt.alloc());
-    let scope = push(&rt, &mut buf, b"f()");
-    open_default_arg(&mut buf, scope, 1).expect(&rt, "no memory");
+    let parent = push(&rt, &mut buf, b"f()");
+    open_default_arg(&mut buf, parent, 1).expect(&rt, "no memory");
     assert_eq!(&rt; buf.main_bytes(), b"f()::{default arg#1}::".as_slice());
     drop(buf);
 }
@@ -80,10 +80,10 @@ fn arguments_grow_in_the_main_text(rt: HostRuntime) {
 
 #[test]
 #[tactic(auto, using(demangle_text::proofs::Laws::laws))]
-fn a_text_goes_after_its_scope_in_the_main_text(rt: HostRuntime) {
+fn a_text_goes_after_its_parent_in_the_main_text(rt: HostRuntime) {
     let mut buf = Buffer::new(rt.alloc());
-    let scope = push(&rt, &mut buf, b"A");
-    qualify_text(&mut buf, scope, b"value").expect(&rt, "no memory");
+    let parent = push(&rt, &mut buf, b"A");
+    qualify_text(&mut buf, parent, b"value").expect(&rt, "no memory");
     assert_eq!(&rt; buf.main_bytes(), b"A::value".as_slice());
     drop(buf);
 }
@@ -273,9 +273,9 @@ fn a_group_opens_in_the_main_text(rt: HostRuntime) {
 #[tactic(auto, using(demangle_text::proofs::Laws::laws))]
 fn entity_of_a_default_argument(rt: HostRuntime) {
     let mut buf = Buffer::new(rt.alloc());
-    let scope = push(&rt, &mut buf, b"f()");
+    let parent = push(&rt, &mut buf, b"f()");
     let entity = named(&rt, &mut buf, b"bar<int>", 0, 3, true, false);
-    let name = default_arg(&mut buf, scope, 10, entity).expect(&rt, "no memory");
+    let name = default_arg(&mut buf, parent, 10, entity).expect(&rt, "no memory");
     assert_named(&rt, &buf, name, b"f()::{default arg#10}::bar<int>", 23, 26);
     assert_flags(&rt, &buf, name, true, false);
     drop(buf);
@@ -285,9 +285,9 @@ fn entity_of_a_default_argument(rt: HostRuntime) {
 #[tactic(auto, using(demangle_text::proofs::Laws::laws))]
 fn qualified_name(rt: HostRuntime) {
     let mut buf = Buffer::new(rt.alloc());
-    let scope = push(&rt, &mut buf, b"Foo");
+    let parent = push(&rt, &mut buf, b"Foo");
     let leaf = named(&rt, &mut buf, b"bar<int>", 0, 3, true, false);
-    let name = qualify(&mut buf, scope, leaf).expect(&rt, "no memory");
+    let name = qualify(&mut buf, parent, leaf).expect(&rt, "no memory");
     assert_named(&rt, &buf, name, b"Foo::bar<int>", 5, 8);
     assert_flags(&rt, &buf, name, true, false);
     drop(buf);
@@ -295,10 +295,10 @@ fn qualified_name(rt: HostRuntime) {
 
 #[test]
 #[tactic(auto, using(demangle_text::proofs::Laws::laws))]
-fn text_in_a_scope(rt: HostRuntime) {
+fn text_in_a_parent(rt: HostRuntime) {
     let mut buf = Buffer::new(rt.alloc());
-    let scope = named(&rt, &mut buf, b"A::B<int>", 3, 4, true, true);
-    let name = qualify_text(&mut buf, scope, b"value").expect(&rt, "no memory");
+    let parent = named(&rt, &mut buf, b"A::B<int>", 3, 4, true, true);
+    let name = qualify_text(&mut buf, parent, b"value").expect(&rt, "no memory");
     assert_named(&rt, &buf, name, b"A::B<int>::value", 11, 16);
     assert_flags(&rt, &buf, name, false, false);
     drop(buf);

@@ -103,7 +103,7 @@ fn append(rt: &impl Abort, all: &mut Vec<u8>, bytes: &[u8], count: usize) {
     }
 }
 
-/// The same where there are more bytes than a chunk holds, and the ends give and take many a call.
+/// `assert_filtered` where there are more bytes than a chunk holds, and the ends give and take many a call.
 fn assert_filtered_by_chunks(rt: &impl Abort, alloc: Global, text: &[u8], expected: &[u8]) {
     for most in [9973, CHUNK_LEN - 1, CHUNK_LEN, 10 * CHUNK_LEN] {
         assert_copied(rt, alloc, text, expected, most);
@@ -183,7 +183,7 @@ fn assert_put_by(
     assert!(rt; source.calls == expected.len());
 }
 
-/// The same, whether the sink takes one byte a call or all.
+/// `assert_put_by`, whether the sink takes one byte a call or all.
 fn assert_put_before_asked(
     rt: &impl Abort,
     alloc: Global,

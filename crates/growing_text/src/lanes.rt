@@ -45,7 +45,7 @@ pub(crate) fn copy_ended(room: &mut [u8], text: &[u8], end: u8) -> bool
     true
 }
 
-// The same for a text of any length.
+// A text of any length and a byte after it.
 pub(crate) fn copy_any_ended(room: &mut [u8], text: &[u8], end: u8)
     requires same { length room.old ≡ length text.now + 1 }
     ensures value { room.new ≡ text.now ++ end ∷ [] }

@@ -130,7 +130,7 @@ impl Text {
         self.add_any_ended(bytes, end)
     }
 
-    // The same where there is room, and where lanes can put so many bytes. Elsewhere nothing is put.
+    // Bytes and one after them, where there is room and lanes can put so many. Elsewhere nothing is put.
     #[inline(always)]
     fn add_ended_by_lanes(&mut self, bytes: &[u8], end: u8) -> bool
         ensures put { IsTrue result → self.new ≡ self.old ++ (bytes.now ++ end ∷ []) }
@@ -148,7 +148,7 @@ impl Text {
         true
     }
 
-    // The same for any bytes, out of line, and with room made where there is too little.
+    // Any bytes and one after them, out of line. Room is made where there is too little.
     #[inline(never)]
     fn add_any_ended(&mut self, bytes: &[u8], end: u8) -> Result<(), AllocError>
         ensures ok { OnOk result (self.new ≡ self.old ++ (bytes.now ++ end ∷ [])) }
@@ -318,7 +318,7 @@ fn make_room(bytes: &mut Vec<u8>, len: usize, n: usize) -> Result<(), AllocError
     Ok(())
 }
 
-// The same where there is too little.
+// Room that isn't there yet.
 #[cold]
 #[inline(never)]
 fn grow(bytes: &mut Vec<u8>, len: usize, n: usize) -> Result<(), AllocError>

@@ -16,17 +16,17 @@ use Rattle.itanium_syntax.specs.Encodings.{shows_words}
 use Rattle.itanium_syntax.specs.Context.{inside_lambda, inside_local, inside_encoding}
 use Rattle.itanium_syntax.proofs.Fronts.{initializer_after, after_drop, source_takes, after-le}
 use Rattle.itanium_grammar.specs.Tree.{Tree, bare_shape, own_quals, thunk_of, with_args, trees, unnamed_text, literal_operator_text, shape_of, name_printing}
-use Rattle.itanium_grammar.specs.Grammar.{Position, Cost, at, SpecialAs, SymbolAs, special_encoding, type_special, name_special, temporary_special, construction_special, thunk_special, thunk, special_symbol, name_symbol, past_initializer, last_of, SubstitutionAs, Substitution, ParameterAs, Parameter, TaggedAs, UnqualifiedAs, Unqualified, FirstAs, Name, NameAs, Local, EntityAs, Encoding, EncodingAs, ReturnAs, SignatureAs, UnscopedAs, AttachedAs, Nested, Components, ComponentsAs, abbreviation_substitution, component_substitution, substitution, auto_parameter, scope_parameter, parameter, no_tag, next_tag, FreeAs, source_free, unnamed_type_free, lambda_free, conversion_free, literal_operator_free, operator_free, constructor_component, destructor_component, free_component, unqualified, parameter_first, std_first, substitution_first, name_first, name, nested_name, local_name, local, string_literal_entity, default_argument_entity, name_entity, encoding, name_encoding, no_return_type, some_return_type, no_signature, some_signature, unscoped_name, std_name, substitution_name, global_name, none_attached, args_attached, nested, components, end_of_components, args_component, name_component}
+use Rattle.itanium_grammar.specs.Grammar.{Position, Cost, with_rest, SpecialAs, SymbolAs, special_encoding, type_special, name_special, temporary_special, construction_special, thunk_special, thunk, special_symbol, name_symbol, past_initializer, last_of, SubstitutionAs, Substitution, ParameterAs, Parameter, TaggedAs, UnqualifiedAs, Unqualified, FirstAs, Name, NameAs, Local, EntityAs, Encoding, EncodingAs, ReturnAs, SignatureAs, UnscopedAs, AttachedAs, Nested, Segments, SegmentsAs, abbreviation_substitution, component_substitution, substitution, auto_parameter, scope_parameter, parameter, no_tag, next_tag, FreeAs, source_free, unnamed_type_free, lambda_free, conversion_free, literal_operator_free, operator_free, constructor_unqualified, destructor_unqualified, free_unqualified, unqualified, parameter_first, std_first, substitution_first, name_first, name, nested_name, local_name, local, string_literal_entity, default_argument_entity, name_entity, encoding, name_encoding, no_return_type, some_return_type, no_signature, some_signature, unscoped_name, std_name, substitution_name, global_name, none_attached, args_attached, nested, segments, end_of_segments, args_segment, name_segment}
 use Rattle.itanium_grammar.proofs.Progress.{unqualified_takes, args_takes}
-use Rattle.itanium_demangle.specs.Cases.{SymbolCase, SpecialCase, ReturnCase, SignatureCase, EntityCase, SubstitutionCase, TagCase, UnqualifiedCase, FreeCase, FirstCase, NameCase, UnscopedCase, AttachedCase, ComponentCase}
-use Rattle.itanium_reader.specs.Parser.{ParserState, after_turn, loop, ◌>>=◌, tag_as, tag_turn, parse_tags, free_as, parse_free, parse_type, substitution_as, parse_substitution, parameter_as, parse_parameter, unqualified_as, parse_unqualified, first_as, attached_by, attached_as, unscoped_as, component_as, component_turn, parse_nested, return_as, signature_as, special_as, parse_special, symbol_as, symbol_by, thunk_by, parse_thunk, encoding_as, parse_encoding, entity_as, parse_local, name_as, parse_bare_name, parse_name, parse_args}
+use Rattle.itanium_demangle.specs.Cases.{SymbolCase, SpecialCase, ReturnCase, SignatureCase, EntityCase, SubstitutionCase, TagCase, UnqualifiedCase, FreeCase, FirstCase, NameCase, UnscopedCase, AttachedCase, SegmentCase}
+use Rattle.itanium_reader.specs.Parser.{ParserState, after_turn, loop, ◌>>=◌, tag_as, tag_turn, parse_tags, free_as, parse_free, parse_type, substitution_as, parse_substitution, parameter_as, parse_parameter, unqualified_as, parse_unqualified, first_as, attached_by, attached_as, unscoped_as, segment_as, segment_turn, parse_nested, return_as, signature_as, special_as, parse_special, symbol_as, symbol_by, thunk_by, parse_thunk, encoding_as, parse_encoding, entity_as, parse_local, name_as, parse_bare_name, parse_name, parse_args}
 use Rattle.itanium_demangle.specs.Meaning.{state_at}
 use Rattle.itanium_demangle.specs.Readers.{bare_of}
-use Rattle.itanium_demangle.proofs.Shapes.{shape-worded, shape-temporary_of, shape-construction_of, shape-thunk_of, same_read, same_state, one_more, taken-map, some-map, last-map, shape-plain_text, shape-abbreviation, shape-ctor_dtor_of, shape-tagged_with, shape-lambda_of, shape-conversion_to, shape-with_args, shape-in_scope, shape-encoding_of, shape-function_encoding}
+use Rattle.itanium_demangle.proofs.Shapes.{shape-worded, shape-temporary_of, shape-construction_of, shape-thunk_of, same_read, same_state, one_more, taken-map, some-map, last-map, shape-plain_text, shape-abbreviation, shape-ctor_dtor_of, shape-tagged_with, shape-lambda_of, shape-conversion_to, shape-with_args, shape-in_parent, shape-encoding_of, shape-function_encoding}
 use Rattle.itanium_demangle.proofs.CompleteLists.{typed_params_met}
 use Rattle.itanium_demangle.proofs.Fitting.{bare_len, Met, met, met_then, met_as, met_step, met_fits, met_fits_bare, fits}
 use Rattle.itanium_demangle.proofs.Grows.{lambda_longer, params_longer}
-use Rattle.itanium_demangle.proofs.Longer.{in_scope_longer, tags_longer, attached_as_longer, components_longer, entity_longer}
+use Rattle.itanium_demangle.proofs.Longer.{in_parent_longer, tags_longer, attached_as_longer, segments_longer, entity_longer}
 use Rattle.itanium_demangle.proofs.Whole.{without_quals}
 use Rattle.itanium_demangle.proofs.Readings.{Small, reached, given, ArgsComplete, TypesComplete, BareNamesComplete, NamesComplete, ThunksComplete}
 use Rattle.itanium_demangle.proofs.Waiting.{unscoped_none, bare-nested_of, bare-string_literal_of, bare-default_argument_of, bare-local_in, same_return, whole_name}
@@ -89,21 +89,21 @@ module _ (d : ℕ) (lists : ArgsComplete d) (kinds : TypesComplete d) where
   free_met (operator_free {text = o} found) deep e m =
       met (rw (found, ← shape-plain_text (codes "operator" ++ o)) (same_read refl refl refl (omega arith) (omega arith)))
 
-  unqualified_as_met : {case : UnqualifiedCase} {x : Context} {scope : Option Tree} {p q : Position} {t : Tree} {c : Cost} → UnqualifiedAs case x scope p t q c → Small d c → (e m : ℕ)
-      → Met text_len (unqualified_as case (parse_type d x) (parse_type d (inside_lambda x)) (option_map shape_of scope) (state_at p e m)) (reached shape_of t q c e m)
-  unqualified_as_met (constructor_component {scope = scope} tags) deep e m =
-      met (rw (← shape-ctor_dtor_of scope false, parse_tags_complete tags e m) (same_read refl refl refl (omega arith) (omega arith)))
-  unqualified_as_met (destructor_component {scope = scope} tags) deep e m =
-      met (rw (← shape-ctor_dtor_of scope true, parse_tags_complete tags e m) (same_read refl refl refl (omega arith) (omega arith)))
-  unqualified_as_met (free_component {x = x} {scope = scope} {p = p} {r = r} {u = u} {c = c} a tags) deep e m =
+  unqualified_as_met : {case : UnqualifiedCase} {x : Context} {parent : Option Tree} {p q : Position} {t : Tree} {c : Cost} → UnqualifiedAs case x parent p t q c → Small d c → (e m : ℕ)
+      → Met text_len (unqualified_as case (parse_type d x) (parse_type d (inside_lambda x)) (option_map shape_of parent) (state_at p e m)) (reached shape_of t q c e m)
+  unqualified_as_met (constructor_unqualified {parent = parent} tags) deep e m =
+      met (rw (← shape-ctor_dtor_of parent false, parse_tags_complete tags e m) (same_read refl refl refl (omega arith) (omega arith)))
+  unqualified_as_met (destructor_unqualified {parent = parent} tags) deep e m =
+      met (rw (← shape-ctor_dtor_of parent true, parse_tags_complete tags e m) (same_read refl refl refl (omega arith) (omega arith)))
+  unqualified_as_met (free_unqualified {x = x} {parent = parent} {p = p} {r = r} {u = u} {c = c} a tags) deep e m =
       let named : Met text_len (parse_free (parse_type d x) (parse_type d (inside_lambda x)) (state_at p e m)) (reached shape_of u r c e m) =
       met_then _ (free_met a deep e m) (tags_longer tags) (met (parse_tags_complete tags (e + c.count) (max m c.peak))) in
-      met_then _ named (in_scope_longer scope u) (met (same_read (sym (shape-in_scope scope u)) refl refl refl refl))
+      met_then _ named (in_parent_longer parent u) (met (same_read (sym (shape-in_parent parent u)) refl refl refl refl))
 
-  pub unqualified_met : {x : Context} {scope : Option Tree} {p q : Position} {t : Tree} {c : Cost} → Unqualified x scope p t q c → Small d c → (e m : ℕ)
-      → Met text_len (parse_unqualified (parse_type d x) (parse_type d (inside_lambda x)) (option_map shape_of scope) (state_at p e m)) (reached shape_of t q c e m)
+  pub unqualified_met : {x : Context} {parent : Option Tree} {p q : Position} {t : Tree} {c : Cost} → Unqualified x parent p t q c → Small d c → (e m : ℕ)
+      → Met text_len (parse_unqualified (parse_type d x) (parse_type d (inside_lambda x)) (option_map shape_of parent) (state_at p e m)) (reached shape_of t q c e m)
   unfolding parse_unqualified
-  unqualified_met (unqualified {scope = scope} a) deep e m = rw (some-map scope) (unqualified_as_met a deep e m)
+  unqualified_met (unqualified {parent = parent} a) deep e m = rw (some-map parent) (unqualified_as_met a deep e m)
 
   pub first_met : {case : FirstCase} {x : Context} {p q : Position} {t : Tree} {c : Cost} → FirstAs case x p t q c → Small d c → (e m : ℕ)
       → Met text_len (first_as case (parse_unqualified (parse_type d x) (parse_type d (inside_lambda x))) x (state_at p e m)) (reached shape_of t q c e m)
@@ -134,30 +134,30 @@ module _ (d : ℕ) (lists : ArgsComplete d) (kinds : TypesComplete d) where
       (met (attached_complete b (omega arith) (e + c.count) (max m c.peak) ∙ same_read refl refl refl (omega arith) (omega arith)))
 
   mutual
-    unfolding loop component_turn
+    unfolding loop segment_turn
 
-    pub components_met : {x : Context} {takes : Bool} {t u : Tree} {p q : Position} {c : Cost} → Components x takes t p u q c → Small d c → (e m n : ℕ) → length p.rest < n
-        → Met text_len (loop (component_turn (parse_unqualified (parse_type d x) (parse_type d (inside_lambda x))) (parse_args d x true)) n (takes, shape_of t) (state_at p e m)) (reached shape_of u q c e m)
-    components_met (components a) deep e m zero room = absurd (omega arith)
-    components_met (components a) deep e m (suc n) room = component_met a deep e m n room
+    pub segments_met : {x : Context} {takes : Bool} {t u : Tree} {p q : Position} {c : Cost} → Segments x takes t p u q c → Small d c → (e m n : ℕ) → length p.rest < n
+        → Met text_len (loop (segment_turn (parse_unqualified (parse_type d x) (parse_type d (inside_lambda x))) (parse_args d x true)) n (takes, shape_of t) (state_at p e m)) (reached shape_of u q c e m)
+    segments_met (segments a) deep e m zero room = absurd (omega arith)
+    segments_met (segments a) deep e m (suc n) room = segment_met a deep e m n room
 
-    component_met : {case : ComponentCase} {x : Context} {takes : Bool} {t u : Tree} {p q : Position} {c : Cost} → ComponentsAs case x takes t p u q c → Small d c → (e m n : ℕ) → length p.rest < suc n
-        → Met text_len (component_as case (parse_unqualified (parse_type d x) (parse_type d (inside_lambda x))) (parse_args d x true) (takes, shape_of t) (state_at p e m) >>= λ r. after_turn r.0 (loop (component_turn (parse_unqualified (parse_type d x) (parse_type d (inside_lambda x))) (parse_args d x true)) n) r.1) (reached shape_of u q c e m)
-    component_met (end_of_components {takes = takes} {p = p}) deep e m n room = met (same_read refl (taken-map takes p.saved) refl (omega arith) (omega arith))
-    component_met (args_component {x = x} {p = p} {q = q} {t = t} {list = ts} {c = c} a b) deep e m n room =
+    segment_met : {case : SegmentCase} {x : Context} {takes : Bool} {t u : Tree} {p q : Position} {c : Cost} → SegmentsAs case x takes t p u q c → Small d c → (e m n : ℕ) → length p.rest < suc n
+        → Met text_len (segment_as case (parse_unqualified (parse_type d x) (parse_type d (inside_lambda x))) (parse_args d x true) (takes, shape_of t) (state_at p e m) >>= λ r. after_turn r.0 (loop (segment_turn (parse_unqualified (parse_type d x) (parse_type d (inside_lambda x))) (parse_args d x true)) n) r.1) (reached shape_of u q c e m)
+    segment_met (end_of_segments {takes = takes} {p = p}) deep e m n room = met (same_read refl (taken-map takes p.saved) refl (omega arith) (omega arith))
+    segment_met (args_segment {x = x} {p = p} {q = q} {t = t} {list = ts} {c = c} a b) deep e m n room =
         let attached : attached_by (parse_args d x true) (shape_of t) (state_at p e m) ≡ given shape_of (with_args t (trees ts)) q c e m =
         rw (lists _ _ _ _ _ _ a (omega arith) e m, ← shape-with_args t ts) refl in
         let shorter = (args_takes a).shorter in
         let within = after-le (initializer_after q.rest) in
-        let rest = components_met b (omega arith) (e + c.count) (max (max m c.peak) (length (map shape_of q.saved) + 1)) n (omega arith) in
-        met_step _ _ (met attached) (components_longer b)
+        let rest = segments_met b (omega arith) (e + c.count) (max (max m c.peak) (length (map shape_of q.saved) + 1)) n (omega arith) in
+        met_step _ _ (met attached) (segments_longer b)
         (rw (one_more q.saved (with_args t (trees ts)))
         (met_as rest (same_read refl refl refl (omega arith) (omega (arith, length-map q.saved shape_of)))))
-    component_met (name_component {q = q} {u = u} {c = c} a b) deep e m n room =
+    segment_met (name_segment {q = q} {u = u} {c = c} a b) deep e m n room =
         let shorter = (unqualified_takes a).shorter in
         let within = after-le (initializer_after q.rest) in
-        let rest = components_met b (omega arith) (e + c.count) (max (max m c.peak) (length (map shape_of q.saved) + 1)) n (omega arith) in
-        met_step _ _ (unqualified_met a (omega arith) e m) (components_longer b)
+        let rest = segments_met b (omega arith) (e + c.count) (max (max m c.peak) (length (map shape_of q.saved) + 1)) n (omega arith) in
+        met_step _ _ (unqualified_met a (omega arith) e m) (segments_longer b)
         (rw (one_more q.saved u)
         (met_as rest (same_read refl refl refl (omega arith) (omega (arith, length-map q.saved shape_of)))))
 
@@ -167,9 +167,9 @@ module _ (d : ℕ) (lists : ArgsComplete d) (kinds : TypesComplete d) where
   nested_met (nested {x = x} {p = p} {q = q} {u = u} {c = c} a b) deep e m =
       let bare = bare-nested_of u (name_quals p.rest) x.shown in
       let same_len = ap text_len bare in
-      let longer = components_longer b in
+      let longer = segments_longer b in
       met_then _ (first_met a (omega arith) e m) (omega arith)
-      (met_then _ (components_met b (omega arith) (e + c.count) (max m c.peak) (length (past_initializer q).rest + 1) (omega arith)) (omega arith)
+      (met_then _ (segments_met b (omega arith) (e + c.count) (max m c.peak) (length (past_initializer q).rest + 1) (omega arith)) (omega arith)
       (met (same_read (ap (λ s. (s, name_quals p.rest)) (sym bare)) refl refl (omega arith) (omega arith))))
 
 -- the return type of an encoding
@@ -231,7 +231,7 @@ module _ (d : ℕ) (kinds : TypesComplete d) (bares : BareNamesComplete d) (thun
 
   -- the offsets of a thunk, and what it stands for
   pub thunk_by_complete : {x : Context} (p : Position) {q : Position} {t : Tree} {c : Cost} {offsets : ThunkOffsets} {rest : List ℕ} → thunk_offsets (drop 1 p.rest) ≡ Some (offsets, rest)
-      → SymbolAs (symbol_case rest) x (at rest p) t q c → Small d c → (e m : ℕ)
+      → SymbolAs (symbol_case rest) x (with_rest rest p) t q c → Small d c → (e m : ℕ)
       → thunk_by (symbol_by (parse_type d x) (parse_bare_name d x) (parse_thunk d x) x) (state_at p e m) ≡ given shape_of (thunk_of offsets t) q c e m
   unfolding parse_special parse_name
   thunk_by_complete p {t = t} {offsets = o} found a deep e m = rw (found, symbol_as_complete a deep e m) (same_read (sym (shape-thunk_of o t)) refl refl refl refl)

@@ -75,30 +75,30 @@ quals_longer name quals shown = go (has_quals quals)
     go true = appended_longer words (flattened name)
     go false = omega arith
 
-qualified_len : (scope leaf : Shape) → text_len (qualified scope leaf) ≡ text_len scope + 2 + text_len leaf
-qualified_len scope leaf = omega (arith, length-append (text scope ++ codes "::") (text leaf), length-append (text scope) (codes "::"))
+qualified_len : (parent leaf : Shape) → text_len (qualified parent leaf) ≡ text_len parent + 2 + text_len leaf
+qualified_len parent leaf = omega (arith, length-append (text parent ++ codes "::") (text leaf), length-append (text parent) (codes "::"))
 
-pub scope_longer : (scope leaf : Shape) → text_len scope ≤ text_len (qualified scope leaf)
-scope_longer scope leaf = omega (arith, qualified_len scope leaf)
+pub parent_longer : (parent leaf : Shape) → text_len parent ≤ text_len (qualified parent leaf)
+parent_longer parent leaf = omega (arith, qualified_len parent leaf)
 
-pub leaf_longer : (scope leaf : Shape) → text_len leaf ≤ text_len (qualified scope leaf)
-leaf_longer scope leaf = omega (arith, qualified_len scope leaf)
+pub leaf_longer : (parent leaf : Shape) → text_len leaf ≤ text_len (qualified parent leaf)
+leaf_longer parent leaf = omega (arith, qualified_len parent leaf)
 
-pub ctor_longer : (scope : Shape) (destructor : Bool) → text_len scope ≤ text_len (qualified_ctor scope destructor)
-ctor_longer scope destructor =
-    let name = (if destructor then codes "~" else []) ++ text (own_shape scope) in
-    omega (arith, length-append (text scope ++ codes "::") name, length-append (text scope) (codes "::"))
+pub ctor_longer : (parent : Shape) (destructor : Bool) → text_len parent ≤ text_len (qualified_ctor parent destructor)
+ctor_longer parent destructor =
+    let name = (if destructor then codes "~" else []) ++ text (own_shape parent) in
+    omega (arith, length-append (text parent ++ codes "::") name, length-append (text parent) (codes "::"))
 
-default_len : (scope entity : Shape) (number : ℕ) → text_len (default_arg_shape scope number entity) ≡ text_len (default_arg_opened scope number) + text_len entity
-default_len scope entity number = length-append (text (default_arg_opened scope number)) (text entity)
+default_len : (parent entity : Shape) (number : ℕ) → text_len (default_arg_shape parent number entity) ≡ text_len (default_arg_opened parent number) + text_len entity
+default_len parent entity number = length-append (text (default_arg_opened parent number)) (text entity)
 
-pub default_scope_longer : (scope entity : Shape) (number : ℕ) → text_len scope ≤ text_len (default_arg_shape scope number entity)
-default_scope_longer scope entity number =
-    let opened = appended_longer (codes "::{default arg#" ++ (decimal number ++ codes "}::")) (flattened scope) in
-    omega (arith, default_len scope entity number)
+pub default_parent_longer : (parent entity : Shape) (number : ℕ) → text_len parent ≤ text_len (default_arg_shape parent number entity)
+default_parent_longer parent entity number =
+    let opened = appended_longer (codes "::{default arg#" ++ (decimal number ++ codes "}::")) (flattened parent) in
+    omega (arith, default_len parent entity number)
 
-pub default_entity_longer : (scope entity : Shape) (number : ℕ) → text_len entity ≤ text_len (default_arg_shape scope number entity)
-default_entity_longer scope entity number = omega (arith, default_len scope entity number)
+pub default_entity_longer : (parent entity : Shape) (number : ℕ) → text_len entity ≤ text_len (default_arg_shape parent number entity)
+default_entity_longer parent entity number = omega (arith, default_len parent entity number)
 
 -- a function's parameters
 listed_total : (items : List Shape) → total_len items ≤ length (listed (map text items))

@@ -13,7 +13,7 @@ use Rattle.demangle_edit.specs.Lists.{arguments_shape, pack_shape, lambda_shape}
 use Rattle.demangle_edit.specs.Names.{qualified, qualified_ctor, attached, tagged, with_name_qualifiers, encoding_shape}
 use Rattle.itanium_syntax.specs.declared.offsets.ThunkOffsets.{ThunkOffsets}
 use Rattle.itanium_syntax.specs.declared.abbreviations.Abbreviation.{Abbreviation}
-use Rattle.itanium_grammar.specs.Tree.{Tree, worded, temporary_of, construction_of, thunk_of, worded_shape, temporary_shape, construction_shape, thunk_shape, Operand, operand, shape_of_operand, literal_of, address_of, pre_of, unary_of, post_of, binary_of, greater_of, conditional_of, pre_shape, post_shape, binary_shape, greater_shape, conditional_shape, shape_as, bare_shape, own_quals, string_literal_of, encoding_of, function_encoding, plain_text, abbreviation, name_in, ctor_dtor_of, with_args, nested_of, pointer_to, cv_of, array_of, member_of, function_to, elaborated, elaborated_shape, abbreviation_shape, trees, shape_of, shape_each, in_scope, tagged_with, lambda_of, conversion_to, conversion_shape, pack_of, expansion_of, expanded}
+use Rattle.itanium_grammar.specs.Tree.{Tree, worded, temporary_of, construction_of, thunk_of, worded_shape, temporary_shape, construction_shape, thunk_shape, Operand, operand, shape_of_operand, literal_of, address_of, pre_of, unary_of, post_of, binary_of, greater_of, conditional_of, pre_shape, post_shape, binary_shape, greater_shape, conditional_shape, shape_as, bare_shape, own_quals, string_literal_of, encoding_of, function_encoding, plain_text, abbreviation, name_in, ctor_dtor_of, with_args, nested_of, pointer_to, cv_of, array_of, member_of, function_to, elaborated, elaborated_shape, abbreviation_shape, trees, shape_of, shape_each, in_parent, tagged_with, lambda_of, conversion_to, conversion_shape, pack_of, expansion_of, expanded}
 use Rattle.itanium_grammar.specs.Grammar.{last_of, with_last}
 use Rattle.itanium_reader.specs.Parser as parser
 use Rattle.itanium_reader.specs.Parser.{ParserState}
@@ -22,17 +22,17 @@ pub shape-plain_text : (bytes : List ℕ) → shape_of (plain_text bytes) ≡ pl
 unfolding shape_as
 shape-plain_text bytes = refl
 
-pub shape-name_in : (scope leaf : Tree) → shape_of (name_in scope leaf) ≡ qualified (shape_of scope) (shape_of leaf)
+pub shape-name_in : (parent leaf : Tree) → shape_of (name_in parent leaf) ≡ qualified (shape_of parent) (shape_of leaf)
 unfolding shape_as
-shape-name_in scope leaf = refl
+shape-name_in parent leaf = refl
 
 pub shape-abbreviation : (abbreviated : Abbreviation) → shape_of (abbreviation abbreviated) ≡ abbreviation_shape abbreviated
 unfolding shape_as
 shape-abbreviation abbreviated = refl
 
-pub shape-ctor_dtor_of : (scope : Tree) (destructor : Bool) → shape_of (ctor_dtor_of scope destructor) ≡ qualified_ctor (shape_of scope) destructor
+pub shape-ctor_dtor_of : (parent : Tree) (destructor : Bool) → shape_of (ctor_dtor_of parent destructor) ≡ qualified_ctor (shape_of parent) destructor
 unfolding shape_as
-shape-ctor_dtor_of scope destructor = refl
+shape-ctor_dtor_of parent destructor = refl
 
 shape_each-trees : (ts : List Tree) → shape_each (trees ts) ≡ map shape_of ts
 unfolding shape_as
@@ -159,9 +159,9 @@ pub shape-nested_of : (name : Tree) (quals : Quals) (shown : Bool) → shape_of 
 unfolding shape_as
 shape-nested_of name quals shown = refl
 
-pub shape-in_scope : (scope : Option Tree) (leaf : Tree) → shape_of (in_scope scope leaf) ≡ parser.in_scope (option_map shape_of scope) (shape_of leaf)
-shape-in_scope None leaf = refl
-shape-in_scope (Some scope) leaf = shape-name_in scope leaf
+pub shape-in_parent : (parent : Option Tree) (leaf : Tree) → shape_of (in_parent parent leaf) ≡ parser.in_parent (option_map shape_of parent) (shape_of leaf)
+shape-in_parent None leaf = refl
+shape-in_parent (Some parent) leaf = shape-name_in parent leaf
 
 -- two answers that are the same, part by part
 pub same_read : {A : Type 0} {a b : A} {r : List ℕ} {xs ys : List Shape} {vs ws : List (List Shape)} {e f m n : ℕ} → a ≡ b → xs ≡ ys → vs ≡ ws → e ≡ f → m ≡ n
@@ -181,7 +181,7 @@ pub taken-map : (takes : Bool) (ts : List Tree)
 taken-map true ts = rw (length-map ts shape_of) (take-map shape_of (length ts - 1) ts)
 taken-map false ts = refl
 
-pub some-map : (scope : Option Tree) → is_some (option_map shape_of scope) ≡ is_some scope
+pub some-map : (parent : Option Tree) → is_some (option_map shape_of parent) ≡ is_some parent
 some-map None = refl
 some-map (Some t) = refl
 
@@ -195,12 +195,12 @@ with_last-map : (t : Tree) (ss : List (List Tree)) → with_arg (shape_of t) (ma
 with_last-map t ss =
     rw (last-map ss, one_more (last_of ss) t, length-map ss (map shape_of)) (sym (map-set (map shape_of) ss (length ss - 1) (last_of ss ++ t ∷ [])))
 
-pub put-scopes : (o : Bool) (k : ℕ) (t : Tree) (ss : List (List Tree))
+pub add_argument-scopes : (o : Bool) (k : ℕ) (t : Tree) (ss : List (List Tree))
     → (if o then with_arg (shape_of t) (take k (map (map shape_of) ss)) else take k (map (map shape_of) ss)) ≡ map (map shape_of) (if o then with_last t (take k ss) else take k ss)
-put-scopes true k t ss = rw (take-map (map shape_of) k ss) (with_last-map t (take k ss))
-put-scopes false k t ss = take-map (map shape_of) k ss
+add_argument-scopes true k t ss = rw (take-map (map shape_of) k ss) (with_last-map t (take k ss))
+add_argument-scopes false k t ss = take-map (map shape_of) k ss
 
-pub begin-scopes : (o : Bool) (ss : List (List Tree))
+pub begin_list-scopes : (o : Bool) (ss : List (List Tree))
     → (if o then map (map shape_of) ss ++ [] ∷ [] else map (map shape_of) ss) ≡ map (map shape_of) (if o then ss ++ [] ∷ [] else ss)
-begin-scopes true ss = sym (map-append (map shape_of) ss ([] ∷ []))
-begin-scopes false ss = refl
+begin_list-scopes true ss = sym (map-append (map shape_of) ss ([] ∷ []))
+begin_list-scopes false ss = refl

@@ -8,13 +8,13 @@ use Rattle.itanium_syntax.specs.Context.{opens_scope, inside_pack}
 use Rattle.itanium_syntax.specs.Args.{args_case}
 use Rattle.itanium_syntax.proofs.Fronts.{after_drop, after-le}
 use Rattle.itanium_grammar.specs.Tree.{shape_of}
-use Rattle.itanium_grammar.specs.Grammar.{Position, put, begin, skip, both, Args, Arguments, ArgumentsAs, Pack, PackedAs, args, arguments, end_of_arguments, one_more_argument, pack, end_of_pack, one_more_packed}
+use Rattle.itanium_grammar.specs.Grammar.{Position, add_argument, begin_list, skip, both, Args, Arguments, ArgumentsAs, Pack, PackedAs, args, arguments, end_of_arguments, one_more_argument, pack, end_of_pack, one_more_packed}
 use Rattle.itanium_grammar.proofs.Progress.{argument_takes}
 use Rattle.itanium_demangle.specs.Cases.{ArgsCase, EndOfArguments, NextArgument}
 use Rattle.itanium_reader.specs.Parser as parser
-use Rattle.itanium_reader.specs.Parser.{ParserState, Turn, after_turn, loop, parse_loop, put_nowhere, ◌>>=◌, parse_argument, parse_primary, parse_encoding, parse_special, parse_name, next_item, list_as, list_turn, parse_list, parse_packed, parse_args, parse_pack}
+use Rattle.itanium_reader.specs.Parser.{ParserState, Turn, after_turn, loop, parse_loop, add_nowhere, ◌>>=◌, parse_argument, parse_primary, parse_encoding, parse_special, parse_name, next_item, list_as, list_turn, parse_list, parse_packed, parse_args, parse_pack}
 use Rattle.itanium_demangle.specs.Meaning.{state_at}
-use Rattle.itanium_demangle.proofs.Shapes.{put-scopes, begin-scopes}
+use Rattle.itanium_demangle.proofs.Shapes.{add_argument-scopes, begin_list-scopes}
 use Rattle.itanium_demangle.proofs.Fitting.{met_passed, past_fitting}
 use Rattle.itanium_demangle.proofs.Readings.{Within, PacksSound, ArgsSound, ArgumentsComplete, ArgumentsSound}
 use Rattle.itanium_demangle.proofs.CompleteArgs.{list_met, pack_met, args_complete, packs_complete}
@@ -23,29 +23,29 @@ use Rattle.demangle_edit.specs.Built.{listed_more}
 -- the arguments after what stands of a list, in n turns
 abbrev TurnsSound : ℕ → ℕ → Type 0
 TurnsSound d n = (x : Context) (o : Bool) (k : ℕ) (first : Bool) (front : Shape) (p : Position) (e m : ℕ) (y : Shape × ParserState) → length p.rest < n
-    → loop (list_turn (parser.put o k) (parse_argument d x)) n (first, front) (state_at p e m) ≡ Some y → Within (Arguments x o k p) d
+    → loop (list_turn (parser.add_argument o k) (parse_argument d x)) n (first, front) (state_at p e m) ≡ Some y → Within (Arguments x o k p) d
 
 -- a pack's arguments after what stands of its list, in n turns
 abbrev PackedSound : ℕ → ℕ → Type 0
 PackedSound d n = (x : Context) (first : Bool) (front : Shape) (p : Position) (e m : ℕ) (y : Shape × ParserState) → length p.rest < n
-    → loop (list_turn put_nowhere (parse_argument d x)) n (first, front) (state_at p e m) ≡ Some y → Within (PackedAs (args_case p.rest) x p) d
+    → loop (list_turn add_nowhere (parse_argument d x)) n (first, front) (state_at p e m) ≡ Some y → Within (PackedAs (args_case p.rest) x p) d
 
 module _ (d : ℕ) (each : ArgumentsSound d) where
   arguments_as_sound : (n : ℕ) → TurnsSound d n → (case : ArgsCase) (x : Context) (o : Bool) (k : ℕ) (first : Bool) (front : Shape) (p : Position) (e m : ℕ) (y : Shape × ParserState)
       → length p.rest < suc n
-      → (list_as case (parser.put o k) (parse_argument d x) (first, front) (state_at p e m)
-      >>= λ r. after_turn r.0 (loop (list_turn (parser.put o k) (parse_argument d x)) n) r.1) ≡ Some y
+      → (list_as case (parser.add_argument o k) (parse_argument d x) (first, front) (state_at p e m)
+      >>= λ r. after_turn r.0 (loop (list_turn (parser.add_argument o k) (parse_argument d x)) n) r.1) ≡ Some y
       → Within (ArgumentsAs case x o k p) d
   arguments_as_sound n again EndOfArguments x o k first front p e m y room is = record { tree = _; next = _; cost = _; reading = end_of_arguments; deep = omega arith }
   arguments_as_sound n again NextArgument x o k first front p e m y room is =
-      option_and_then_some _ (list_as NextArgument (parser.put o k) (parse_argument d x) (first, front) (state_at p e m)) y is (λ v turned rest.
+      option_and_then_some _ (list_as NextArgument (parser.add_argument o k) (parse_argument d x) (first, front) (state_at p e m)) y is (λ v turned rest.
       option_and_then_some _ (parse_argument d x (state_at p e m)) v turned (λ z arg made.
       let found = each x p e m z arg in
       let i = found.within in
       let shorter = (argument_takes i.reading).shorter in
-      let stepped = past_fitting (listed_more first front z.0, parser.put o k z.0 z.1) next_item v made in
-      let there = rw (← same_Some _ _ stepped, found.is, put-scopes o k i.tree i.next.scopes) at rest in
-      let r = again x o k false (listed_more first front (shape_of i.tree)) (put o k i.tree i.next) (e + i.cost.count) (max m i.cost.peak) y (omega arith) there in
+      let stepped = past_fitting (listed_more first front z.0, parser.add_argument o k z.0 z.1) next_item v made in
+      let there = rw (← same_Some _ _ stepped, found.is, add_argument-scopes o k i.tree i.next.scopes) at rest in
+      let r = again x o k false (listed_more first front (shape_of i.tree)) (add_argument o k i.tree i.next) (e + i.cost.count) (max m i.cost.peak) y (omega arith) there in
       record {
         tree = i.tree ∷ r.tree;
         next = r.next;
@@ -63,12 +63,12 @@ module _ (d : ℕ) (each : ArgumentsSound d) where
 
   packed_as_sound : (n : ℕ) → PackedSound d n → (case : ArgsCase) (x : Context) (first : Bool) (front : Shape) (p : Position) (e m : ℕ) (y : Shape × ParserState)
       → length p.rest < suc n
-      → (list_as case put_nowhere (parse_argument d x) (first, front) (state_at p e m)
-      >>= λ r. after_turn r.0 (loop (list_turn put_nowhere (parse_argument d x)) n) r.1) ≡ Some y
+      → (list_as case add_nowhere (parse_argument d x) (first, front) (state_at p e m)
+      >>= λ r. after_turn r.0 (loop (list_turn add_nowhere (parse_argument d x)) n) r.1) ≡ Some y
       → Within (PackedAs case x p) d
   packed_as_sound n again EndOfArguments x first front p e m y room is = record { tree = _; next = _; cost = _; reading = end_of_pack; deep = omega arith }
   packed_as_sound n again NextArgument x first front p e m y room is =
-      option_and_then_some _ (list_as NextArgument put_nowhere (parse_argument d x) (first, front) (state_at p e m)) y is (λ v turned rest.
+      option_and_then_some _ (list_as NextArgument add_nowhere (parse_argument d x) (first, front) (state_at p e m)) y is (λ v turned rest.
       option_and_then_some _ (parse_argument d x (state_at p e m)) v turned (λ z arg made.
       let found = each x p e m z arg in
       let i = found.within in
@@ -93,11 +93,11 @@ pub args_sound : (d : ℕ) → ArgumentsComplete d → ArgumentsSound d → Args
 unfolding parse_args parse_argument parse_primary parse_encoding parse_special parse_name
 args_sound d each_is each x of_name p e m y is =
     let opens = opens_scope of_name x in
-    let begun = begin opens (skip 1 p) in
+    let begun = begin_list opens (skip 1 p) in
     let within = after-le (after_drop 1 p.rest) in
     option_and_then_some _ (parse_list (parse_argument d x) opens (state_at p (e + 1) m)) y is (λ u read through.
-    let there = rw (begin-scopes opens p.scopes, length-map begun.scopes (map shape_of)) at read in
-    option_and_then_some _ (parse_loop (list_turn (parser.put opens (length begun.scopes)) (parse_argument d x)) (true, plain_shape (codes "<")) (state_at begun (e + 1) m)) u there
+    let there = rw (begin_list-scopes opens p.scopes, length-map begun.scopes (map shape_of)) at read in
+    option_and_then_some _ (parse_loop (list_turn (parser.add_argument opens (length begun.scopes)) (parse_argument d x)) (true, plain_shape (codes "<")) (state_at begun (e + 1) m)) u there
     (λ z list _.
     let r = arguments_sound d each _ x opens (length begun.scopes) true (plain_shape (codes "<")) begun (e + 1) m z (omega arith) list in
     let narrow = met_passed (list_met d each_is p r.reading r.deep (e + 1) m) read through in
@@ -109,7 +109,7 @@ unfolding parse_pack parse_argument parse_primary parse_encoding parse_special p
 packs_sound d each_is each x p e m y is =
     let inside = inside_pack x in
     option_and_then_some _ (parse_packed (parse_argument d inside) (state_at p (e + 1) m)) y is (λ u read through.
-    option_and_then_some _ (parse_loop (list_turn put_nowhere (parse_argument d inside)) (true, plain_shape []) (state_at (skip 1 p) (e + 1) m)) u read
+    option_and_then_some _ (parse_loop (list_turn add_nowhere (parse_argument d inside)) (true, plain_shape []) (state_at (skip 1 p) (e + 1) m)) u read
     (λ z list _.
     let r = packed_sound d each _ inside true (plain_shape []) (skip 1 p) (e + 1) m z (omega arith) list in
     let narrow = met_passed (pack_met d each_is p r.reading r.deep (e + 1) m) read through in

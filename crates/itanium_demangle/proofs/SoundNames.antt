@@ -9,14 +9,14 @@ use Rattle.itanium_syntax.specs.Scalars.{source_name, index_of, ordinal}
 use Rattle.itanium_syntax.specs.Abbreviations.{abbreviation_of}
 use Rattle.itanium_syntax.specs.Offsets.{thunk_offsets, past_base_offset}
 use Rattle.itanium_syntax.specs.Specials.{special_case}
-use Rattle.itanium_syntax.specs.Names.{source_text, symbol_case, name_case, unscoped_case, first_case, component_case, unqualified_case, free_case, tag_case, substitution_case, past_internal, past_name_quals, saves_first}
+use Rattle.itanium_syntax.specs.Names.{source_text, symbol_case, name_case, unscoped_case, first_case, segment_case, unqualified_case, free_case, tag_case, substitution_case, past_internal, past_name_quals, saves_first}
 use Rattle.itanium_syntax.specs.Args.{attached_case}
 use Rattle.itanium_syntax.proofs.Fronts.{initializer_after, after_drop, source_takes, after-le}
 use Rattle.itanium_grammar.specs.Tree.{Tree, bare_shape, own_quals, plain_text, abbreviation, ctor_dtor_of, tagged_with, with_args, trees, shape_of}
-use Rattle.itanium_grammar.specs.Grammar.{Position, Cost, at, skip, save, last_of, past_initializer, both, saving, SubstitutionAs, Substitution, ParameterAs, Parameter, TaggedAs, FreeAs, UnqualifiedAs, Unqualified, FirstAs, NameAs, Name, nothing, SpecialAs, SymbolAs, Thunk, special_encoding, type_special, name_special, temporary_special, construction_special, thunk_special, thunk, special_symbol, name_symbol, Local, EntityAs, Encoding, EncodingAs, ReturnAs, SignatureAs, UnscopedAs, AttachedAs, Nested, Components, ComponentsAs, Args, abbreviation_substitution, component_substitution, substitution, auto_parameter, scope_parameter, parameter, no_tag, next_tag, source_free, unnamed_type_free, lambda_free, conversion_free, literal_operator_free, operator_free, constructor_component, destructor_component, free_component, unqualified, parameter_first, std_first, substitution_first, name_first, name, nested_name, local_name, local, string_literal_entity, default_argument_entity, name_entity, encoding, name_encoding, no_return_type, some_return_type, no_signature, some_signature, unscoped_name, std_name, substitution_name, global_name, none_attached, args_attached, nested, components, end_of_components, args_component, name_component}
+use Rattle.itanium_grammar.specs.Grammar.{Position, Cost, with_rest, skip, save, last_of, past_initializer, both, saving, SubstitutionAs, Substitution, ParameterAs, Parameter, TaggedAs, FreeAs, UnqualifiedAs, Unqualified, FirstAs, NameAs, Name, nothing, SpecialAs, SymbolAs, Thunk, special_encoding, type_special, name_special, temporary_special, construction_special, thunk_special, thunk, special_symbol, name_symbol, Local, EntityAs, Encoding, EncodingAs, ReturnAs, SignatureAs, UnscopedAs, AttachedAs, Nested, Segments, SegmentsAs, Args, abbreviation_substitution, component_substitution, substitution, auto_parameter, scope_parameter, parameter, no_tag, next_tag, source_free, unnamed_type_free, lambda_free, conversion_free, literal_operator_free, operator_free, constructor_unqualified, destructor_unqualified, free_unqualified, unqualified, parameter_first, std_first, substitution_first, name_first, name, nested_name, local_name, local, string_literal_entity, default_argument_entity, name_entity, encoding, name_encoding, no_return_type, some_return_type, no_signature, some_signature, unscoped_name, std_name, substitution_name, global_name, none_attached, args_attached, nested, segments, end_of_segments, args_segment, name_segment}
 use Rattle.itanium_grammar.proofs.Progress.{unqualified_takes, args_takes}
-use Rattle.itanium_demangle.specs.Cases.{SymbolCase, SpecialSymbol, NameSymbol, SpecialCase, TypeSpecial, NameSpecial, TemporarySpecial, ConstructionSpecial, ThunkSpecial, NoSpecial, ReturnCase, NoReturnType, SomeReturnType, SignatureCase, NoSignature, SomeSignature, EntityCase, StringLiteralEntity, DefaultArgumentEntity, NameEntity, NoEntity, SubstitutionCase, AbbreviationSubstitution, ComponentSubstitution, TagCase, NoTag, NextTag, UnqualifiedCase, ConstructorName, DestructorName, FreeName, FreeCase, SourceName, UnnamedTypeName, LambdaName, ConversionName, LiteralOperatorName, OperatorName, NoName, FirstCase, ParameterFirst, StdFirst, SubstitutionFirst, NameFirst, NameCase, NestedName, LocalName, UnscopedName, UnscopedCase, StdName, SubstitutionName, PlainName, AttachedCase, NoneAttached, ArgsAttached, ComponentCase, EndOfComponents, ArgsComponent, NameComponent}
-use Rattle.itanium_reader.specs.Parser.{ParserState, after_turn, loop, ◌>>=◌, next_component, substitution_as, parse_substitution, parameter_as, parse_parameter, tag_as, tag_turn, parse_tags, typed_params_as, free_as, parse_free, ctor_dtor_as, unqualified_as, parse_unqualified, first_as, fitting, attached_by, attached_as, template_as, unscoped_as, component_as, component_turn, parse_components, parse_nested, return_as, signature_as, special_as, parse_special, symbol_as, symbol_by, thunk_by, parse_thunk, encoding_as, parse_encoding, entity_as, parse_local, name_as, parse_bare_name, parse_name, parse_args, parse_type}
+use Rattle.itanium_demangle.specs.Cases.{SymbolCase, SpecialSymbol, NameSymbol, SpecialCase, TypeSpecial, NameSpecial, TemporarySpecial, ConstructionSpecial, ThunkSpecial, NoSpecial, ReturnCase, NoReturnType, SomeReturnType, SignatureCase, NoSignature, SomeSignature, EntityCase, StringLiteralEntity, DefaultArgumentEntity, NameEntity, NoEntity, SubstitutionCase, AbbreviationSubstitution, ComponentSubstitution, TagCase, NoTag, NextTag, UnqualifiedCase, ConstructorName, DestructorName, FreeName, FreeCase, SourceName, UnnamedTypeName, LambdaName, ConversionName, LiteralOperatorName, OperatorName, NoName, FirstCase, ParameterFirst, StdFirst, SubstitutionFirst, NameFirst, NameCase, NestedName, LocalName, UnscopedName, UnscopedCase, StdName, SubstitutionName, PlainName, AttachedCase, NoneAttached, ArgsAttached, SegmentCase, EndOfSegments, ArgsSegment, NameSegment}
+use Rattle.itanium_reader.specs.Parser.{ParserState, after_turn, loop, ◌>>=◌, next_segment, substitution_as, parse_substitution, parameter_as, parse_parameter, tag_as, tag_turn, parse_tags, typed_params_as, free_as, parse_free, ctor_dtor_as, unqualified_as, parse_unqualified, first_as, fitting, attached_by, attached_as, template_as, unscoped_as, segment_as, segment_turn, parse_segments, parse_nested, return_as, signature_as, special_as, parse_special, symbol_as, symbol_by, thunk_by, parse_thunk, encoding_as, parse_encoding, entity_as, parse_local, name_as, parse_bare_name, parse_name, parse_args, parse_type}
 use Rattle.itanium_demangle.specs.Meaning.{state_at}
 use Rattle.itanium_demangle.specs.Readers.{bare_of}
 use Rattle.itanium_demangle.proofs.Shapes.{same_state, one_more, some-map, last-map, shape-plain_text, shape-ctor_dtor_of, shape-tagged_with, shape-with_args}
@@ -24,7 +24,7 @@ use Rattle.itanium_demangle.proofs.Readings.{Small, Within, Found, reached, give
 use Rattle.itanium_demangle.proofs.Waiting.{same_return, whole_name}
 use Rattle.itanium_demangle.proofs.Whole.{with_own_quals}
 use Rattle.itanium_demangle.proofs.Fitting.{Met, met, met_is, met_passed, met_passed_bare, passed}
-use Rattle.itanium_demangle.proofs.CompleteNames.{substitution_complete, parameter_complete, free_met, unqualified_met, first_met, components_met, encoding_met, thunk_by_complete, name_as_met, bare_names_complete, names_complete, thunks_complete}
+use Rattle.itanium_demangle.proofs.CompleteNames.{substitution_complete, parameter_complete, free_met, unqualified_met, first_met, segments_met, encoding_met, thunk_by_complete, name_as_met, bare_names_complete, names_complete, thunks_complete}
 use Rattle.itanium_syntax.specs.Types.{params_case}
 use Rattle.itanium_syntax.specs.Operators.{operator_here}
 use Rattle.itanium_syntax.specs.Context.{inside_lambda, inside_local, inside_encoding}
@@ -64,7 +64,7 @@ substitution_as_sound AbbreviationSubstitution p e m y is =
 substitution_as_sound ComponentSubstitution p e m y is =
     option_and_then_some _ (index_of Base36 p.rest) y is (λ found number stored.
     option_and_then_some _ (slice_get (map shape_of p.saved) found.0) y stored (λ v got _.
-    let t = saved_tree p.saved found.0 v got in record { tree = t.tree; next = at found.1 p; reading = component_substitution number t.there }))
+    let t = saved_tree p.saved found.0 v got in record { tree = t.tree; next = with_rest found.1 p; reading = component_substitution number t.there }))
 
 pub substitution_sound : (p : Position) (e m : ℕ) (y : Shape × ParserState) → parse_substitution (state_at p e m) ≡ Some y → Free (Substitution p) e m y
 unfolding parse_substitution
@@ -88,8 +88,8 @@ parameter_sound x p e m y is =
     option_and_then_some _ (index_of Decimal (drop 1 p.rest)) y is (λ found number named.
     option_and_then_some _ (parameter_as x.lambda found.0 (state_at p e m)) y named (λ v got _.
     let t = parameter_as_sound x.lambda found.0 p e m v got in
-    let r : Parameter x p t.tree (at found.1 p) = parameter number t.reading in
-    record { tree = t.tree; next = at found.1 p; reading = r; is = same_Some _ _ (sym is ∙ whole r) }))
+    let r : Parameter x p t.tree (with_rest found.1 p) = parameter number t.reading in
+    record { tree = t.tree; next = with_rest found.1 p; reading = r; is = same_Some _ _ (sym is ∙ whole r) }))
   where
     whole : {t : Tree} {q : Position} → Parameter x p t q → parse_parameter x (state_at p e m) ≡ Some (shape_of t, state_at q e m)
     whole r = parameter_complete r e m
@@ -112,7 +112,7 @@ tag_as_sound n again NextTag t p e m y room is =
     let shorter = (source_takes (drop 1 p.rest) b found).shorter in
     let within = after-le (after_drop 1 p.rest) in
     let there = rw (← same_Some _ _ made, ← shape-tagged_with t (source_text b.0)) at rest in
-    let i = again (tagged_with t (source_text b.0)) (at b.1 p) e m y (omega arith) there in
+    let i = again (tagged_with t (source_text b.0)) (with_rest b.1 p) e m y (omega arith) there in
     record { tree = i.tree; next = i.next; reading = next_tag found i.reading }))
 
 tags_sound : (n : ℕ) → TagsSound n
@@ -125,13 +125,13 @@ parse_tags_sound : (t : Tree) (p : Position) (e m : ℕ) (y : Shape × ParserSta
 parse_tags_sound t p e m y is = tags_sound (length p.rest + 1) t p e m y (omega arith) is
 
 -- the source name that a reading begins with
-pub source_is : (p : Position) (e m : ℕ) (x : Shape × ParserState) (b : List ℕ × List ℕ) → ◌≡◌ {A = Option (Shape × ParserState)} (Some (plain_shape (source_text b.0), state_at (at b.1 p) e m)) (Some x)
-    → x ≡ (shape_of (plain_text (source_text b.0)), state_at (at b.1 p) e m)
-source_is p e m x b made = sym (same_Some _ _ made) ∙ ap (λ v. (v, state_at (at b.1 p) e m)) (sym (shape-plain_text (source_text b.0)))
+pub source_is : (p : Position) (e m : ℕ) (x : Shape × ParserState) (b : List ℕ × List ℕ) → ◌≡◌ {A = Option (Shape × ParserState)} (Some (plain_shape (source_text b.0), state_at (with_rest b.1 p) e m)) (Some x)
+    → x ≡ (shape_of (plain_text (source_text b.0)), state_at (with_rest b.1 p) e m)
+source_is p e m x b made = sym (same_Some _ _ made) ∙ ap (λ v. (v, state_at (with_rest b.1 p) e m)) (sym (shape-plain_text (source_text b.0)))
 
-ctor_dtor_sound : (destructor : Bool) (scope : Tree) (p : Position) (e m : ℕ) (y : Shape × ParserState) → ctor_dtor_as destructor (Some (shape_of scope)) (state_at p e m) ≡ Some y
-    → Tagged (tag_case (drop 2 p.rest)) (ctor_dtor_of scope destructor) (skip 2 p)
-ctor_dtor_sound destructor scope p e m y is = parse_tags_sound (ctor_dtor_of scope destructor) (skip 2 p) e m y (rw (shape-ctor_dtor_of scope destructor) is)
+ctor_dtor_sound : (destructor : Bool) (parent : Tree) (p : Position) (e m : ℕ) (y : Shape × ParserState) → ctor_dtor_as destructor (Some (shape_of parent)) (state_at p e m) ≡ Some y
+    → Tagged (tag_case (drop 2 p.rest)) (ctor_dtor_of parent destructor) (skip 2 p)
+ctor_dtor_sound destructor parent p e m y is = parse_tags_sound (ctor_dtor_of parent destructor) (skip 2 p) e m y (rw (shape-ctor_dtor_of parent destructor) is)
 
 module _ (d : ℕ) (complete : TypesComplete d) (lists_are : ArgsComplete d) (kinds : TypesSound d) where
   free_sound : (case : FreeCase) (x : Context) (p : Position) (e m : ℕ) (y : Shape × ParserState)
@@ -167,32 +167,32 @@ module _ (d : ℕ) (complete : TypesComplete d) (lists_are : ArgsComplete d) (ki
       let w : Within (FreeAs OperatorName x p) d = record { tree = _; next = _; cost = _; reading = operator_free found; deep = omega arith } in
       record { within = w; is = met_is (free_met d lists_are complete w.reading w.deep e m) is })
 
-  unqualified_as_sound : (case : UnqualifiedCase) (x : Context) (scope : Option Tree) (p : Position) (e m : ℕ) (y : Shape × ParserState)
-      → unqualified_as case (parse_type d x) (parse_type d (inside_lambda x)) (option_map shape_of scope) (state_at p e m) ≡ Some y → Within (UnqualifiedAs case x scope p) d
+  unqualified_as_sound : (case : UnqualifiedCase) (x : Context) (parent : Option Tree) (p : Position) (e m : ℕ) (y : Shape × ParserState)
+      → unqualified_as case (parse_type d x) (parse_type d (inside_lambda x)) (option_map shape_of parent) (state_at p e m) ≡ Some y → Within (UnqualifiedAs case x parent p) d
   unqualified_as_sound ConstructorName x None p e m y is = cc
-  unqualified_as_sound ConstructorName x (Some scope) p e m y is =
-      let t = ctor_dtor_sound false scope p e m y is in record { tree = _; next = _; cost = _; reading = constructor_component t.reading; deep = omega arith }
+  unqualified_as_sound ConstructorName x (Some parent) p e m y is =
+      let t = ctor_dtor_sound false parent p e m y is in record { tree = _; next = _; cost = _; reading = constructor_unqualified t.reading; deep = omega arith }
   unqualified_as_sound DestructorName x None p e m y is = cc
-  unqualified_as_sound DestructorName x (Some scope) p e m y is =
-      let t = ctor_dtor_sound true scope p e m y is in record { tree = _; next = _; cost = _; reading = destructor_component t.reading; deep = omega arith }
-  unqualified_as_sound FreeName x scope p e m y is =
+  unqualified_as_sound DestructorName x (Some parent) p e m y is =
+      let t = ctor_dtor_sound true parent p e m y is in record { tree = _; next = _; cost = _; reading = destructor_unqualified t.reading; deep = omega arith }
+  unqualified_as_sound FreeName x parent p e m y is =
       option_and_then_some _ (parse_free (parse_type d x) (parse_type d (inside_lambda x)) (state_at p e m)) y is (λ v named _.
       option_and_then_some _ (free_as (free_case p.rest) (parse_type d x) (parse_type d (inside_lambda x)) (state_at p e m)) v named (λ z first tags.
       let found = free_sound (free_case p.rest) x p e m z first in
       let i = found.within in
       let t = parse_tags_sound i.tree i.next (e + i.cost.count) (max m i.cost.peak) v (rw found.is at tags) in
-      record { tree = _; next = _; cost = _; reading = free_component i.reading t.reading; deep = omega (arith, i.deep) }))
+      record { tree = _; next = _; cost = _; reading = free_unqualified i.reading t.reading; deep = omega (arith, i.deep) }))
 
-  pub unqualified_sound : (x : Context) (scope : Option Tree) (p : Position) (e m : ℕ) (y : Shape × ParserState)
-      → parse_unqualified (parse_type d x) (parse_type d (inside_lambda x)) (option_map shape_of scope) (state_at p e m) ≡ Some y → Found (Unqualified x scope p) shape_of d e m y
+  pub unqualified_sound : (x : Context) (parent : Option Tree) (p : Position) (e m : ℕ) (y : Shape × ParserState)
+      → parse_unqualified (parse_type d x) (parse_type d (inside_lambda x)) (option_map shape_of parent) (state_at p e m) ≡ Some y → Found (Unqualified x parent p) shape_of d e m y
   unfolding parse_unqualified
-  unqualified_sound x scope p e m y is =
-      let r = unqualified_as_sound (unqualified_case (is_some scope) (past_internal p.rest)) x scope (at (past_internal p.rest) p) e m y (rw (some-map scope) at is) in
-      let w : Within (Unqualified x scope p) d = record { tree = _; next = _; cost = _; reading = unqualified r.reading; deep = r.deep } in
+  unqualified_sound x parent p e m y is =
+      let r = unqualified_as_sound (unqualified_case (is_some parent) (past_internal p.rest)) x parent (with_rest (past_internal p.rest) p) e m y (rw (some-map parent) at is) in
+      let w : Within (Unqualified x parent p) d = record { tree = _; next = _; cost = _; reading = unqualified r.reading; deep = r.deep } in
       record { within = w; is = met_is (whole w.reading w.deep) is }
     where
-      whole : {t : Tree} {q : Position} {c : Cost} → Unqualified x scope p t q c → Small d c
-          → Met text_len (parse_unqualified (parse_type d x) (parse_type d (inside_lambda x)) (option_map shape_of scope) (state_at p e m)) (reached shape_of t q c e m)
+      whole : {t : Tree} {q : Position} {c : Cost} → Unqualified x parent p t q c → Small d c
+          → Met text_len (parse_unqualified (parse_type d x) (parse_type d (inside_lambda x)) (option_map shape_of parent) (state_at p e m)) (reached shape_of t q c e m)
       whole a deep = unqualified_met d lists_are complete a deep e m
 
   first_sound : (case : FirstCase) (x : Context) (p : Position) (e m : ℕ) (y : Shape × ParserState) → first_as case (parse_unqualified (parse_type d x) (parse_type d (inside_lambda x))) x (state_at p e m) ≡ Some y → Within (FirstAs case x p) d
@@ -257,18 +257,18 @@ module _ (d : ℕ) (complete : TypesComplete d) (lists_are : ArgsComplete d) (ki
       let l = attached_as_sound (attached_case i.next.rest) x i.tree i.next (e + i.cost.count) (max m i.cost.peak) y (rw found.is at more) in
       record { tree = _; next = _; cost = _; reading = global_name i.reading l.reading; deep = omega (arith, i.deep, l.deep) })
 
--- the components after what stands, in n turns
-abbrev ComponentsSound : ℕ → ℕ → Type 0
-ComponentsSound d n = (x : Context) (takes : Bool) (t : Tree) (p : Position) (e m : ℕ) (y : Shape × ParserState) → length p.rest < n
-    → loop (component_turn (parse_unqualified (parse_type d x) (parse_type d (inside_lambda x))) (parse_args d x true)) n (takes, shape_of t) (state_at p e m) ≡ Some y → Found (Components x takes t p) shape_of d e m y
+-- the segments after what stands, in n turns
+abbrev SegmentsSound : ℕ → ℕ → Type 0
+SegmentsSound d n = (x : Context) (takes : Bool) (t : Tree) (p : Position) (e m : ℕ) (y : Shape × ParserState) → length p.rest < n
+    → loop (segment_turn (parse_unqualified (parse_type d x) (parse_type d (inside_lambda x))) (parse_args d x true)) n (takes, shape_of t) (state_at p e m) ≡ Some y → Found (Segments x takes t p) shape_of d e m y
 
 module _ (d : ℕ) (complete : TypesComplete d) (lists_are : ArgsComplete d) (kinds : TypesSound d) (lists : ArgsSound d) where
-  component_sound : (n : ℕ) → ComponentsSound d n → (case : ComponentCase) (x : Context) (takes : Bool) (t : Tree) (p : Position) (e m : ℕ) (y : Shape × ParserState) → length p.rest < suc n
-      → (component_as case (parse_unqualified (parse_type d x) (parse_type d (inside_lambda x))) (parse_args d x true) (takes, shape_of t) (state_at p e m) >>= λ r. after_turn r.0 (loop (component_turn (parse_unqualified (parse_type d x) (parse_type d (inside_lambda x))) (parse_args d x true)) n) r.1) ≡ Some y
-      → Within (ComponentsAs case x takes t p) d
-  component_sound n again EndOfComponents x takes t p e m y room is = record { tree = _; next = _; cost = _; reading = end_of_components; deep = omega arith }
-  component_sound n again ArgsComponent x takes t p e m y room is =
-      option_and_then_some _ (attached_by (parse_args d x true) (shape_of t) (state_at p e m) >>= fitting >>= next_component) y is (λ v turned rest.
+  segment_sound : (n : ℕ) → SegmentsSound d n → (case : SegmentCase) (x : Context) (takes : Bool) (t : Tree) (p : Position) (e m : ℕ) (y : Shape × ParserState) → length p.rest < suc n
+      → (segment_as case (parse_unqualified (parse_type d x) (parse_type d (inside_lambda x))) (parse_args d x true) (takes, shape_of t) (state_at p e m) >>= λ r. after_turn r.0 (loop (segment_turn (parse_unqualified (parse_type d x) (parse_type d (inside_lambda x))) (parse_args d x true)) n) r.1) ≡ Some y
+      → Within (SegmentsAs case x takes t p) d
+  segment_sound n again EndOfSegments x takes t p e m y room is = record { tree = _; next = _; cost = _; reading = end_of_segments; deep = omega arith }
+  segment_sound n again ArgsSegment x takes t p e m y room is =
+      option_and_then_some _ (attached_by (parse_args d x true) (shape_of t) (state_at p e m) >>= fitting >>= next_segment) y is (λ v turned rest.
       option_and_then_some _ (attached_by (parse_args d x true) (shape_of t) (state_at p e m) >>= fitting) v turned (λ u fitted next.
       option_and_then_some _ (attached_by (parse_args d x true) (shape_of t) (state_at p e m)) u fitted (λ z list through.
       let made = rw ((passed z u through).0) at next in
@@ -279,9 +279,9 @@ module _ (d : ℕ) (complete : TypesComplete d) (lists_are : ArgsComplete d) (ki
       let whole = with_args t (trees i.tree) in
       let there = rw (← same_Some _ _ made, found.is, one_more i.next.saved whole) at rest in
       let o = (again x true whole (past_initializer (save whole i.next)) (e + i.cost.count) (max (max m i.cost.peak) (length (map shape_of i.next.saved) + 1)) y (omega arith) there).within in
-      record { tree = o.tree; next = o.next; cost = both i.cost (both (saving i.next) o.cost); reading = args_component {r = o.next} {v = o.tree} {d = o.cost} i.reading o.reading; deep = omega (arith, i.deep, o.deep) })))
-  component_sound n again NameComponent x takes t p e m y room is =
-      option_and_then_some _ (parse_unqualified (parse_type d x) (parse_type d (inside_lambda x)) (Some (shape_of t)) (state_at p e m) >>= fitting >>= next_component) y is (λ v turned rest.
+      record { tree = o.tree; next = o.next; cost = both i.cost (both (saving i.next) o.cost); reading = args_segment {r = o.next} {v = o.tree} {d = o.cost} i.reading o.reading; deep = omega (arith, i.deep, o.deep) })))
+  segment_sound n again NameSegment x takes t p e m y room is =
+      option_and_then_some _ (parse_unqualified (parse_type d x) (parse_type d (inside_lambda x)) (Some (shape_of t)) (state_at p e m) >>= fitting >>= next_segment) y is (λ v turned rest.
       option_and_then_some _ (parse_unqualified (parse_type d x) (parse_type d (inside_lambda x)) (Some (shape_of t)) (state_at p e m) >>= fitting) v turned (λ u fitted next.
       option_and_then_some _ (parse_unqualified (parse_type d x) (parse_type d (inside_lambda x)) (Some (shape_of t)) (state_at p e m)) u fitted (λ z named through.
       let made = rw ((passed z u through).0) at next in
@@ -291,27 +291,27 @@ module _ (d : ℕ) (complete : TypesComplete d) (lists_are : ArgsComplete d) (ki
       let within = after-le (initializer_after i.next.rest) in
       let there = rw (← same_Some _ _ made, found.is, one_more i.next.saved i.tree) at rest in
       let o = (again x true i.tree (past_initializer (save i.tree i.next)) (e + i.cost.count) (max (max m i.cost.peak) (length (map shape_of i.next.saved) + 1)) y (omega arith) there).within in
-      record { tree = o.tree; next = o.next; cost = both i.cost (both (saving i.next) o.cost); reading = name_component {r = o.next} {v = o.tree} {d = o.cost} i.reading o.reading; deep = omega (arith, i.deep, o.deep) })))
+      record { tree = o.tree; next = o.next; cost = both i.cost (both (saving i.next) o.cost); reading = name_segment {r = o.next} {v = o.tree} {d = o.cost} i.reading o.reading; deep = omega (arith, i.deep, o.deep) })))
 
-  components_sound : (n : ℕ) → ComponentsSound d n
-  unfolding loop component_turn
-  components_sound zero x takes t p e m y room is = cc
-  components_sound (suc n) x takes t p e m y room is =
-      let r = component_sound n (components_sound n) (component_case p.rest) x takes t p e m y room is in
-      let w : Within (Components x takes t p) d = record { tree = _; next = _; cost = _; reading = components r.reading; deep = r.deep } in
-      record { within = w; is = met_is (components_met d lists_are complete w.reading w.deep e m (suc n) room) is }
+  segments_sound : (n : ℕ) → SegmentsSound d n
+  unfolding loop segment_turn
+  segments_sound zero x takes t p e m y room is = cc
+  segments_sound (suc n) x takes t p e m y room is =
+      let r = segment_sound n (segments_sound n) (segment_case p.rest) x takes t p e m y room is in
+      let w : Within (Segments x takes t p) d = record { tree = _; next = _; cost = _; reading = segments r.reading; deep = r.deep } in
+      record { within = w; is = met_is (segments_met d lists_are complete w.reading w.deep e m (suc n) room) is }
 
   nested_sound : (x : Context) (p : Position) (e m : ℕ) (y : (Shape × Quals) × ParserState) → parse_nested (parse_unqualified (parse_type d x) (parse_type d (inside_lambda x))) (parse_args d x true) x (state_at p e m) ≡ Some y → Within (Nested x p) d
   unfolding parse_nested
   nested_sound x p e m y is =
-      let begun = at (past_name_quals p.rest) p in
+      let begun = with_rest (past_name_quals p.rest) p in
       let case = first_case (past_name_quals p.rest) in
       option_and_then_some _ (first_as case (parse_unqualified (parse_type d x) (parse_type d (inside_lambda x))) x (state_at begun e m)) y is (λ z first more.
       let i = first_sound d complete lists_are kinds case x begun e m z first in
       let is_z : z ≡ (shape_of i.tree, state_at i.next (e + i.cost.count) (max m i.cost.peak)) = met_is (first_met d lists_are complete i.reading i.deep e m) first in
       let there = rw is_z at more in
-      option_and_then_some _ (parse_components (parse_unqualified (parse_type d x) (parse_type d (inside_lambda x))) (parse_args d x true) (saves_first case) (shape_of i.tree) (state_at (past_initializer i.next) (e + i.cost.count) (max m i.cost.peak))) y there (λ v rest _.
-      let o = (components_sound (length (past_initializer i.next).rest + 1) x (saves_first case) i.tree (past_initializer i.next) (e + i.cost.count) (max m i.cost.peak) v (omega arith) rest).within in
+      option_and_then_some _ (parse_segments (parse_unqualified (parse_type d x) (parse_type d (inside_lambda x))) (parse_args d x true) (saves_first case) (shape_of i.tree) (state_at (past_initializer i.next) (e + i.cost.count) (max m i.cost.peak))) y there (λ v rest _.
+      let o = (segments_sound (length (past_initializer i.next).rest + 1) x (saves_first case) i.tree (past_initializer i.next) (e + i.cost.count) (max m i.cost.peak) v (omega arith) rest).within in
       record { tree = _; next = o.next; cost = _; reading = nested i.reading o.reading; deep = omega (arith, i.deep, o.deep) }))
 
 -- the state that a return type leaves
@@ -380,8 +380,8 @@ module _ (d : ℕ) (complete : TypesComplete d) (bares_are : BareNamesComplete d
       let i = found.within in
       let there = rw found.is at more in
       option_and_then_some _ (past_base_offset i.next.rest) y there (λ r offset second.
-      option_and_then_some _ (parse_type d x (state_at (at r i.next) (e + i.cost.count) (max m i.cost.peak))) y second (λ w other _.
-      let o = (kinds x (at r i.next) (e + i.cost.count) (max m i.cost.peak) w other).within in
+      option_and_then_some _ (parse_type d x (state_at (with_rest r i.next) (e + i.cost.count) (max m i.cost.peak))) y second (λ w other _.
+      let o = (kinds x (with_rest r i.next) (e + i.cost.count) (max m i.cost.peak) w other).within in
       record { tree = _; next = _; cost = _; reading = construction_special i.reading offset o.reading; deep = omega (arith, i.deep, o.deep) })))
   special_as_sound ThunkSpecial x p e m y is =
       let i = (thunks x p e m y is).within in record { tree = _; next = _; cost = _; reading = thunk_special i.reading; deep = i.deep }
@@ -403,8 +403,8 @@ module _ (d : ℕ) (complete : TypesComplete d) (bares_are : BareNamesComplete d
   thunks_sound x p e m y is =
       option_and_then_some _ (thunk_by (symbol_by (parse_type d x) (parse_bare_name d x) (parse_thunk d x) x) (state_at p (e + 1) m)) y is (λ u thunked through.
       option_and_then_some _ (thunk_offsets (drop 1 p.rest)) u thunked (λ o offsets more.
-      option_and_then_some _ (symbol_as (symbol_case o.1) (parse_special d x) (parse_name d x) (state_at (at o.1 p) (e + 1) m)) u more (λ z read _.
-      let i = symbol_as_sound (symbol_case o.1) x (at o.1 p) (e + 1) m z read in
+      option_and_then_some _ (symbol_as (symbol_case o.1) (parse_special d x) (parse_name d x) (state_at (with_rest o.1 p) (e + 1) m)) u more (λ z read _.
+      let i = symbol_as_sound (symbol_case o.1) x (with_rest o.1 p) (e + 1) m z read in
       let narrow = met_passed (met (thunk_by_complete d complete bares_are thunks_are p offsets i.reading i.deep (e + 1) m)) thunked through in
       let w : Within (Thunk x p) (suc d) = record { tree = _; next = _; cost = _; reading = thunk offsets i.reading; deep = omega (arith, i.deep, narrow) } in
       record { within = w; is = same_Some _ _ (sym is ∙ thunks_complete d complete bares_are thunks_are x _ _ _ _ w.reading w.deep e m) })))
@@ -436,8 +436,8 @@ module _ (d : ℕ) (complete : TypesComplete d) (bares_are : BareNamesComplete d
   entity_sound StringLiteralEntity x t p e m y is = record { tree = _; next = _; cost = _; reading = string_literal_entity; deep = omega arith }
   entity_sound DefaultArgumentEntity x t p e m y is =
       option_and_then_some _ (ordinal (drop 2 p.rest)) y is (λ n number more.
-      option_and_then_some _ (parse_bare_name d x (state_at (at n.1 p) e m)) y more (λ z read _.
-      let i = (bares x (at n.1 p) e m z read).within in
+      option_and_then_some _ (parse_bare_name d x (state_at (with_rest n.1 p) e m)) y more (λ z read _.
+      let i = (bares x (with_rest n.1 p) e m z read).within in
       record { tree = _; next = _; cost = _; reading = default_argument_entity number i.reading; deep = i.deep }))
   entity_sound NameEntity x t p e m y is =
       option_and_then_some _ (parse_bare_name d x (state_at (skip 1 p) e m)) y is (λ z read _.

@@ -13,7 +13,7 @@ use Rattle.itanium_syntax.specs.Names.{source_text}
 use Rattle.itanium_syntax.specs.Args.{attached_case}
 use Rattle.itanium_syntax.specs.Types.{type_case, cv_case, function_case, params_case, types_case, cv_quals, past_cv, with_reference}
 use Rattle.itanium_grammar.specs.Tree.{Tree, plain_text, shape_of}
-use Rattle.itanium_grammar.specs.Grammar.{Position, at, skip, save, TypeOf, TypeAs, CvAs, Function, ParamsAs, TypesAs, TypeAttachedAs, type, builtin_type, expansion_type, vendor_type, array_type, function_type, member_type, pointer_type, cv_type, elaborated_type, parameter_type, substitution_type, name_type, cv_function, cv_other, function, no_params, some_params, end_of_types, one_more_type, none_attached_to_type, args_attached_to_type}
+use Rattle.itanium_grammar.specs.Grammar.{Position, with_rest, skip, save, TypeOf, TypeAs, CvAs, Function, ParamsAs, TypesAs, TypeAttachedAs, type, builtin_type, expansion_type, vendor_type, array_type, function_type, member_type, pointer_type, cv_type, elaborated_type, parameter_type, substitution_type, name_type, cv_function, cv_other, function, no_params, some_params, end_of_types, one_more_type, none_attached_to_type, args_attached_to_type}
 use Rattle.itanium_grammar.proofs.Progress.{type_takes}
 use Rattle.itanium_demangle.specs.Cases.{TypeCase, BuiltinType, ExpansionType, VendorType, ArrayType, FunctionType, MemberType, PointerType, CvType, ElaboratedType, ParameterType, SubstitutionType, UnreadType, NameType, CvCase, CvFunction, CvOther, FunctionCase, ExternFunction, PlainFunction, ParamsCase, NoParams, SomeParams, TypesCase, EndOfTypes, NextType, AttachedCase, NoneAttached, ArgsAttached}
 use Rattle.itanium_reader.specs.Parser.{ParserState, goes_on, total_len, after_turn, loop, ◌>>=◌, parse_source, parse_parameter, saved_parameter, parse_substitution, attached_by, type_attached_as, types_as, types_turn, params_as, function_as, parse_function, cv_as, vendor_as, type_as, parse_name, parse_args, parse_type}
@@ -119,12 +119,12 @@ type_as_sound d complete kinds names lists VendorType x p e m y is =
     option_and_then_some _ (parse_source (state_at (skip 1 p) e m)) y is (λ z first more.
     option_and_then_some _ (source_name (drop 1 p.rest)) z first (λ b found made.
     let there = rw (source_is (skip 1 p) e m z b made) at more in
-    let case = vendor_sound (attached_case b.1) (shape_of (plain_text (source_text b.0))) (state_at (at b.1 p) e m) y there in
+    let case = vendor_sound (attached_case b.1) (shape_of (plain_text (source_text b.0))) (state_at (with_rest b.1 p) e m) y there in
     record { tree = _; next = _; cost = _; reading = vendor_type found case; deep = omega arith }))
 type_as_sound d complete kinds names lists ArrayType x p e m y is =
     option_and_then_some _ (optional_number (drop 1 p.rest)) y is (λ n found more.
-    option_and_then_some _ (parse_type d x (state_at (at n.1 p) e m)) y more (λ z elem ends.
-    let inner = kinds x (at n.1 p) e m z elem in
+    option_and_then_some _ (parse_type d x (state_at (with_rest n.1 p) e m)) y more (λ z elem ends.
+    let inner = kinds x (with_rest n.1 p) e m z elem in
     let i = inner.within in
     let there = rw inner.is at ends in
     option_and_then_some _ (array_step n.0 (shape_of i.tree)) y there (λ w made _.
@@ -147,8 +147,8 @@ type_as_sound d complete kinds names lists (PointerType kind) x p e m y is =
     option_and_then_some _ (parse_type d x (state_at (skip 1 p) e m)) y is (λ z inner _.
     let i = (kinds x (skip 1 p) e m z inner).within in record { tree = _; next = _; cost = _; reading = pointer_type i.reading; deep = omega (arith, i.deep) })
 type_as_sound d complete kinds names lists CvType x p e m y is =
-    option_and_then_some _ (cv_as (cv_case (past_cv p.rest)) (parse_type d x) (cv_quals p.rest) (state_at (at (past_cv p.rest) p) e m)) y is (λ z found _.
-    let i = cv_sound d complete kinds (cv_case (past_cv p.rest)) x (cv_quals p.rest) (at (past_cv p.rest) p) e m z found in
+    option_and_then_some _ (cv_as (cv_case (past_cv p.rest)) (parse_type d x) (cv_quals p.rest) (state_at (with_rest (past_cv p.rest) p) e m)) y is (λ z found _.
+    let i = cv_sound d complete kinds (cv_case (past_cv p.rest)) x (cv_quals p.rest) (with_rest (past_cv p.rest) p) e m z found in
     record { tree = _; next = _; cost = _; reading = cv_type i.reading; deep = omega (arith, i.deep) })
 type_as_sound d complete kinds names lists ElaboratedType x p e m y is =
     option_and_then_some _ (parse_name d x (state_at (skip 2 p) e m)) y is (λ z inner _.

@@ -16,7 +16,7 @@ use Rattle.itanium_syntax.specs.Bytes.{begins}
 use Rattle.itanium_syntax.proofs.Fronts.{IsAfter, after_then}
 use Rattle.itanium_grammar.specs.Tree.{shape_of, printing}
 use Rattle.itanium_grammar.specs.Grammar.{Position, Cost, Symbol}
-use Rattle.itanium_grammar.specs.Answer.{after_prefix, start, outside, suffix, max_depth, HasAnswer, HasNoAnswer, IsAnswer, HasCounts, HasComponents, HasSaved, HasBounds}
+use Rattle.itanium_grammar.specs.Answer.{after_prefix, start, initial, suffix, max_depth, HasAnswer, HasNoAnswer, IsAnswer, HasCounts, HasComponents, HasSaved, HasBounds}
 use Rattle.itanium_grammar.proofs.Progress.{symbol_takes}
 use Rattle.itanium_reader.specs.declared.reader.Reader.{Reader}
 use Rattle.itanium_reader.specs.declared.stop.Stop.{Stop}
@@ -101,20 +101,20 @@ prefix_takes symbol inside e = go (begins (95 ∷ 90 ∷ []) symbol) (begins (95
     go false true b c e = let is : drop 3 symbol ≡ inside = cc in rw (sym is) (omega (arith, length-drop 3 symbol, three c))
     go false false b c e = cc
 
-pub not_read : (symbol inside : List ℕ) → after_prefix symbol ≡ Some inside → HasNoReading (Symbol outside (start inside)) max_depth → HasNoAnswer symbol
+pub not_read : (symbol inside : List ℕ) → after_prefix symbol ≡ Some inside → HasNoReading (Symbol initial (start inside)) max_depth → HasNoAnswer symbol
 not_read symbol inside prefix none tree next cost reading within utf8 =
     let here : reading.inside ≡ inside = cc in
-    none tree next cost (subst (λ v. Symbol outside (start v) tree next cost) here reading.reading) within
+    none tree next cost (subst (λ v. Symbol initial (start v) tree next cost) here reading.reading) within
 
-read_wrongly : (symbol inside : List ℕ) (e m : ℕ) (found : Shape) (after : ParserState) → after_prefix symbol ≡ Some inside → HasReading (Symbol outside (start inside)) shape_of max_depth e m found after
+read_wrongly : (symbol inside : List ℕ) (e m : ℕ) (found : Shape) (after : ParserState) → after_prefix symbol ≡ Some inside → HasReading (Symbol initial (start inside)) shape_of max_depth e m found after
     → ¬ (IsUtf8 (text found)) → HasNoAnswer symbol
 read_wrongly symbol inside e m found after prefix has bad tree next cost reading within utf8 =
     let here : reading.inside ≡ inside = cc in
-    let same = has.one tree next cost (subst (λ v. Symbol outside (start v) tree next cost) here reading.reading) within in
+    let same = has.one tree next cost (subst (λ v. Symbol initial (start v) tree next cost) here reading.reading) within in
     let is : shape_of tree ≡ found = ap shape_of same.0 ∙ sym has.found_is in
     bad (subst (λ (v : Shape). IsUtf8 (text v)) is utf8)
 
-read_rightly : (symbol inside answer : List ℕ) (e m : ℕ) (found : Shape) (after : ParserState) → after_prefix symbol ≡ Some inside → HasReading (Symbol outside (start inside)) shape_of max_depth e m found after
+read_rightly : (symbol inside answer : List ℕ) (e m : ℕ) (found : Shape) (after : ParserState) → after_prefix symbol ≡ Some inside → HasReading (Symbol initial (start inside)) shape_of max_depth e m found after
     → IsUtf8 (text found) → answer ≡ text found ++ suffix after.rest → HasAnswer symbol answer
 read_rightly symbol inside answer e m found after prefix has utf8 built =
     let same_rest : after.rest ≡ has.next.rest = ap (λ (s : ParserState). s.rest) has.state_is in
@@ -129,22 +129,22 @@ read_rightly symbol inside answer e m found after prefix has utf8 built =
     }
 
 pub printed : (symbol inside : List ℕ) (e m : ℕ) (found : Shape) (after : ParserState) (answer : Option (List ℕ)) → after_prefix symbol ≡ Some inside
-    → HasReading (Symbol outside (start inside)) shape_of max_depth e m found after → IsPrinted (text found) (suffix after.rest) answer → IsAnswer symbol answer
+    → HasReading (Symbol initial (start inside)) shape_of max_depth e m found after → IsPrinted (text found) (suffix after.rest) answer → IsAnswer symbol answer
 printed symbol inside e m found after None prefix has bad = read_wrongly symbol inside e m found after prefix has bad
 printed symbol inside e m found after (Some answer) prefix has good = read_rightly symbol inside answer e m found after prefix has good.0 good.1
 
 pub suffix_utf8 : (symbol inside : List ℕ) (e m : ℕ) (found : Shape) (after : ParserState) → IsUtf8 symbol → after_prefix symbol ≡ Some inside
-    → HasReading (Symbol outside (start inside)) shape_of max_depth e m found after → IsUtf8 (suffix after.rest)
+    → HasReading (Symbol initial (start inside)) shape_of max_depth e m found after → IsUtf8 (suffix after.rest)
 suffix_utf8 symbol inside e m found after utf8 prefix has =
     let same_rest : after.rest ≡ has.next.rest = ap (λ (s : ParserState). s.rest) has.state_is in
     rw same_rest (suffix_from symbol has.next.rest utf8 (after_then (prefix_after symbol inside prefix) (symbol_takes has.reading).after))
 
 -- the counts of a reading that was found are those of every reading
 pub counted : (symbol inside : List ℕ) (before : ParserState) (found : Shape) (after : ParserState) → after_prefix symbol ≡ Some inside → before ≡ begun inside
-    → HasReading (Symbol outside (start inside)) shape_of max_depth before.entered before.most_saved found after → HasCounts symbol after.entered after.most_saved
+    → HasReading (Symbol initial (start inside)) shape_of max_depth before.entered before.most_saved found after → HasCounts symbol after.entered after.most_saved
 counted symbol inside before found after prefix starts has tree next cost reading within =
     let here : reading.inside ≡ inside = cc in
-    let same = has.one tree next cost (subst (λ v. Symbol outside (start v) tree next cost) here reading.reading) within in
+    let same = has.one tree next cost (subst (λ v. Symbol initial (start v) tree next cost) here reading.reading) within in
     let entered : after.entered ≡ before.entered + has.cost.count = ap (λ (s : ParserState). s.entered) has.state_is in
     let most : after.most_saved ≡ max before.most_saved has.cost.peak = ap (λ (s : ParserState). s.most_saved) has.state_is in
     let none : before.entered ≡ 0 = ap (λ (s : ParserState). s.entered) starts in
@@ -154,10 +154,10 @@ counted symbol inside before found after prefix starts has tree next cost readin
     (omega (arith, entered, none, count), omega (arith, most, nothing, peak))
 
 -- where there is no reading within the limits, nothing is asked of the counts
-pub uncounted : (symbol inside : List ℕ) (entered most_saved : ℕ) → after_prefix symbol ≡ Some inside → HasNoReading (Symbol outside (start inside)) max_depth → HasCounts symbol entered most_saved
+pub uncounted : (symbol inside : List ℕ) (entered most_saved : ℕ) → after_prefix symbol ≡ Some inside → HasNoReading (Symbol initial (start inside)) max_depth → HasCounts symbol entered most_saved
 uncounted symbol inside entered most_saved prefix none tree next cost reading within =
     let here : reading.inside ≡ inside = cc in
-    absurd (none tree next cost (subst (λ v. Symbol outside (start v) tree next cost) here reading.reading) within)
+    absurd (none tree next cost (subst (λ v. Symbol initial (start v) tree next cost) here reading.reading) within)
 
 -- without a prefix neither
 pub uncounted_prefix : (symbol : List ℕ) (entered most_saved : ℕ) → after_prefix symbol ≡ None → HasCounts symbol entered most_saved
@@ -165,10 +165,10 @@ uncounted_prefix symbol entered most_saved none tree next cost reading within = 
 
 -- the components that a reading which was found leaves saved are those of every reading
 left_saved : (symbol inside : List ℕ) (e m : ℕ) (found : Shape) (after : ParserState) (components : List (List ℕ)) (answer : List ℕ) → after_prefix symbol ≡ Some inside
-    → HasReading (Symbol outside (start inside)) shape_of max_depth e m found after → components ≡ map text after.saved → HasComponents symbol (Some answer) components
+    → HasReading (Symbol initial (start inside)) shape_of max_depth e m found after → components ≡ map text after.saved → HasComponents symbol (Some answer) components
 left_saved symbol inside e m found after components answer prefix has is tree next cost reading within =
     let here : reading.inside ≡ inside = cc in
-    let same = has.one tree next cost (subst (λ v. Symbol outside (start v) tree next cost) here reading.reading) within in
+    let same = has.one tree next cost (subst (λ v. Symbol initial (start v) tree next cost) here reading.reading) within in
     is
     ∙ ap (map text) (ap (λ (s : ParserState). s.saved) has.state_is)
     ∙ map-map text shape_of has.next.saved
@@ -176,21 +176,21 @@ left_saved symbol inside e m found after components answer prefix has is tree ne
 
 -- what is kept as components after a reading that was found
 pub kept_components : (symbol inside : List ℕ) (e m : ℕ) (found : Shape) (after : ParserState) (buffer : Box Buffer Global) (answered : Bool) → after_prefix symbol ≡ Some inside
-    → HasReading (Symbol outside (start inside)) shape_of max_depth e m found after → saved buffer.value ≡ after.saved → HasComponents symbol (answer_text answered (Some buffer)) (component_texts answered (Some buffer))
+    → HasReading (Symbol initial (start inside)) shape_of max_depth e m found after → saved buffer.value ≡ after.saved → HasComponents symbol (answer_text answered (Some buffer)) (component_texts answered (Some buffer))
 kept_components symbol inside e m found after buffer false prefix has same = refl
 kept_components symbol inside e m found after buffer true prefix has same = left_saved symbol inside e m found after _ (main_bytes buffer.value) prefix has (ap (map text) same)
 
 -- the shapes that a reading which was found leaves saved are those of every reading
 left_shapes : (symbol inside : List ℕ) (e m : ℕ) (found : Shape) (after : ParserState) (shapes : List Shape) (answer : List ℕ) → after_prefix symbol ≡ Some inside
-    → HasReading (Symbol outside (start inside)) shape_of max_depth e m found after → shapes ≡ after.saved → HasSaved symbol (Some answer) shapes
+    → HasReading (Symbol initial (start inside)) shape_of max_depth e m found after → shapes ≡ after.saved → HasSaved symbol (Some answer) shapes
 left_shapes symbol inside e m found after shapes answer prefix has is tree next cost reading within =
     let here : reading.inside ≡ inside = cc in
-    let same = has.one tree next cost (subst (λ v. Symbol outside (start v) tree next cost) here reading.reading) within in
+    let same = has.one tree next cost (subst (λ v. Symbol initial (start v) tree next cost) here reading.reading) within in
     is ∙ ap (λ (s : ParserState). s.saved) has.state_is ∙ sym (ap (λ (q : Position). map shape_of q.saved) same.1)
 
 -- what is kept as their shapes
 pub kept_shapes : (symbol inside : List ℕ) (e m : ℕ) (found : Shape) (after : ParserState) (buffer : Box Buffer Global) (answered : Bool) → after_prefix symbol ≡ Some inside
-    → HasReading (Symbol outside (start inside)) shape_of max_depth e m found after → saved buffer.value ≡ after.saved → HasSaved symbol (answer_text answered (Some buffer)) (component_shapes answered (Some buffer))
+    → HasReading (Symbol initial (start inside)) shape_of max_depth e m found after → saved buffer.value ≡ after.saved → HasSaved symbol (answer_text answered (Some buffer)) (component_shapes answered (Some buffer))
 kept_shapes symbol inside e m found after buffer false prefix has same = refl
 kept_shapes symbol inside e m found after buffer true prefix has same = left_shapes symbol inside e m found after (saved buffer.value) (main_bytes buffer.value) prefix has same
 

@@ -11,7 +11,7 @@ use Rattle.itanium_syntax.specs.declared.context.Context.{Context}
 use Rattle.itanium_syntax.specs.Names.{name_case}
 use Rattle.itanium_syntax.specs.Encodings.{return_case, shows_words}
 use Rattle.itanium_grammar.specs.Tree.{Tree, shape_as, shape_of, bare_shape, own_quals, local_in, nested_of, string_literal_of, default_argument_of}
-use Rattle.itanium_grammar.specs.Grammar.{Position, Cost, TaggedAs, FreeAs, UnqualifiedAs, Unqualified, UnscopedAs, AttachedAs, Name, NameAs, EntityAs, no_tag, next_tag, source_free, unnamed_type_free, lambda_free, conversion_free, literal_operator_free, operator_free, constructor_component, destructor_component, free_component, unqualified, std_name, substitution_name, global_name, none_attached, args_attached, name, nested_name, local_name, unscoped_name, nested, local, string_literal_entity, default_argument_entity, name_entity}
+use Rattle.itanium_grammar.specs.Grammar.{Position, Cost, TaggedAs, FreeAs, UnqualifiedAs, Unqualified, UnscopedAs, AttachedAs, Name, NameAs, EntityAs, no_tag, next_tag, source_free, unnamed_type_free, lambda_free, conversion_free, literal_operator_free, operator_free, constructor_unqualified, destructor_unqualified, free_unqualified, unqualified, std_name, substitution_name, global_name, none_attached, args_attached, name, nested_name, local_name, unscoped_name, nested, local, string_literal_entity, default_argument_entity, name_entity}
 use Rattle.itanium_demangle.specs.Cases.{NameCase, NestedName, LocalName, UnscopedName, TagCase, FreeCase, UnqualifiedCase, UnscopedCase, AttachedCase, EntityCase}
 
 -- a name without own qualifiers
@@ -33,14 +33,14 @@ free_none (conversion_free a) = record { quals = refl; bare = refl }
 free_none (literal_operator_free found) = record { quals = refl; bare = refl }
 free_none (operator_free found) = record { quals = refl; bare = refl }
 
-unqualified_as_none : {case : UnqualifiedCase} {x : Context} {scope : Option Tree} {p q : Position} {t : Tree} {c : Cost} → UnqualifiedAs case x scope p t q c → HasNoOwn t
+unqualified_as_none : {case : UnqualifiedCase} {x : Context} {parent : Option Tree} {p q : Position} {t : Tree} {c : Cost} → UnqualifiedAs case x parent p t q c → HasNoOwn t
 unfolding shape_as
-unqualified_as_none (constructor_component tags) = tagged_none tags (record { quals = refl; bare = refl })
-unqualified_as_none (destructor_component tags) = tagged_none tags (record { quals = refl; bare = refl })
-unqualified_as_none (free_component {scope = None} a tags) = tagged_none tags (free_none a)
-unqualified_as_none (free_component {scope = Some scope} a tags) = record { quals = refl; bare = refl }
+unqualified_as_none (constructor_unqualified tags) = tagged_none tags (record { quals = refl; bare = refl })
+unqualified_as_none (destructor_unqualified tags) = tagged_none tags (record { quals = refl; bare = refl })
+unqualified_as_none (free_unqualified {parent = None} a tags) = tagged_none tags (free_none a)
+unqualified_as_none (free_unqualified {parent = Some parent} a tags) = record { quals = refl; bare = refl }
 
-unqualified_none : {x : Context} {scope : Option Tree} {p q : Position} {t : Tree} {c : Cost} → Unqualified x scope p t q c → HasNoOwn t
+unqualified_none : {x : Context} {parent : Option Tree} {p q : Position} {t : Tree} {c : Cost} → Unqualified x parent p t q c → HasNoOwn t
 unqualified_none (unqualified a) = unqualified_as_none a
 
 attached_none : {case : AttachedCase} {x : Context} {t u : Tree} {p q : Position} {c : Cost} → AttachedAs case x t p u q c → HasNoOwn t → HasNoOwn u

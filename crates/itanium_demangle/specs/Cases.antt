@@ -7,8 +7,8 @@ pub use Rattle.itanium_syntax.specs.declared.names.UnscopedCase.{UnscopedCase}
 pub use Rattle.itanium_syntax.specs.declared.names.UnscopedCase.TheVariants.{StdName, SubstitutionName, PlainName}
 pub use Rattle.itanium_syntax.specs.declared.names.FirstCase.{FirstCase}
 pub use Rattle.itanium_syntax.specs.declared.names.FirstCase.TheVariants.{ParameterFirst, StdFirst, SubstitutionFirst, NameFirst}
-pub use Rattle.itanium_syntax.specs.declared.names.ComponentCase.{ComponentCase}
-pub use Rattle.itanium_syntax.specs.declared.names.ComponentCase.TheVariants.{EndOfComponents, ArgsComponent, NameComponent}
+pub use Rattle.itanium_syntax.specs.declared.names.SegmentCase.{SegmentCase}
+pub use Rattle.itanium_syntax.specs.declared.names.SegmentCase.TheVariants.{EndOfSegments, ArgsSegment, NameSegment}
 pub use Rattle.itanium_syntax.specs.declared.names.UnqualifiedCase.{UnqualifiedCase}
 pub use Rattle.itanium_syntax.specs.declared.names.UnqualifiedCase.TheVariants.{ConstructorName, DestructorName, FreeName}
 pub use Rattle.itanium_syntax.specs.declared.names.FreeCase.{FreeCase}

@@ -17,7 +17,7 @@ use crate::utf8::is_utf8;
 use demangle_text::{Buffer, Mark};
 use itanium_grammar::symbol::{after_prefix, suffix};
 use itanium_reader::{Reader, Stop};
-use itanium_syntax::context::OUTSIDE;
+use itanium_syntax::context::INITIAL;
 use std::alloc::{AllocError, Global};
 use std::fmt::{self, Debug, Formatter, Write};
 use std::marker::Model;
@@ -159,7 +159,7 @@ impl Demangler {
             None => Box::new(alloc, Buffer::new(alloc))?,
         };
         let (mut reader, mark) = begin_answer(alloc, buffer, inside);
-        match read_mangled_name(&mut reader, MAX_DEPTH, OUTSIDE) {
+        match read_mangled_name(&mut reader, MAX_DEPTH, INITIAL) {
             Ok(()) => {}
             Err(Stop::Unread) => {
                 self.keep(reader, false);

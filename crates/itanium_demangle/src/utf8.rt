@@ -9,32 +9,32 @@ use std::str::from_utf8;
 /// How many bytes are looked at at once.
 const LANES: usize = 32;
 
-/// How many of the last bytes are.
-const FEW_LANES: usize = 16;
+/// Half of them: so many of the last bytes are looked at at once.
+const HALF_LANES: usize = 16;
 
 /// The greatest ASCII byte.
-const LAST: u8 = 127;
+const LAST_ASCII: u8 = 127;
 
 /// Whether a byte of the 32 from `at` on isn't ASCII.
 #[inline(always)]
-fn has_other(bytes: &[u8], at: usize) -> bool
+fn has_non_ascii(bytes: &[u8], at: usize) -> bool
     requires { at + 32 ≤ length bytes.now }
     ensures none { result ≡ false → AreAscii bytes.now at (at + 32) }
 {
     let found = u8x32::from_slice(&bytes[at..])
-        .simd_gt(u8x32::splat(LAST))
+        .simd_gt(u8x32::splat(LAST_ASCII))
         .to_bitmask();
     found != 0
 }
 
 /// Whether a byte of the 16 from `at` on isn't ASCII.
 #[inline(always)]
-fn few_have_other(bytes: &[u8], at: usize) -> bool
+fn half_has_non_ascii(bytes: &[u8], at: usize) -> bool
     requires { at + 16 ≤ length bytes.now }
     ensures none { result ≡ false → AreAscii bytes.now at (at + 16) }
 {
     let found = u8x16::from_slice(&bytes[at..])
-        .simd_gt(u8x16::splat(LAST))
+        .simd_gt(u8x16::splat(LAST_ASCII))
         .to_bitmask();
     found != 0
 }
@@ -44,20 +44,20 @@ fn few_have_other(bytes: &[u8], at: usize) -> bool
 fn is_ascii(bytes: &[u8]) -> bool
     ensures all { result ≡ true → AreAscii bytes.now 0 (length bytes.now) }
 {
-    if bytes.len() < FEW_LANES {
+    if bytes.len() < HALF_LANES {
         return false;
     }
     let mut at = 0;
     while bytes.len() - at >= LANES {
-        if has_other(bytes, at) {
+        if has_non_ascii(bytes, at) {
             return false;
         }
         at += LANES;
     }
-    if bytes.len() - at > FEW_LANES && few_have_other(bytes, at) {
+    if bytes.len() - at > HALF_LANES && half_has_non_ascii(bytes, at) {
         return false;
     }
-    !few_have_other(bytes, bytes.len() - FEW_LANES)
+    !half_has_non_ascii(bytes, bytes.len() - HALF_LANES)
 }
 
 /// Whether the bytes are UTF-8.
@@ -72,7 +72,7 @@ pub(crate) fn is_utf8(bytes: &[u8]) -> bool
     is_utf8_by_std(bytes)
 }
 
-/// The same by std's test. It is inlined, so that its answer goes through memory on this way alone.
+/// `is_utf8` by std's test. It is inlined, so that its answer goes through memory on this way alone.
 #[inline(always)]
 fn is_utf8_by_std(bytes: &[u8]) -> bool
     ensures yes { result ≡ true → IsUtf8 bytes.now }

@@ -6,7 +6,7 @@ use Rattle.std.specs.Str.{IsUtf8}
 use Rattle.itanium_syntax.specs.Bytes.{begins}
 use Rattle.itanium_grammar.specs.Tree.{Tree, printing}
 use Rattle.itanium_grammar.specs.Grammar.{Position, Cost, Symbol}
-use Rattle.itanium_grammar.specs.Answer.{after_prefix, start, outside, suffix, IsWithin, IsReading, HasAnswer, IsAnswer, HasOneReading}
+use Rattle.itanium_grammar.specs.Answer.{after_prefix, start, initial, suffix, IsWithin, IsReading, HasAnswer, IsAnswer, HasOneReading}
 use Rattle.itanium_grammar.specs.Laws.{LawsOfReadings, LawsOfAnswers}
 use Rattle.itanium_grammar.proofs.Unambiguous.{one_symbol}
 use Rattle.itanium_grammar.proofs.Progress.{symbol_takes}
@@ -15,7 +15,7 @@ pub one_reading : (symbol : List ℕ) → HasOneReading symbol
 one_reading symbol = record {
   agree = λ t u q r c d a b within other.
       let here : b.inside ≡ a.inside = cc in
-      let same = one_symbol a.reading (subst (λ v. Symbol outside (start v) u r d) here b.reading) in
+      let same = one_symbol a.reading (subst (λ v. Symbol initial (start v) u r d) here b.reading) in
       (same.tree, same.next, same.cost);
 }
 

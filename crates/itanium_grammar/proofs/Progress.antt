@@ -3,13 +3,13 @@ use Rattle.std.proofs.Common.{◌≡◌, ℕ, Bool, List, Option, drop, refl, ar
 use Rattle.demangle_quals.specs.declared.quals.Quals.{Quals}
 use Rattle.itanium_syntax.specs.declared.context.Context.{Context}
 use Rattle.itanium_syntax.specs.declared.numerals.Radix.TheVariants.{Decimal, Base36}
-use Rattle.itanium_grammar.specs.Cases.{SymbolCase, SpecialCase, LiteralCase, ExpressionCase, NameCase, ReturnCase, SignatureCase, EntityCase, UnscopedCase, AttachedCase, FirstCase, ComponentCase, UnqualifiedCase, FreeCase, TagCase, SubstitutionCase, ArgsCase, ArgumentCase, TypeCase, CvCase, ParamsCase, TypesCase}
-use Rattle.itanium_syntax.specs.Names.{first_case, component_case, unqualified_case}
+use Rattle.itanium_grammar.specs.Cases.{SymbolCase, SpecialCase, LiteralCase, ExpressionCase, NameCase, ReturnCase, SignatureCase, EntityCase, UnscopedCase, AttachedCase, FirstCase, SegmentCase, UnqualifiedCase, FreeCase, TagCase, SubstitutionCase, ArgsCase, ArgumentCase, TypeCase, CvCase, ParamsCase, TypesCase}
+use Rattle.itanium_syntax.specs.Names.{first_case, segment_case, unqualified_case}
 use Rattle.itanium_syntax.specs.Args.{args_case}
 use Rattle.itanium_syntax.specs.Types.{type_case, past_reference}
-use Rattle.itanium_syntax.proofs.Fronts.{IsAfter, Takes, after_none, after_drop, after_then, takes_then, after_takes, takes_takes, takes_drop, internal_after, initializer_after, cv_after, quals_after, reference_after, builtin_after, builtin_shorter, abbreviation_takes, index_takes, source_takes, optional_number_takes, constructor_some, destructor_some, std_shorter, components_end_shorter, arguments_end_shorter, ordinal_takes, operator_takes, literal_value_takes, thunk_offsets_after, base_offset_takes}
+use Rattle.itanium_syntax.proofs.Fronts.{IsAfter, Takes, after_none, after_drop, after_then, takes_then, after_takes, takes_takes, takes_drop, internal_after, initializer_after, cv_after, quals_after, reference_after, builtin_after, builtin_shorter, abbreviation_takes, index_takes, source_takes, optional_number_takes, constructor_some, destructor_some, std_shorter, segments_end_shorter, arguments_end_shorter, ordinal_takes, operator_takes, literal_value_takes, thunk_offsets_after, base_offset_takes}
 use Rattle.itanium_grammar.specs.Tree.{Tree, Operand}
-use Rattle.itanium_grammar.specs.Grammar.{Position, Cost, SpecialAs, Thunk, special_encoding, type_special, name_special, temporary_special, construction_special, thunk_special, thunk, special_symbol, Expression, ExpressionAs, OperandOf, LiteralAs, expression_argument, literal_argument, external_name, value_literal, expression, operand_of, pre_expression, address_expression, unary_expression, post_expression, binary_expression, greater_expression, conditional_expression, parameter_expression, literal_expression, SubstitutionAs, Substitution, Parameter, TaggedAs, UnqualifiedAs, Unqualified, FirstAs, Name, NameAs, Local, EntityAs, Encoding, EncodingAs, ReturnAs, SignatureAs, UnscopedAs, AttachedAs, Nested, Components, ComponentsAs, Args, Arguments, ArgumentsAs, ArgumentAs, TypeOf, TypeAs, CvAs, Function, ParamsAs, TypesAs, TypeAttachedAs, SymbolAs, Symbol, abbreviation_substitution, component_substitution, substitution, parameter, no_tag, next_tag, source_free, unnamed_type_free, lambda_free, conversion_free, literal_operator_free, operator_free, FreeAs, free_component, constructor_component, destructor_component, unqualified, parameter_first, std_first, substitution_first, name_first, name, nested_name, local_name, local, string_literal_entity, default_argument_entity, name_entity, encoding, name_encoding, no_return_type, some_return_type, no_signature, some_signature, unscoped_name, std_name, substitution_name, global_name, none_attached, args_attached, nested, components, end_of_components, args_component, name_component, args, arguments, end_of_arguments, one_more_argument, pack_argument, type_argument, Pack, PackedAs, pack, end_of_pack, one_more_packed, expansion_type, type, builtin_type, vendor_type, array_type, function_type, member_type, pointer_type, cv_type, elaborated_type, parameter_type, substitution_type, name_type, cv_function, cv_other, function, no_params, some_params, end_of_types, one_more_type, none_attached_to_type, args_attached_to_type, name_symbol, symbol}
+use Rattle.itanium_grammar.specs.Grammar.{Position, Cost, SpecialAs, Thunk, special_encoding, type_special, name_special, temporary_special, construction_special, thunk_special, thunk, special_symbol, Expression, ExpressionAs, OperandOf, LiteralAs, expression_argument, literal_argument, external_name, value_literal, expression, operand_of, pre_expression, address_expression, unary_expression, post_expression, binary_expression, greater_expression, conditional_expression, parameter_expression, literal_expression, SubstitutionAs, Substitution, Parameter, TaggedAs, UnqualifiedAs, Unqualified, FirstAs, Name, NameAs, Local, EntityAs, Encoding, EncodingAs, ReturnAs, SignatureAs, UnscopedAs, AttachedAs, Nested, Segments, SegmentsAs, Args, Arguments, ArgumentsAs, ArgumentAs, TypeOf, TypeAs, CvAs, Function, ParamsAs, TypesAs, TypeAttachedAs, SymbolAs, Symbol, abbreviation_substitution, component_substitution, substitution, parameter, no_tag, next_tag, source_free, unnamed_type_free, lambda_free, conversion_free, literal_operator_free, operator_free, FreeAs, free_unqualified, constructor_unqualified, destructor_unqualified, unqualified, parameter_first, std_first, substitution_first, name_first, name, nested_name, local_name, local, string_literal_entity, default_argument_entity, name_entity, encoding, name_encoding, no_return_type, some_return_type, no_signature, some_signature, unscoped_name, std_name, substitution_name, global_name, none_attached, args_attached, nested, segments, end_of_segments, args_segment, name_segment, args, arguments, end_of_arguments, one_more_argument, pack_argument, type_argument, Pack, PackedAs, pack, end_of_pack, one_more_packed, expansion_type, type, builtin_type, vendor_type, array_type, function_type, member_type, pointer_type, cv_type, elaborated_type, parameter_type, substitution_type, name_type, cv_function, cv_other, function, no_params, some_params, end_of_types, one_more_type, none_attached_to_type, args_attached_to_type, name_symbol, symbol}
 
 substitution_as_takes : {case : SubstitutionCase} {p q : Position} {t : Tree} → SubstitutionAs case p t q → Takes q.rest p.rest
 substitution_as_takes (abbreviation_substitution {p = p} known) = abbreviation_takes p.rest _ known
@@ -95,13 +95,13 @@ mutual
   free_takes (literal_operator_free {p = p} {bytes = b} {rest = r} found) = after_takes (after_drop 2 p.rest) (source_takes (drop 2 p.rest) (b, r) found)
   free_takes (operator_free {p = p} {text = o} found) = operator_takes p.rest o found
 
-  pub unqualified_as_takes : {case : UnqualifiedCase} {x : Context} {scope : Option Tree} {p q : Position} {t : Tree} {c : Cost} → unqualified_case (is_some scope) p.rest ≡ case
-      → UnqualifiedAs case x scope p t q c → Takes q.rest p.rest
-  unqualified_as_takes case (constructor_component {p = p} tags) = takes_then (takes_drop 2 p.rest (omega arith) (constructor_some p.rest case)) (tagged_after tags)
-  unqualified_as_takes case (destructor_component {p = p} tags) = takes_then (takes_drop 2 p.rest (omega arith) (destructor_some p.rest case)) (tagged_after tags)
-  unqualified_as_takes case (free_component a tags) = takes_then (free_takes a) (tagged_after tags)
+  pub unqualified_as_takes : {case : UnqualifiedCase} {x : Context} {parent : Option Tree} {p q : Position} {t : Tree} {c : Cost} → unqualified_case (is_some parent) p.rest ≡ case
+      → UnqualifiedAs case x parent p t q c → Takes q.rest p.rest
+  unqualified_as_takes case (constructor_unqualified {p = p} tags) = takes_then (takes_drop 2 p.rest (omega arith) (constructor_some p.rest case)) (tagged_after tags)
+  unqualified_as_takes case (destructor_unqualified {p = p} tags) = takes_then (takes_drop 2 p.rest (omega arith) (destructor_some p.rest case)) (tagged_after tags)
+  unqualified_as_takes case (free_unqualified a tags) = takes_then (free_takes a) (tagged_after tags)
 
-  pub unqualified_takes : {x : Context} {scope : Option Tree} {p q : Position} {t : Tree} {c : Cost} → Unqualified x scope p t q c → Takes q.rest p.rest
+  pub unqualified_takes : {x : Context} {parent : Option Tree} {p q : Position} {t : Tree} {c : Cost} → Unqualified x parent p t q c → Takes q.rest p.rest
   unqualified_takes (unqualified {p = p} a) = after_takes (internal_after p.rest) (unqualified_as_takes refl a)
 
   pub first_takes : {case : FirstCase} {x : Context} {p q : Position} {t : Tree} {c : Cost} → first_case p.rest ≡ case → FirstAs case x p t q c → Takes q.rest p.rest
@@ -112,15 +112,15 @@ mutual
 
   nested_takes : {x : Context} {p q : Position} {t : Tree} {c : Cost} → Nested x p t q c → Takes q.rest p.rest
   nested_takes (nested {p = p} {q = q} a b) =
-      after_takes (quals_after p.rest) (takes_takes (first_takes refl a) (after_takes (initializer_after q.rest) (components_takes b)))
+      after_takes (quals_after p.rest) (takes_takes (first_takes refl a) (after_takes (initializer_after q.rest) (segments_takes b)))
 
-  pub components_takes : {x : Context} {takes : Bool} {t u : Tree} {p q : Position} {c : Cost} → Components x takes t p u q c → Takes q.rest p.rest
-  components_takes (components a) = component_takes refl a
+  pub segments_takes : {x : Context} {takes : Bool} {t u : Tree} {p q : Position} {c : Cost} → Segments x takes t p u q c → Takes q.rest p.rest
+  segments_takes (segments a) = segment_takes refl a
 
-  component_takes : {case : ComponentCase} {x : Context} {takes : Bool} {t u : Tree} {p q : Position} {c : Cost} → component_case p.rest ≡ case → ComponentsAs case x takes t p u q c → Takes q.rest p.rest
-  component_takes form (end_of_components {p = p}) = record { after = after_drop 1 p.rest; shorter = components_end_shorter p.rest form }
-  component_takes form (args_component {q = q} a b) = after_takes (args_after a) (after_takes (initializer_after q.rest) (components_takes b))
-  component_takes form (name_component {q = q} a b) = takes_takes (unqualified_takes a) (after_takes (initializer_after q.rest) (components_takes b))
+  segment_takes : {case : SegmentCase} {x : Context} {takes : Bool} {t u : Tree} {p q : Position} {c : Cost} → segment_case p.rest ≡ case → SegmentsAs case x takes t p u q c → Takes q.rest p.rest
+  segment_takes form (end_of_segments {p = p}) = record { after = after_drop 1 p.rest; shorter = segments_end_shorter p.rest form }
+  segment_takes form (args_segment {q = q} a b) = after_takes (args_after a) (after_takes (initializer_after q.rest) (segments_takes b))
+  segment_takes form (name_segment {q = q} a b) = takes_takes (unqualified_takes a) (after_takes (initializer_after q.rest) (segments_takes b))
 
   pub args_takes : {x : Context} {of_name : Bool} {p q : Position} {list : List Tree} {c : Cost} → Args x of_name p list q c → Takes q.rest p.rest
   args_takes (args {p = p} a) = after_takes (after_drop 1 p.rest) (arguments_takes a)

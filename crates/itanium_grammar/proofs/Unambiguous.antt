@@ -3,7 +3,7 @@ use Rattle.std.proofs.Common.{◌≡◌, ℕ, Bool, true, ◌∷◌, List, Optio
 use Rattle.std.proofs.lemmas.Option.{some_pair_parts, same_Some}
 use Rattle.demangle_quals.specs.declared.quals.Quals.{Quals}
 use Rattle.itanium_syntax.specs.declared.context.Context.{Context}
-use Rattle.itanium_grammar.specs.Cases.{SymbolCase, SpecialCase, LiteralCase, ExpressionCase, NameCase, ReturnCase, SignatureCase, EntityCase, UnscopedCase, AttachedCase, FirstCase, ComponentCase, UnqualifiedCase, FreeCase, TagCase, SubstitutionCase, ArgsCase, ArgumentCase, TypeCase, CvCase, ParamsCase, TypesCase}
+use Rattle.itanium_grammar.specs.Cases.{SymbolCase, SpecialCase, LiteralCase, ExpressionCase, NameCase, ReturnCase, SignatureCase, EntityCase, UnscopedCase, AttachedCase, FirstCase, SegmentCase, UnqualifiedCase, FreeCase, TagCase, SubstitutionCase, ArgsCase, ArgumentCase, TypeCase, CvCase, ParamsCase, TypesCase}
 use Rattle.itanium_syntax.specs.Names.{symbol_case, source_text, tag_case, past_name_quals, name_quals, saves_first, first_case}
 use Rattle.itanium_syntax.specs.Scalars.{ordinal, index_of}
 use Rattle.itanium_syntax.specs.declared.numerals.Radix.TheVariants.{Base36}
@@ -14,8 +14,8 @@ use Rattle.itanium_syntax.specs.Specials.{special_text, special_close}
 use Rattle.itanium_syntax.specs.Encodings.{return_case, signature_case, entity_case}
 use Rattle.itanium_syntax.specs.Args.{attached_case, args_case}
 use Rattle.itanium_syntax.specs.Types.{params_case, types_case, elaborated_text, with_reference, past_reference}
-use Rattle.itanium_grammar.specs.Tree.{Tree, worded, temporary_of, construction_of, thunk_of, Operand, operand, literal_of, address_of, pre_of, unary_of, post_of, binary_of, greater_of, conditional_of, local_in, default_argument_of, function_encoding, name_printing, shape_of, tagged_with, lambda_of, conversion_to, pack_of, unnamed_text, literal_operator_text, expanded, plain_text, abbreviation, with_args, nested_of, pointer_to, cv_of, array_of, member_of, function_to, elaborated, trees, in_scope, printing, list_printing}
-use Rattle.itanium_grammar.specs.Grammar.{Position, Cost, SpecialAs, Thunk, special_encoding, type_special, name_special, temporary_special, construction_special, thunk_special, thunk, special_symbol, Expression, ExpressionAs, OperandOf, LiteralAs, expression_argument, literal_argument, external_name, value_literal, expression, operand_of, pre_expression, address_expression, unary_expression, post_expression, binary_expression, greater_expression, conditional_expression, parameter_expression, literal_expression, at, skip, counted, saving, save, put, past_initializer, both, SubstitutionAs, Substitution, ParameterAs, Parameter, TaggedAs, UnqualifiedAs, Unqualified, FirstAs, Name, NameAs, Local, EntityAs, Encoding, EncodingAs, ReturnAs, SignatureAs, UnscopedAs, AttachedAs, Nested, Components, ComponentsAs, Args, Arguments, ArgumentsAs, ArgumentAs, TypeOf, TypeAs, CvAs, Function, ParamsAs, TypesAs, TypeAttachedAs, SymbolAs, Symbol, abbreviation_substitution, component_substitution, substitution, auto_parameter, scope_parameter, parameter, no_tag, next_tag, source_free, unnamed_type_free, lambda_free, conversion_free, literal_operator_free, operator_free, FreeAs, free_component, nothing, constructor_component, destructor_component, unqualified, parameter_first, std_first, substitution_first, name_first, name, nested_name, local_name, local, string_literal_entity, default_argument_entity, name_entity, encoding, name_encoding, no_return_type, some_return_type, no_signature, some_signature, unscoped_name, std_name, substitution_name, global_name, none_attached, args_attached, nested, components, end_of_components, args_component, name_component, args, arguments, end_of_arguments, one_more_argument, pack_argument, type_argument, Pack, PackedAs, pack, end_of_pack, one_more_packed, expansion_type, type, builtin_type, vendor_type, array_type, function_type, member_type, pointer_type, cv_type, elaborated_type, parameter_type, substitution_type, name_type, cv_function, cv_other, function, no_params, some_params, end_of_types, one_more_type, none_attached_to_type, args_attached_to_type, name_symbol, symbol}
+use Rattle.itanium_grammar.specs.Tree.{Tree, worded, temporary_of, construction_of, thunk_of, Operand, operand, literal_of, address_of, pre_of, unary_of, post_of, binary_of, greater_of, conditional_of, local_in, default_argument_of, function_encoding, name_printing, shape_of, tagged_with, lambda_of, conversion_to, pack_of, unnamed_text, literal_operator_text, expanded, plain_text, abbreviation, with_args, nested_of, pointer_to, cv_of, array_of, member_of, function_to, elaborated, trees, in_parent, printing, list_printing}
+use Rattle.itanium_grammar.specs.Grammar.{Position, Cost, SpecialAs, Thunk, special_encoding, type_special, name_special, temporary_special, construction_special, thunk_special, thunk, special_symbol, Expression, ExpressionAs, OperandOf, LiteralAs, expression_argument, literal_argument, external_name, value_literal, expression, operand_of, pre_expression, address_expression, unary_expression, post_expression, binary_expression, greater_expression, conditional_expression, parameter_expression, literal_expression, with_rest, skip, counted, saving, save, add_argument, past_initializer, both, SubstitutionAs, Substitution, ParameterAs, Parameter, TaggedAs, UnqualifiedAs, Unqualified, FirstAs, Name, NameAs, Local, EntityAs, Encoding, EncodingAs, ReturnAs, SignatureAs, UnscopedAs, AttachedAs, Nested, Segments, SegmentsAs, Args, Arguments, ArgumentsAs, ArgumentAs, TypeOf, TypeAs, CvAs, Function, ParamsAs, TypesAs, TypeAttachedAs, SymbolAs, Symbol, abbreviation_substitution, component_substitution, substitution, auto_parameter, scope_parameter, parameter, no_tag, next_tag, source_free, unnamed_type_free, lambda_free, conversion_free, literal_operator_free, operator_free, FreeAs, free_unqualified, nothing, constructor_unqualified, destructor_unqualified, unqualified, parameter_first, std_first, substitution_first, name_first, name, nested_name, local_name, local, string_literal_entity, default_argument_entity, name_entity, encoding, name_encoding, no_return_type, some_return_type, no_signature, some_signature, unscoped_name, std_name, substitution_name, global_name, none_attached, args_attached, nested, segments, end_of_segments, args_segment, name_segment, args, arguments, end_of_arguments, one_more_argument, pack_argument, type_argument, Pack, PackedAs, pack, end_of_pack, one_more_packed, expansion_type, type, builtin_type, vendor_type, array_type, function_type, member_type, pointer_type, cv_type, elaborated_type, parameter_type, substitution_type, name_type, cv_function, cv_other, function, no_params, some_params, end_of_types, one_more_type, none_attached_to_type, args_attached_to_type, name_symbol, symbol}
 
 -- two readings have the same tree, the same position after them and the same cost
 pub record Same {T : Type 0} (t u : T) (q r : Position) (c d : Cost) : Type 0 where
@@ -76,10 +76,10 @@ one_tagged : {case : TagCase} {t u v : Tree} {p q r : Position} → TaggedAs cas
 one_tagged no_tag no_tag = (refl, refl)
 one_tagged (next_tag {t = t} {p = p} e a) (next_tag {u = u} {q = r} g b) =
     let found = some_pair_parts _ _ _ _ (sym g ∙ e) in
-    one_tagged a (along (λ s v. TaggedAs (tag_case v) (tagged_with t (source_text s)) (at v p) u r) found.0 found.1 b)
+    one_tagged a (along (λ s v. TaggedAs (tag_case v) (tagged_with t (source_text s)) (with_rest v p) u r) found.0 found.1 b)
 
 -- a text with a front of the bytes taken, and nothing read inside
-same_text : {A : Type 0} (f : A → List ℕ) (p : Position) {a b : A} {v w : List ℕ} → (a ≡ b) × (v ≡ w) → Same (plain_text (f a)) (plain_text (f b)) (at v p) (at w p) nothing nothing
+same_text : {A : Type 0} (f : A → List ℕ) (p : Position) {a b : A} {v w : List ℕ} → (a ≡ b) × (v ≡ w) → Same (plain_text (f a)) (plain_text (f b)) (with_rest v p) (with_rest w p) nothing nothing
 same_text f p same = record { tree = ap (λ a. plain_text (f a)) same.0; next = ap (λ v. at v p) same.1; cost = refl }
 
 mutual
@@ -103,7 +103,7 @@ mutual
   one_entity string_literal_entity string_literal_entity = record { tree = refl; next = refl; cost = refl }
   one_entity (default_argument_entity {waits = waits} {x = x} {t = t} {p = p} e a) (default_argument_entity {u = v} {q = r} {c = d} g b) =
       let found = some_pair_parts _ _ _ _ (sym g ∙ e) in
-      let same = one_name a (subst (λ o. Name waits x (at o p) v r d) found.1 b) in
+      let same = one_name a (subst (λ o. Name waits x (with_rest o p) v r d) found.1 b) in
       record { tree = ap₂ (default_argument_of t) (sym found.0) same.tree; next = same.next; cost = same.cost }
   one_entity (name_entity {t = t} a) (name_entity b) = same_made (local_in t) (one_name a b)
 
@@ -137,7 +137,7 @@ mutual
   pub one_thunk : {x : Context} {p q r : Position} {t u : Tree} {c d : Cost} → Thunk x p t q c → Thunk x p u r d → Same t u q r c d
   one_thunk (thunk {x = x} {p = p} e a) (thunk {q = r} {t = u} {c = d} g b) =
       let found = some_pair_parts _ _ _ _ (sym g ∙ e) in
-      let same = one_symbol_as a (subst (λ v. SymbolAs (symbol_case v) x (at v p) u r d) found.1 b) in
+      let same = one_symbol_as a (subst (λ v. SymbolAs (symbol_case v) x (with_rest v p) u r d) found.1 b) in
       same_counted printing (record { tree = ap₂ thunk_of (sym found.0) same.tree; next = same.next; cost = same.cost })
 
   one_symbol_as : {case : SymbolCase} {x : Context} {p q r : Position} {t u : Tree} {c d : Cost}
@@ -193,19 +193,19 @@ mutual
   one_free (operator_free e) (operator_free g) =
       record { tree = ap (λ s. plain_text (codes "operator" ++ s)) (same_Some _ _ (sym e ∙ g)); next = refl; cost = refl }
 
-  one_unqualified_as : {case : UnqualifiedCase} {x : Context} {scope : Option Tree} {p q r : Position} {t u : Tree} {c d : Cost}
-      → UnqualifiedAs case x scope p t q c → UnqualifiedAs case x scope p u r d → Same t u q r c d
-  one_unqualified_as (constructor_component a) (constructor_component b) =
+  one_unqualified_as : {case : UnqualifiedCase} {x : Context} {parent : Option Tree} {p q r : Position} {t u : Tree} {c d : Cost}
+      → UnqualifiedAs case x parent p t q c → UnqualifiedAs case x parent p u r d → Same t u q r c d
+  one_unqualified_as (constructor_unqualified a) (constructor_unqualified b) =
       let same = one_tagged a b in record { tree = same.0; next = same.1; cost = refl }
-  one_unqualified_as (destructor_component a) (destructor_component b) =
+  one_unqualified_as (destructor_unqualified a) (destructor_unqualified b) =
       let same = one_tagged a b in record { tree = same.0; next = same.1; cost = refl }
-  one_unqualified_as (free_component {scope = scope} a tags) (free_component {r = r} {u = u} b others) =
+  one_unqualified_as (free_unqualified {parent = parent} a tags) (free_unqualified {r = r} {u = u} b others) =
       let first = one_free a b in
       let same = one_tagged tags (along (λ s o. TaggedAs (tag_case o.rest) s o u r) (sym first.tree) (sym first.next) others) in
-      record { tree = ap (in_scope scope) same.0; next = same.1; cost = first.cost }
+      record { tree = ap (in_parent parent) same.0; next = same.1; cost = first.cost }
 
-  pub one_unqualified : {x : Context} {scope : Option Tree} {p q r : Position} {t u : Tree} {c d : Cost}
-      → Unqualified x scope p t q c → Unqualified x scope p u r d → Same t u q r c d
+  pub one_unqualified : {x : Context} {parent : Option Tree} {p q r : Position} {t u : Tree} {c d : Cost}
+      → Unqualified x parent p t q c → Unqualified x parent p u r d → Same t u q r c d
   one_unqualified (unqualified a) (unqualified b) = one_unqualified_as a b
 
   one_first : {case : FirstCase} {x : Context} {p q r : Position} {t u : Tree} {c d : Cost} → FirstAs case x p t q c → FirstAs case x p u r d
@@ -220,26 +220,26 @@ mutual
   one_nested (nested {x = x} {p = p} a b) (nested {r = r} {u = v} {d = d} g h) =
       let first = one_first a g in
       let takes = saves_first (first_case (past_name_quals p.rest)) in
-      let same = one_components b (along (λ s o. Components x takes s o v r d) (sym first.tree) (ap past_initializer (sym first.next)) h) in
+      let same = one_segments b (along (λ s o. Segments x takes s o v r d) (sym first.tree) (ap past_initializer (sym first.next)) h) in
       record { tree = ap (λ n. nested_of n (name_quals p.rest) x.shown) same.tree; next = same.next; cost = ap₂ both first.cost same.cost }
 
-  one_components : {x : Context} {takes : Bool} {s t u : Tree} {p q r : Position} {c d : Cost}
-      → Components x takes s p t q c → Components x takes s p u r d → Same t u q r c d
-  one_components (components a) (components b) = one_component_as a b
+  one_segments : {x : Context} {takes : Bool} {s t u : Tree} {p q r : Position} {c d : Cost}
+      → Segments x takes s p t q c → Segments x takes s p u r d → Same t u q r c d
+  one_segments (segments a) (segments b) = one_segment_as a b
 
-  one_component_as : {case : ComponentCase} {x : Context} {takes : Bool} {s t u : Tree} {p q r : Position} {c d : Cost}
-      → ComponentsAs case x takes s p t q c → ComponentsAs case x takes s p u r d → Same t u q r c d
-  one_component_as end_of_components end_of_components = record { tree = refl; next = refl; cost = refl }
-  one_component_as (args_component {x = x} {t = t} a b) (args_component {r = r} {v = v} {d = d} e f) =
+  one_segment_as : {case : SegmentCase} {x : Context} {takes : Bool} {s t u : Tree} {p q r : Position} {c d : Cost}
+      → SegmentsAs case x takes s p t q c → SegmentsAs case x takes s p u r d → Same t u q r c d
+  one_segment_as end_of_segments end_of_segments = record { tree = refl; next = refl; cost = refl }
+  one_segment_as (args_segment {x = x} {t = t} a b) (args_segment {r = r} {v = v} {d = d} e f) =
       let list = one_args a e in
       let whole = ap (λ ts. with_args t (trees ts)) list.tree in
       let next = ap past_initializer (ap₂ save (sym whole) (sym list.next)) in
-      let same = one_components b (along (λ s o. Components x true s o v r d) (sym whole) next f) in
+      let same = one_segments b (along (λ s o. Segments x true s o v r d) (sym whole) next f) in
       record { tree = same.tree; next = same.next; cost = ap₂ both list.cost (ap₂ both (ap saving list.next) same.cost) }
-  one_component_as (name_component {x = x} a b) (name_component {r = r} {v = v} {d = d} e f) =
+  one_segment_as (name_segment {x = x} a b) (name_segment {r = r} {v = v} {d = d} e f) =
       let first = one_unqualified a e in
       let next = ap past_initializer (ap₂ save (sym first.tree) (sym first.next)) in
-      let same = one_components b (along (λ s o. Components x true s o v r d) (sym first.tree) next f) in
+      let same = one_segments b (along (λ s o. Segments x true s o v r d) (sym first.tree) next f) in
       record { tree = same.tree; next = same.next; cost = ap₂ both first.cost (ap₂ both (ap saving first.next) same.cost) }
 
   pub one_args : {x : Context} {of_name : Bool} {p q r : Position} {ts us : List Tree} {c d : Cost}
@@ -257,7 +257,7 @@ mutual
   one_arguments_as end_of_arguments end_of_arguments = record { tree = refl; next = refl; cost = refl }
   one_arguments_as (one_more_argument {x = x} {opens = o} {n = k} a b) (one_more_argument {r = r} {ts = us} {d = d} g h) =
       let first = one_argument a g in
-      let same = one_arguments b (subst (λ v. Arguments x o k v us r d) (ap₂ (put o k) (sym first.tree) (sym first.next)) h) in
+      let same = one_arguments b (subst (λ v. Arguments x o k v us r d) (ap₂ (add_argument o k) (sym first.tree) (sym first.next)) h) in
       record { tree = ap₂ (λ t ts. t ∷ ts) first.tree same.tree; next = same.next; cost = ap₂ both first.cost same.cost }
 
   pub one_argument : {case : ArgumentCase} {x : Context} {p q r : Position} {t u : Tree} {c d : Cost}
@@ -333,7 +333,7 @@ mutual
       record { tree = source; next = ap₂ save source (ap (λ v. at v p) found.1); cost = refl }
   one_type_as (array_type {x = x} {p = p} e a there) (array_type {q = r} {t = u} {c = d} g b here) =
       let found = some_pair_parts _ _ _ _ (sym g ∙ e) in
-      let same = one_type a (subst (λ v. TypeOf x (at v p) u r d) found.1 b) in
+      let same = one_type a (subst (λ v. TypeOf x (with_rest v p) u r d) found.1 b) in
       same_saved (record { tree = ap₂ array_of (sym found.0) same.tree; next = same.next; cost = same.cost })
   one_type_as (function_type a) (function_type b) = same_saved (one_function a b)
   one_type_as (member_type {x = x} a b there) (member_type {r = r} {u = v} {d = d} e f here) =
@@ -370,7 +370,7 @@ mutual
       let quals_same = ap (λ o. with_reference quals o.rest) params.next in
       record {
         tree = λ j. function_to (ret.tree j) (trees (params.tree j)) (quals_same j);
-        next = ap (λ o. skip 1 (at (past_reference o.rest) o)) params.next;
+        next = ap (λ o. skip 1 (with_rest (past_reference o.rest) o)) params.next;
         cost = ap₂ both ret.cost params.cost;
       }
 

@@ -25,8 +25,8 @@ abbrev pub IsWithin : Cost → Type 0
 IsWithin cost = Fits max_depth cost
 
 -- the context of a symbol: nothing is on
-abbrev pub outside : Context
-outside = record { shown = false; pack = false; lambda = false; in_type = false }
+abbrev pub initial : Context
+initial = record { shown = false; pack = false; lambda = false; in_type = false }
 
 -- <mangled-name> ::= _Z <encoding>, and the same after a further underscore: what follows the prefix
 abbrev pub after_prefix : List ℕ → Option (List ℕ)
@@ -46,7 +46,7 @@ suffix rest = if begins (codes ".") rest then rest else []
 pub record IsReading (symbol : List ℕ) (tree : Tree) (next : Position) (cost : Cost) : Type 0 where
   pub inside : List ℕ
   pub prefix : after_prefix symbol ≡ Some inside
-  pub reading : Symbol outside (start inside) tree next cost
+  pub reading : Symbol initial (start inside) tree next cost
 
 -- a reading within the limits: its printing is UTF-8, and the answer is the printing with the suffix
 pub record HasAnswer (symbol answer : List ℕ) : Type 0 where

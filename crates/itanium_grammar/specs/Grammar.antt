@@ -10,12 +10,12 @@ use Rattle.demangle_edit.specs.Expressions.{has_literal}
 use Rattle.itanium_syntax.specs.declared.abbreviations.Abbreviation.{Abbreviation}
 use Rattle.itanium_syntax.specs.declared.context.Context.{Context}
 use Rattle.itanium_syntax.specs.declared.numerals.Radix.TheVariants.{Decimal, Base36}
-use Rattle.itanium_grammar.specs.Cases.{SymbolCase, SpecialSymbol, NameSymbol, SpecialCase, TypeSpecial, NameSpecial, TemporarySpecial, ConstructionSpecial, ThunkSpecial, NameCase, NestedName, LocalName, UnscopedName, ReturnCase, NoReturnType, SomeReturnType, SignatureCase, NoSignature, SomeSignature, EntityCase, StringLiteralEntity, DefaultArgumentEntity, NameEntity, UnscopedCase, StdName, SubstitutionName, PlainName, AttachedCase, NoneAttached, ArgsAttached, FirstCase, ParameterFirst, StdFirst, SubstitutionFirst, NameFirst, ComponentCase, EndOfComponents, ArgsComponent, NameComponent, UnqualifiedCase, ConstructorName, DestructorName, FreeName, FreeCase, SourceName, UnnamedTypeName, LambdaName, ConversionName, LiteralOperatorName, OperatorName, TagCase, NoTag, NextTag, SubstitutionCase, AbbreviationSubstitution, ComponentSubstitution, ArgsCase, EndOfArguments, NextArgument, ArgumentCase, ExpressionArgument, PackArgument, LiteralArgument, TypeArgument, LiteralCase, ExternalName, ValueLiteral, ExpressionCase, PreExpression, AddressExpression, UnaryExpression, PostExpression, BinaryExpression, GreaterExpression, ConditionalExpression, ParameterExpression, LiteralExpression, TypeCase, BuiltinType, ExpansionType, VendorType, ArrayType, FunctionType, MemberType, PointerType, CvType, ElaboratedType, ParameterType, SubstitutionType, NameType, CvCase, CvFunction, CvOther, PlainFunction, ParamsCase, NoParams, SomeParams, TypesCase, EndOfTypes, NextType}
+use Rattle.itanium_grammar.specs.Cases.{SymbolCase, SpecialSymbol, NameSymbol, SpecialCase, TypeSpecial, NameSpecial, TemporarySpecial, ConstructionSpecial, ThunkSpecial, NameCase, NestedName, LocalName, UnscopedName, ReturnCase, NoReturnType, SomeReturnType, SignatureCase, NoSignature, SomeSignature, EntityCase, StringLiteralEntity, DefaultArgumentEntity, NameEntity, UnscopedCase, StdName, SubstitutionName, PlainName, AttachedCase, NoneAttached, ArgsAttached, FirstCase, ParameterFirst, StdFirst, SubstitutionFirst, NameFirst, SegmentCase, EndOfSegments, ArgsSegment, NameSegment, UnqualifiedCase, ConstructorName, DestructorName, FreeName, FreeCase, SourceName, UnnamedTypeName, LambdaName, ConversionName, LiteralOperatorName, OperatorName, TagCase, NoTag, NextTag, SubstitutionCase, AbbreviationSubstitution, ComponentSubstitution, ArgsCase, EndOfArguments, NextArgument, ArgumentCase, ExpressionArgument, PackArgument, LiteralArgument, TypeArgument, LiteralCase, ExternalName, ValueLiteral, ExpressionCase, PreExpression, AddressExpression, UnaryExpression, PostExpression, BinaryExpression, GreaterExpression, ConditionalExpression, ParameterExpression, LiteralExpression, TypeCase, BuiltinType, ExpansionType, VendorType, ArrayType, FunctionType, MemberType, PointerType, CvType, ElaboratedType, ParameterType, SubstitutionType, NameType, CvCase, CvFunction, CvOther, PlainFunction, ParamsCase, NoParams, SomeParams, TypesCase, EndOfTypes, NextType}
 use Rattle.itanium_syntax.specs.Scalars.{source_name, index_of, ordinal, optional_number}
 use Rattle.itanium_syntax.specs.Operators.{operator_here}
 use Rattle.itanium_syntax.specs.Abbreviations.{abbreviation_of}
 use Rattle.itanium_syntax.specs.Context.{opens_scope, inside_type, inside_pack, inside_lambda, inside_local, inside_encoding}
-use Rattle.itanium_syntax.specs.Names.{symbol_case, name_case, unscoped_case, first_case, component_case, unqualified_case, free_case, tag_case, past_internal, past_initializer_letter, source_text, name_quals, past_name_quals, saves_first, substitution_case}
+use Rattle.itanium_syntax.specs.Names.{symbol_case, name_case, unscoped_case, first_case, segment_case, unqualified_case, free_case, tag_case, past_internal, past_initializer_letter, source_text, name_quals, past_name_quals, saves_first, substitution_case}
 use Rattle.itanium_syntax.specs.Bytes.{begins}
 use Rattle.itanium_syntax.specs.Expressions.{is_external, literal_case, literal_value, expression_text, expression_case}
 use Rattle.itanium_syntax.specs.declared.offsets.ThunkOffsets.{ThunkOffsets}
@@ -24,7 +24,7 @@ use Rattle.itanium_syntax.specs.Specials.{special_case, special_text, special_cl
 use Rattle.itanium_syntax.specs.Encodings.{return_case, signature_case, entity_case}
 use Rattle.itanium_syntax.specs.Args.{attached_case, args_case, argument_case}
 use Rattle.itanium_syntax.specs.Types.{type_case, builtin_text, past_builtin, cv_quals, past_cv, with_reference, past_reference, cv_case, function_case, params_case, types_case, elaborated_text}
-use Rattle.itanium_grammar.specs.Tree.{Tree, worded, temporary_of, construction_of, thunk_of, Operand, operand, literal_of, address_of, pre_of, unary_of, post_of, binary_of, greater_of, conditional_of, local_in, string_literal_of, default_argument_of, encoding_of, function_encoding, name_printing, plain_text, abbreviation, ctor_dtor_of, tagged_with, with_args, lambda_of, conversion_to, nested_of, pointer_to, cv_of, array_of, member_of, function_to, elaborated, pack_of, trees, in_scope, unnamed_text, literal_operator_text, expanded, shape_of, printing, list_printing}
+use Rattle.itanium_grammar.specs.Tree.{Tree, worded, temporary_of, construction_of, thunk_of, Operand, operand, literal_of, address_of, pre_of, unary_of, post_of, binary_of, greater_of, conditional_of, local_in, string_literal_of, default_argument_of, encoding_of, function_encoding, name_printing, plain_text, abbreviation, ctor_dtor_of, tagged_with, with_args, lambda_of, conversion_to, nested_of, pointer_to, cv_of, array_of, member_of, function_to, elaborated, pack_of, trees, in_parent, unnamed_text, literal_operator_text, expanded, shape_of, printing, list_printing}
 
 -- where a reading stands: the bytes that are left, the trees saved so far, and the scopes with their arguments
 pub record Position : Type 0 where
@@ -41,12 +41,12 @@ pub record Cost : Type 0 where
   pub width : ℕ
 
 -- the same position, before these bytes
-abbrev pub at : List ℕ → Position → Position
-at bytes p = record p { rest = bytes }
+abbrev pub with_rest : List ℕ → Position → Position
+with_rest bytes p = record p { rest = bytes }
 
 -- the position after n bytes
 abbrev pub skip : ℕ → Position → Position
-skip n p = at (drop n p.rest) p
+skip n p = with_rest (drop n p.rest) p
 
 -- the same position, with the tree saved last
 abbrev pub save : Tree → Position → Position
@@ -58,7 +58,7 @@ taken_back takes p = record p { saved = if takes then take (length p.saved - 1) 
 
 -- past the M of a data member's initializer
 abbrev pub past_initializer : Position → Position
-past_initializer p = at (past_initializer_letter p.rest) p
+past_initializer p = with_rest (past_initializer_letter p.rest) p
 
 -- no production is entered
 abbrev pub nothing : Cost
@@ -82,12 +82,12 @@ abbrev pub counted : ℕ → Cost → Cost
 counted bytes c = record { count = c.count + 1; depth = c.depth + 1; peak = c.peak; width = max bytes c.width }
 
 -- a list begins: it may open a scope
-abbrev pub begin : Bool → Position → Position
-begin opens p = record p { scopes = if opens then p.scopes ++ [] ∷ [] else p.scopes }
+abbrev pub begin_list : Bool → Position → Position
+begin_list opens p = record p { scopes = if opens then p.scopes ++ [] ∷ [] else p.scopes }
 
 -- how many scopes there are once a list has begun
 abbrev pub scopes_in : Bool → Position → ℕ
-scopes_in opens p = length (begin opens p).scopes
+scopes_in opens p = length (begin_list opens p).scopes
 
 -- the arguments of the last scope
 abbrev pub last_of : List (List Tree) → List Tree
@@ -98,8 +98,8 @@ abbrev pub with_last : Tree → List (List Tree) → List (List Tree)
 with_last t scopes = slice_set scopes (length scopes - 1) (last_of scopes ++ t ∷ [])
 
 -- the scopes past the first n, which an argument opened, are dropped, and it goes into the scope that its list opened
-abbrev pub put : Bool → ℕ → Tree → Position → Position
-put opens n t p = record p { scopes = if opens then with_last t (take n p.scopes) else take n p.scopes }
+abbrev pub add_argument : Bool → ℕ → Tree → Position → Position
+add_argument opens n t p = record p { scopes = if opens then with_last t (take n p.scopes) else take n p.scopes }
 
 -- <substitution> after its S
 pub data SubstitutionAs : SubstitutionCase → Position → Tree → Position → Type 0 where
@@ -113,7 +113,7 @@ pub data SubstitutionAs : SubstitutionCase → Position → Tree → Position �
       {p : Position} {t : Tree} {i : ℕ} {rest : List ℕ}
       → index_of Base36 p.rest ≡ Some (i, rest)
       → slice_get p.saved i ≡ Some t
-      → SubstitutionAs ComponentSubstitution p t (at rest p)
+      → SubstitutionAs ComponentSubstitution p t (with_rest rest p)
 
 -- <substitution> ::= S [<seq-id>] _ | Sa | Sb | Ss | Si | So | Sd
 pub data Substitution : Position → Tree → Position → Type 0 where
@@ -140,7 +140,7 @@ pub data Parameter : Context → Position → Tree → Position → Type 0 where
       {x : Context} {p : Position} {t : Tree} {i : ℕ} {rest : List ℕ}
       → index_of Decimal (drop 1 p.rest) ≡ Some (i, rest)
       → ParameterAs x.lambda i p t
-      → Parameter x p t (at rest p)
+      → Parameter x p t (with_rest rest p)
 
 -- <abi-tags> ::= (B <source-name>)* after a name
 pub data TaggedAs : TagCase → Tree → Position → Tree → Position → Type 0 where
@@ -152,7 +152,7 @@ pub data TaggedAs : TagCase → Tree → Position → Tree → Position → Type
   next_tag :
       {t u : Tree} {p q : Position} {bytes rest : List ℕ}
       → source_name (drop 1 p.rest) ≡ Some (bytes, rest)
-      → TaggedAs (tag_case rest) (tagged_with t (source_text bytes)) (at rest p) u q
+      → TaggedAs (tag_case rest) (tagged_with t (source_text bytes)) (with_rest rest p) u q
       → TaggedAs NextTag t p u q
 
 mutual
@@ -201,7 +201,7 @@ mutual
     default_argument_entity :
         {waits : Bool} {x : Context} {t u : Tree} {p q : Position} {c : Cost} {number : ℕ} {rest : List ℕ}
         → ordinal (drop 2 p.rest) ≡ Some (number, rest)
-        → Name waits x (at rest p) u q c
+        → Name waits x (with_rest rest p) u q c
         → EntityAs DefaultArgumentEntity waits x t p (default_argument_of t number u) q c
     -- E <name>
     name_entity :
@@ -248,13 +248,13 @@ mutual
         {x : Context} {p q : Position} {t : Tree} {c : Cost} {number : ℕ} {rest : List ℕ}
         → Name false x (skip 2 p) t q c
         → index_of Base36 q.rest ≡ Some (number, rest)
-        → SpecialAs TemporarySpecial x p (temporary_of number t) (at rest q) c
+        → SpecialAs TemporarySpecial x p (temporary_of number t) (with_rest rest q) c
     -- TC <type> <offset number> _ <base type>: the vtable of the base in the type; the number isn't printed
     construction_special :
         {x : Context} {p q r : Position} {t u : Tree} {c d : Cost} {rest : List ℕ}
         → TypeOf x (skip 2 p) t q c
         → past_base_offset q.rest ≡ Some rest
-        → TypeOf x (at rest q) u r d
+        → TypeOf x (with_rest rest q) u r d
         → SpecialAs ConstructionSpecial x p (construction_of u t) r (both c d)
     -- a thunk
     thunk_special :
@@ -267,7 +267,7 @@ mutual
     thunk :
         {x : Context} {p q : Position} {t : Tree} {c : Cost} {offsets : ThunkOffsets} {rest : List ℕ}
         → thunk_offsets (drop 1 p.rest) ≡ Some (offsets, rest)
-        → SymbolAs (symbol_case rest) x (at rest p) t q c
+        → SymbolAs (symbol_case rest) x (with_rest rest p) t q c
         → Thunk x p (thunk_of offsets t) q (counted (length (printing (thunk_of offsets t))) c)
 
   -- what follows the prefix of a symbol, by what it begins with: a special name, or a name without its parameters
@@ -341,24 +341,24 @@ mutual
         → Args x true (save t p) list q c
         → AttachedAs ArgsAttached x t p (with_args t (trees list)) q (both (saving p) c)
 
-  -- <unqualified-name> that asks for no scope, without its tags
+  -- <unqualified-name> that asks for no parent, without its tags
   pub data FreeAs : FreeCase → Context → Position → Tree → Position → Cost → Type 0 where
     -- <source-name>
     source_free :
         {x : Context} {p : Position} {bytes rest : List ℕ}
         → source_name p.rest ≡ Some (bytes, rest)
-        → FreeAs SourceName x p (plain_text (source_text bytes)) (at rest p) nothing
+        → FreeAs SourceName x p (plain_text (source_text bytes)) (with_rest rest p) nothing
     -- <unnamed-type-name> ::= Ut [<nonnegative number>] _
     unnamed_type_free :
         {x : Context} {p : Position} {k : ℕ} {rest : List ℕ}
         → ordinal (drop 2 p.rest) ≡ Some (k, rest)
-        → FreeAs UnnamedTypeName x p (plain_text (unnamed_text k)) (at rest p) nothing
+        → FreeAs UnnamedTypeName x p (plain_text (unnamed_text k)) (with_rest rest p) nothing
     -- <closure-type-name> ::= Ul <lambda-sig> E [<nonnegative number>] _
     lambda_free :
         {x : Context} {p q : Position} {ts : List Tree} {c : Cost} {k : ℕ} {rest : List ℕ}
         → ParamsAs (params_case (drop 2 p.rest)) false (inside_lambda x) (skip 2 p) ts q c
         → ordinal (drop 1 q.rest) ≡ Some (k, rest)
-        → FreeAs LambdaName x p (lambda_of (trees ts) k) (at rest q) c
+        → FreeAs LambdaName x p (lambda_of (trees ts) k) (with_rest rest q) c
     -- <operator-name> ::= cv <type>
     conversion_free :
         {x : Context} {p q : Position} {t : Tree} {c : Cost}
@@ -368,41 +368,41 @@ mutual
     literal_operator_free :
         {x : Context} {p : Position} {bytes rest : List ℕ}
         → source_name (drop 2 p.rest) ≡ Some (bytes, rest)
-        → FreeAs LiteralOperatorName x p (plain_text (literal_operator_text bytes)) (at rest p) nothing
+        → FreeAs LiteralOperatorName x p (plain_text (literal_operator_text bytes)) (with_rest rest p) nothing
     -- <operator-name>, a code of two letters
     operator_free :
         {x : Context} {p : Position} {text : List ℕ}
         → operator_here p.rest ≡ Some text
         → FreeAs OperatorName x p (plain_text (codes "operator" ++ text)) (skip 2 p) nothing
 
-  -- <unqualified-name>, in the scope that stands in front of it, if one does
+  -- <unqualified-name>, in the parent that stands in front of it, if one does
   pub data UnqualifiedAs : UnqualifiedCase → Context → Option Tree → Position → Tree → Position → Cost → Type 0 where
     -- <ctor-dtor-name> ::= C1 | .. | C5, and then [<abi-tags>]
-    constructor_component :
-        {x : Context} {scope : Tree} {p q : Position} {t : Tree}
-        → TaggedAs (tag_case (drop 2 p.rest)) (ctor_dtor_of scope false) (skip 2 p) t q
-        → UnqualifiedAs ConstructorName x (Some scope) p t q nothing
+    constructor_unqualified :
+        {x : Context} {parent : Tree} {p q : Position} {t : Tree}
+        → TaggedAs (tag_case (drop 2 p.rest)) (ctor_dtor_of parent false) (skip 2 p) t q
+        → UnqualifiedAs ConstructorName x (Some parent) p t q nothing
     -- <ctor-dtor-name> ::= D0 | D1 | D2 | D4 | D5, and then [<abi-tags>]
-    destructor_component :
-        {x : Context} {scope : Tree} {p q : Position} {t : Tree}
-        → TaggedAs (tag_case (drop 2 p.rest)) (ctor_dtor_of scope true) (skip 2 p) t q
-        → UnqualifiedAs DestructorName x (Some scope) p t q nothing
-    -- another name and [<abi-tags>], and then in its scope
-    free_component :
-        {x : Context} {scope : Option Tree} {p q r : Position} {t u : Tree} {c : Cost}
+    destructor_unqualified :
+        {x : Context} {parent : Tree} {p q : Position} {t : Tree}
+        → TaggedAs (tag_case (drop 2 p.rest)) (ctor_dtor_of parent true) (skip 2 p) t q
+        → UnqualifiedAs DestructorName x (Some parent) p t q nothing
+    -- another name and [<abi-tags>], and then in its parent
+    free_unqualified :
+        {x : Context} {parent : Option Tree} {p q r : Position} {t u : Tree} {c : Cost}
         → FreeAs (free_case p.rest) x p t q c
         → TaggedAs (tag_case q.rest) t q u r
-        → UnqualifiedAs FreeName x scope p (in_scope scope u) r c
+        → UnqualifiedAs FreeName x parent p (in_parent parent u) r c
 
   -- [L] and an <unqualified-name>
   pub data Unqualified : Context → Option Tree → Position → Tree → Position → Cost → Type 0 where
     unqualified :
-        {x : Context} {scope : Option Tree} {p q : Position} {t : Tree} {c : Cost}
-        → UnqualifiedAs (unqualified_case (is_some scope) (past_internal p.rest)) x scope
-        (at (past_internal p.rest) p) t q c
-        → Unqualified x scope p t q c
+        {x : Context} {parent : Option Tree} {p q : Position} {t : Tree} {c : Cost}
+        → UnqualifiedAs (unqualified_case (is_some parent) (past_internal p.rest)) x parent
+        (with_rest (past_internal p.rest) p) t q c
+        → Unqualified x parent p t q c
 
-  -- the first component of a <nested-name>
+  -- the first segment of a <nested-name>
   pub data FirstAs : FirstCase → Context → Position → Tree → Position → Cost → Type 0 where
     -- <template-param>, which is saved
     parameter_first :
@@ -424,47 +424,47 @@ mutual
         → Unqualified x None p t q c
         → FirstAs NameFirst x p t (save t q) (both c (saving q))
 
-  -- <nested-name> ::= N [<CV-qualifiers>] [<ref-qualifier>] <prefix> E | N H <prefix> E, after its N: one component
+  -- <nested-name> ::= N [<CV-qualifiers>] [<ref-qualifier>] <prefix> E | N H <prefix> E, after its N: one segment
   -- or more
   pub data Nested : Context → Position → Tree → Position → Cost → Type 0 where
     nested :
         {x : Context} {p q r : Position} {t u : Tree} {c d : Cost}
-        → FirstAs (first_case (past_name_quals p.rest)) x (at (past_name_quals p.rest) p) t q c
-        → Components x (saves_first (first_case (past_name_quals p.rest))) t (past_initializer q) u r d
+        → FirstAs (first_case (past_name_quals p.rest)) x (with_rest (past_name_quals p.rest) p) t q c
+        → Segments x (saves_first (first_case (past_name_quals p.rest))) t (past_initializer q) u r d
         → Nested x p (nested_of u (name_quals p.rest) x.shown) r (both c d)
 
-  -- the later components of a <nested-name> after what stands, up to its E; the last tree that it saved is taken back
-  pub data Components : Context → Bool → Tree → Position → Tree → Position → Cost → Type 0 where
-    components :
+  -- the later segments of a <nested-name> after what stands, up to its E; the last tree that it saved is taken back
+  pub data Segments : Context → Bool → Tree → Position → Tree → Position → Cost → Type 0 where
+    segments :
         {x : Context} {takes : Bool} {p q : Position} {t u : Tree} {c : Cost}
-        → ComponentsAs (component_case p.rest) x takes t p u q c
-        → Components x takes t p u q c
+        → SegmentsAs (segment_case p.rest) x takes t p u q c
+        → Segments x takes t p u q c
 
-  -- one more component of a <prefix>, or the E after it
-  pub data ComponentsAs : ComponentCase → Context → Bool → Tree → Position → Tree → Position → Cost → Type 0 where
+  -- one more segment of a <prefix>, or the E after it
+  pub data SegmentsAs : SegmentCase → Context → Bool → Tree → Position → Tree → Position → Cost → Type 0 where
     -- E
-    end_of_components :
+    end_of_segments :
         {x : Context} {takes : Bool} {p : Position} {t : Tree}
-        → ComponentsAs EndOfComponents x takes t p t (taken_back takes (skip 1 p)) nothing
+        → SegmentsAs EndOfSegments x takes t p t (taken_back takes (skip 1 p)) nothing
     -- <template-args>: what stands with them is saved
-    args_component :
+    args_segment :
         {x : Context} {takes : Bool} {p q r : Position} {t v : Tree} {list : List Tree} {c d : Cost}
         → Args x true p list q c
-        → Components x true (with_args t (trees list)) (past_initializer (save (with_args t (trees list)) q)) v r d
-        → ComponentsAs ArgsComponent x takes t p v r (both c (both (saving q) d))
-    -- <unqualified-name> in the scope of what stands: both together are saved
-    name_component :
+        → Segments x true (with_args t (trees list)) (past_initializer (save (with_args t (trees list)) q)) v r d
+        → SegmentsAs ArgsSegment x takes t p v r (both c (both (saving q) d))
+    -- <unqualified-name> in the parent of what stands: both together are saved
+    name_segment :
         {x : Context} {takes : Bool} {p q r : Position} {t u v : Tree} {c d : Cost}
         → Unqualified x (Some t) p u q c
-        → Components x true u (past_initializer (save u q)) v r d
-        → ComponentsAs NameComponent x takes t p v r (both c (both (saving q) d))
+        → Segments x true u (past_initializer (save u q)) v r d
+        → SegmentsAs NameSegment x takes t p v r (both c (both (saving q) d))
 
   -- <template-args> ::= I <template-arg>* E, of a name or of a type: counted
   pub data Args : Context → Bool → Position → List Tree → Position → Cost → Type 0 where
     args :
         {x : Context} {of_name : Bool} {p q : Position} {list : List Tree} {c : Cost}
         → Arguments x (opens_scope of_name x) (scopes_in (opens_scope of_name x) p)
-        (begin (opens_scope of_name x) (skip 1 p)) list q c
+        (begin_list (opens_scope of_name x) (skip 1 p)) list q c
         → Args x of_name p list q (counted (length (list_printing list)) c)
 
   -- arguments up to the E; the scopes that each opened are dropped, and it goes into the list's own
@@ -484,7 +484,7 @@ mutual
     one_more_argument :
         {x : Context} {opens : Bool} {n : ℕ} {p q r : Position} {t : Tree} {ts : List Tree} {c d : Cost}
         → ArgumentAs (argument_case p.rest) x p t q c
-        → Arguments x opens n (put opens n t q) ts r d
+        → Arguments x opens n (add_argument opens n t q) ts r d
         → ArgumentsAs NextArgument x opens n p (t ∷ ts) r (both c d)
 
   -- <template-arg> ::= J <template-arg>* E: counted, with the context of a pack inside
@@ -545,7 +545,7 @@ mutual
         → TypeOf x (skip 1 p) t q c
         → literal_value q.rest ≡ Some (value, rest)
         → has_literal (printing t) value ≡ true
-        → LiteralAs ValueLiteral x p (literal_of t value) (at rest q) c
+        → LiteralAs ValueLiteral x p (literal_of t value) (with_rest rest q) c
 
   -- <expression>: counted
   pub data Expression : Context → Position → Tree → Position → Cost → Type 0 where
@@ -625,7 +625,7 @@ mutual
     -- <builtin-type>: not saved
     builtin_type :
         {x : Context} {p : Position}
-        → TypeAs BuiltinType x p (plain_text (builtin_text p.rest)) (at (past_builtin p.rest) p) nothing
+        → TypeAs BuiltinType x p (plain_text (builtin_text p.rest)) (with_rest (past_builtin p.rest) p) nothing
     -- Dp <type>: saved also in a pack, where no dots are printed
     expansion_type :
         {x : Context} {p q : Position} {t : Tree} {c : Cost}
@@ -637,12 +637,12 @@ mutual
         → source_name (drop 1 p.rest) ≡ Some (bytes, rest)
         → attached_case rest ≡ NoneAttached
         → TypeAs VendorType x p (plain_text (source_text bytes))
-        (save (plain_text (source_text bytes)) (at rest p)) (saving p)
+        (save (plain_text (source_text bytes)) (with_rest rest p)) (saving p)
     -- <array-type> ::= A [<number>] _ <type>
     array_type :
         {x : Context} {p q : Position} {t : Tree} {c : Cost} {dimension : Option ℕ} {rest : List ℕ}
         → optional_number (drop 1 p.rest) ≡ Some (dimension, rest)
-        → TypeOf x (at rest p) t q c
+        → TypeOf x (with_rest rest p) t q c
         → has_array (shape_of t).form ≡ true
         → TypeAs ArrayType x p (array_of dimension t) (save (array_of dimension t) q) (both c (saving q))
     -- <function-type>
@@ -665,7 +665,7 @@ mutual
     -- <qualified-type> ::= <CV-qualifiers> <type>: saved once
     cv_type :
         {x : Context} {p q : Position} {t : Tree} {c : Cost}
-        → CvAs (cv_case (past_cv p.rest)) x (cv_quals p.rest) (at (past_cv p.rest) p) t q c
+        → CvAs (cv_case (past_cv p.rest)) x (cv_quals p.rest) (with_rest (past_cv p.rest) p) t q c
         → TypeAs CvType x p t (save t q) (both c (saving q))
     -- <class-enum-type> ::= Ts <name> | Tu <name> | Te <name>
     elaborated_type :
@@ -713,7 +713,7 @@ mutual
         → ParamsAs (params_case q.rest) true x q ts r d
         → is_plain (shape_of t).form ≡ true
         → Function x quals p (function_to t (trees ts) (with_reference quals r.rest))
-        (skip 1 (at (past_reference r.rest) r)) (both c d)
+        (skip 1 (with_rest (past_reference r.rest) r)) (both c d)
 
   -- the parameters of a <function-type>, or else of a lambda or an encoding: none, or types
   pub data ParamsAs : ParamsCase → Bool → Context → Position → List Tree → Position → Cost → Type 0 where

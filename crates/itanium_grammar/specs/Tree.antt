@@ -26,9 +26,9 @@ mutual
     plain_text : List ℕ → Tree
     -- an abbreviation of std
     abbreviation : Abbreviation → Tree
-    -- scope::leaf
+    -- parent::leaf
     name_in : Tree → Tree → Tree
-    -- the constructor of a scope, or its destructor
+    -- the constructor of a parent, or its destructor
     ctor_dtor_of : Tree → Bool → Tree
     -- a name with an ABI tag
     tagged_with : Tree → List ℕ → Tree
@@ -201,8 +201,8 @@ unfoldable mutual
   pub shape_as : Bool → Tree → Shape
   shape_as waits (plain_text bytes) = plain_shape bytes
   shape_as waits (abbreviation abbreviated) = abbreviation_shape abbreviated
-  shape_as waits (name_in scope leaf) = qualified (shape_as false scope) (shape_as false leaf)
-  shape_as waits (ctor_dtor_of scope destructor) = qualified_ctor (shape_as false scope) destructor
+  shape_as waits (name_in parent leaf) = qualified (shape_as false parent) (shape_as false leaf)
+  shape_as waits (ctor_dtor_of parent destructor) = qualified_ctor (shape_as false parent) destructor
   shape_as waits (tagged_with name tag) = tagged (shape_as false name) tag
   shape_as waits (with_args name list) = attached (shape_as false name) (arguments_shape (shape_each list))
   shape_as waits (lambda_of params number) = lambda_shape (shape_each params) number
@@ -279,7 +279,7 @@ literal_operator_text name = codes "operator\"\" " ++ source_text name
 abbrev pub expanded : Bool → Tree → Tree
 expanded in_pack t = if in_pack then t else expansion_of t
 
--- the name in its scope, where there is one
-abbrev pub in_scope : Option Tree → Tree → Tree
-in_scope None leaf = leaf
-in_scope (Some scope) leaf = name_in scope leaf
+-- the name in its parent, where there is one
+abbrev pub in_parent : Option Tree → Tree → Tree
+in_parent None leaf = leaf
+in_parent (Some parent) leaf = name_in parent leaf

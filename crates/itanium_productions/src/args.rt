@@ -41,7 +41,7 @@ pub(crate) fn read_attached(
     reader.entered += 1;
     reader.skip(1);
     let opens = context.opens_scope(of_name);
-    reader.begin(opens)?;
+    reader.begin_list(opens)?;
     let scopes = reader.buffer.scopes();
     let mut list = begin_arguments(&mut reader.buffer, reader.found)?;
     // The list begins with its `<`, after the name.
@@ -60,7 +60,7 @@ pub(crate) fn read_attached(
             ArgsCase::NextArgument => {
                 list = reader.separate_list(list, first)?;
                 framed_argument(reader, depth - 1, context)?;
-                reader.put_found(opens, scopes)?;
+                reader.add_argument(opens, scopes)?;
                 list = reader.buffer.join(list, b"", reader.found)?;
                 if reader.buffer.len(list) - front > text_limit() {
                     return Err(Stop::Unread);

@@ -59,7 +59,7 @@ pub(crate) fn read_literal(reader: &mut Reader, depth: usize, context: Context) 
     read_other_literal(reader, depth, context)
 }
 
-/// The same of a type that isn't builtin.
+/// `read_literal` of a type that isn't builtin.
 #[tactic(auto, using(itanium_reader::proofs::Rules::buffers))]
 #[cycle(reader)]
 pub(crate) fn read_other_literal(
@@ -83,7 +83,7 @@ pub(crate) fn read_other_literal(
     reader.end_literal()
 }
 
-/// The same of a builtin type.
+/// `read_literal` of a builtin type.
 #[tactic(auto, using(itanium_reader::proofs::Rules::builtin_literals))]
 fn read_builtin_literal(reader: &mut Reader, depth: usize, context: Context) -> Result<(), Stop>
     requires room { HasRoom 2 (state reader.old) }

@@ -18,9 +18,9 @@ use itanium_syntax::args::{AttachedCase, attached_case};
 use itanium_syntax::context::Context;
 use itanium_syntax::encodings::shows_words;
 use itanium_syntax::names::{
-    ComponentCase, FirstCase, FreeCase, NameCase, UnqualifiedCase, UnscopedCase, begins_quals,
-    begins_source, component_case, first_case, free_case, name_case, name_quals, past_internal,
-    past_name_quals, saves_first, unqualified_case, unscoped_case,
+    FirstCase, FreeCase, NameCase, SegmentCase, UnqualifiedCase, UnscopedCase, begins_quals,
+    begins_source, first_case, free_case, name_case, name_quals, past_internal, past_name_quals,
+    saves_first, segment_case, unqualified_case, unscoped_case,
 };
 
 /// `<closure-type-name> ::= Ul <lambda-sig> E [<nonnegative number>] _`, after its `Ul`.
@@ -38,7 +38,7 @@ pub(crate) fn read_lambda(reader: &mut Reader, depth: usize, context: Context) -
     reader.end_lambda(reader.found)
 }
 
-/// `<unqualified-name>` that asks for no scope, without its tags.
+/// `<unqualified-name>` that asks for no parent, without its tags.
 #[tactic(auto, using(itanium_reader::proofs::Rules::free_names))]
 #[cycle(reader)]
 pub(crate) fn read_free_name(
@@ -78,7 +78,7 @@ pub(crate) fn read_free_name(
     }
 }
 
-/// `<unqualified-name>` that asks for no scope, and its tags, in a frame of their own: what lived keeps its shape.
+/// `<unqualified-name>` that asks for no parent, and its tags, in a frame of their own: what lived keeps its shape.
 #[tactic(auto, using(itanium_reader::proofs::Rules::buffers))]
 #[cycle(reader)]
 pub(crate) fn framed_free_name(
@@ -100,38 +100,38 @@ pub(crate) fn framed_free_name(
     Ok(())
 }
 
-/// `<unqualified-name>`, in the scope that stands in front of it, if one does.
+/// `<unqualified-name>`, in the parent that stands in front of it, if one does.
 #[tactic(auto, using(itanium_reader::proofs::Rules::unqualified_names))]
 #[cycle(reader)]
 pub(crate) fn read_unqualified(
     reader: &mut Reader,
     depth: usize,
     context: Context,
-    scope: Option<Piece>,
+    parent: Option<Piece>,
 ) -> Result<(), Stop>
     requires room { HasRoom 0 (state reader.old) }
-    requires scope { IfSome scope (IsLiving reader.old.buffer.value) }
+    requires parent { IfSome parent (IsLiving reader.old.buffer.value) }
     ensures reads { Gives result reader.new
         (spec.parse_unqualified (spec.parse_type depth context) (spec.parse_type depth (inside_lambda context))
-        (option_map (shape reader.old.buffer.value) scope) (state reader.old)) }
+        (option_map (shape reader.old.buffer.value) parent) (state reader.old)) }
     ensures run { OnOk result (IsRun reader.old.buffer.value reader.new.buffer.value) }
     ensures bounds { Bounds 2 result (state reader.old) (state reader.new) }
     ensures saved { SavedBounds 1 result (state reader.old) (state reader.new) }
 {
     reader.rest = past_internal(reader.rest);
-    match unqualified_case(scope.is_some(), reader.rest) {
-        UnqualifiedCase::ConstructorName => reader.read_ctor_dtor(false, scope),
-        UnqualifiedCase::DestructorName => reader.read_ctor_dtor(true, scope),
+    match unqualified_case(parent.is_some(), reader.rest) {
+        UnqualifiedCase::ConstructorName => reader.read_ctor_dtor(false, parent),
+        UnqualifiedCase::DestructorName => reader.read_ctor_dtor(true, parent),
         UnqualifiedCase::FreeName => {
             framed_free_name(reader, depth, context)?;
-            reader.enclose(scope, reader.found)?;
+            reader.enclose(parent, reader.found)?;
             Ok(())
         }
     }
 }
 
-/// `<unqualified-name>` in no scope.
-#[tactic(auto, using(itanium_reader::proofs::Rules::components))]
+/// `<unqualified-name>` in no parent.
+#[tactic(auto, using(itanium_reader::proofs::Rules::segments))]
 #[cycle(reader)]
 #[inline(always)]
 pub(crate) fn read_outer_name(
@@ -153,15 +153,11 @@ pub(crate) fn read_outer_name(
     read_unqualified(reader, depth, context, None)
 }
 
-/// `<unqualified-name>` in the scope that was found.
-#[tactic(auto, using(itanium_reader::proofs::Rules::components))]
+/// `<unqualified-name>` in the parent that was found.
+#[tactic(auto, using(itanium_reader::proofs::Rules::segments))]
 #[cycle(reader)]
 #[inline(always)]
-pub(crate) fn read_component(
-    reader: &mut Reader,
-    depth: usize,
-    context: Context,
-) -> Result<(), Stop>
+pub(crate) fn read_segment(reader: &mut Reader, depth: usize, context: Context) -> Result<(), Stop>
     requires room { HasRoom 0 (state reader.old) }
     requires living { IsLiving reader.old.buffer.value reader.old.found }
     ensures reads { Gives result reader.new
@@ -172,15 +168,15 @@ pub(crate) fn read_component(
     ensures saved { SavedBounds 1 result (state reader.old) (state reader.new) }
 {
     if begins_source(reader.rest) {
-        return reader.read_source_component();
+        return reader.read_source_segment();
     }
-    read_other_component(reader, depth, context)
+    read_other_segment(reader, depth, context)
 }
 
-/// The same where no `<source-name>` is next.
-#[tactic(auto, using(itanium_reader::proofs::Rules::components))]
+/// `read_segment` where no `<source-name>` is next.
+#[tactic(auto, using(itanium_reader::proofs::Rules::segments))]
 #[cycle(reader)]
-pub(crate) fn read_other_component(
+pub(crate) fn read_other_segment(
     reader: &mut Reader,
     depth: usize,
     context: Context,
@@ -197,8 +193,8 @@ pub(crate) fn read_other_component(
     read_unqualified(reader, depth, context, Some(reader.found))
 }
 
-/// The first component of a `<nested-name>`.
-#[tactic(auto, using(itanium_reader::proofs::Rules::first_components))]
+/// The first segment of a `<nested-name>`.
+#[tactic(auto, using(itanium_reader::proofs::Rules::first_segments))]
 #[cycle(reader)]
 #[inline(always)]
 pub(crate) fn read_first(reader: &mut Reader, depth: usize, context: Context) -> Result<(), Stop>
@@ -229,7 +225,7 @@ pub(crate) fn read_first(reader: &mut Reader, depth: usize, context: Context) ->
     }
 }
 
-/// A name that is the first component of a `<nested-name>`, where no `<source-name>` is next.
+/// A name that is the first segment of a `<nested-name>`, where no `<source-name>` is next.
 #[tactic(auto, using(itanium_reader::proofs::Rules::buffers))]
 #[cycle(reader)]
 #[inline(never)]
@@ -301,14 +297,14 @@ pub(crate) fn read_after_quals(
     let takes = saves_first(first_case(reader.rest));
     read_first(reader, depth, context)?;
     reader.skip_initializer();
-    read_components(reader, depth, context, takes)
+    read_segments(reader, depth, context, takes)
 }
 
-/// The later components of a `<nested-name>` after what was found, up to its `E`.
-#[tactic(auto, using(itanium_reader::proofs::Rules::components))]
+/// The later segments of a `<nested-name>` after what was found, up to its `E`.
+#[tactic(auto, using(itanium_reader::proofs::Rules::segments))]
 #[cycle(reader)]
 #[inline(always)]
-pub(crate) fn read_components(
+pub(crate) fn read_segments(
     reader: &mut Reader,
     depth: usize,
     context: Context,
@@ -318,7 +314,7 @@ pub(crate) fn read_components(
     requires living { IsLiving reader.old.buffer.value reader.old.found }
     requires saved { takes ≡ true → 0 < length (saved reader.old.buffer.value) }
     ensures reads { Gives result reader.new
-        (spec.parse_components (spec.parse_unqualified (spec.parse_type depth context)
+        (spec.parse_segments (spec.parse_unqualified (spec.parse_type depth context)
         (spec.parse_type depth (inside_lambda context)))
         (spec.parse_args depth context true) takes
         (shape reader.old.buffer.value reader.old.found) (state reader.old)) }
@@ -328,22 +324,22 @@ pub(crate) fn read_components(
 {
     let mut takes = takes;
     loop {
-        match component_case(reader.rest) {
-            ComponentCase::EndOfComponents => {
+        match segment_case(reader.rest) {
+            SegmentCase::EndOfSegments => {
                 reader.skip(1);
                 reader.take_back(takes);
                 return Ok(());
             }
-            ComponentCase::ArgsComponent => {
+            SegmentCase::ArgsSegment => {
                 read_attached(reader, depth, context, true)?;
                 if reader.is_wide(reader.found) {
                     return Err(Stop::Unread);
                 }
-                reader.end_component()?;
+                reader.end_segment()?;
                 takes = true;
             }
-            ComponentCase::NameComponent => {
-                // The two ways don't meet before the next component.
+            SegmentCase::NameSegment => {
+                // The two ways don't meet before the next segment.
                 if begins_source(reader.rest) {
                     reader.read_next_source()?;
                     if reader.is_wide(reader.found) {
@@ -352,11 +348,11 @@ pub(crate) fn read_components(
                     takes = true;
                     continue;
                 }
-                read_other_component(reader, depth, context)?;
+                read_other_segment(reader, depth, context)?;
                 if reader.is_wide(reader.found) {
                     return Err(Stop::Unread);
                 }
-                reader.end_component()?;
+                reader.end_segment()?;
                 takes = true;
             }
         }
@@ -408,7 +404,7 @@ pub(crate) fn read_unscoped(reader: &mut Reader, depth: usize, context: Context)
         UnscopedCase::StdName => {
             reader.skip(2);
             reader.found = reader.buffer.push(b"std")?;
-            read_component(reader, depth, context)?;
+            read_segment(reader, depth, context)?;
             read_attached_args(reader, depth, context)
         }
         UnscopedCase::SubstitutionName => {

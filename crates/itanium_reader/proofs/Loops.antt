@@ -35,7 +35,7 @@ loop_more {turn = turn} {so_far = so_far} {s = s} sofar there shorter = record {
   is = sofar.is ∙ loop_opens turn sofar.turns so_far s (omega (arith, sofar.room)) ∙ rw there refl;
 }
 
--- The same of a loop whose answer gets an end, or none: the whole is what the loop gives, with its end.
+-- `LoopSoFar` of a loop whose answer gets an end, or none: the whole is what the loop gives, with its end.
 pub record ListSoFar {L A B : Type 0} (whole : Option (B × ParserState)) (turn : L → Parses (Turn L A)) (finish : A × ParserState → Option (B × ParserState)) (so_far : L) (s : ParserState) : Type 0 where
   pub inner : Option (A × ParserState)
   pub loop : LoopSoFar inner turn so_far s

@@ -1,7 +1,7 @@
 -- What the check may use for the readers: the laws of the buffer, and what unfolds each.
 use Rattle.demangle_text.proofs.Laws.{laws, runs}
 use Rattle.itanium_syntax.proofs.Fronts.{cases, names_some, entities_some, expressions_some, arguments_some, specials_some}
-use Rattle.itanium_reader.proofs.Unfold.{builtin_fits, bare_name_opens, no_bare_name, name_opens, encoding_opens, local_opens, expression_opens, no_expression, primary_opens, argument_opens, thunk_opens, no_thunk, special_opens, no_attached, pack_opens, no_pack, type_opens, no_type, substitution_opens, parameter_opens, unqualified_opens, symbol_opens, nested_opens, kept_scope, some_scope, source_opens, no_tags, nothing_in_front, words_joined}
+use Rattle.itanium_reader.proofs.Unfold.{builtin_fits, bare_name_opens, no_bare_name, name_opens, encoding_opens, local_opens, expression_opens, no_expression, primary_opens, argument_opens, thunk_opens, no_thunk, special_opens, no_attached, pack_opens, no_pack, type_opens, no_type, substitution_opens, parameter_opens, unqualified_opens, symbol_opens, nested_opens, kept_parent, some_parent, source_opens, no_tags, nothing_in_front, words_joined}
 use Rattle.itanium_reader.proofs.Loops.{loop_start}
 
 pub ruleset buffers = (laws, runs)
@@ -16,9 +16,9 @@ pub ruleset tags = (buffers, loop_start)
 
 pub ruleset source_names = (buffers, no_tags)
 
-pub ruleset components = (buffers, source_opens)
+pub ruleset segments = (buffers, source_opens)
 
-pub ruleset first_components = (fronts, source_opens)
+pub ruleset first_segments = (fronts, source_opens)
 
 pub ruleset lists = (buffers, nothing_in_front)
 
@@ -26,7 +26,7 @@ pub ruleset words = (buffers, words_joined)
 
 pub ruleset free_names = (fronts, names_some)
 
-pub ruleset unqualified_names = (fronts, unqualified_opens, kept_scope, some_scope)
+pub ruleset unqualified_names = (fronts, unqualified_opens, kept_parent, some_parent)
 
 pub ruleset nested_names = (buffers, nested_opens)
 

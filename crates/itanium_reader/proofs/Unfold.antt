@@ -17,7 +17,7 @@ use Rattle.itanium_syntax.specs.declared.context.Context.{Context}
 use Rattle.itanium_syntax.specs.declared.numerals.Radix.TheVariants.{Decimal}
 use Rattle.itanium_syntax.specs.Scalars.{index_of, source_name}
 use Rattle.itanium_syntax.specs.Context.{opens_scope, inside_type, inside_pack, inside_lambda, inside_local, inside_encoding}
-use Rattle.itanium_syntax.specs.Names.{symbol_case, name_case, component_case, unqualified_case, tag_case, source_text, past_initializer_letter, free_case, begins_source, first_case, substitution_case, past_internal, past_name_quals, name_quals, saves_first}
+use Rattle.itanium_syntax.specs.Names.{symbol_case, name_case, segment_case, unqualified_case, tag_case, source_text, past_initializer_letter, free_case, begins_source, first_case, substitution_case, past_internal, past_name_quals, name_quals, saves_first}
 use Rattle.itanium_syntax.specs.Expressions.{expression_case}
 use Rattle.itanium_syntax.specs.Encodings.{entity_case}
 use Rattle.itanium_syntax.specs.Args.{args_case}
@@ -27,9 +27,9 @@ use Rattle.itanium_reader.specs.declared.stop.Stop.{Stop}
 use Rattle.itanium_reader.specs.declared.stop.Stop.TheVariants.{Unread, Memory}
 use Rattle.itanium_reader.specs.Outcome.{Gives, GivesList, SavedBounds}
 use Rattle.itanium_reader.proofs.Loops.{LoopSoFar, loop_start, loop_end, loop_more, loop_fail, ListSoFar, list_start, list_end, list_more, list_fail}
-use Rattle.itanium_reader.specs.Cases.{FreeName, ConstructorName, DestructorName, SourceName, NoTag, NextTag, EndOfComponents, ArgsComponent, NameComponent, EndOfArguments, NextArgument, EndOfTypes, NextType}
+use Rattle.itanium_reader.specs.Cases.{FreeName, ConstructorName, DestructorName, SourceName, NoTag, NextTag, EndOfSegments, ArgsSegment, NameSegment, EndOfArguments, NextArgument, EndOfTypes, NextType}
 use Rattle.itanium_grammar.specs.Answer.{max_text}
-use Rattle.itanium_reader.specs.Parser.{ParserState, Parses, ParsesName, ParsesBareName, ◌>>=◌, is_wide, fitting, fitting_bare, total_len, enter, at, save, skip, begin, put, put_nowhere, taken_back, past_initializer, substitution_as, parse_substitution, parameter_as, parse_parameter, tag_turn, unqualified_as, parse_unqualified, parse_free, in_scope, parse_tags, parse_source_in, parse_first_source, parse_next_source, end_component, next_component, goes_on, first_as, attached_by, component_turn, parse_components, parse_after_quals, with_quals, parse_nested, name_as, qualified_by, parse_bare_name, parse_name, encoding_as, parse_encoding, entity_as, parse_local, primary_by, parse_primary, special_by, parse_special, thunk_by, parse_thunk, expression_as, parse_expression, parse_argument, argument_by, list_turn, typed_turn, parse_list, parse_packed, parse_args, parse_pack, types_turn, type_as, parse_type, symbol_as, parse_symbol}
+use Rattle.itanium_reader.specs.Parser.{ParserState, Parses, ParsesName, ParsesBareName, ◌>>=◌, is_wide, fitting, fitting_bare, total_len, enter, with_rest, save, skip, begin_list, add_argument, add_nowhere, taken_back, past_initializer, substitution_as, parse_substitution, parameter_as, parse_parameter, tag_turn, unqualified_as, parse_unqualified, parse_free, in_parent, parse_tags, parse_source_in, parse_first_source, parse_next_source, end_segment, next_segment, goes_on, first_as, attached_by, segment_turn, parse_segments, parse_after_quals, with_quals, parse_nested, name_as, qualified_by, parse_bare_name, parse_name, encoding_as, parse_encoding, entity_as, parse_local, primary_by, parse_primary, special_by, parse_special, thunk_by, parse_thunk, expression_as, parse_expression, parse_argument, argument_by, list_turn, typed_turn, parse_list, parse_packed, parse_args, parse_pack, types_turn, type_as, parse_type, symbol_as, parse_symbol}
 
 pub bare_name_opens : (d : ℕ) (x : Context) (s : ParserState) → 0 < d → parse_bare_name d x s
     ≡ (name_as (name_case s.rest) (parse_unqualified (parse_type (d - 1) x) (parse_type (d - 1) (inside_lambda x))) (parse_args (d - 1) x true)
@@ -123,45 +123,45 @@ unfolding parse_substitution
 substitution_opens s = refl
 
 pub parameter_opens : (x : Context) (s : ParserState)
-    → parse_parameter x s ≡ (index_of Decimal (drop 1 s.rest) >>= λ found. parameter_as x.lambda found.0 s >>= λ t. Some (t, at found.1 s))
+    → parse_parameter x s ≡ (index_of Decimal (drop 1 s.rest) >>= λ found. parameter_as x.lambda found.0 s >>= λ t. Some (t, with_rest found.1 s))
 unfolding parse_parameter
 parameter_opens x s = refl
 
-pub unqualified_opens : (type param : Parses Shape) (scope : Option Shape) (s : ParserState)
-    → parse_unqualified type param scope s ≡ unqualified_as (unqualified_case (is_some scope) (past_internal s.rest)) type param scope (at (past_internal s.rest) s)
+pub unqualified_opens : (type param : Parses Shape) (parent : Option Shape) (s : ParserState)
+    → parse_unqualified type param parent s ≡ unqualified_as (unqualified_case (is_some parent) (past_internal s.rest)) type param parent (with_rest (past_internal s.rest) s)
 unfolding parse_unqualified
-unqualified_opens type param scope s = refl
+unqualified_opens type param parent s = refl
 
 -- a digit from 1 to 9 is no letter
 no_letter : (b letter : ℕ) → (nat_le 49 b && nat_le b 57) ≡ true → 57 < letter → (b == letter) ≡ false
 no_letter b letter digit past = grind (arith, nat_tests)
 
 -- where a source name is next, no letter stands in front of it, and it is no constructor or destructor
-source_case : (in_scope : Bool) (bytes : List ℕ) → begins_source bytes ≡ true
-    → (past_internal bytes ≡ bytes) × (unqualified_case in_scope bytes ≡ FreeName) × (free_case bytes ≡ SourceName)
-source_case in_scope [] h = cc
-source_case in_scope (b ∷ bytes) h = (
+source_case : (in_parent : Bool) (bytes : List ℕ) → begins_source bytes ≡ true
+    → (past_internal bytes ≡ bytes) × (unqualified_case in_parent bytes ≡ FreeName) × (free_case bytes ≡ SourceName)
+source_case in_parent [] h = cc
+source_case in_parent (b ∷ bytes) h = (
   rw (no_letter b 76 h (omega arith)) refl,
-  rw (no_letter b 67 h (omega arith), no_letter b 68 h (omega arith)) (no_constructor in_scope),
+  rw (no_letter b 67 h (omega arith), no_letter b 68 h (omega arith)) (no_constructor in_parent),
   rw h refl,
 )
   where
-    no_constructor : (in_scope : Bool) → (if in_scope && false then ConstructorName else if in_scope && false then DestructorName else FreeName) ≡ FreeName
+    no_constructor : (in_parent : Bool) → (if in_parent && false then ConstructorName else if in_parent && false then DestructorName else FreeName) ≡ FreeName
     no_constructor true = refl
     no_constructor false = refl
 
-pub source_opens : (type param : Parses Shape) (scope : Option Shape) (s : ParserState) → begins_source s.rest ≡ true
-    → parse_unqualified type param scope s ≡ parse_source_in scope s
+pub source_opens : (type param : Parses Shape) (parent : Option Shape) (s : ParserState) → begins_source s.rest ≡ true
+    → parse_unqualified type param parent s ≡ parse_source_in parent s
 unfolding parse_unqualified
-source_opens type param scope s h =
-    let case = source_case (is_some scope) s.rest h in
+source_opens type param parent s h =
+    let case = source_case (is_some parent) s.rest h in
     rw (case.0, case.1, case.2) refl
 
--- a name that asks for no scope is found, and put into its scope
-pub free_found : (type param : Parses Shape) (scope : Option Shape) (s : ParserState) {name found : Shape} {mid after : ParserState} → unqualified_case (is_some scope) (past_internal s.rest) ≡ FreeName
-    → parse_free type param (at (past_internal s.rest) s) ≡ Some (name, mid) → found ≡ in_scope scope name → after ≡ mid → parse_unqualified type param scope s ≡ Some (found, after)
+-- a name that asks for no parent is found, and put into its parent
+pub free_found : (type param : Parses Shape) (parent : Option Shape) (s : ParserState) {name found : Shape} {mid after : ParserState} → unqualified_case (is_some parent) (past_internal s.rest) ≡ FreeName
+    → parse_free type param (with_rest (past_internal s.rest) s) ≡ Some (name, mid) → found ≡ in_parent parent name → after ≡ mid → parse_unqualified type param parent s ≡ Some (found, after)
 unfolding parse_unqualified
-free_found type param scope s case read built same = rw (case, read, built, same) refl
+free_found type param parent s case read built same = rw (case, read, built, same) refl
 
 pub symbol_opens : (d : ℕ) (x : Context) (s : ParserState) → parse_symbol d x s ≡ symbol_as (symbol_case s.rest) (parse_special d x) (parse_name d x) s
 unfolding parse_symbol
@@ -169,12 +169,12 @@ symbol_opens d x s = refl
 
 -- the qualifiers of a <nested-name> are read in front of the rest
 pub nested_opens : (unqualified : ParsesName) (args : Parses Shape) (x : Context) (s : ParserState) → parse_nested unqualified args x s
-    ≡ (parse_after_quals unqualified args x (at (past_name_quals s.rest) s) >>= with_quals (name_quals s.rest))
+    ≡ (parse_after_quals unqualified args x (with_rest (past_name_quals s.rest) s) >>= with_quals (name_quals s.rest))
 unfolding parse_nested
-nested_opens unqualified args x s = then_named (first_as (first_case (past_name_quals s.rest)) unqualified x (at (past_name_quals s.rest) s))
+nested_opens unqualified args x s = then_named (first_as (first_case (past_name_quals s.rest)) unqualified x (with_rest (past_name_quals s.rest) s))
   where
     later : Shape × ParserState → Option (Shape × ParserState)
-    later first = parse_components unqualified args (saves_first (first_case (past_name_quals s.rest))) first.0 (past_initializer first.1)
+    later first = parse_segments unqualified args (saves_first (first_case (past_name_quals s.rest))) first.0 (past_initializer first.1)
 
     then_named : (first : Option (Shape × ParserState)) → (first >>= λ f. later f >>= with_quals (name_quals s.rest)) ≡ ((first >>= later) >>= with_quals (name_quals s.rest))
     then_named None = refl
@@ -266,9 +266,9 @@ saved_first (Ok u) before mid after bounds longer same some most = (omega (arith
 saved_first (Err Unread) before mid after bounds longer same some most = omega (arith, bounds)
 saved_first (Err Memory) before mid after bounds longer same some most = tt
 
--- a component that is ended and isn't too long is what a turn goes on with
-ended_goes_on : (read : Option (Shape × ParserState)) {next : Shape} {after : ParserState} → (read >>= end_component) ≡ Some (next, after) → is_wide next ≡ false
-    → (read >>= fitting >>= next_component) ≡ Some (goes_on (true, next), after)
+-- a segment that is ended and isn't too long is what a turn goes on with
+ended_goes_on : (read : Option (Shape × ParserState)) {next : Shape} {after : ParserState} → (read >>= end_segment) ≡ Some (next, after) → is_wide next ≡ false
+    → (read >>= fitting >>= next_segment) ≡ Some (goes_on (true, next), after)
 ended_goes_on None ended fits = cc
 ended_goes_on (Some found) {next} {after} ended fits =
     let is = same_Some _ _ ended in
@@ -277,63 +277,63 @@ ended_goes_on (Some found) {next} {after} ended fits =
     rw (name, fits) (ap (λ (s : ParserState). Some (goes_on (true, next), s)) (rw (sym name) left))
 
 -- one that is too long ends the loop
-ended_wide : (read : Option (Shape × ParserState)) {next : Shape} {after : ParserState} → (read >>= end_component) ≡ Some (next, after) → is_wide next ≡ true
-    → (read >>= fitting >>= next_component) ≡ None
+ended_wide : (read : Option (Shape × ParserState)) {next : Shape} {after : ParserState} → (read >>= end_segment) ≡ Some (next, after) → is_wide next ≡ true
+    → (read >>= fitting >>= next_segment) ≡ None
 ended_wide None ended wide = cc
 ended_wide (Some found) {next} {after} ended wide =
     let name : found.0 ≡ next = ap (λ (y : Shape × ParserState). y.0) (same_Some _ _ ended) in rw (name, wide) refl
 
--- where no component is read there is none
-ended_none : (read : Option (Shape × ParserState)) → (read >>= end_component) ≡ None → (read >>= fitting >>= next_component) ≡ None
+-- where no segment is read there is none
+ended_none : (read : Option (Shape × ParserState)) → (read >>= end_segment) ≡ None → (read >>= fitting >>= next_segment) ≡ None
 ended_none None none = refl
 ended_none (Some found) none = cc
 
--- the turns of the components of a nested name
+-- the turns of the segments of a nested name
 module _ {whole : Option (Shape × ParserState)} (unqualified : ParsesName) (args : Parses Shape) {takes : Bool} {name : Shape} {s : ParserState}
-    (so_far : LoopSoFar whole (component_turn unqualified args) (takes, name) s) where
-  pub components_end : {found : Shape} {after : ParserState} → component_case s.rest ≡ EndOfComponents → found ≡ name → after ≡ taken_back takes (skip 1 s) → whole ≡ Some (found, after)
-  unfolding component_turn
-  components_end case same left = loop_end so_far (rw (case, same, left) refl)
+    (so_far : LoopSoFar whole (segment_turn unqualified args) (takes, name) s) where
+  pub segments_end : {found : Shape} {after : ParserState} → segment_case s.rest ≡ EndOfSegments → found ≡ name → after ≡ taken_back takes (skip 1 s) → whole ≡ Some (found, after)
+  unfolding segment_turn
+  segments_end case same left = loop_end so_far (rw (case, same, left) refl)
 
-  pub components_args : {next : Shape} {mid after : ParserState} → component_case s.rest ≡ ArgsComponent → attached_by args name s ≡ Some (next, mid) → is_wide next ≡ false → length mid.rest < length s.rest
-      → after ≡ past_initializer (save next mid) → length after.rest ≤ length mid.rest → LoopSoFar whole (component_turn unqualified args) (true, next) after
-  unfolding component_turn
-  components_args case found fits shorter left short = loop_more so_far (rw (case, found, fits, left) refl) (omega arith)
+  pub segments_args : {next : Shape} {mid after : ParserState} → segment_case s.rest ≡ ArgsSegment → attached_by args name s ≡ Some (next, mid) → is_wide next ≡ false → length mid.rest < length s.rest
+      → after ≡ past_initializer (save next mid) → length after.rest ≤ length mid.rest → LoopSoFar whole (segment_turn unqualified args) (true, next) after
+  unfolding segment_turn
+  segments_args case found fits shorter left short = loop_more so_far (rw (case, found, fits, left) refl) (omega arith)
 
-  pub components_wide_args : {next : Shape} {mid : ParserState} → component_case s.rest ≡ ArgsComponent → attached_by args name s ≡ Some (next, mid) → is_wide next ≡ true → whole ≡ None
-  unfolding component_turn
-  components_wide_args case found wide = loop_fail so_far (rw (case, found, wide) refl)
+  pub segments_wide_args : {next : Shape} {mid : ParserState} → segment_case s.rest ≡ ArgsSegment → attached_by args name s ≡ Some (next, mid) → is_wide next ≡ true → whole ≡ None
+  unfolding segment_turn
+  segments_wide_args case found wide = loop_fail so_far (rw (case, found, wide) refl)
 
-  pub components_no_args : component_case s.rest ≡ ArgsComponent → attached_by args name s ≡ None → whole ≡ None
-  unfolding component_turn
-  components_no_args case none = loop_fail so_far (rw (case, none) refl)
+  pub segments_no_args : segment_case s.rest ≡ ArgsSegment → attached_by args name s ≡ None → whole ≡ None
+  unfolding segment_turn
+  segments_no_args case none = loop_fail so_far (rw (case, none) refl)
 
-  pub components_name : {next : Shape} {mid after : ParserState} → component_case s.rest ≡ NameComponent → unqualified (Some name) s ≡ Some (next, mid) → is_wide next ≡ false → length mid.rest < length s.rest
-      → after ≡ past_initializer (save next mid) → length after.rest ≤ length mid.rest → LoopSoFar whole (component_turn unqualified args) (true, next) after
-  unfolding component_turn
-  components_name case found fits shorter left short = loop_more so_far (rw (case, found, fits, left) refl) (omega arith)
+  pub segments_name : {next : Shape} {mid after : ParserState} → segment_case s.rest ≡ NameSegment → unqualified (Some name) s ≡ Some (next, mid) → is_wide next ≡ false → length mid.rest < length s.rest
+      → after ≡ past_initializer (save next mid) → length after.rest ≤ length mid.rest → LoopSoFar whole (segment_turn unqualified args) (true, next) after
+  unfolding segment_turn
+  segments_name case found fits shorter left short = loop_more so_far (rw (case, found, fits, left) refl) (omega arith)
 
-  pub components_wide_name : {next : Shape} {mid : ParserState} → component_case s.rest ≡ NameComponent → unqualified (Some name) s ≡ Some (next, mid) → is_wide next ≡ true → whole ≡ None
-  unfolding component_turn
-  components_wide_name case found wide = loop_fail so_far (rw (case, found, wide) refl)
+  pub segments_wide_name : {next : Shape} {mid : ParserState} → segment_case s.rest ≡ NameSegment → unqualified (Some name) s ≡ Some (next, mid) → is_wide next ≡ true → whole ≡ None
+  unfolding segment_turn
+  segments_wide_name case found wide = loop_fail so_far (rw (case, found, wide) refl)
 
-  pub components_source : {next : Shape} {after : ParserState} → component_case s.rest ≡ NameComponent → unqualified (Some name) s ≡ parse_source_in (Some name) s
-      → parse_next_source (Some name) s ≡ Some (next, after) → is_wide next ≡ false → length after.rest < length s.rest → LoopSoFar whole (component_turn unqualified args) (true, next) after
-  unfolding component_turn
-  components_source case source read fits shorter = loop_more so_far (rw (case, source) (ended_goes_on (parse_source_in (Some name) s) read fits)) shorter
+  pub segments_source : {next : Shape} {after : ParserState} → segment_case s.rest ≡ NameSegment → unqualified (Some name) s ≡ parse_source_in (Some name) s
+      → parse_next_source (Some name) s ≡ Some (next, after) → is_wide next ≡ false → length after.rest < length s.rest → LoopSoFar whole (segment_turn unqualified args) (true, next) after
+  unfolding segment_turn
+  segments_source case source read fits shorter = loop_more so_far (rw (case, source) (ended_goes_on (parse_source_in (Some name) s) read fits)) shorter
 
-  pub components_wide_source : {next : Shape} {after : ParserState} → component_case s.rest ≡ NameComponent → unqualified (Some name) s ≡ parse_source_in (Some name) s
+  pub segments_wide_source : {next : Shape} {after : ParserState} → segment_case s.rest ≡ NameSegment → unqualified (Some name) s ≡ parse_source_in (Some name) s
       → parse_next_source (Some name) s ≡ Some (next, after) → is_wide next ≡ true → whole ≡ None
-  unfolding component_turn
-  components_wide_source case source read wide = loop_fail so_far (rw (case, source) (ended_wide (parse_source_in (Some name) s) read wide))
+  unfolding segment_turn
+  segments_wide_source case source read wide = loop_fail so_far (rw (case, source) (ended_wide (parse_source_in (Some name) s) read wide))
 
-  pub components_no_source : component_case s.rest ≡ NameComponent → unqualified (Some name) s ≡ parse_source_in (Some name) s → parse_next_source (Some name) s ≡ None → whole ≡ None
-  unfolding component_turn
-  components_no_source case source none = loop_fail so_far (rw (case, source) (ended_none (parse_source_in (Some name) s) none))
+  pub segments_no_source : segment_case s.rest ≡ NameSegment → unqualified (Some name) s ≡ parse_source_in (Some name) s → parse_next_source (Some name) s ≡ None → whole ≡ None
+  unfolding segment_turn
+  segments_no_source case source none = loop_fail so_far (rw (case, source) (ended_none (parse_source_in (Some name) s) none))
 
-  pub components_no_name : component_case s.rest ≡ NameComponent → unqualified (Some name) s ≡ None → whole ≡ None
-  unfolding component_turn
-  components_no_name case none = loop_fail so_far (rw (case, none) refl)
+  pub segments_no_name : segment_case s.rest ≡ NameSegment → unqualified (Some name) s ≡ None → whole ≡ None
+  unfolding segment_turn
+  segments_no_name case none = loop_fail so_far (rw (case, none) refl)
 
 -- the turns of the tags of a name
 module _ {whole : Option (Shape × ParserState)} {name : Shape} {s : ParserState} (so_far : LoopSoFar whole tag_turn name s) where
@@ -350,38 +350,38 @@ module _ {whole : Option (Shape × ParserState)} {name : Shape} {s : ParserState
       → length rest < length s.rest → LoopSoFar whole tag_turn next after
   unfolding tag_turn
   tags_more {text} {rest} {next} {after} case found built left lists opened count most shorter =
-      let same : record { rest = after.rest; saved = after.saved; scopes = after.scopes; entered = after.entered; most_saved = after.most_saved } ≡ at rest s = rw (left, lists, opened, count, most) refl in
+      let same : record { rest = after.rest; saved = after.saved; scopes = after.scopes; entered = after.entered; most_saved = after.most_saved } ≡ with_rest rest s = rw (left, lists, opened, count, most) refl in
       loop_more so_far (rw (case, found, built, sym same) refl) (rw left shorter)
 
 -- no tag follows
 pub no_tags : (name : Shape) (s : ParserState) → tag_case s.rest ≡ NoTag → parse_tags name s ≡ Some (name, s)
 no_tags name s case = tags_end (loop_start refl) case
 
--- a source name is found that no tag follows, and put into its scope
-pub source_found : (scope : Option Shape) (s : ParserState) {text rest : List ℕ} {found : Shape} {after : ParserState} → source_name s.rest ≡ Some (text, rest) → tag_case rest ≡ NoTag
-    → found ≡ in_scope scope (plain_shape (source_text text)) → after ≡ at rest s → parse_source_in scope s ≡ Some (found, after)
-source_found scope s {text} {rest} read case built same = rw (read, no_tags (plain_shape (source_text text)) (at rest s) case, built, same) refl
+-- a source name is found that no tag follows, and put into its parent
+pub source_found : (parent : Option Shape) (s : ParserState) {text rest : List ℕ} {found : Shape} {after : ParserState} → source_name s.rest ≡ Some (text, rest) → tag_case rest ≡ NoTag
+    → found ≡ in_parent parent (plain_shape (source_text text)) → after ≡ with_rest rest s → parse_source_in parent s ≡ Some (found, after)
+source_found parent s {text} {rest} read case built same = rw (read, no_tags (plain_shape (source_text text)) (with_rest rest s) case, built, same) refl
 
 -- the state after a shape was saved
 saved_there : (s : ParserState) (rest : List ℕ) (found : Shape) (after : ParserState) → after.rest ≡ rest → after.saved ≡ s.saved ++ found ∷ [] → after.scopes ≡ s.scopes
-    → after.entered ≡ s.entered → after.most_saved ≡ max s.most_saved (length after.saved) → after ≡ save found (at rest s)
+    → after.entered ≡ s.entered → after.most_saved ≡ max s.most_saved (length after.saved) → after ≡ save found (with_rest rest s)
 saved_there s rest found after left list opened count most =
-    let same : record { rest = after.rest; saved = after.saved; scopes = after.scopes; entered = after.entered; most_saved = after.most_saved } ≡ save found (at rest s) = rw (left, opened, count, most, list, length-append s.saved (found ∷ [])) refl in
+    let same : record { rest = after.rest; saved = after.saved; scopes = after.scopes; entered = after.entered; most_saved = after.most_saved } ≡ save found (with_rest rest s) = rw (left, opened, count, most, list, length-append s.saved (found ∷ [])) refl in
     same
 
--- the same as the first component of a nested name, and as the next
+-- the same as the first segment of a nested name, and as the next
 pub first_source_found : (s : ParserState) {text rest : List ℕ} {found : Shape} {after : ParserState} → source_name s.rest ≡ Some (text, rest) → tag_case rest ≡ NoTag
     → found ≡ plain_shape (source_text text) → after.rest ≡ rest → after.saved ≡ s.saved ++ found ∷ [] → after.scopes ≡ s.scopes
     → after.entered ≡ s.entered → after.most_saved ≡ max s.most_saved (length after.saved) → parse_first_source s ≡ Some (found, after)
 first_source_found s {text} {rest} {found} {after} read case built left list opened count most =
-    let parsed : parse_source_in None s ≡ Some (found, at rest s) = source_found None s read case built refl in
+    let parsed : parse_source_in None s ≡ Some (found, with_rest rest s) = source_found None s read case built refl in
     rw parsed (ap (λ (t : ParserState). Some (found, t)) (sym (saved_there s rest found after left list opened count most)))
 
-pub next_source_found : (scope : Shape) (s : ParserState) {text rest : List ℕ} {found : Shape} {after : ParserState} → source_name s.rest ≡ Some (text, rest) → tag_case rest ≡ NoTag
-    → found ≡ qualified scope (plain_shape (source_text text)) → after.rest ≡ past_initializer_letter rest → after.saved ≡ s.saved ++ found ∷ [] → after.scopes ≡ s.scopes
-    → after.entered ≡ s.entered → after.most_saved ≡ max s.most_saved (length after.saved) → parse_next_source (Some scope) s ≡ Some (found, after)
-next_source_found scope s {text} {rest} {found} {after} read case built left list opened count most =
-    let parsed : parse_source_in (Some scope) s ≡ Some (found, at rest s) = source_found (Some scope) s read case built refl in
+pub next_source_found : (parent : Shape) (s : ParserState) {text rest : List ℕ} {found : Shape} {after : ParserState} → source_name s.rest ≡ Some (text, rest) → tag_case rest ≡ NoTag
+    → found ≡ qualified parent (plain_shape (source_text text)) → after.rest ≡ past_initializer_letter rest → after.saved ≡ s.saved ++ found ∷ [] → after.scopes ≡ s.scopes
+    → after.entered ≡ s.entered → after.most_saved ≡ max s.most_saved (length after.saved) → parse_next_source (Some parent) s ≡ Some (found, after)
+next_source_found parent s {text} {rest} {found} {after} read case built left list opened count most =
+    let parsed : parse_source_in (Some parent) s ≡ Some (found, with_rest rest s) = source_found (Some parent) s read case built refl in
     rw parsed (ap (λ (t : ParserState). Some (found, t)) (sym (saved_there s (past_initializer_letter rest) found after left list opened count most)))
 
 -- a range stays where nothing is put
@@ -408,18 +408,18 @@ pack_end r = fitting (whole_shape r.0, r.1)
 
 -- a pack begins
 pub pack_start : (d : ℕ) (x : Context) (s : ParserState) {inside : Context} {list : Shape} {after : ParserState} → 0 < d → inside ≡ inside_pack x → list ≡ plain_shape [] → after ≡ skip 1 (enter s)
-    → ListSoFar (parse_pack d x s) (list_turn put_nowhere (parse_argument (d - 1) inside)) pack_end (true, list) after
+    → ListSoFar (parse_pack d x s) (list_turn add_nowhere (parse_argument (d - 1) inside)) pack_end (true, list) after
 pack_start d x s deep within built left = rw (left, within, built) (list_start (pack_opens d x s deep ∙ ended_then _ whole_shape fitting))
 
 -- the turns of a list up to its E
-module _ {whole : Option (Shape × ParserState)} (put : Shape → ParserState → ParserState) (item : Parses Shape) (finish : Shape × ParserState → Option (Shape × ParserState)) {first : Bool} {list : Shape} {s : ParserState}
-    (so_far : ListSoFar whole (list_turn put item) finish (first, list) s) where
+module _ {whole : Option (Shape × ParserState)} (add_argument : Shape → ParserState → ParserState) (item : Parses Shape) (finish : Shape × ParserState → Option (Shape × ParserState)) {first : Bool} {list : Shape} {s : ParserState}
+    (so_far : ListSoFar whole (list_turn add_argument item) finish (first, list) s) where
   pub items_end : {after : ParserState} → args_case s.rest ≡ EndOfArguments → after ≡ skip 1 s → whole ≡ finish (list, after)
   unfolding list_turn
   items_end case left = rw left (list_end so_far (rw case refl))
 
   pub items_more : {next found : Shape} {mid after : ParserState} → args_case s.rest ≡ NextArgument → item s ≡ Some (next, mid) → length mid.rest < length s.rest
-      → found ≡ listed_more first list next → is_wide found ≡ false → after ≡ put next mid → after.rest ≡ mid.rest → ListSoFar whole (list_turn put item) finish (false, found) after
+      → found ≡ listed_more first list next → is_wide found ≡ false → after ≡ add_argument next mid → after.rest ≡ mid.rest → ListSoFar whole (list_turn add_argument item) finish (false, found) after
   unfolding list_turn
   items_more {next} {found} case read shorter built fits left same =
       let narrow : is_wide (listed_more first list next) ≡ false = ap is_wide (sym built) ∙ fits in
@@ -436,17 +436,17 @@ module _ {whole : Option (Shape × ParserState)} (put : Shape → ParserState �
   items_fail case none = list_fail so_far (rw (case, none) refl)
 
 -- a pack ends
-pub pack_ends : {whole : Option (Shape × ParserState)} (item : Parses Shape) {first : Bool} {list found : Shape} {s after : ParserState} → ListSoFar whole (list_turn put_nowhere item) pack_end (first, list) s
+pub pack_ends : {whole : Option (Shape × ParserState)} (item : Parses Shape) {first : Bool} {list found : Shape} {s after : ParserState} → ListSoFar whole (list_turn add_nowhere item) pack_end (first, list) s
     → args_case s.rest ≡ EndOfArguments → found ≡ whole_shape list → is_wide found ≡ false → after ≡ skip 1 s → whole ≡ Some (found, after)
 pack_ends item {list = list} {found = found} so_far case built fits left =
     let narrow : is_wide (whole_shape list) ≡ false = ap is_wide (sym built) ∙ fits in
-    items_end put_nowhere item pack_end so_far case left ∙ rw (narrow, sym built) refl
+    items_end add_nowhere item pack_end so_far case left ∙ rw (narrow, sym built) refl
 
-pub pack_wide : {whole : Option (Shape × ParserState)} (item : Parses Shape) {first : Bool} {list found : Shape} {s : ParserState} → ListSoFar whole (list_turn put_nowhere item) pack_end (first, list) s
+pub pack_wide : {whole : Option (Shape × ParserState)} (item : Parses Shape) {first : Bool} {list found : Shape} {s : ParserState} → ListSoFar whole (list_turn add_nowhere item) pack_end (first, list) s
     → args_case s.rest ≡ EndOfArguments → found ≡ whole_shape list → is_wide found ≡ true → whole ≡ None
 pack_wide item {list = list} {found = found} so_far case built wide =
     let long : is_wide (whole_shape list) ≡ true = ap is_wide (sym built) ∙ wide in
-    items_end put_nowhere item pack_end so_far case refl ∙ rw long refl
+    items_end add_nowhere item pack_end so_far case refl ∙ rw long refl
 
 -- what is read gets its end
 abbrev with_end : (Shape → Shape) → Option (Shape × ParserState) → Option (Shape × ParserState)
@@ -457,12 +457,12 @@ abbrev pub attached_to : Shape → Shape × ParserState → Option (Shape × Par
 attached_to name r = fitting (whole_shape (arguments_closed r.0), r.1) >>= λ list. Some (attached name list.0, list.1)
 
 -- A list after a name has come this far: what is found stands for the name's text and the list's.
-pub record AttachedSoFar (whole : Option (Shape × ParserState)) (put : Shape → ParserState → ParserState) (item : Parses Shape) (name : Shape) (first : Bool) (found : Shape) (s : ParserState) : Type 0 where
+pub record AttachedSoFar (whole : Option (Shape × ParserState)) (add_argument : Shape → ParserState → ParserState) (item : Parses Shape) (name : Shape) (first : Bool) (found : Shape) (s : ParserState) : Type 0 where
   pub list : List ℕ
   pub own : ℕ × ℕ
   pub templ : Bool
   pub ctor : Bool
-  pub so_far : ListSoFar whole (list_turn put item) (attached_to name) (first, begun_list list own templ ctor) s
+  pub so_far : ListSoFar whole (list_turn add_argument item) (attached_to name) (first, begun_list list own templ ctor) s
   pub stands : found ≡ plain_shape (text name ++ (angle_gap (text name) ++ (60 ∷ list)))
 
 -- how many bytes stand in front of a list after a name
@@ -471,8 +471,8 @@ front_len name = text_len name + length (angle_gap (text name))
 
 -- a list begins after a name
 pub attached_start : (d : ℕ) (x : Context) (of_name : Bool) (s : ParserState) (name : Shape) {opens : Bool} {n : ℕ} {found : Shape} {after : ParserState} → 0 < d
-    → opens ≡ opens_scope of_name x → found ≡ arguments_begun name → after ≡ begin opens (skip 1 (enter s)) → n ≡ length after.scopes
-    → AttachedSoFar (attached_by (parse_args d x of_name) name s) (put opens n) (parse_argument (d - 1) x) name true found after
+    → opens ≡ opens_scope of_name x → found ≡ arguments_begun name → after ≡ begin_list opens (skip 1 (enter s)) → n ≡ length after.scopes
+    → AttachedSoFar (attached_by (parse_args d x of_name) name s) (add_argument opens n) (parse_argument (d - 1) x) name true found after
 attached_start d x of_name s name {opens} {n} {found} {after} deep opened built left scopes = record {
   list = [];
   own = (0, 1);
@@ -496,8 +496,8 @@ begun_front name found built long =
     omega (arith, long, all, length-append (text name) (gap ++ (60 ∷ [])), length-append gap (60 ∷ []))
 
 -- the turns of a list after a name
-module _ {whole : Option (Shape × ParserState)} (put : Shape → ParserState → ParserState) (item : Parses Shape) (name : Shape) {first : Bool} {found : Shape} {s : ParserState}
-    (so_far : AttachedSoFar whole put item name first found s) where
+module _ {whole : Option (Shape × ParserState)} (add_argument : Shape → ParserState → ParserState) (item : Parses Shape) (name : Shape) {first : Bool} {found : Shape} {s : ParserState}
+    (so_far : AttachedSoFar whole add_argument item name first found s) where
   -- the list so far, and the whole of it
   abbrev list_so_far : Shape
   list_so_far = begun_list so_far.list so_far.own so_far.templ so_far.ctor
@@ -520,13 +520,13 @@ module _ {whole : Option (Shape × ParserState)} (put : Shape → ParserState �
       → text_len last - front_len name ≤ max_text → after ≡ skip 1 s → whole ≡ Some (last, after)
   attached_end case built short left =
       let fits : is_wide list_whole ≡ false = not_wide list_whole (omega (arith, short, ended_len built)) in
-      items_end put item (attached_to name) so_far.so_far case left ∙ rw (fits, sym (ended built)) refl
+      items_end add_argument item (attached_to name) so_far.so_far case left ∙ rw (fits, sym (ended built)) refl
 
   pub attached_wide : {last : Shape} → args_case s.rest ≡ EndOfArguments → last ≡ arguments_ended (text_len name) name.own name.ctor found
       → max_text < text_len last - front_len name → whole ≡ None
   attached_wide case built long =
       let wide : is_wide list_whole ≡ true = wide_by list_whole (omega (arith, long, ended_len built)) in
-      items_end put item (attached_to name) so_far.so_far case refl ∙ rw wide refl
+      items_end add_argument item (attached_to name) so_far.so_far case refl ∙ rw wide refl
 
   -- with one text more
   more_len : (next more : Shape) → more ≡ joined (separated first found) [] next → text_len more ≡ front_len name + text_len (listed_more first list_so_far next)
@@ -539,7 +539,7 @@ module _ {whole : Option (Shape × ParserState)} (put : Shape → ParserState �
       omega (arith, ap text_len is, long, length-append (text name) (gap ++ (60 ∷ list)), length-append gap (60 ∷ list))
 
   pub attached_more : {next more : Shape} {mid after : ParserState} → args_case s.rest ≡ NextArgument → item s ≡ Some (next, mid) → length mid.rest < length s.rest
-      → more ≡ joined (separated first found) [] next → text_len more - front_len name ≤ max_text → after ≡ put next mid → after.rest ≡ mid.rest → AttachedSoFar whole put item name false more after
+      → more ≡ joined (separated first found) [] next → text_len more - front_len name ≤ max_text → after ≡ add_argument next mid → after.rest ≡ mid.rest → AttachedSoFar whole add_argument item name false more after
   attached_more {next} {more} {mid} {after} case read shorter built short left same =
       let longer = listed_more first list_so_far next in
       let fits : is_wide longer ≡ false = not_wide longer (omega (arith, short, more_len next more built)) in record {
@@ -547,21 +547,21 @@ module _ {whole : Option (Shape × ParserState)} (put : Shape → ParserState �
         own = longer.own;
         templ = so_far.templ;
         ctor = so_far.ctor;
-        so_far = items_more put item (attached_to name) so_far.so_far case read shorter refl fits left same;
+        so_far = items_more add_argument item (attached_to name) so_far.so_far case read shorter refl fits left same;
         stands = built ∙ ap (λ (l : Shape). joined (separated first l) [] next) so_far.stands ∙ begun_more (text name) (angle_gap (text name)) so_far.list next first;
       }
 
   pub attached_more_wide : {next more : Shape} {mid : ParserState} → args_case s.rest ≡ NextArgument → item s ≡ Some (next, mid)
       → more ≡ joined (separated first found) [] next → max_text < text_len more - front_len name → whole ≡ None
   attached_more_wide {next} {more} case read built long =
-      items_wide put item (attached_to name) so_far.so_far case read refl (wide_by (listed_more first list_so_far next) (omega (arith, long, more_len next more built)))
+      items_wide add_argument item (attached_to name) so_far.so_far case read refl (wide_by (listed_more first list_so_far next) (omega (arith, long, more_len next more built)))
 
   -- the front is in what is found
   pub attached_room : (next : Shape) {more : Shape} → more ≡ joined (separated first found) [] next → {front all : ℕ} → front ≡ front_len name → all ≡ text_len more → front ≤ all
   attached_room next {more} built front_is all_is = omega (arith, front_is, all_is, more_len next more built)
 
   pub attached_fail : args_case s.rest ≡ NextArgument → item s ≡ None → whole ≡ None
-  attached_fail case none = items_fail put item (attached_to name) so_far.so_far case none
+  attached_fail case none = items_fail add_argument item (attached_to name) so_far.so_far case none
 
   -- what is found is a text that begins with the name's
   pub attached_plain : {all : Shape} → all ≡ found → all ≡ plain_shape (text all)
@@ -633,14 +633,14 @@ pub types_fail : {whole : Option (List Shape × ParserState)} (type : Parses Sha
 unfolding types_turn
 types_fail type sofar case none = loop_fail sofar (rw (case, none) refl)
 
--- a scope that may be there keeps its shape
-pub kept_scope : (old new : Buffer) (scope : Option Piece) → SameFrame old new → IfSome scope (IsLiving old) → option_map (shape new) scope ≡ option_map (shape old) scope
-kept_scope old new None kept living = refl
-kept_scope old new (Some p) kept living = ap Some (kept.pieces p living).shape_is
+-- a parent that may be there keeps its shape
+pub kept_parent : (old new : Buffer) (parent : Option Piece) → SameFrame old new → IfSome parent (IsLiving old) → option_map (shape new) parent ≡ option_map (shape old) parent
+kept_parent old new None kept living = refl
+kept_parent old new (Some p) kept living = ap Some (kept.pieces p living).shape_is
 
-pub some_scope : (b : Buffer) (scope : Option Piece) → is_some (option_map (shape b) scope) ≡ is_some scope
-some_scope b None = refl
-some_scope b (Some p) = refl
+pub some_parent : (b : Buffer) (parent : Option Piece) → is_some (option_map (shape b) parent) ≡ is_some parent
+some_parent b None = refl
+some_parent b (Some p) = refl
 
 -- what lived keeps its shape
 pub kept_shapes : (old new : Buffer) (ps : List Piece) → SameFrame old new → All (IsLiving old) ps → map (shape new) ps ≡ map (shape old) ps

@@ -18,7 +18,7 @@ use Rattle.itanium_syntax.specs.Scalars.{source_name, index_of, ordinal, optiona
 use Rattle.itanium_syntax.specs.Operators.{operator_here}
 use Rattle.itanium_syntax.specs.Abbreviations.{abbreviation_of}
 use Rattle.itanium_syntax.specs.Context.{opens_scope, inside_type, inside_pack, inside_lambda, inside_local, inside_encoding}
-use Rattle.itanium_syntax.specs.Names.{symbol_case, name_case, unscoped_case, first_case, component_case, unqualified_case, free_case, tag_case, past_internal, past_initializer_letter, source_text, name_quals, past_name_quals, saves_first, substitution_case}
+use Rattle.itanium_syntax.specs.Names.{symbol_case, name_case, unscoped_case, first_case, segment_case, unqualified_case, free_case, tag_case, past_internal, past_initializer_letter, source_text, name_quals, past_name_quals, saves_first, substitution_case}
 use Rattle.itanium_syntax.specs.Bytes.{begins}
 use Rattle.itanium_syntax.specs.Expressions.{is_external, literal_case, literal_value, expression_text, expression_case}
 use Rattle.itanium_syntax.specs.Offsets.{thunk_offsets, past_base_offset}
@@ -28,7 +28,7 @@ use Rattle.itanium_syntax.specs.Args.{attached_case, args_case, argument_case}
 use Rattle.itanium_syntax.specs.Types.{type_case, builtin_text, past_builtin, cv_quals, past_cv, with_reference, past_reference, cv_case, function_case, params_case, types_case, elaborated_text}
 use Rattle.itanium_grammar.specs.Answer.{max_text}
 use Rattle.itanium_grammar.specs.Tree.{worded_shape, temporary_shape, construction_shape, thunk_shape, pre_shape, post_shape, binary_shape, greater_shape, conditional_shape, abbreviation_shape, conversion_shape, elaborated_shape, unnamed_text, literal_operator_text}
-use Rattle.itanium_reader.specs.Cases.{SymbolCase, SpecialSymbol, NameSymbol, SpecialCase, TypeSpecial, NameSpecial, TemporarySpecial, ConstructionSpecial, ThunkSpecial, NoSpecial, NameCase, NestedName, LocalName, UnscopedName, ReturnCase, NoReturnType, SomeReturnType, SignatureCase, NoSignature, SomeSignature, EntityCase, StringLiteralEntity, DefaultArgumentEntity, NameEntity, NoEntity, UnscopedCase, StdName, SubstitutionName, PlainName, AttachedCase, NoneAttached, ArgsAttached, FirstCase, ParameterFirst, StdFirst, SubstitutionFirst, NameFirst, ComponentCase, EndOfComponents, ArgsComponent, NameComponent, UnqualifiedCase, ConstructorName, DestructorName, FreeName, FreeCase, SourceName, UnnamedTypeName, LambdaName, ConversionName, LiteralOperatorName, OperatorName, NoName, TagCase, NoTag, NextTag, SubstitutionCase, AbbreviationSubstitution, ComponentSubstitution, ArgsCase, EndOfArguments, NextArgument, LiteralCase, ExternalName, ValueLiteral, NoLiteral, ExpressionCase, PreExpression, AddressExpression, UnaryExpression, PostExpression, BinaryExpression, GreaterExpression, ConditionalExpression, ParameterExpression, LiteralExpression, NoExpression, ArgumentCase, ExpressionArgument, PackArgument, LiteralArgument, ConstraintArgument, TypeArgument, TypeCase, BuiltinType, ExpansionType, VendorType, ArrayType, FunctionType, MemberType, PointerType, CvType, ElaboratedType, ParameterType, SubstitutionType, UnreadType, NameType, CvCase, CvFunction, CvOther, FunctionCase, ExternFunction, PlainFunction, ParamsCase, NoParams, SomeParams, TypesCase, EndOfTypes, NextType}
+use Rattle.itanium_reader.specs.Cases.{SymbolCase, SpecialSymbol, NameSymbol, SpecialCase, TypeSpecial, NameSpecial, TemporarySpecial, ConstructionSpecial, ThunkSpecial, NoSpecial, NameCase, NestedName, LocalName, UnscopedName, ReturnCase, NoReturnType, SomeReturnType, SignatureCase, NoSignature, SomeSignature, EntityCase, StringLiteralEntity, DefaultArgumentEntity, NameEntity, NoEntity, UnscopedCase, StdName, SubstitutionName, PlainName, AttachedCase, NoneAttached, ArgsAttached, FirstCase, ParameterFirst, StdFirst, SubstitutionFirst, NameFirst, SegmentCase, EndOfSegments, ArgsSegment, NameSegment, UnqualifiedCase, ConstructorName, DestructorName, FreeName, FreeCase, SourceName, UnnamedTypeName, LambdaName, ConversionName, LiteralOperatorName, OperatorName, NoName, TagCase, NoTag, NextTag, SubstitutionCase, AbbreviationSubstitution, ComponentSubstitution, ArgsCase, EndOfArguments, NextArgument, LiteralCase, ExternalName, ValueLiteral, NoLiteral, ExpressionCase, PreExpression, AddressExpression, UnaryExpression, PostExpression, BinaryExpression, GreaterExpression, ConditionalExpression, ParameterExpression, LiteralExpression, NoExpression, ArgumentCase, ExpressionArgument, PackArgument, LiteralArgument, ConstraintArgument, TypeArgument, TypeCase, BuiltinType, ExpansionType, VendorType, ArrayType, FunctionType, MemberType, PointerType, CvType, ElaboratedType, ParameterType, SubstitutionType, UnreadType, NameType, CvCase, CvFunction, CvOther, FunctionCase, ExternFunction, PlainFunction, ParamsCase, NoParams, SomeParams, TypesCase, EndOfTypes, NextType}
 
 infixl 10 ◌>>=◌
 abbrev pub ◌>>=◌ : {A B : Type 0} → Option A → (A → Option B) → Option B
@@ -52,12 +52,12 @@ abbrev pub begun : List ℕ → ParserState
 begun bytes = record { rest = bytes; saved = []; scopes = []; entered = 0; most_saved = 0 }
 
 -- the same state, before these bytes
-abbrev pub at : List ℕ → ParserState → ParserState
-at bytes s = record s { rest = bytes }
+abbrev pub with_rest : List ℕ → ParserState → ParserState
+with_rest bytes s = record s { rest = bytes }
 
 -- the state after n bytes
 abbrev pub skip : ℕ → ParserState → ParserState
-skip n s = at (drop n s.rest) s
+skip n s = with_rest (drop n s.rest) s
 
 -- the shape is saved last
 abbrev pub save : Shape → ParserState → ParserState
@@ -90,7 +90,7 @@ total_len (t ∷ ts) = text_len t + total_len ts
 
 -- past the M of a data member's initializer
 abbrev pub past_initializer : ParserState → ParserState
-past_initializer s = at (past_initializer_letter s.rest) s
+past_initializer s = with_rest (past_initializer_letter s.rest) s
 
 -- what one turn of a loop gives: the answer, or what is there so far
 pub data Turn (L A : Type 0) : Type 0 where
@@ -113,29 +113,29 @@ loop turn (suc n) so_far s = turn so_far s >>= λ t. after_turn t.0 (loop turn n
 abbrev pub parse_loop : {L A : Type 0} → (L → Parses (Turn L A)) → L → Parses A
 parse_loop turn so_far s = loop turn (length s.rest + 1) so_far s
 
--- the name in its scope, where there is one
-abbrev pub in_scope : Option Shape → Shape → Shape
-in_scope None leaf = leaf
-in_scope (Some scope) leaf = qualified scope leaf
+-- the name in its parent, where there is one
+abbrev pub in_parent : Option Shape → Shape → Shape
+in_parent None leaf = leaf
+in_parent (Some parent) leaf = qualified parent leaf
 
 -- a source name
 abbrev pub parse_source : Parses Shape
-parse_source s = source_name s.rest >>= λ found. Some (plain_shape (source_text found.0), at found.1 s)
+parse_source s = source_name s.rest >>= λ found. Some (plain_shape (source_text found.0), with_rest found.1 s)
 
 -- a list begins: it may open a scope
-abbrev pub begin : Bool → ParserState → ParserState
-begin opens s = record s { scopes = if opens then s.scopes ++ [] ∷ [] else s.scopes }
+abbrev pub begin_list : Bool → ParserState → ParserState
+begin_list opens s = record s { scopes = if opens then s.scopes ++ [] ∷ [] else s.scopes }
 
 -- the scopes past the first n are dropped, and the argument goes into the scope that its list opened
-abbrev pub put : Bool → ℕ → Shape → ParserState → ParserState
-put opens n t s = record s { scopes = if opens then with_arg t (take n s.scopes) else take n s.scopes }
+abbrev pub add_argument : Bool → ℕ → Shape → ParserState → ParserState
+add_argument opens n t s = record s { scopes = if opens then with_arg t (take n s.scopes) else take n s.scopes }
 
 -- <substitution> after its S
 abbrev pub substitution_as : SubstitutionCase → Parses Shape
 substitution_as AbbreviationSubstitution s =
     abbreviation_of s.rest >>= λ found. Some (abbreviation_shape found, skip 1 s)
 substitution_as ComponentSubstitution s =
-    index_of Base36 s.rest >>= λ found. slice_get s.saved found.0 >>= λ t. Some (t, at found.1 s)
+    index_of Base36 s.rest >>= λ found. slice_get s.saved found.0 >>= λ t. Some (t, with_rest found.1 s)
 
 -- <substitution>
 unfoldable pub parse_substitution : Parses Shape
@@ -149,7 +149,7 @@ parameter_as false i s = slice_get (last_args s.scopes) i
 -- <template-param>
 unfoldable pub parse_parameter : Context → Parses Shape
 parse_parameter x s =
-    index_of Decimal (drop 1 s.rest) >>= λ found. parameter_as x.lambda found.0 s >>= λ t. Some (t, at found.1 s)
+    index_of Decimal (drop 1 s.rest) >>= λ found. parameter_as x.lambda found.0 s >>= λ t. Some (t, with_rest found.1 s)
 
 -- a template parameter that is saved
 abbrev pub saved_parameter : Context → Parses Shape
@@ -159,9 +159,9 @@ saved_parameter x s = parse_parameter x s >>= λ found. Some (found.0, save foun
 abbrev pub tag_as : TagCase → Shape → Parses (Turn Shape Shape)
 tag_as NoTag name s = Some (ends name, s)
 tag_as NextTag name s =
-    source_name (drop 1 s.rest) >>= λ found. Some (goes_on (tagged name (source_text found.0)), at found.1 s)
+    source_name (drop 1 s.rest) >>= λ found. Some (goes_on (tagged name (source_text found.0)), with_rest found.1 s)
 
--- the same, by what comes next
+-- its parser, by what comes next
 unfoldable pub tag_turn : Shape → Parses (Turn Shape Shape)
 tag_turn name s = tag_as (tag_case s.rest) name s
 
@@ -177,18 +177,18 @@ next_item list = Some (goes_on (false, list.0), list.1)
 -- on
 abbrev pub list_as : ArgsCase → (Shape → ParserState → ParserState) → Parses Shape → Bool × Shape
     → Parses (Turn (Bool × Shape) Shape)
-list_as EndOfArguments put item so_far s = Some (ends so_far.1, skip 1 s)
-list_as NextArgument put item so_far s =
-    item s >>= λ next. fitting (listed_more so_far.0 so_far.1 next.0, put next.0 next.1) >>= next_item
+list_as EndOfArguments add_argument item so_far s = Some (ends so_far.1, skip 1 s)
+list_as NextArgument add_argument item so_far s =
+    item s >>= λ next. fitting (listed_more so_far.0 so_far.1 next.0, add_argument next.0 next.1) >>= next_item
 
--- the same, by what comes next
+-- its parser, by what comes next
 unfoldable pub list_turn : (Shape → ParserState → ParserState) → Parses Shape → Bool × Shape
     → Parses (Turn (Bool × Shape) Shape)
-list_turn put item so_far s = list_as (args_case s.rest) put item so_far s
+list_turn add_argument item so_far s = list_as (args_case s.rest) add_argument item so_far s
 
 -- an item that goes nowhere but into its list
-abbrev pub put_nowhere : Shape → ParserState → ParserState
-put_nowhere item s = s
+abbrev pub add_nowhere : Shape → ParserState → ParserState
+add_nowhere item s = s
 
 -- one more type of a list, with what stands in front of it, or its end, which isn't taken. A list that is too long
 -- already isn't read on
@@ -197,7 +197,7 @@ typed_as EndOfTypes type so_far s = Some (ends so_far.1, s)
 typed_as NextType type so_far s =
     type s >>= λ next. fitting (listed_more so_far.0 so_far.1 next.0, next.1) >>= next_item
 
--- the same, by what comes next
+-- its parser, by what comes next
 unfoldable pub typed_turn : Parses Shape → Bool × Shape → Parses (Turn (Bool × Shape) Shape)
 typed_turn type so_far s = typed_as (types_case false s.rest) type so_far s
 
@@ -212,7 +212,7 @@ typed_params_as SomeParams type list s = parse_typed type list s
 
 -- what is after the parameters of a lambda
 abbrev pub lambda_end : Shape → Parses Shape
-lambda_end list s = ordinal (drop 1 s.rest) >>= λ found. Some (lambda_closed found.0 list, at found.1 s)
+lambda_end list s = ordinal (drop 1 s.rest) >>= λ found. Some (lambda_closed found.0 list, with_rest found.1 s)
 
 -- <closure-type-name> after its Ul
 abbrev pub parse_lambda : Parses Shape → Parses Shape
@@ -222,7 +222,7 @@ parse_lambda type s =
 -- <unnamed-type-name> after its Ut
 abbrev pub parse_unnamed_type : Parses Shape
 parse_unnamed_type s =
-    ordinal s.rest >>= λ found. Some (plain_shape (unnamed_text found.0), at found.1 s)
+    ordinal s.rest >>= λ found. Some (plain_shape (unnamed_text found.0), with_rest found.1 s)
 
 -- a conversion after its cv
 abbrev pub parse_conversion : Parses Shape → Parses Shape
@@ -231,13 +231,13 @@ parse_conversion type s = type s >>= λ found. Some (conversion_shape found.0, f
 -- a literal operator after its li
 abbrev pub parse_literal_operator : Parses Shape
 parse_literal_operator s =
-    source_name s.rest >>= λ found. Some (plain_shape (literal_operator_text found.0), at found.1 s)
+    source_name s.rest >>= λ found. Some (plain_shape (literal_operator_text found.0), with_rest found.1 s)
 
 -- an operator
 abbrev pub parse_operator : Parses Shape
 parse_operator s = operator_here s.rest >>= λ text. Some (plain_shape (codes "operator" ++ text), skip 2 s)
 
--- <unqualified-name> that asks for no scope, without its tags: types by the first parser, in a lambda by the second
+-- <unqualified-name> that asks for no parent, without its tags: types by the first parser, in a lambda by the second
 abbrev pub free_as : FreeCase → Parses Shape → Parses Shape → Parses Shape
 free_as SourceName type param s = parse_source s
 free_as UnnamedTypeName type param s = parse_unnamed_type (skip 2 s)
@@ -247,7 +247,7 @@ free_as LiteralOperatorName type param s = parse_literal_operator (skip 2 s)
 free_as OperatorName type param s = parse_operator s
 free_as NoName type param s = None
 
--- the same with its tags
+-- such a name with its tags
 abbrev pub parse_free : Parses Shape → Parses Shape → Parses Shape
 parse_free type param s = free_as (free_case s.rest) type param s >>= λ name. parse_tags name.0 name.1
 
@@ -255,29 +255,29 @@ parse_free type param s = free_as (free_case s.rest) type param s >>= λ name. p
 abbrev pub parse_tagged_source : Parses Shape
 parse_tagged_source s = parse_source s >>= λ name. parse_tags name.0 name.1
 
--- the same, in the scope that stands in front of it
+-- any unqualified name, in the parent that stands in front of it
 abbrev pub parse_source_in : Option Shape → Parses Shape
-parse_source_in scope s = parse_tagged_source s >>= λ name. Some (in_scope scope name.0, name.1)
+parse_source_in parent s = parse_tagged_source s >>= λ name. Some (in_parent parent name.0, name.1)
 
--- a constructor or a destructor of the scope, and its tags
+-- a constructor or a destructor of the parent, and its tags
 abbrev pub ctor_dtor_as : Bool → Option Shape → Parses Shape
 ctor_dtor_as destructor None s = None
-ctor_dtor_as destructor (Some scope) s = parse_tags (qualified_ctor scope destructor) (skip 2 s)
+ctor_dtor_as destructor (Some parent) s = parse_tags (qualified_ctor parent destructor) (skip 2 s)
 
 -- <unqualified-name>
 abbrev pub unqualified_as : UnqualifiedCase → Parses Shape → Parses Shape → Option Shape → Parses Shape
-unqualified_as ConstructorName type param scope s = ctor_dtor_as false scope s
-unqualified_as DestructorName type param scope s = ctor_dtor_as true scope s
-unqualified_as FreeName type param scope s =
-    parse_free type param s >>= λ name. Some (in_scope scope name.0, name.1)
+unqualified_as ConstructorName type param parent s = ctor_dtor_as false parent s
+unqualified_as DestructorName type param parent s = ctor_dtor_as true parent s
+unqualified_as FreeName type param parent s =
+    parse_free type param s >>= λ name. Some (in_parent parent name.0, name.1)
 
 -- [L] <unqualified-name>
 unfoldable pub parse_unqualified : Parses Shape → Parses Shape → Option Shape → Parses Shape
-parse_unqualified type param scope s =
-    unqualified_as (unqualified_case (is_some scope) (past_internal s.rest)) type param scope
-    (at (past_internal s.rest) s)
+parse_unqualified type param parent s =
+    unqualified_as (unqualified_case (is_some parent) (past_internal s.rest)) type param parent
+    (with_rest (past_internal s.rest) s)
 
--- a parser of unqualified names, in the scope that stands in front of them
+-- a parser of unqualified names, in the parent that stands in front of them
 abbrev pub ParsesName : Type 0
 ParsesName = Option Shape → Parses Shape
 
@@ -305,43 +305,43 @@ unscoped_as SubstitutionName unqualified args s =
 unscoped_as PlainName unqualified args s =
     unqualified None s >>= λ name. attached_as (attached_case name.1.rest) args name.0 name.1
 
--- the first component of a <nested-name>
+-- the first segment of a <nested-name>
 abbrev pub first_as : FirstCase → ParsesName → Context → Parses Shape
 first_as ParameterFirst unqualified x s = saved_parameter x s
 first_as StdFirst unqualified x s = Some (plain_shape (codes "std"), skip 2 s)
 first_as SubstitutionFirst unqualified x s = parse_substitution s
 first_as NameFirst unqualified x s = unqualified None s >>= λ name. Some (name.0, save name.0 name.1)
 
--- a source name in no scope as the first component of a <nested-name>, which is saved
+-- a source name in no parent as the first segment of a <nested-name>, which is saved
 abbrev pub parse_first_source : Parses Shape
 parse_first_source s = parse_source_in None s >>= λ name. Some (name.0, save name.0 name.1)
 
 -- what stands of a <nested-name> so far is saved, and the last saved shape is to be taken back at its end
-abbrev pub next_component : Shape × ParserState → Option (Turn (Bool × Shape) Shape × ParserState)
-next_component next = Some (goes_on (true, next.0), past_initializer (save next.0 next.1))
+abbrev pub next_segment : Shape × ParserState → Option (Turn (Bool × Shape) Shape × ParserState)
+next_segment next = Some (goes_on (true, next.0), past_initializer (save next.0 next.1))
 
--- a component that was read is saved, and the M of a data member's initializer is passed over
-abbrev pub end_component : Shape × ParserState → Option (Shape × ParserState)
-end_component next = Some (next.0, past_initializer (save next.0 next.1))
+-- a segment that was read is saved, and the M of a data member's initializer is passed over
+abbrev pub end_segment : Shape × ParserState → Option (Shape × ParserState)
+end_segment next = Some (next.0, past_initializer (save next.0 next.1))
 
--- a source name, in the scope that stands in front of it, as the next component of a <nested-name>
+-- a source name, in the parent that stands in front of it, as the next segment of a <nested-name>
 abbrev pub parse_next_source : Option Shape → Parses Shape
-parse_next_source scope s = parse_source_in scope s >>= end_component
+parse_next_source parent s = parse_source_in parent s >>= end_segment
 
--- one more component of a <nested-name>, or its E
-abbrev pub component_as : ComponentCase → ParsesName → Parses Shape → Bool × Shape
+-- one more segment of a <nested-name>, or its E
+abbrev pub segment_as : SegmentCase → ParsesName → Parses Shape → Bool × Shape
     → Parses (Turn (Bool × Shape) Shape)
-component_as EndOfComponents unqualified args so_far s = Some (ends so_far.1, taken_back so_far.0 (skip 1 s))
-component_as ArgsComponent unqualified args so_far s = attached_by args so_far.1 s >>= fitting >>= next_component
-component_as NameComponent unqualified args so_far s = unqualified (Some so_far.1) s >>= fitting >>= next_component
+segment_as EndOfSegments unqualified args so_far s = Some (ends so_far.1, taken_back so_far.0 (skip 1 s))
+segment_as ArgsSegment unqualified args so_far s = attached_by args so_far.1 s >>= fitting >>= next_segment
+segment_as NameSegment unqualified args so_far s = unqualified (Some so_far.1) s >>= fitting >>= next_segment
 
--- the same, by what comes next
-unfoldable pub component_turn : ParsesName → Parses Shape → Bool × Shape → Parses (Turn (Bool × Shape) Shape)
-component_turn unqualified args so_far s = component_as (component_case s.rest) unqualified args so_far s
+-- its parser, by what comes next
+unfoldable pub segment_turn : ParsesName → Parses Shape → Bool × Shape → Parses (Turn (Bool × Shape) Shape)
+segment_turn unqualified args so_far s = segment_as (segment_case s.rest) unqualified args so_far s
 
--- the later components of a <nested-name>, up to its E
-abbrev pub parse_components : ParsesName → Parses Shape → Bool → Shape → Parses Shape
-parse_components unqualified args takes name s = parse_loop (component_turn unqualified args) (takes, name) s
+-- the later segments of a <nested-name>, up to its E
+abbrev pub parse_segments : ParsesName → Parses Shape → Bool → Shape → Parses Shape
+parse_segments unqualified args takes name s = parse_loop (segment_turn unqualified args) (takes, name) s
 
 -- a parser of names without their own qualifiers, and with these beside them
 abbrev pub ParsesBareName : Type 0
@@ -351,7 +351,7 @@ ParsesBareName = Parses (Shape × Quals)
 abbrev pub parse_after_quals : ParsesName → Parses Shape → Context → Parses Shape
 parse_after_quals unqualified args x s =
     first_as (first_case s.rest) unqualified x s >>= λ first.
-    parse_components unqualified args (saves_first (first_case s.rest)) first.0 (past_initializer first.1)
+    parse_segments unqualified args (saves_first (first_case s.rest)) first.0 (past_initializer first.1)
 
 -- a name with the qualifiers that were read in front of it
 abbrev pub with_quals : Quals → Shape × ParserState → Option ((Shape × Quals) × ParserState)
@@ -360,8 +360,8 @@ with_quals quals name = Some ((name.0, quals), name.1)
 -- what is after the N of a <nested-name>
 unfoldable pub parse_nested : ParsesName → Parses Shape → Context → ParsesBareName
 parse_nested unqualified args x s =
-    first_as (first_case (past_name_quals s.rest)) unqualified x (at (past_name_quals s.rest) s) >>= λ first.
-    parse_components unqualified args (saves_first (first_case (past_name_quals s.rest))) first.0
+    first_as (first_case (past_name_quals s.rest)) unqualified x (with_rest (past_name_quals s.rest) s) >>= λ first.
+    parse_segments unqualified args (saves_first (first_case (past_name_quals s.rest))) first.0
     (past_initializer first.1) >>= λ name.
     Some ((name.0, name_quals s.rest), name.1)
 
@@ -400,7 +400,7 @@ parse_worded inner s =
 
 -- what is after the name of a reference temporary
 abbrev pub temporary_end : Shape → Parses Shape
-temporary_end name s = index_of Base36 s.rest >>= λ found. Some (temporary_shape found.0 name, at found.1 s)
+temporary_end name s = index_of Base36 s.rest >>= λ found. Some (temporary_shape found.0 name, with_rest found.1 s)
 
 -- GR <name> [<seq-id>] _
 abbrev pub parse_temporary : Parses Shape → Parses Shape
@@ -411,7 +411,7 @@ abbrev pub parse_construction : Parses Shape → Parses Shape
 parse_construction type s =
     type (skip 2 s) >>= λ t.
     past_base_offset t.1.rest >>= λ rest.
-    type (at rest t.1) >>= λ u.
+    type (with_rest rest t.1) >>= λ u.
     Some (construction_shape u.0 t.0, u.1)
 
 -- <special-name>, by what it begins with
@@ -440,7 +440,7 @@ symbol_by type bare thunk x s =
 -- the offsets of a thunk, and its encoding without parameters
 abbrev pub thunk_by : Parses Shape → Parses Shape
 thunk_by symbol s =
-    thunk_offsets (drop 1 s.rest) >>= λ found. symbol (at found.1 s) >>= λ t. Some (thunk_shape found.0 t.0, t.1)
+    thunk_offsets (drop 1 s.rest) >>= λ found. symbol (with_rest found.1 s) >>= λ t. Some (thunk_shape found.0 t.0, t.1)
 
 -- <encoding>, by what it begins with
 abbrev pub encoding_as : SymbolCase → Parses Shape → ParsesBareName → Parses Shape → Parses Shape
@@ -457,7 +457,7 @@ abbrev pub entity_as : EntityCase → ParsesBareName → Shape → ParsesBareNam
 entity_as StringLiteralEntity bare encoding s =
     Some ((appended (codes "::string literal") encoding, no_quals), skip 2 s)
 entity_as DefaultArgumentEntity bare encoding s =
-    ordinal (drop 2 s.rest) >>= λ found. bare (at found.1 s) >>= λ entity.
+    ordinal (drop 2 s.rest) >>= λ found. bare (with_rest found.1 s) >>= λ entity.
     Some ((default_arg_shape encoding found.0 entity.0.0, entity.0.1), entity.1)
 entity_as NameEntity bare encoding s =
     bare (skip 1 s) >>= λ entity. Some ((qualified encoding entity.0.0, entity.0.1), entity.1)
@@ -485,7 +485,7 @@ ended parsed = parsed >>= λ found. past_end found.1 >>= λ after. Some (found.0
 -- the value of a literal after its type
 abbrev pub literal_end : Shape → Parses Shape
 literal_end type s =
-    literal_value s.rest >>= λ found. literal_step type found.0 >>= λ literal. Some (literal, at found.1 s)
+    literal_value s.rest >>= λ found. literal_step type found.0 >>= λ literal. Some (literal, with_rest found.1 s)
 
 -- a type, and the value of a literal after it
 abbrev pub literal_by : Parses Shape → Parses Shape
@@ -573,18 +573,18 @@ argument_by pack type expression primary s = argument_as (argument_case s.rest) 
 -- a pack from its J to its E
 abbrev pub parse_packed : Parses Shape → Parses Shape
 parse_packed argument s =
-    parse_loop (list_turn put_nowhere argument) (true, plain_shape []) (skip 1 s) >>= λ list.
+    parse_loop (list_turn add_nowhere argument) (true, plain_shape []) (skip 1 s) >>= λ list.
     Some (whole_shape list.0, list.1)
 
 -- how many scopes there are once a list has begun
 abbrev pub scopes_in : Bool → ParserState → ℕ
-scopes_in opens s = length (begin opens s).scopes
+scopes_in opens s = length (begin_list opens s).scopes
 
 -- a list from its I to its E
 abbrev pub parse_list : Parses Shape → Bool → Parses Shape
 parse_list argument opens s =
-    parse_loop (list_turn (put opens (scopes_in opens s)) argument) (true, plain_shape (codes "<"))
-    (begin opens (skip 1 s)) >>= λ list.
+    parse_loop (list_turn (add_argument opens (scopes_in opens s)) argument) (true, plain_shape (codes "<"))
+    (begin_list opens (skip 1 s)) >>= λ list.
     Some (whole_shape (arguments_closed list.0), list.1)
 
 -- <template-args> after a type, which is saved with them
@@ -600,7 +600,7 @@ types_as NextType type so_far s =
     if nat_lt max_text (total_len (so_far ++ next.0 ∷ [])) then None else
     Some (goes_on (so_far ++ next.0 ∷ []), next.1)
 
--- the same, by what comes next
+-- its parser, by what comes next
 unfoldable pub types_turn : Parses Shape → List Shape → Parses (Turn (List Shape) (List Shape))
 types_turn type so_far s = types_as (types_case true s.rest) type so_far s
 
@@ -617,7 +617,7 @@ params_as SomeParams type s = parse_types type s
 abbrev pub function_end : Quals → Shape → List Shape → Parses Shape
 function_end quals ret params s =
     function_step ret params (with_reference quals s.rest) >>= λ whole.
-    Some (whole, skip 1 (at (past_reference s.rest) s))
+    Some (whole, skip 1 (with_rest (past_reference s.rest) s))
 
 -- <function-type>, by what it begins with
 abbrev pub function_as : FunctionCase → Parses Shape → Quals → Parses Shape
@@ -637,7 +637,7 @@ cv_as CvOther type quals s = type s >>= λ inner. Some (cv_shape quals inner.0, 
 
 -- a type after <CV-qualifiers>
 abbrev pub parse_cv : Parses Shape → Parses Shape
-parse_cv type s = cv_as (cv_case (past_cv s.rest)) type (cv_quals s.rest) (at (past_cv s.rest) s)
+parse_cv type s = cv_as (cv_case (past_cv s.rest)) type (cv_quals s.rest) (with_rest (past_cv s.rest) s)
 
 -- what was read is saved
 abbrev pub saved_as : Shape → Parses Shape
@@ -671,7 +671,7 @@ saved_by parse s = parse s >>= λ found. saved_as found.0 found.1
 -- <array-type>
 abbrev pub parse_array : Parses Shape → Parses Shape
 parse_array type s =
-    optional_number (drop 1 s.rest) >>= λ found. type (at found.1 s) >>= λ elem. saved_array found.0 elem.0 elem.1
+    optional_number (drop 1 s.rest) >>= λ found. type (with_rest found.1 s) >>= λ elem. saved_array found.0 elem.0 elem.1
 
 -- P <type>, R <type> and O <type>
 abbrev pub parse_pointer : Parses Shape → Pointer → Parses Shape
@@ -702,7 +702,7 @@ parse_expansion type in_pack s = type (skip 2 s) >>= λ found. saved_as (expansi
 
 -- <type>, by what it begins with
 abbrev pub type_as : TypeCase → Parses Shape → Parses Shape → Parses Shape → Context → Parses Shape
-type_as BuiltinType type name args x s = Some (plain_shape (builtin_text s.rest), at (past_builtin s.rest) s)
+type_as BuiltinType type name args x s = Some (plain_shape (builtin_text s.rest), with_rest (past_builtin s.rest) s)
 type_as ExpansionType type name args x s = parse_expansion type x.pack s
 type_as VendorType type name args x s = parse_vendor s
 type_as ArrayType type name args x s = parse_array type s

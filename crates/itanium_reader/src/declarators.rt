@@ -1,4 +1,4 @@
-//! The steps of types that read no type: each makes a type of those that were found, and saves it.
+//! The methods for types: each makes a type of those that were found, and saves it.
 ghost use Rattle.std.specs.Prelude.{◌≡◌, ◌≤◌, OnOk, All, map, length};
 ghost use Rattle.demangle_text.specs.State.{IsLiving, shape, Lives, IsRun, SameFrame, scopes};
 ghost use Rattle.demangle_edit.specs.Types.{pointer_shape, cv_shape};

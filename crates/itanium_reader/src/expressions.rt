@@ -62,7 +62,7 @@ impl<'a> Reader<'a> {
     pub fn end_builtin_literal(&mut self) -> Result<(), Stop>
         requires builtin { type_case self.old.rest.now ≡ BuiltinType }
         ensures reads { Gives result self.new (spec.literal_end (plain_shape (builtin_text self.old.rest.now))
-            (spec.at (past_builtin self.old.rest.now) (state self.old))) }
+            (spec.with_rest (past_builtin self.old.rest.now) (state self.old))) }
         ensures run { OnOk result (IsRun self.old.buffer.value self.new.buffer.value) }
         ensures bounds { Bounds 2 result (state self.old) (state self.new) }
         ensures saved { SavedBounds 1 result (state self.old) (state self.new) }

@@ -1,5 +1,5 @@
 //! What the readers of productions share: the bytes that are left, the buffer with what was saved, the piece that was
-//! found, and all steps that call no other reader. It is for `itanium_demangle` and `itanium_productions` alone.
+//! found, and all methods, which call no reader. It is for `itanium_demangle` and `itanium_productions` alone.
 #![tactic(auto)]
 
 mod declarators;

@@ -34,18 +34,18 @@ impl<'a> Reader<'a> {
         Ok(())
     }
 
-    /// The name in its scope, where there is one.
-    pub fn enclose(&mut self, scope: Option<Piece>, name: Piece) -> Result<(), AllocError>
-        requires scope { IfSome scope (IsLiving self.old.buffer.value) }
+    /// The name in its parent, where there is one.
+    pub fn enclose(&mut self, parent: Option<Piece>, name: Piece) -> Result<(), AllocError>
+        requires parent { IfSome parent (IsLiving self.old.buffer.value) }
         requires name { IsLiving self.old.buffer.value name }
         ensures shape { OnOk result (Lives self.new.buffer.value self.new.found
-            (spec.in_scope (option_map (shape self.old.buffer.value) scope) (shape self.old.buffer.value name))) }
+            (spec.in_parent (option_map (shape self.old.buffer.value) parent) (shape self.old.buffer.value name))) }
         ensures state { OnOk result (state self.new ≡ state self.old) }
         ensures edit { OnOk result (IsEdit self.old.buffer.value self.new.buffer.value) }
     {
-        self.found = match scope {
+        self.found = match parent {
             None => name,
-            Some(scope) => qualify(&mut self.buffer, scope, name)?,
+            Some(parent) => qualify(&mut self.buffer, parent, name)?,
         };
         Ok(())
     }
@@ -79,7 +79,7 @@ impl<'a> Reader<'a> {
         }
     }
 
-    /// A `<source-name>` in no scope, and `<abi-tags>` after it.
+    /// A `<source-name>` in no parent, and `<abi-tags>` after it.
     #[tactic(auto, using(crate::proofs::Rules::source_names))]
     #[inline(always)]
     pub fn read_source_name(&mut self) -> Result<(), Stop>
@@ -102,10 +102,10 @@ impl<'a> Reader<'a> {
         }
     }
 
-    /// A `<source-name>` in the scope that was found, and `<abi-tags>` after it.
+    /// A `<source-name>` in the parent that was found, and `<abi-tags>` after it.
     #[tactic(auto, using(crate::proofs::Rules::source_names))]
     #[inline(always)]
-    pub fn read_source_component(&mut self) -> Result<(), Stop>
+    pub fn read_source_segment(&mut self) -> Result<(), Stop>
         requires living { IsLiving self.old.buffer.value self.old.found }
         ensures reads { Gives result self.new
             (spec.parse_source_in (Some (shape self.old.buffer.value self.old.found)) (state self.old)) }
@@ -124,11 +124,11 @@ impl<'a> Reader<'a> {
                 self.rest = rest;
                 Ok(())
             }
-            TagCase::NextTag => self.read_tagged_component(),
+            TagCase::NextTag => self.read_tagged_segment(),
         }
     }
 
-    /// A `<source-name>` in no scope, and `<abi-tags>` after it, as the first component of a `<nested-name>`: it is
+    /// A `<source-name>` in no parent, and `<abi-tags>` after it, as the first segment of a `<nested-name>`: it is
     /// saved.
     #[tactic(auto, using(crate::proofs::Rules::source_names))]
     #[inline(always)]
@@ -162,7 +162,7 @@ impl<'a> Reader<'a> {
         }
     }
 
-    /// A `<source-name>` in the scope that was found, and `<abi-tags>` after it, as the next component of a
+    /// A `<source-name>` in the parent that was found, and `<abi-tags>` after it, as the next segment of a
     /// `<nested-name>`: it is saved, and the `M` of a data member's initializer is passed over.
     #[tactic(auto, using(crate::proofs::Rules::source_names))]
     #[inline(always)]
@@ -191,8 +191,8 @@ impl<'a> Reader<'a> {
                 Ok(())
             }
             TagCase::NextTag => {
-                self.read_tagged_component()?;
-                self.end_component()?;
+                self.read_tagged_segment()?;
+                self.end_segment()?;
                 Ok(())
             }
         }
@@ -214,10 +214,10 @@ impl<'a> Reader<'a> {
         Ok(())
     }
 
-    /// The same in the scope that was found.
+    /// `read_source_segment` of a name with tags.
     #[cold]
     #[inline(never)]
-    fn read_tagged_component(&mut self) -> Result<(), Stop>
+    fn read_tagged_segment(&mut self) -> Result<(), Stop>
         requires living { IsLiving self.old.buffer.value self.old.found }
         ensures reads { Gives result self.new
             (spec.parse_source_in (Some (shape self.old.buffer.value self.old.found)) (state self.old)) }
@@ -225,26 +225,26 @@ impl<'a> Reader<'a> {
         ensures bounds { Bounds 2 result (state self.old) (state self.new) }
         ensures saved { SavedBounds 1 result (state self.old) (state self.new) }
     {
-        let scope = self.found;
+        let parent = self.found;
         self.framed_tagged_source()?;
-        self.found = qualify(&mut self.buffer, scope, self.found)?;
+        self.found = qualify(&mut self.buffer, parent, self.found)?;
         Ok(())
     }
 
-    /// A constructor or a destructor of the scope, and `<abi-tags>` after it.
-    pub fn read_ctor_dtor(&mut self, destructor: bool, scope: Option<Piece>) -> Result<(), Stop>
-        requires scope { IfSome scope (IsLiving self.old.buffer.value) }
+    /// A constructor or a destructor of the parent, and `<abi-tags>` after it.
+    pub fn read_ctor_dtor(&mut self, destructor: bool, parent: Option<Piece>) -> Result<(), Stop>
+        requires parent { IfSome parent (IsLiving self.old.buffer.value) }
         ensures reads { Gives result self.new
-            (spec.ctor_dtor_as destructor (option_map (shape self.old.buffer.value) scope) (state self.old)) }
+            (spec.ctor_dtor_as destructor (option_map (shape self.old.buffer.value) parent) (state self.old)) }
         ensures run { OnOk result (IsRun self.old.buffer.value self.new.buffer.value) }
         ensures bounds { OptionalBounds result (spec.skip 2 (state self.old)) (state self.new) }
         ensures saved { SavedBounds 0 result (spec.skip 2 (state self.old)) (state self.new) }
     {
-        let Some(scope) = scope else {
+        let Some(parent) = parent else {
             return Err(Stop::Unread);
         };
         self.skip(2);
-        self.found = qualify_ctor(&mut self.buffer, scope, destructor)?;
+        self.found = qualify_ctor(&mut self.buffer, parent, destructor)?;
         self.read_tags(self.found)
     }
 
@@ -337,7 +337,7 @@ impl<'a> Reader<'a> {
         self.print_set_quals(quals, shown)
     }
 
-    /// The same where something is printed: words that are shown, or a reference.
+    /// `print_quals` where something is printed: words that are shown, or a reference.
     #[inline(never)]
     fn print_set_quals(&mut self, quals: Quals, shown: bool) -> Result<(), AllocError>
         requires living { IsLiving self.old.buffer.value self.old.found }

@@ -117,10 +117,10 @@ impl<'a> Reader<'a> {
         Ok(())
     }
 
-    /// Ends a component of a `<nested-name>`: saves what was found, and goes past the `M` of a data member's
+    /// Ends a segment of a `<nested-name>`: saves what was found, and goes past the `M` of a data member's
     /// initializer, where one stands.
     #[inline(always)]
-    pub fn end_component(&mut self) -> Result<(), AllocError>
+    pub fn end_segment(&mut self) -> Result<(), AllocError>
         requires living { IsLiving self.old.buffer.value self.old.found }
         ensures shape { OnOk result (Lives self.new.buffer.value self.new.found
             (shape self.old.buffer.value self.old.found)) }
@@ -261,7 +261,8 @@ impl<'a> Reader<'a> {
     pub fn read_builtin(&mut self) -> Result<(), AllocError>
         ensures shape { OnOk result
             (Lives self.new.buffer.value self.new.found (plain_shape (builtin_text self.old.rest.now))) }
-        ensures state { OnOk result (state self.new ≡ spec.at (past_builtin self.old.rest.now) (state self.old)) }
+        ensures state { OnOk result (state self.new
+            ≡ spec.with_rest (past_builtin self.old.rest.now) (state self.old)) }
         ensures kept { OnOk result (SameFrame self.old.buffer.value self.new.buffer.value) }
     {
         self.found = self.buffer.push(builtin_text(self.rest))?;
@@ -286,8 +287,8 @@ impl<'a> Reader<'a> {
     }
 
     /// A list begins, and opens a scope where it is to.
-    pub fn begin(&mut self, opens: bool) -> Result<(), AllocError>
-        ensures state { OnOk result (state self.new ≡ spec.begin opens (state self.old)) }
+    pub fn begin_list(&mut self, opens: bool) -> Result<(), AllocError>
+        ensures state { OnOk result (state self.new ≡ spec.begin_list opens (state self.old)) }
         ensures more { OnOk result (length (scopes self.old.buffer.value) ≤ length (scopes self.new.buffer.value)) }
         ensures opened { OnOk result (opens ≡ true → 0 < length (scopes self.new.buffer.value)) }
         ensures found { OnOk result (self.new.found ≡ self.old.found) }
@@ -299,14 +300,14 @@ impl<'a> Reader<'a> {
         Ok(())
     }
 
-    /// Drops the scopes past the first n, which an argument opened, and puts what was found into the scope that its
+    /// Drops the scopes past the first n, which an argument opened, and adds what was found to the scope that its
     /// list opened.
     #[inline(always)]
-    pub fn put_found(&mut self, opens: bool, n: usize) -> Result<(), AllocError>
+    pub fn add_argument(&mut self, opens: bool, n: usize) -> Result<(), AllocError>
         requires living { IsLiving self.old.buffer.value self.old.found }
         requires scopes { n ≤ length (scopes self.old.buffer.value) }
         requires opened { opens ≡ true → 0 < n }
-        ensures state { OnOk result (state self.new ≡ spec.put opens n
+        ensures state { OnOk result (state self.new ≡ spec.add_argument opens n
             (shape self.old.buffer.value self.old.found) (state self.old)) }
         ensures stand { OnOk result (length (scopes self.new.buffer.value) ≡ n) }
         ensures found { OnOk result (self.new.found ≡ self.old.found) }

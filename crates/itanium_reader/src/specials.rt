@@ -16,7 +16,7 @@ use itanium_syntax::offsets::{CallOffset, Signed, ThunkOffsets};
 use std::alloc::AllocError;
 
 /// The sign of a number, `-` or nothing.
-fn sign_bytes(number: Signed) -> &'static [u8]
+fn offset_sign_bytes(number: Signed) -> &'static [u8]
     ensures value { result.now ≡ offset_sign number }
 {
     if number.negative { b"-" } else { b"" }
@@ -43,7 +43,7 @@ fn push_plain_offset(buf: &mut Buffer, number: Signed) -> Result<Piece, AllocErr
     let magnitude = push_number(buf, number.magnitude)?;
     let parts = [
         Glue::Text(b"{offset("),
-        Glue::Text(sign_bytes(number)),
+        Glue::Text(offset_sign_bytes(number)),
         Glue::Piece(magnitude),
         Glue::Text(b")}"),
     ];
@@ -61,10 +61,10 @@ fn push_virtual_offset(buf: &mut Buffer, first: Signed, second: Signed) -> Resul
     let other = push_number(buf, second.magnitude)?;
     let parts = [
         Glue::Text(b"{virtual offset("),
-        Glue::Text(sign_bytes(first)),
+        Glue::Text(offset_sign_bytes(first)),
         Glue::Piece(one),
         Glue::Text(b", "),
-        Glue::Text(sign_bytes(second)),
+        Glue::Text(offset_sign_bytes(second)),
         Glue::Piece(other),
         Glue::Text(b")}"),
     ];

@@ -10,8 +10,8 @@ use Rattle.itanium_syntax.specs.declared.numerals.Radix.{Radix}
 use Rattle.itanium_syntax.specs.declared.numerals.Radix.TheVariants.{Decimal}
 use Rattle.itanium_syntax.specs.Abbreviations.{abbreviation_of}
 use Rattle.itanium_syntax.specs.Bytes.{begins, begins_one_of, past_letter}
-use Rattle.itanium_syntax.specs.Cases.{TypeSpecial, NameSpecial, TemporarySpecial, ConstructionSpecial, ThunkSpecial, PreExpression, AddressExpression, UnaryExpression, PostExpression, BinaryExpression, GreaterExpression, ConditionalExpression, LiteralExpression, ExpressionArgument, LiteralArgument, StringLiteralEntity, DefaultArgumentEntity, NameEntity, ExpansionType, LambdaName, ConversionName, UnnamedTypeName, LiteralOperatorName, OperatorName, PackArgument, StdFirst, EndOfComponents, ArgsComponent, ConstructorName, DestructorName, ArgsAttached, EndOfArguments, BuiltinType, ArrayType, FunctionType, MemberType, PointerType, CvFunction, NoParams, EndOfTypes}
-use Rattle.itanium_syntax.specs.Names.{first_case, component_case, unqualified_case, free_case, past_internal, past_initializer_letter, past_name_quals}
+use Rattle.itanium_syntax.specs.Cases.{TypeSpecial, NameSpecial, TemporarySpecial, ConstructionSpecial, ThunkSpecial, PreExpression, AddressExpression, UnaryExpression, PostExpression, BinaryExpression, GreaterExpression, ConditionalExpression, LiteralExpression, ExpressionArgument, LiteralArgument, StringLiteralEntity, DefaultArgumentEntity, NameEntity, ExpansionType, LambdaName, ConversionName, UnnamedTypeName, LiteralOperatorName, OperatorName, PackArgument, StdFirst, EndOfSegments, ArgsSegment, ConstructorName, DestructorName, ArgsAttached, EndOfArguments, BuiltinType, ArrayType, FunctionType, MemberType, PointerType, CvFunction, NoParams, EndOfTypes}
+use Rattle.itanium_syntax.specs.Names.{first_case, segment_case, unqualified_case, free_case, past_internal, past_initializer_letter, past_name_quals}
 use Rattle.std.specs.Str.{is_utf8}
 use Rattle.std.specs.Prelude.{take}
 use Rattle.itanium_syntax.specs.Expressions.{value_len, literal_value, expression_case}
@@ -122,9 +122,9 @@ pub std_shorter : (bytes : List ℕ) → first_case bytes ≡ StdFirst → lengt
 std_shorter [] e = cc
 std_shorter (b ∷ bytes) e = (takes_drop 2 (b ∷ bytes) (omega arith) (omega arith)).shorter
 
-pub components_end_shorter : (bytes : List ℕ) → component_case bytes ≡ EndOfComponents → length (drop 1 bytes) < length bytes
-components_end_shorter [] e = cc
-components_end_shorter (b ∷ bytes) e = omega arith
+pub segments_end_shorter : (bytes : List ℕ) → segment_case bytes ≡ EndOfSegments → length (drop 1 bytes) < length bytes
+segments_end_shorter [] e = cc
+segments_end_shorter (b ∷ bytes) e = omega arith
 
 pub arguments_end_shorter : (bytes : List ℕ) → args_case bytes ≡ EndOfArguments → length (drop 1 bytes) < length bytes
 arguments_end_shorter [] e = cc
@@ -135,9 +135,9 @@ pub attached_some : (bytes : List ℕ) → attached_case bytes ≡ ArgsAttached 
 attached_some [] e = cc
 attached_some (b ∷ bytes) e = omega arith
 
-pub component_args_some : (bytes : List ℕ) → component_case bytes ≡ ArgsComponent → 0 < length bytes
-component_args_some [] e = cc
-component_args_some (b ∷ bytes) e = omega arith
+pub segment_args_some : (bytes : List ℕ) → segment_case bytes ≡ ArgsSegment → 0 < length bytes
+segment_args_some [] e = cc
+segment_args_some (b ∷ bytes) e = omega arith
 
 past_builtin_shorter : (bytes : List ℕ) → 0 < length bytes → length (past_builtin bytes) < length bytes
 past_builtin_shorter bytes some = go (begins (codes "D") bytes)
@@ -329,7 +329,7 @@ pub ruleset specials_some = (type_special_some, name_special_some, temporary_som
 
 pub ruleset names_some = (lambda_some, conversion_some, unnamed_type_some, literal_operator_some, operator_some)
 
-pub ruleset cases = (types_end_some, pack_some, expansion_some, array_some, member_some, function_some, pointer_some, cv_function_some, no_params_some, std_shorter, components_end_shorter, arguments_end_shorter, attached_some, component_args_some, builtin_shorter)
+pub ruleset cases = (types_end_some, pack_some, expansion_some, array_some, member_some, function_some, pointer_some, cv_function_some, no_params_some, std_shorter, segments_end_shorter, arguments_end_shorter, attached_some, segment_args_some, builtin_shorter)
 
 take_none : (b : ℕ) (bytes : List ℕ) (found : List ℕ) → past_underscore (b ∷ bytes) ≡ Some found → found ≡ bytes
 take_none b bytes found e = sym ((cond_some (b == 95) bytes found e).1)

@@ -6,22 +6,22 @@ use Rattle.itanium_syntax.specs.declared.context.Context.{Context}
 abbrev pub opens_scope : Bool → Context → Bool
 opens_scope of_name x = of_name && not x.in_type
 
--- the same, inside a type
+-- the context inside a type
 abbrev pub inside_type : Context → Context
 inside_type x = record x { in_type = true }
 
--- the same, inside an argument pack
+-- the context inside an argument pack
 abbrev pub inside_pack : Context → Context
 inside_pack x = record x { pack = true }
 
--- the same, inside a lambda's signature
+-- the context inside a lambda's signature
 abbrev pub inside_lambda : Context → Context
 inside_lambda x = record x { lambda = true }
 
--- the same, inside a local name: the words of qualifiers are shown
+-- the context inside a local name: the words of qualifiers are shown
 abbrev pub inside_local : Context → Context
 inside_local x = record x { shown = true }
 
--- the same, inside the encoding of a local or an external name: no type is around it
+-- the context inside the encoding of a local or an external name: no type is around it
 abbrev pub inside_encoding : Context → Context
 inside_encoding x = record x { shown = true; in_type = false }

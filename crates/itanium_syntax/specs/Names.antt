@@ -4,7 +4,7 @@ use Rattle.demangle_quals.specs.declared.quals.Quals.{Quals}
 use Rattle.demangle_quals.specs.Quals.{no_quals}
 use Rattle.itanium_syntax.specs.Bytes.{letter, begins, begins_between, begins_digit, begins_positive, begins_lower_case, begins_one_of, past_letter}
 use Rattle.itanium_syntax.specs.Operators.{operator_here}
-use Rattle.itanium_syntax.specs.Cases.{SymbolCase, SpecialSymbol, NameSymbol, NameCase, NestedName, LocalName, UnscopedName, UnscopedCase, StdName, SubstitutionName, PlainName, FirstCase, ParameterFirst, StdFirst, SubstitutionFirst, NameFirst, ComponentCase, EndOfComponents, ArgsComponent, NameComponent, UnqualifiedCase, ConstructorName, DestructorName, FreeName, FreeCase, SourceName, UnnamedTypeName, LambdaName, ConversionName, LiteralOperatorName, OperatorName, NoName, TagCase, NoTag, NextTag, SubstitutionCase, AbbreviationSubstitution, ComponentSubstitution}
+use Rattle.itanium_syntax.specs.Cases.{SymbolCase, SpecialSymbol, NameSymbol, NameCase, NestedName, LocalName, UnscopedName, UnscopedCase, StdName, SubstitutionName, PlainName, FirstCase, ParameterFirst, StdFirst, SubstitutionFirst, NameFirst, SegmentCase, EndOfSegments, ArgsSegment, NameSegment, UnqualifiedCase, ConstructorName, DestructorName, FreeName, FreeCase, SourceName, UnnamedTypeName, LambdaName, ConversionName, LiteralOperatorName, OperatorName, NoName, TagCase, NoTag, NextTag, SubstitutionCase, AbbreviationSubstitution, ComponentSubstitution}
 use Rattle.itanium_syntax.specs.Types.{cv_quals, past_cv, reference_of, past_reference}
 
 -- what follows the prefix of a symbol, and what an encoding begins with: a special name, or a name
@@ -23,25 +23,25 @@ unscoped_case bytes =
     if begins (codes "St") bytes then StdName else
     if begins (codes "S") bytes then SubstitutionName else PlainName
 
--- the first component of a <nested-name>
+-- the first segment of a <nested-name>
 abbrev pub first_case : List ℕ → FirstCase
 first_case bytes =
     if begins (codes "T") bytes then ParameterFirst else
     if begins (codes "St") bytes then StdFirst else
     if begins (codes "S") bytes then SubstitutionFirst else NameFirst
 
--- whether the first component of a <nested-name> is saved: all but `St` and a substitution are
+-- whether the first segment of a <nested-name> is saved: all but `St` and a substitution are
 abbrev pub saves_first : FirstCase → Bool
 saves_first ParameterFirst = true
 saves_first StdFirst = false
 saves_first SubstitutionFirst = false
 saves_first NameFirst = true
 
--- a later component of a <nested-name>, or its end
-abbrev pub component_case : List ℕ → ComponentCase
-component_case bytes =
-    if begins (codes "E") bytes then EndOfComponents else
-    if begins (codes "I") bytes then ArgsComponent else NameComponent
+-- a later segment of a <nested-name>, or its end
+abbrev pub segment_case : List ℕ → SegmentCase
+segment_case bytes =
+    if begins (codes "E") bytes then EndOfSegments else
+    if begins (codes "I") bytes then ArgsSegment else NameSegment
 
 -- C1 to C5 of <ctor-dtor-name>
 abbrev pub begins_constructor : List ℕ → Bool
@@ -58,7 +58,7 @@ begins_destructor bytes =
 abbrev pub operator_case : List ℕ → FreeCase
 operator_case bytes = if is_some (operator_here bytes) then OperatorName else NoName
 
--- an <unqualified-name> that asks for no scope: it is no <ctor-dtor-name>
+-- an <unqualified-name> that asks for no parent: it is no <ctor-dtor-name>
 abbrev pub free_case : List ℕ → FreeCase
 free_case bytes =
     if begins_positive bytes then SourceName else
@@ -68,11 +68,11 @@ free_case bytes =
     if begins (codes "li") bytes then LiteralOperatorName else
     operator_case bytes
 
--- <unqualified-name>: constructors and destructors have a scope
+-- <unqualified-name>: constructors and destructors have a parent
 abbrev pub unqualified_case : Bool → List ℕ → UnqualifiedCase
-unqualified_case in_scope bytes =
-    if in_scope && begins_constructor bytes then ConstructorName else
-    if in_scope && begins_destructor bytes then DestructorName else
+unqualified_case in_parent bytes =
+    if in_parent && begins_constructor bytes then ConstructorName else
+    if in_parent && begins_destructor bytes then DestructorName else
     FreeName
 
 -- a <source-name> is next

@@ -19,7 +19,7 @@ signed_number bytes =
     let minus = begins (codes "n") bytes in
     option_map (λ n. (with_sign minus n.0, n.1)) (numeral Decimal (if minus then drop 1 bytes else bytes))
 
--- the same with `_` after it
+-- a number with `_` after it
 abbrev pub signed_part : List ℕ → Option (Signed × List ℕ)
 signed_part bytes = option_and_then (λ n. option_map (λ rest. (n.0, rest)) (past_underscore n.1)) (signed_number bytes)
 

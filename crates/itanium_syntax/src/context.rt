@@ -16,7 +16,7 @@ pub struct Context {
 }
 
 /// The context at the start of a symbol.
-pub const OUTSIDE: Context = Context {
+pub const INITIAL: Context = Context {
     shown: false,
     pack: false,
     lambda: false,

@@ -32,7 +32,7 @@ pub enum UnscopedCase {
     PlainName,
 }
 
-/// The first component of a `<nested-name>`.
+/// The first segment of a `<nested-name>`.
 #[derive(Clone, Copy)]
 pub enum FirstCase {
     ParameterFirst,
@@ -41,12 +41,12 @@ pub enum FirstCase {
     NameFirst,
 }
 
-/// A later component of a `<nested-name>`, or its end.
+/// A later segment of a `<nested-name>`, or its end.
 #[derive(Clone, Copy)]
-pub enum ComponentCase {
-    EndOfComponents,
-    ArgsComponent,
-    NameComponent,
+pub enum SegmentCase {
+    EndOfSegments,
+    ArgsSegment,
+    NameSegment,
 }
 
 /// `<unqualified-name>`
@@ -57,7 +57,7 @@ pub enum UnqualifiedCase {
     FreeName,
 }
 
-/// An `<unqualified-name>` that asks for no scope: it is no `<ctor-dtor-name>`.
+/// An `<unqualified-name>` that asks for no parent: it is no `<ctor-dtor-name>`.
 #[derive(Clone, Copy)]
 pub enum FreeCase {
     SourceName,
@@ -115,7 +115,7 @@ pub fn unscoped_case(bytes: &[u8]) -> UnscopedCase
     }
 }
 
-/// Which first component of a `<nested-name>` stands there.
+/// Which first segment of a `<nested-name>` stands there.
 pub fn first_case(bytes: &[u8]) -> FirstCase
     ensures case { result ≡ spec.first_case bytes.now }
 {
@@ -127,36 +127,36 @@ pub fn first_case(bytes: &[u8]) -> FirstCase
     }
 }
 
-/// Whether the first component of a `<nested-name>` is saved.
+/// Whether the first segment of a `<nested-name>` is saved.
 pub fn saves_first(case: FirstCase) -> bool
     ensures value { result ≡ spec.saves_first case }
 {
     matches!(case, FirstCase::ParameterFirst | FirstCase::NameFirst)
 }
 
-/// Which later component of a `<nested-name>` stands there, or its `E`.
-pub fn component_case(bytes: &[u8]) -> ComponentCase
-    ensures case { result ≡ spec.component_case bytes.now }
+/// Which later segment of a `<nested-name>` stands there, or its `E`.
+pub fn segment_case(bytes: &[u8]) -> SegmentCase
+    ensures case { result ≡ spec.segment_case bytes.now }
 {
     match bytes {
-        [b'E', ..] => ComponentCase::EndOfComponents,
-        [b'I', ..] => ComponentCase::ArgsComponent,
-        _ => ComponentCase::NameComponent,
+        [b'E', ..] => SegmentCase::EndOfSegments,
+        [b'I', ..] => SegmentCase::ArgsSegment,
+        _ => SegmentCase::NameSegment,
     }
 }
 
-/// Which `<unqualified-name>` stands there: one of a constructor or destructor only in a scope.
-pub fn unqualified_case(in_scope: bool, bytes: &[u8]) -> UnqualifiedCase
-    ensures case { result ≡ spec.unqualified_case in_scope bytes.now }
+/// Which `<unqualified-name>` stands there: one of a constructor or destructor only in a parent.
+pub fn unqualified_case(in_parent: bool, bytes: &[u8]) -> UnqualifiedCase
+    ensures case { result ≡ spec.unqualified_case in_parent bytes.now }
 {
     match bytes {
-        [b'C', b'1'..=b'5', ..] if in_scope => UnqualifiedCase::ConstructorName,
-        [b'D', b'0'..=b'2' | b'4' | b'5', ..] if in_scope => UnqualifiedCase::DestructorName,
+        [b'C', b'1'..=b'5', ..] if in_parent => UnqualifiedCase::ConstructorName,
+        [b'D', b'0'..=b'2' | b'4' | b'5', ..] if in_parent => UnqualifiedCase::DestructorName,
         _ => UnqualifiedCase::FreeName,
     }
 }
 
-/// Which `<unqualified-name>` that asks for no scope stands there.
+/// Which `<unqualified-name>` that asks for no parent stands there.
 pub fn free_case(bytes: &[u8]) -> FreeCase
     ensures case { result ≡ spec.free_case bytes.now }
 {

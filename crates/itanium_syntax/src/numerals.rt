@@ -137,7 +137,7 @@ fn wide_index(radix: Radix, bytes: &[u8]) -> Option<(usize, &[u8])>
     }
 }
 
-/// The same of any number of digits.
+/// `index_of` of any number of digits.
 #[inline(never)]
 #[tactic(auto, unfolding(crate::specs::Scalars::index_of))]
 fn long_index(radix: Radix, bytes: &[u8]) -> Option<(usize, &[u8])>

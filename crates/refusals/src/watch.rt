@@ -93,9 +93,9 @@ impl<E: Source> Source for Watched<'_, E> {
         self.end.failed()
     }
 
-    fn take(&mut self, into: &mut [u8]) -> Result<usize, Failed> {
+    fn read(&mut self, into: &mut [u8]) -> Result<usize, Failed> {
         self.watch.note_take(into.len());
-        self.end.take(into)
+        self.end.read(into)
     }
 }
 
@@ -110,8 +110,8 @@ impl<E: Sink> Sink for Watched<'_, E> {
         self.end.failed()
     }
 
-    fn put(&mut self, bytes: &[u8]) -> Result<usize, Failed> {
+    fn write(&mut self, bytes: &[u8]) -> Result<usize, Failed> {
         self.watch.note_put(bytes.len());
-        self.end.put(bytes)
+        self.end.write(bytes)
     }
 }

@@ -24,7 +24,7 @@ pub trait Source {
 
     /// Puts the next bytes at the front of the slice, and answers how many. 0 for a slice that
     /// isn't empty is the end. A failed call gives no byte.
-    fn take(&mut self, into: &mut [u8]) -> Result<usize, Failed>
+    fn read(&mut self, into: &mut [u8]) -> Result<usize, Failed>
         ensures bound { IfOk result (λ count. count ≤ length into.new) }
         ensures gives { IfOk result (λ count.
             Consumes (remaining self.old) (remaining self.new) (take count into.new)) }
@@ -56,7 +56,7 @@ pub trait Sink {
 
     /// Takes a beginning of the bytes, at least one where there is one, and answers how many. A
     /// failed call takes no byte.
-    fn put(&mut self, bytes: &[u8]) -> Result<usize, Failed>
+    fn write(&mut self, bytes: &[u8]) -> Result<usize, Failed>
         ensures bound { IfOk result (λ count. count ≤ length bytes.now) }
         ensures some { IfOk result (λ count. 0 < length bytes.now → 0 < count) }
         ensures takes { IfOk result (λ count.

@@ -166,7 +166,7 @@ fn read_more<R: Source>(
     ensures err { OnErr result (Keeps (R.remaining source.old) (R.remaining source.new)) }
 {
     make_room(chunk, kept)?;
-    match source.take(&mut chunk[kept..]) {
+    match source.read(&mut chunk[kept..]) {
         Ok(count) => Ok(kept + count),
         Err(Failed) => Err(FilterFault::Read),
     }

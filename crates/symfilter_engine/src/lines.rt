@@ -10,7 +10,7 @@ ghost use Rattle.symfilter_engine.specs.Progress.{EndsInLineFeed, AppendsLine, A
 use super::ends::Sink;
 use super::fault::FilterFault;
 use super::line_feeds::line_end;
-use super::output::put_all;
+use super::output::write_all;
 use growing_text::Text;
 use itanium_demangle::Demangler;
 use std::alloc::{AllocError, Global};
@@ -56,7 +56,7 @@ fn ordinary_len(lines: &[u8]) -> usize
     ordinary_run_len(lines)
 }
 
-/// The same, apart from the lines that aren't ordinary.
+/// `ordinary_len`, out of line: it is called where the first line doesn't begin with an underscore.
 #[inline(never)]
 fn ordinary_run_len(lines: &[u8]) -> usize
     ensures bound { result ≤ length lines.now }
@@ -69,9 +69,9 @@ fn ordinary_run_len(lines: &[u8]) -> usize
     len
 }
 
-/// Whether the bytes are UTF-8.
+/// Whether the bytes of a line are UTF-8.
 #[inline(never)]
-fn is_utf8(bytes: &[u8]) -> bool
+fn is_utf8_line(bytes: &[u8]) -> bool
     ensures { IsTrue result ↔ IsUtf8 bytes.now }
 {
     str::from_utf8(bytes).is_ok()
@@ -84,7 +84,7 @@ fn as_text(bytes: &[u8], known_utf8: bool) -> Option<&str>
     ensures some { IfSome result (λ text. (text.now ≡ bytes.now) × IsUtf8 bytes.now) }
     ensures none { IfNone result (¬ (IsUtf8 bytes.now)) }
 {
-    if known_utf8 || is_utf8(bytes) {
+    if known_utf8 || is_utf8_line(bytes) {
         return Some(unsafe { str::from_utf8_unchecked(bytes) });
     }
     None
@@ -214,14 +214,14 @@ fn write_next<W: Sink>(
 {
     let ordinary = ordinary_len(lines);
     if ordinary >= LONG_LEN {
-        put_all(sink, &lines[..ordinary])?;
+        write_all(sink, &lines[..ordinary])?;
         return Ok(ordinary);
     }
     output.clear();
     output.reserve(OUTPUT_ROOM)?;
     let first = append_next(alloc, demangler, lines, known_utf8, output)?;
     let len = gather_lines(alloc, demangler, lines, known_utf8, first, output);
-    put_all(sink, output.as_slice())?;
+    write_all(sink, output.as_slice())?;
     Ok(len)
 }
 
@@ -271,5 +271,5 @@ pub(crate) fn write_last<W: Sink>(
         return Ok(());
     }
     let answer = line_answer(alloc, demangler, line, false)?;
-    put_all(sink, answer)
+    write_all(sink, answer)
 }

@@ -8,7 +8,7 @@ use super::ends::{Failed, Sink};
 use super::fault::FilterFault;
 
 /// Writes all the bytes.
-pub(crate) fn put_all<W: Sink>(sink: &mut W, bytes: &[u8]) -> Result<(), FilterFault>
+pub(crate) fn write_all<W: Sink>(sink: &mut W, bytes: &[u8]) -> Result<(), FilterFault>
     requires not_failed { W.failed sink.old ≡ false }
     ensures outcome { IsWriteOutcome result (W.failed sink.new) }
     ensures in_time { W.called_late sink.new ≡ W.called_late sink.old }
@@ -18,7 +18,7 @@ pub(crate) fn put_all<W: Sink>(sink: &mut W, bytes: &[u8]) -> Result<(), FilterF
 {
     let mut rest = bytes;
     while !rest.is_empty() {
-        match sink.put(rest) {
+        match sink.write(rest) {
             Ok(count) => rest = &rest[count..],
             Err(Failed) => return Err(FilterFault::Write),
         }

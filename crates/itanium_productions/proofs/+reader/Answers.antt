@@ -11,7 +11,7 @@ use Rattle.itanium_syntax.specs.Encodings.{entity_case}
 use Rattle.itanium_reader.specs.Cases.{DefaultArgumentEntity}
 use Rattle.itanium_reader.specs.Outcome.{state}
 use Rattle.itanium_reader.specs.Parser as spec
-use Rattle.itanium_reader.proofs.Unfold.{source_opens, saved_first, free_found, kept_scope, some_scope, stops, list_stops, attached_start, attached_end, attached_more, attached_fail, attached_plain, attached_front, pack_start, components_end, components_args, components_no_args, components_name, components_no_name, components_source, components_no_source, items_more, items_fail, typed_end, typed_more, typed_fail, types_end, types_more, types_fail, kept_shapes, one_more_lives, begun_front, attached_wide, attached_more_wide, components_wide_args, components_wide_source, components_wide_name, types_wide, total_more, pack_ends, pack_wide, typed_wide, attached_room, items_wide}
+use Rattle.itanium_reader.proofs.Unfold.{source_opens, saved_first, free_found, kept_parent, some_parent, stops, list_stops, attached_start, attached_end, attached_more, attached_fail, attached_plain, attached_front, pack_start, segments_end, segments_args, segments_no_args, segments_name, segments_no_name, segments_source, segments_no_source, items_more, items_fail, typed_end, typed_more, typed_fail, types_end, types_more, types_fail, kept_shapes, one_more_lives, begun_front, attached_wide, attached_more_wide, segments_wide_args, segments_wide_source, segments_wide_name, types_wide, total_more, pack_ends, pack_wide, typed_wide, attached_room, items_wide}
 use Rattle.itanium_productions.proofs.+reader.Goals as goal
 
 pub args::read_attached-loop-reader-init : goal.args::read_attached-loop-reader-init
@@ -86,49 +86,49 @@ args::read_attached-loop-reader-preserved t c = record {
   most = search rules;
 }
 
-pub names::read_components-returns-in-EndOfComponents-clause-reads : goal.names::read_components-returns-in-EndOfComponents-clause-reads
-names::read_components-returns-in-EndOfComponents-clause-reads t c =
-    (search rules, components_end _ _ c.loop-reader.invariant.reads (sym c.in-EndOfComponents.ensures.case) (search rules) (search rules))
+pub names::read_segments-returns-in-EndOfSegments-clause-reads : goal.names::read_segments-returns-in-EndOfSegments-clause-reads
+names::read_segments-returns-in-EndOfSegments-clause-reads t c =
+    (search rules, segments_end _ _ c.loop-reader.invariant.reads (sym c.in-EndOfSegments.ensures.case) (search rules) (search rules))
 
-pub names::read_components-returns-in_err-read_attached-in-ArgsComponent-clause-reads : goal.names::read_components-returns-in_err-read_attached-in-ArgsComponent-clause-reads
-names::read_components-returns-in_err-read_attached-in-ArgsComponent-clause-reads t c =
+pub names::read_segments-returns-in_err-read_attached-in-ArgsSegment-clause-reads : goal.names::read_segments-returns-in_err-read_attached-in-ArgsSegment-clause-reads
+names::read_segments-returns-in_err-read_attached-in-ArgsSegment-clause-reads t c =
     let e = err_from_is_err_and c.from_residual.result c.from_residual.ensures.1 in
-    rw (e.1, e.2) (stops _ _ (c.in_err-read_attached-in-ArgsComponent.ensures {u = tt}).reads
-    (components_no_args _ _ c.loop-reader.invariant.reads (sym c.in-ArgsComponent.ensures.case)))
+    rw (e.1, e.2) (stops _ _ (c.in_err-read_attached-in-ArgsSegment.ensures {u = tt}).reads
+    (segments_no_args _ _ c.loop-reader.invariant.reads (sym c.in-ArgsSegment.ensures.case)))
 
-pub names::read_components-returns-in_err-read_other_component-in-NameComponent-clause-reads : goal.names::read_components-returns-in_err-read_other_component-in-NameComponent-clause-reads
-names::read_components-returns-in_err-read_other_component-in-NameComponent-clause-reads t c =
-    let r = c.from_residual-in_err-read_other_component-in-NameComponent in
+pub names::read_segments-returns-in_err-read_other_segment-in-NameSegment-clause-reads : goal.names::read_segments-returns-in_err-read_other_segment-in-NameSegment-clause-reads
+names::read_segments-returns-in_err-read_other_segment-in-NameSegment-clause-reads t c =
+    let r = c.from_residual-in_err-read_other_segment-in-NameSegment in
     let e = err_from_is_err_and r.result r.ensures.1 in
-    rw (e.1, e.2) (stops _ _ (c.in_err-read_other_component-in-NameComponent.ensures {u = tt}).reads
-    (components_no_name _ _ c.loop-reader.invariant.reads (sym c.in-NameComponent.ensures.case)))
+    rw (e.1, e.2) (stops _ _ (c.in_err-read_other_segment-in-NameSegment.ensures {u = tt}).reads
+    (segments_no_name _ _ c.loop-reader.invariant.reads (sym c.in-NameSegment.ensures.case)))
 
-pub names::read_components-returns-in_err-read_next_source-in-NameComponent-clause-reads : goal.names::read_components-returns-in_err-read_next_source-in-NameComponent-clause-reads
-names::read_components-returns-in_err-read_next_source-in-NameComponent-clause-reads t c =
-    let r = c.from_residual-in_err-read_next_source-in-NameComponent in
+pub names::read_segments-returns-in_err-read_next_source-in-NameSegment-clause-reads : goal.names::read_segments-returns-in_err-read_next_source-in-NameSegment-clause-reads
+names::read_segments-returns-in_err-read_next_source-in-NameSegment-clause-reads t c =
+    let r = c.from_residual-in_err-read_next_source-in-NameSegment in
     let e = err_from_is_err_and r.result r.ensures.1 in
-    rw (e.1, e.2) (stops _ _ (c.in_err-read_next_source-in-NameComponent.ensures {u = tt}).reads
-    (components_no_source _ _ c.loop-reader.invariant.reads (sym c.in-NameComponent.ensures.case) (source_opens _ _ _ (state c.loop-reader.reader) (search rules))))
+    rw (e.1, e.2) (stops _ _ (c.in_err-read_next_source-in-NameSegment.ensures {u = tt}).reads
+    (segments_no_source _ _ c.loop-reader.invariant.reads (sym c.in-NameSegment.ensures.case) (source_opens _ _ _ (state c.loop-reader.reader) (search rules))))
 
-pub names::read_components-returns-then-is_wide-clause-reads : goal.names::read_components-returns-then-is_wide-clause-reads
-names::read_components-returns-then-is_wide-clause-reads t c =
-    components_wide_args _ _ c.loop-reader.invariant.reads {next = shape c.read_attached.new.reader.buffer.value c.read_attached.new.reader.found} {mid = state c.read_attached.new.reader}
-    (sym c.in-ArgsComponent.ensures.case) (search rules) (search rules)
+pub names::read_segments-returns-then-is_wide-clause-reads : goal.names::read_segments-returns-then-is_wide-clause-reads
+names::read_segments-returns-then-is_wide-clause-reads t c =
+    segments_wide_args _ _ c.loop-reader.invariant.reads {next = shape c.read_attached.new.reader.buffer.value c.read_attached.new.reader.found} {mid = state c.read_attached.new.reader}
+    (sym c.in-ArgsSegment.ensures.case) (search rules) (search rules)
 
-pub names::read_components-returns-then-is_wide-2-clause-reads : goal.names::read_components-returns-then-is_wide-2-clause-reads
-names::read_components-returns-then-is_wide-2-clause-reads t c =
+pub names::read_segments-returns-then-is_wide-2-clause-reads : goal.names::read_segments-returns-then-is_wide-2-clause-reads
+names::read_segments-returns-then-is_wide-2-clause-reads t c =
     let after = c.read_next_source.new.self in
-    components_wide_source _ _ c.loop-reader.invariant.reads {next = shape after.buffer.value after.found} {after = state after}
-    (sym c.in-NameComponent.ensures.case) (source_opens _ _ _ (state c.loop-reader.reader) (search rules)) (search rules) (search rules)
+    segments_wide_source _ _ c.loop-reader.invariant.reads {next = shape after.buffer.value after.found} {after = state after}
+    (sym c.in-NameSegment.ensures.case) (source_opens _ _ _ (state c.loop-reader.reader) (search rules)) (search rules) (search rules)
 
-pub names::read_components-returns-then-is_wide-3-clause-reads : goal.names::read_components-returns-then-is_wide-3-clause-reads
-names::read_components-returns-then-is_wide-3-clause-reads t c =
-    components_wide_name _ _ c.loop-reader.invariant.reads {next = shape c.read_other_component.new.reader.buffer.value c.read_other_component.new.reader.found} {mid = state c.read_other_component.new.reader}
-    (sym c.in-NameComponent.ensures.case) (search rules) (search rules)
+pub names::read_segments-returns-then-is_wide-3-clause-reads : goal.names::read_segments-returns-then-is_wide-3-clause-reads
+names::read_segments-returns-then-is_wide-3-clause-reads t c =
+    segments_wide_name _ _ c.loop-reader.invariant.reads {next = shape c.read_other_segment.new.reader.buffer.value c.read_other_segment.new.reader.found} {mid = state c.read_other_segment.new.reader}
+    (sym c.in-NameSegment.ensures.case) (search rules) (search rules)
 
-pub names::read_components-loop-reader-preserved-then-begins_source : goal.names::read_components-loop-reader-preserved-then-begins_source
-names::read_components-loop-reader-preserved-then-begins_source t c = record {
-  reads = components_source _ _ c.loop-reader.invariant.reads (sym c.in-NameComponent.ensures.case) (source_opens _ _ _ (state c.loop-reader.reader) (search rules)) (search rules) (search rules) (search rules);
+pub names::read_segments-loop-reader-preserved-then-begins_source : goal.names::read_segments-loop-reader-preserved-then-begins_source
+names::read_segments-loop-reader-preserved-then-begins_source t c = record {
+  reads = segments_source _ _ c.loop-reader.invariant.reads (sym c.in-NameSegment.ensures.case) (source_opens _ _ _ (state c.loop-reader.reader) (search rules)) (search rules) (search rules) (search rules);
   living = search rules;
   run = search rules;
   some_saved = search rules;
@@ -139,9 +139,9 @@ names::read_components-loop-reader-preserved-then-begins_source t c = record {
   scopes_stand = search rules;
 }
 
-pub names::read_components-loop-reader-preserved : goal.names::read_components-loop-reader-preserved
-names::read_components-loop-reader-preserved t c = record {
-  reads = components_name _ _ c.loop-reader.invariant.reads {mid = state c.read_other_component.new.reader} (sym c.in-NameComponent.ensures.case) (search rules) (search rules) (search rules) (search rules) (search rules);
+pub names::read_segments-loop-reader-preserved : goal.names::read_segments-loop-reader-preserved
+names::read_segments-loop-reader-preserved t c = record {
+  reads = segments_name _ _ c.loop-reader.invariant.reads {mid = state c.read_other_segment.new.reader} (sym c.in-NameSegment.ensures.case) (search rules) (search rules) (search rules) (search rules) (search rules);
   living = search rules;
   run = search rules;
   some_saved = search rules;
@@ -152,9 +152,9 @@ names::read_components-loop-reader-preserved t c = record {
   scopes_stand = search rules;
 }
 
-pub names::read_components-loop-reader-preserved-in-ArgsComponent : goal.names::read_components-loop-reader-preserved-in-ArgsComponent
-names::read_components-loop-reader-preserved-in-ArgsComponent t c = record {
-  reads = components_args _ _ c.loop-reader.invariant.reads {mid = state c.read_attached.new.reader} (sym c.in-ArgsComponent.ensures.case) (search rules) (search rules) (search rules) (search rules) (search rules);
+pub names::read_segments-loop-reader-preserved-in-ArgsSegment : goal.names::read_segments-loop-reader-preserved-in-ArgsSegment
+names::read_segments-loop-reader-preserved-in-ArgsSegment t c = record {
+  reads = segments_args _ _ c.loop-reader.invariant.reads {mid = state c.read_attached.new.reader} (sym c.in-ArgsSegment.ensures.case) (search rules) (search rules) (search rules) (search rules) (search rules);
   living = search rules;
   run = search rules;
   some_saved = search rules;
@@ -284,10 +284,10 @@ types::read_typed-loop-list-preserved t c = record {
 pub names::read_unqualified-returns-in_ok-enclose-in-FreeName-clause-reads : goal.names::read_unqualified-returns-in_ok-enclose-in-FreeName-clause-reads
 names::read_unqualified-returns-in_ok-enclose-in-FreeName-clause-reads t c =
     let free = c.framed_free_name.new.reader in
-    let kept = kept_scope c.args.reader.now.buffer.value free.buffer.value c.args.scope (search rules) c.requires.scope in (
+    let kept = kept_parent c.args.reader.now.buffer.value free.buffer.value c.args.parent (search rules) c.requires.parent in (
       search rules,
       free_found _ _ _ _ {name = shape free.buffer.value free.found} {mid = state free}
-          (rw (some_scope c.args.reader.now.buffer.value c.args.scope) (search rules)) (search rules) (search rules) (search rules),
+          (rw (some_parent c.args.reader.now.buffer.value c.args.parent) (search rules)) (search rules) (search rules) (search rules),
     )
 
 pub args::read_pack-returns-then-is_wide-clause-reads : goal.args::read_pack-returns-then-is_wide-clause-reads
@@ -303,7 +303,7 @@ args::read_pack-returns-then-is_wide-2-clause-reads t c =
 
 -- an entity in a default argument is found
 default_argument_found : (bare : spec.ParsesBareName) (encoding : Shape) (s : spec.ParserState) {number : ℕ} {rest : List ℕ} {entity found : Shape} {quals : Quals} {mid after : spec.ParserState}
-    → entity_case s.rest ≡ DefaultArgumentEntity → ordinal (drop 2 s.rest) ≡ Some (number, rest) → bare (spec.at rest s) ≡ Some ((entity, quals), mid)
+    → entity_case s.rest ≡ DefaultArgumentEntity → ordinal (drop 2 s.rest) ≡ Some (number, rest) → bare (spec.with_rest rest s) ≡ Some ((entity, quals), mid)
     → found ≡ default_arg_shape encoding number entity → after ≡ mid → spec.entity_as (entity_case s.rest) bare encoding s ≡ Some ((found, quals), after)
 default_argument_found bare encoding s case counted read built same = rw (case, counted, read, built, same) refl
 

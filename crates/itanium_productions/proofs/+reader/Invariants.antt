@@ -53,8 +53,8 @@ decreases-names::read_attached_args l = 16 * l.depth + 3
 abbrev pub decreases-types::read_type_attached : goal.decreases-types::read_type_attached
 decreases-types::read_type_attached l = 16 * l.depth + 3
 
-abbrev pub decreases-names::read_components : goal.decreases-names::read_components
-decreases-names::read_components l = 16 * l.depth + 10
+abbrev pub decreases-names::read_segments : goal.decreases-names::read_segments
+decreases-names::read_segments l = 16 * l.depth + 10
 
 abbrev pub decreases-names::read_unscoped : goal.decreases-names::read_unscoped
 decreases-names::read_unscoped l = 16 * l.depth + 10
@@ -65,11 +65,11 @@ decreases-names::read_nested l = 16 * l.depth + 12
 abbrev pub decreases-names::read_after_quals : goal.decreases-names::read_after_quals
 decreases-names::read_after_quals l = 16 * l.depth + 11
 
-abbrev pub invariant-names::read_components-loop-reader : goal.invariant-names::read_components-loop-reader
-invariant-names::read_components-loop-reader l = record {
-  reads : LoopSoFar (spec.parse_components (spec.parse_unqualified (spec.parse_type l.depth l.context) (spec.parse_type l.depth (inside_lambda l.context)))
+abbrev pub invariant-names::read_segments-loop-reader : goal.invariant-names::read_segments-loop-reader
+invariant-names::read_segments-loop-reader l = record {
+  reads : LoopSoFar (spec.parse_segments (spec.parse_unqualified (spec.parse_type l.depth l.context) (spec.parse_type l.depth (inside_lambda l.context)))
       (spec.parse_args l.depth l.context true) l.fn.takes (shape l.fn.reader.buffer.value l.fn.reader.found) (state l.fn.reader))
-      (spec.component_turn (spec.parse_unqualified (spec.parse_type l.depth l.context) (spec.parse_type l.depth (inside_lambda l.context))) (spec.parse_args l.depth l.context true))
+      (spec.segment_turn (spec.parse_unqualified (spec.parse_type l.depth l.context) (spec.parse_type l.depth (inside_lambda l.context))) (spec.parse_args l.depth l.context true))
       (l.takes, shape l.reader.buffer.value l.reader.found) (state l.reader);
   living : IsLiving l.reader.buffer.value l.reader.found;
   run : IsRun l.fn.reader.buffer.value l.reader.buffer.value;
@@ -81,14 +81,14 @@ invariant-names::read_components-loop-reader l = record {
   most : l.reader.most_saved ≤ max l.fn.reader.most_saved (length (saved l.fn.reader.buffer.value) + length l.fn.reader.rest.now);
 }
 
-abbrev pub decreases-names::read_components-loop-reader : goal.decreases-names::read_components-loop-reader
-decreases-names::read_components-loop-reader l = length l.reader.rest.now
+abbrev pub decreases-names::read_segments-loop-reader : goal.decreases-names::read_segments-loop-reader
+decreases-names::read_segments-loop-reader l = length l.reader.rest.now
 
 abbrev pub invariant-args::read_attached-loop-reader : goal.invariant-args::read_attached-loop-reader
 invariant-args::read_attached-loop-reader l = record {
   positive : 0 < l.depth;
   reads : AttachedSoFar (spec.attached_by (spec.parse_args l.depth l.context l.of_name) (shape l.fn.reader.buffer.value l.fn.reader.found) (state l.fn.reader))
-      (spec.put l.opens l.scopes) (spec.parse_argument (l.depth - 1) l.context) (shape l.fn.reader.buffer.value l.fn.reader.found) l.first
+      (spec.add_argument l.opens l.scopes) (spec.parse_argument (l.depth - 1) l.context) (shape l.fn.reader.buffer.value l.fn.reader.found) l.first
       (shape l.reader.buffer.value l.list) (state l.reader);
   front : l.front ≡ front_len (shape l.fn.reader.buffer.value l.fn.reader.found);
   living : IsLiving l.reader.buffer.value l.list;
@@ -190,11 +190,11 @@ decreases-names::read_other_first l = 16 * l.depth + 8
 abbrev pub decreases-names::read_outer_name : goal.decreases-names::read_outer_name
 decreases-names::read_outer_name l = 16 * l.depth + 8
 
-abbrev pub decreases-names::read_component : goal.decreases-names::read_component
-decreases-names::read_component l = 16 * l.depth + 9
+abbrev pub decreases-names::read_segment : goal.decreases-names::read_segment
+decreases-names::read_segment l = 16 * l.depth + 9
 
-abbrev pub decreases-names::read_other_component : goal.decreases-names::read_other_component
-decreases-names::read_other_component l = 16 * l.depth + 8
+abbrev pub decreases-names::read_other_segment : goal.decreases-names::read_other_segment
+decreases-names::read_other_segment l = 16 * l.depth + 8
 
 abbrev pub decreases-names::framed_name : goal.decreases-names::framed_name
 decreases-names::framed_name l = 16 * l.depth + 2
@@ -209,7 +209,7 @@ abbrev pub invariant-args::read_pack-loop-reader : goal.invariant-args::read_pac
 invariant-args::read_pack-loop-reader l = record {
   positive : 0 < l.depth;
   reads : ListSoFar (spec.parse_pack l.depth l.fn.context (state l.fn.reader))
-      (spec.list_turn spec.put_nowhere (spec.parse_argument (l.depth - 1) l.inside))
+      (spec.list_turn spec.add_nowhere (spec.parse_argument (l.depth - 1) l.inside))
       pack_end (l.first, shape l.reader.buffer.value l.list) (state l.reader);
   living : IsLiving l.reader.buffer.value l.list;
   run : IsRun l.fn.reader.buffer.value l.reader.buffer.value;

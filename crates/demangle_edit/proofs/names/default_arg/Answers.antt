@@ -5,13 +5,13 @@ use Rattle.demangle_text.proofs.Laws.{Opens-edit, Appends-close}
 use Rattle.demangle_edit.specs.Names.{default_arg_opened, default_arg_closed}
 use Rattle.demangle_edit.proofs.names.default_arg.Goals as goal
 
--- the scope and the entity are older than the mark, so both keep their shapes
+-- the parent and the entity are older than the mark, so both keep their shapes
 pub returns-clause-shape : goal.returns-clause-shape
 returns-clause-shape c =
     let opens = c.open-mark.ensures.opens in
-    let scope = opens.pieces c.args.scope c.requires.scope in
+    let parent = opens.pieces c.args.parent c.requires.parent in
     let entity = (Opens-edit _ _ _ _ opens c.in_ok-opened.ensures.edit).pieces c.args.entity c.requires.entity in
-    let opened = c.in_ok-opened.ensures.shape.shape_is ∙ ap (λ (s : Shape). default_arg_opened s c.args.number) scope.shape_is in
+    let opened = c.in_ok-opened.ensures.shape.shape_is ∙ ap (λ (s : Shape). default_arg_opened s c.args.number) parent.shape_is in
     let is = c.in_ok-named.ensures.shape.shape_is ∙ ap₂ default_arg_closed opened entity.shape_is in
     subst (λ (s : Shape). IfOk c.close.result (λ p. Lives c.close.new.self p s)) is c.close.ensures.shape
 

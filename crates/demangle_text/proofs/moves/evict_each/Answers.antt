@@ -16,7 +16,7 @@ loop-i-init c = record {
 }
 
 pub set-requires-clause-ends : goal.set-requires-clause-ends
-set-requires-clause-ends c = λ end h. c.in_ok-piece.ensures.ends end (subst (EndsBy end) (sym c.at.ensures.value) (h c.at.result))
+set-requires-clause-ends c = λ end h. c.in_ok-piece.ensures.ends end (subst (EndsBy end) (sym c.piece_at.ensures.value) (h c.piece_at.result))
 
 pub returns-in_err-piece-clause-lie : goal.returns-in_err-piece-clause-lie
 returns-in_err-piece-clause-lie c = All-extends c.args.main.now c.loop-i.side _ c.evict_one.ensures.side c.loop-i.pieces c.loop-i.invariant.lie
@@ -37,7 +37,7 @@ loop-i-preserved c =
     rw c.set.ensures.value (record {
       side = Extends-trans _ _ _ c.loop-i.invariant.side e;
       lie = replaced_lie main side new c.loop-i.pieces i q q e c.loop-i.invariant.lie c.in_ok-piece.ensures.lies;
-      shapes = replaced_shapes main side new c.loop-i.pieces i c.at.result q there e c.loop-i.invariant.lie (rw (← c.at.ensures.value) c.in_ok-piece.ensures.shape) ∙ c.loop-i.invariant.shapes;
+      shapes = replaced_shapes main side new c.loop-i.pieces i c.piece_at.result q there e c.loop-i.invariant.lie (rw (← c.piece_at.ensures.value) c.in_ok-piece.ensures.shape) ∙ c.loop-i.invariant.shapes;
       long = length-set c.loop-i.pieces i q ∙ c.loop-i.invariant.long;
       apart = AllWithin-more_set c.loop-i.pieces i q there (IsApart c.args.block.low c.args.block.from c.args.block.end) c.loop-i.invariant.apart c.in_ok-piece.ensures.apart;
     })

@@ -62,10 +62,10 @@ loop-i-preserved c =
     let is : k.piece ≡ get_or ys i k.piece = ap (λ (k : Kept). k.piece) c.index.ensures ∙ sym (get_or-map (λ (k : Kept). k.piece) ks i k k.piece here) in
     let q = c.carry_one-piece.result in
     record {
-      value = c.put.ensures.value ∙ rw c.carry_one-piece.ensures.value (
+      value = c.set_kept.ensures.value ∙ rw c.carry_one-piece.ensures.value (
           map_over_more (carried c.args.by.block.low c.args.by.block.from c.args.by.dest) xs ys i _ there c.loop-i.invariant.value is);
-      reached = c.put.ensures.reached;
-      ends = rw c.put.ensures.value (AllWithin-more_set ys i q within (EndsBy c.reached-reach.result)
+      reached = c.set_kept.ensures.reached;
+      ends = rw c.set_kept.ensures.value (AllWithin-more_set ys i q within (EndsBy c.reached-reach.result)
           (within-ends ys c.loop-i.reach c.reached-reach.result i c.reached-reach.ensures.more c.loop-i.invariant.ends) c.reached-reach.ensures.ends);
-      long = c.put.ensures.long ∙ c.loop-i.invariant.long;
+      long = c.set_kept.ensures.long ∙ c.loop-i.invariant.long;
     }

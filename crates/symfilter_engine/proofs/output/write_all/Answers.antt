@@ -1,7 +1,7 @@
 use Rattle.std.proofs.Common.{arith, ◌∙◌}
 use Rattle.std.proofs.lemmas.Grind.{common_steps}
 use Rattle.symfilter_engine.proofs.Writing.{more_written}
-use Rattle.symfilter_engine.proofs.output.put_all.Goals as goal
+use Rattle.symfilter_engine.proofs.output.write_all.Goals as goal
 
 pub loop-rest-preserved : goal.loop-rest-preserved
 loop-rest-preserved g c =

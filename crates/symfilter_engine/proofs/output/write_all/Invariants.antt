@@ -1,6 +1,6 @@
 use Rattle.std.proofs.Common.{◌≡◌, false, length}
 use Rattle.symfilter_engine.specs.Progress.{WritesUpTo}
-use Rattle.symfilter_engine.proofs.output.put_all.Given as goal
+use Rattle.symfilter_engine.proofs.output.write_all.Given as goal
 
 abbrev pub invariant-loop-rest : goal.invariant-loop-rest
 invariant-loop-rest g l =

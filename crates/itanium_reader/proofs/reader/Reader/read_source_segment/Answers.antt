@@ -5,7 +5,7 @@ use Rattle.std.proofs.lemmas.List.{length-drop}
 use Rattle.demangle_text.specs.State.{shape}
 use Rattle.itanium_reader.specs.Outcome.{state}
 use Rattle.itanium_reader.proofs.Unfold.{source_found}
-use Rattle.itanium_reader.proofs.reader.Reader.read_source_component.Goals as goal
+use Rattle.itanium_reader.proofs.reader.Reader.read_source_segment.Goals as goal
 
 pub returns-in_ok-self-in-NoTag-clause-reads : goal.returns-in_ok-self-in-NoTag-clause-reads
 returns-in_ok-self-in-NoTag-clause-reads c =
