@@ -1,15 +1,19 @@
 -- Texts that are put together, and then cut where a declarator's parts meet.
-use Rattle.std.proofs.Common.{◌≡◌, ℕ, ◌+◌, Bool, true, false, Some, None, List, [], ◌++◌, length, take, drop, map, codes, sym, ap, ◌∙◌, refl, arith, append_assoc, is_some, if◌then◌else◌}
+use Rattle.std.proofs.Common.{◌≡◌, ◌≤◌, ℕ, ◌+◌, Bool, true, false, Some, None, List, [], ◌++◌, length, take, drop, map, codes, sym, ap, ◌∙◌, refl, arith, append_assoc, is_some, if◌then◌else◌}
 use Rattle.std.proofs.Math.Seq.{take-append_seam, drop-append_seam}
-use Rattle.std.proofs.lemmas.List.{length-append}
+use Rattle.std.proofs.lemmas.Bool.Decides.{nat_tests}
+use Rattle.std.specs.Prelude.{min, nat_le}
+use Rattle.std.proofs.lemmas.List.{length-append, take_all, drop_all}
 use Rattle.demangle_text.specs.declared.shape.Kind.TheVariants.{Function}
 use Rattle.demangle_text.specs.declared.shape.Place.TheVariants.{End}
 use Rattle.demangle_text.specs.Shape.{Form, Plain, Declared, Shape, form_text, form_with, text, text_len, plain_shape, appended, declared_at, is_plain}
 use Rattle.demangle_text.specs.Calls.{joined, kind_of}
 use Rattle.demangle_quals.specs.declared.quals.Quals.{Quals}
 use Rattle.demangle_edit.specs.Lists.{listed, params_text}
-use Rattle.demangle_quals.specs.Quals.{words_text, reference_text}
+use Rattle.demangle_quals.specs.Quals.{words_text, reference_text, quals_text}
 use Rattle.demangle_edit.specs.Types.{function_shape}
+use Rattle.demangle_edit.specs.Built.{listed_each, function_opened, function_closed}
+use Rattle.demangle_edit.proofs.Built.{each_listed}
 use Rattle.demangle_edit.specs.Calls.{function_step}
 
 pub take_front : (t front back : List ℕ) (n : ℕ) → t ≡ front ++ back → n ≡ length front → take n t ≡ front
@@ -66,3 +70,38 @@ function_found ret found params quals flat e =
     plain_form : (f : Form) → is_some (kind_of f) ≡ false → is_plain f ≡ true
     plain_form (Plain t) h = refl
     plain_form (Declared k before group after) h = cc
+
+-- the texts of a function type that is built as it is read
+opened_regrouped : (ret list back : List ℕ) → ((ret ++ codes " (") ++ list) ++ back ≡ (ret ++ codes " ") ++ (codes "(" ++ (list ++ back))
+opened_regrouped ret list back = simp append_assoc
+
+-- a function type, one parameter after another
+pub function_built : (ret : Shape) (params : List Shape) (quals : Quals)
+    → function_closed (text_len ret) quals (listed_each true (function_opened ret) params) ≡ function_shape ret params quals
+function_built ret params quals =
+    let r = text ret in
+    let list = listed (map text params) in
+    let whole = ((r ++ codes " (") ++ list) ++ (codes ")" ++ quals_text quals) in
+    let text_is : whole ≡ (r ++ codes " ") ++ params_text params quals = opened_regrouped r list (codes ")" ++ quals_text quals) in
+    let front_is : text_len ret + 1 ≡ length (r ++ codes " ") = omega (arith, length-append r (codes " ")) in
+    let before_is = take_front _ _ _ _ text_is front_is in
+    let after_is = drop_front _ _ _ _ text_is front_is in
+    ap (function_closed (text_len ret) quals) (each_listed (function_opened ret) params tt) ∙ (λ j. record {
+      form = Declared Function (before_is j) None (after_is j);
+      own = (0, length (before_is j ++ ([] ++ after_is j)));
+      templ = false;
+      ctor = false;
+    })
+
+-- all of a text is in front of a byte that it doesn't have
+pub declared_within : (front len at : ℕ) (s : Shape) → len ≡ text_len s → at ≡ min (front + 1) len → declared_at Function at s ≡ declared_at Function (front + 1) s
+declared_within front len at s len_is at_is = go (nat_le (front + 1) len) refl
+  where
+    go : (b : Bool) → nat_le (front + 1) len ≡ b → declared_at Function at s ≡ declared_at Function (front + 1) s
+    go true e = let same : at ≡ front + 1 = grind (arith, nat_tests) in ap (λ (n : ℕ). declared_at Function n s) same
+    go false e =
+        let all : length (text s) ≤ at = grind (arith, nat_tests) in
+        let past : length (text s) ≤ front + 1 = grind (arith, nat_tests) in
+        let before_is = take_all at (text s) all ∙ sym (take_all (front + 1) (text s) past) in
+        let after_is = drop_all at (text s) all ∙ sym (drop_all (front + 1) (text s) past) in
+        λ j. record { form = Declared Function (before_is j) None (after_is j); own = (0, length (before_is j ++ ([] ++ after_is j))); templ = s.templ; ctor = s.ctor }

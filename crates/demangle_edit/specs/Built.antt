@@ -1,8 +1,9 @@
 -- Lists that are built as they are read: what opens them, what each text adds, and what closes them.
-use Rattle.std.specs.Prelude.{ℕ, ◌-◌, List, [], ◌∷◌, ◌++◌, codes, decimal, Bool, true, false, if◌then◌else◌}
+use Rattle.std.specs.Prelude.{ℕ, ◌+◌, ◌-◌, List, [], ◌∷◌, ◌++◌, codes, decimal, Bool, true, false, if◌then◌else◌}
 use Rattle.demangle_quals.specs.declared.quals.Quals.{Quals}
 use Rattle.demangle_quals.specs.Quals.{quals_text}
-use Rattle.demangle_text.specs.Shape.{Shape, text, text_len, plain_shape, whole_shape, with_own, appended, flattened, flagged, moved}
+use Rattle.demangle_text.specs.declared.shape.Kind.TheVariants.{Function}
+use Rattle.demangle_text.specs.Shape.{Shape, text, text_len, plain_shape, whole_shape, with_own, appended, flattened, flagged, moved, declared_at}
 use Rattle.demangle_edit.specs.Names.{angle_gap}
 use Rattle.demangle_edit.specs.Lists.{arguments_closed}
 
@@ -58,3 +59,12 @@ params_closed quals list = appended (codes ")" ++ quals_text quals) list
 -- the end of a lambda's parameters, with its number
 abbrev pub lambda_closed : ℕ → Shape → Shape
 lambda_closed number list = whole_shape (appended (codes ")#" ++ (decimal number ++ codes "}")) list)
+
+-- what a function returns, which its parameters follow, as a plain text
+abbrev pub function_opened : Shape → Shape
+function_opened ret = plain_shape (text ret ++ codes " (")
+
+-- the end of a function type's parameters, with its qualifiers: what it returns has so many bytes
+abbrev pub function_closed : ℕ → Quals → Shape → Shape
+function_closed front quals list =
+    flagged false false (declared_at Function (front + 1) (params_closed quals (flattened list)))

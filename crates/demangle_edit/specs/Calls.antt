@@ -7,6 +7,7 @@ use Rattle.demangle_quals.specs.declared.quals.Quals.{Quals}
 use Rattle.demangle_quals.specs.declared.quals.Pointer.{Pointer}
 use Rattle.demangle_quals.specs.declared.quals.Pointer.TheVariants.{Star, Left, Right}
 use Rattle.demangle_edit.specs.Types.{array_shape, has_array, has_member_pointer, member_pointer_shape, function_shape}
+use Rattle.demangle_edit.specs.Built.{function_opened}
 use Rattle.demangle_text.specs.declared.shape.Piece.{Piece}
 use Rattle.demangle_text.specs.declared.buffer.Buffer.{Buffer}
 use Rattle.demangle_text.specs.State.{StaysInPlace, JoinsInPlace, Appends}
@@ -44,6 +45,10 @@ member_pointer_step class member =
 -- what a function returns is plain
 abbrev pub function_step : Shape → List Shape → Quals → Option Shape
 function_step ret params quals = if is_plain ret.form then Some (function_shape ret params quals) else None
+
+-- what a function returns with what opens its parameters, where that is plain
+abbrev pub opening_step : Shape → Option Shape
+opening_step ret = if is_plain ret.form then Some (function_opened ret) else None
 
 -- where a literal is put, by its form: around its type, where that is shown, and else after the main text
 abbrev pub IsPut : LiteralForm → Buffer → Buffer → Piece → Piece → Type 0

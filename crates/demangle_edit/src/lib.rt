@@ -12,7 +12,8 @@
 //!
 //! A list after a name is put together from pieces (`attach_template_args`, `format_params`), or built as it is
 //! read: what opens it, then `separate` before each text but the first, and `list_next` after each (`join` of the
-//! buffer in a list that `begin_arguments` began), then what closes it. Both give the same shape.
+//! buffer in a list that `begin_arguments` began), then what closes it. Both give the same shape. So it is with a
+//! function type: `function_type`, or `open_function` and `close_function`.
 #![tactic(auto)]
 
 mod appends;
@@ -36,6 +37,7 @@ pub use crate::names::{
 };
 pub use crate::parts::Glue;
 pub use crate::types::{
-    collapse_ref, expand, function_type, wrap_array, wrap_cv, wrap_member_pointer, wrap_pointer,
+    close_function, collapse_ref, expand, function_type, open_function, wrap_array, wrap_cv,
+    wrap_member_pointer, wrap_pointer,
 };
 pub use demangle_quals::{Pointer, Quals, Reference};

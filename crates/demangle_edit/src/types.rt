@@ -1,6 +1,6 @@
 //! Edits that make a type out of types: pointers, references, qualifiers, arrays and functions
 //! (Itanium C++ ABI 5.1.5).
-ghost use Rattle.std.specs.Prelude.{◌≡◌, ◌≢◌, ◌++◌, All, map, codes, is_some, true, false, IfOk, OnOk};
+ghost use Rattle.std.specs.Prelude.{◌≡◌, ◌≢◌, ◌+◌, ◌++◌, min, All, map, codes, is_some, true, false, IfOk, OnOk};
 ghost use Rattle.demangle_text.specs.Shape.{text, plain_shape, inserted};
 ghost use Rattle.demangle_text.specs.Calls.{CanInsert, IsPlain, IsDeclared, kind_of, group_of, front_text};
 ghost use Rattle.demangle_text.specs.Shape.{gap_after};
@@ -8,14 +8,16 @@ ghost use Rattle.demangle_text.specs.State.{IsLiving, shape, Lives, IsEdit, Keep
 ghost use Rattle.demangle_text.specs.State.{StaysInPlace, IsLeftOrStays, JoinsInPlace, Appends, StandsShortened};
 ghost use Rattle.demangle_edit.specs.Answers.{Answers, IfFound, OnNone};
 ghost use Rattle.demangle_edit.specs.Types.{pointed, collapse_step, pointer_shape, cv_place, cv_shape};
-ghost use Rattle.demangle_edit.specs.Calls.{is_cut, is_shortened, function_step, array_step, after_text, member_pointer_step};
+ghost use Rattle.demangle_edit.specs.Built.{function_closed};
+ghost use Rattle.demangle_edit.specs.Calls.{is_cut, is_shortened, function_step, opening_step, array_step, after_text};
+ghost use Rattle.demangle_edit.specs.Calls.{member_pointer_step};
 ghost use Rattle.demangle_edit.specs.Types.{expansion_shape};
 ghost use Rattle.demangle_edit.specs.Types.{dimension_digits, array_shape};
 ghost use Rattle.demangle_edit.specs.Types.{member_gap, member_pointer_shape};
 
 use crate::appends::append_piece;
 use crate::dimensions::{MOST_DIGITS, dimension_bytes};
-use crate::lists::list_pieces;
+use crate::lists::{close_params, list_pieces};
 use demangle_quals::{Pointer, Quals, reference_bytes};
 use demangle_text::{Buffer, Kind, Piece, Place};
 use std::alloc::AllocError;
@@ -365,6 +367,8 @@ pub fn wrap_member_pointer(
 /// whole text, and no flag holds.
 ///
 /// `None`, and all stays, where what is returned is a declarator.
+///
+/// The readers of a symbol don't call it: they build the type as they read it (`open_function`).
 #[tactic(auto, using(demangle_text::proofs::Laws::laws, crate::proofs::Declarators::declarators))]
 pub fn function_type(
     buf: &mut Buffer,
@@ -393,6 +397,60 @@ pub fn function_type(
     // The check learns here that the length fits 64 bits, and so does each place in the text.
     let _len = buf.len(whole);
     Ok(Some(buf.declare(whole, Kind::Function, before + 1)))
+}
+
+/// What a function returns with the ` (` of its parameters, as a plain piece whose last own name is the whole, with no
+/// flag set.
+///
+/// With `separate` before each parameter but the first, `list_next` after each and then `close_function` it is what
+/// `function_type` makes of what is returned, the parameters and the qualifiers.
+///
+/// `None`, and all stays, where what is returned is a declarator.
+#[tactic(auto, using(demangle_text::proofs::Laws::laws, crate::proofs::Declarators::declarators))]
+pub fn open_function(buf: &mut Buffer, ret: Piece) -> Result<Option<Piece>, AllocError>
+    requires ret { IsLiving buf.old ret }
+    ensures shape { Answers result buf.new (opening_step (shape buf.old ret)) }
+    ensures edit { OnOk result (IsEdit buf.old buf.new) }
+    ensures none { OnNone result (KeepsAll buf.old buf.new) }
+    ensures none_main { OnNone result (main_bytes buf.new ≡ main_bytes buf.old) }
+    ensures in_place { IfFound result (λ p. StaysInPlace buf.old buf.new ret p) }
+{
+    if buf.kind(ret).is_none() {
+        let opened = buf.append(ret, b" (")?;
+        let unflagged = buf.with_flags(opened, false, false);
+        return Ok(Some(buf.whole(unflagged)));
+    }
+    Ok(None)
+}
+
+// Where the parameters begin in a text of this length, after `front` bytes and a space.
+fn after_start(front: usize, len: usize) -> usize
+    ensures value { result ≡ min (front + 1) len }
+{
+    if front < len { front + 1 } else { len }
+}
+
+/// The function type whose parameters are this list: the list with its `)` and the qualifiers, the words and then the
+/// reference. It is declared as a function with `after` from the parenthesis on, so behind the space after what is
+/// returned, which has `front` bytes; all of it is `before` where the list is that short. Its last own name is its
+/// whole text, and no flag holds.
+#[tactic(auto, using(demangle_text::proofs::Laws::laws, crate::proofs::Cuts::declared_within))]
+pub fn close_function(
+    buf: &mut Buffer,
+    list: Piece,
+    front: usize,
+    quals: Quals,
+) -> Result<Piece, AllocError>
+    requires list { IsLiving buf.old list }
+    ensures shape { IfOk result (λ p. Lives buf.new p (function_closed front quals (shape buf.old list))) }
+    ensures edit { OnOk result (IsEdit buf.old buf.new) }
+    ensures in_place { IfOk result (λ p. StaysInPlace buf.old buf.new list p) }
+{
+    let plain = buf.plain(list);
+    let closed = close_params(buf, plain, quals)?;
+    let at = after_start(front, buf.len(closed));
+    let declared = buf.declare(closed, Kind::Function, at);
+    Ok(buf.with_flags(declared, false, false))
 }
 
 /// The expansion of a pack, `...` at the end of the text of the type. What it declares and the

@@ -7,11 +7,11 @@ use crate::pieces::{
 };
 use demangle_edit::{
     Glue, Pointer, Quals, Reference, address, append_number, apply_name_qualifiers,
-    attach_template_args, begin_arguments, close_default_arg, close_lambda, close_params,
-    collapse_ref, default_arg, end_arguments, expand, format_params, function_type, glue,
-    list_next, open_default_arg, open_params, qualify, qualify_ctor, qualify_text, separate,
-    subexpr, tag, wrap_array, wrap_cv, wrap_member_pointer, wrap_pointer, write_literal,
-    write_literal_of, write_opened_literal,
+    attach_template_args, begin_arguments, close_default_arg, close_function, close_lambda,
+    close_params, collapse_ref, default_arg, end_arguments, expand, format_params, function_type,
+    glue, list_next, open_default_arg, open_function, open_params, qualify, qualify_ctor,
+    qualify_text, separate, subexpr, tag, wrap_array, wrap_cv, wrap_member_pointer, wrap_pointer,
+    write_literal, write_literal_of, write_opened_literal,
 };
 use demangle_text::{Buffer, Kind, Piece};
 use std::alloc::Global;
@@ -244,6 +244,20 @@ fn a_function_grows_on_what_it_returns_in_the_main_text(rt: HostRuntime) {
     let ret = push(&rt, &mut buf, b"void");
     made(&rt, function_type(&mut buf, ret, &[char], CONSTANT));
     assert_eq!(&rt; buf.main_bytes(), b"charvoid (char) const".as_slice());
+    drop(buf);
+}
+
+#[test]
+#[tactic(auto, using(demangle_text::proofs::Laws::laws))]
+fn a_function_is_built_in_the_main_text(rt: HostRuntime) {
+    let mut buf = Buffer::new(rt.alloc());
+    push(&rt, &mut buf, b"?");
+    let ret = push(&rt, &mut buf, b"void");
+    let opened = made(&rt, open_function(&mut buf, ret));
+    assert_eq!(&rt; buf.main_bytes(), b"?void (".as_slice());
+    let one = with_first(&rt, &mut buf, opened, b"char");
+    close_function(&mut buf, one, 4, CONSTANT).expect(&rt, "no memory");
+    assert_eq!(&rt; buf.main_bytes(), b"?void (char) const".as_slice());
     drop(buf);
 }
 
@@ -729,6 +743,44 @@ fn function_types(rt: HostRuntime) {
     let ret = push(&rt, &mut buf, b"int");
     let function = made(&rt, function_type(&mut buf, ret, &[], Quals::none()));
     assert_named(&rt, &buf, function, b"int ()", 0, 6);
+    drop(buf);
+}
+
+#[test]
+#[tactic(auto, using(demangle_text::proofs::Laws::laws))]
+fn function_types_built_parameter_by_parameter(rt: HostRuntime) {
+    let mut buf = Buffer::new(rt.alloc());
+    let ret = named(&rt, &mut buf, b"A<int>", 0, 1, true, true);
+    let opened = made(&rt, open_function(&mut buf, ret));
+    assert_named(&rt, &buf, opened, b"A<int> (", 0, 8);
+    assert_flags(&rt, &buf, opened, false, false);
+    assert_kind(&rt, &buf, opened, None);
+    let one = with_first(&rt, &mut buf, opened, b"int");
+    let two = with_text(&rt, &mut buf, one, b"char");
+    let function = close_function(&mut buf, two, 6, ALL_QUALS).expect(&rt, "no memory");
+    let expected = b"A<int> (int, char) const volatile restrict &&";
+    assert_named(&rt, &buf, function, expected, 0, 45);
+    assert_flags(&rt, &buf, function, false, false);
+    assert_kind(&rt, &buf, function, Some(Kind::Function));
+    assert_after(&rt, &buf, function, 7);
+    assert_none(&rt, open_function(&mut buf, function));
+    assert_eq!(&rt; buf.main_bytes(), expected.as_slice());
+    drop(buf);
+}
+
+#[test]
+#[tactic(auto, using(demangle_text::proofs::Laws::laws))]
+fn function_types_of_no_parameters(rt: HostRuntime) {
+    let mut buf = Buffer::new(rt.alloc());
+    let ret = push(&rt, &mut buf, b"int");
+    let opened = made(&rt, open_function(&mut buf, ret));
+    let function = close_function(&mut buf, opened, 3, Quals::none()).expect(&rt, "no memory");
+    assert_named(&rt, &buf, function, b"int ()", 0, 6);
+    assert_after(&rt, &buf, function, 4);
+    let list = push(&rt, &mut buf, b"(");
+    let short = close_function(&mut buf, list, 9, Quals::none()).expect(&rt, "no memory");
+    assert_text(&rt, &buf, short, b"()");
+    assert_after(&rt, &buf, short, 2);
     drop(buf);
 }
 

@@ -1,65 +1,37 @@
 -- Of types: what the grammar reads, the parser reads.
-use Rattle.std.proofs.Common.{◌≡◌, ◌<◌, ◌≤◌, ℕ, zero, suc, ◌+◌, max, true, false, List, [], ◌∷◌, ◌++◌, map, length, refl, ap, sym, subst, arith, Some, append_assoc}
-use Rattle.std.proofs.lemmas.List.{length-map, append-nil}
+use Rattle.std.proofs.Common.{◌≡◌, ◌≤◌, ℕ, suc, ◌+◌, max, true, false, map, length, refl, sym, subst, arith}
+use Rattle.std.proofs.lemmas.List.{length-map}
 use Rattle.demangle_text.specs.Shape.{Shape, text_len}
 use Rattle.demangle_quals.specs.declared.quals.Quals.{Quals}
+use Rattle.demangle_edit.specs.Built.{listed_each, function_opened}
+use Rattle.demangle_edit.proofs.Cuts.{function_built}
 use Rattle.itanium_syntax.specs.declared.context.Context.{Context}
 use Rattle.itanium_syntax.specs.Names.{source_text}
-use Rattle.itanium_syntax.specs.Types.{builtin_text, elaborated_text, with_reference, types_case}
+use Rattle.itanium_syntax.specs.Types.{builtin_text, elaborated_text, with_reference}
 use Rattle.itanium_grammar.specs.Tree.{Tree, plain_text, with_args, pointer_to, array_of, member_of, elaborated, expanded, trees, shape_of}
-use Rattle.itanium_grammar.specs.Grammar.{Position, Cost, TypeAs, CvAs, Function, ParamsAs, TypesAs, TypeAttachedAs, type, builtin_type, expansion_type, vendor_type, array_type, function_type, member_type, pointer_type, cv_type, elaborated_type, parameter_type, substitution_type, name_type, cv_function, cv_other, function, no_params, some_params, end_of_types, one_more_type, none_attached_to_type, args_attached_to_type}
-use Rattle.itanium_grammar.proofs.Progress.{type_takes}
-use Rattle.itanium_demangle.specs.Cases.{TypeCase, CvCase, ParamsCase, TypesCase, AttachedCase}
-use Rattle.itanium_reader.specs.Parser.{goes_on, after_turn, loop, total_len, ◌>>=◌, types_as, types_turn, params_as, parse_function, cv_as, type_attached_as, type_as, parse_name, parse_args, parse_type}
+use Rattle.itanium_grammar.specs.Grammar.{Position, Cost, TypeAs, CvAs, Function, TypeAttachedAs, type, builtin_type, expansion_type, vendor_type, array_type, function_type, member_type, pointer_type, cv_type, elaborated_type, parameter_type, substitution_type, name_type, cv_function, cv_other, function, none_attached_to_type, args_attached_to_type}
+use Rattle.itanium_demangle.specs.Cases.{TypeCase, CvCase, AttachedCase}
+use Rattle.itanium_reader.specs.Parser.{parse_function, cv_as, type_attached_as, type_as, parse_name, parse_args, parse_type}
 use Rattle.itanium_demangle.specs.Meaning.{state_at}
 use Rattle.itanium_demangle.proofs.Shapes.{same_read, one_more, shape-plain_text, shape-with_args, shape-pointer_to, shape-cv_of, shape-array_of, shape-member_of, shape-function_to, shape-elaborated, shape-expanded}
+use Rattle.itanium_demangle.proofs.CompleteLists.{typed_params_met}
 use Rattle.itanium_demangle.proofs.CompleteNames.{substitution_complete, parameter_complete}
-use Rattle.itanium_demangle.proofs.Fitting.{Met, met, met_then, met_as, met_unless, met_fits}
-use Rattle.itanium_demangle.proofs.Grows.{total_more, function_longer}
+use Rattle.itanium_demangle.proofs.Fitting.{Met, met, met_then, met_as, met_fits}
+use Rattle.itanium_demangle.proofs.Grows.{function_longer}
 use Rattle.itanium_demangle.proofs.Readings.{Small, reached, given, NamesComplete, ArgsComplete, TypesComplete}
 
--- types after those that stand in front, in n turns
-abbrev SomeTypesMet : ℕ → ℕ → Type 0
-SomeTypesMet d n = (x : Context) (p q : Position) (ts : List Tree) (c : Cost) → TypesAs (types_case true p.rest) true x p ts q c → Small d c
-    → (e m : ℕ) (front : List Shape) → length p.rest < n
-    → Met total_len (loop (types_turn (parse_type d x)) n front (state_at p e m)) (reached (λ us. front ++ map shape_of us) ts q c e m)
-
 module _ (d : ℕ) (kinds : TypesComplete d) where
-  types_as_met : (n : ℕ) → SomeTypesMet d n → {case : TypesCase} {x : Context} {p q : Position} {ts : List Tree} {c : Cost} → TypesAs case true x p ts q c → Small d c
-      → (e m : ℕ) (front : List Shape) → length p.rest < suc n
-      → Met total_len (types_as case (parse_type d x) front (state_at p e m) >>= λ r. after_turn r.0 (loop (types_turn (parse_type d x)) n) r.1)
-      (reached (λ us. front ++ map shape_of us) ts q c e m)
-  types_as_met n again end_of_types deep e m front room = met (same_read (sym (append-nil front)) refl refl (omega arith) (omega arith))
-  types_as_met n again (one_more_type {x = x} {q = q} {t = t} {ts = ts} {c = c} a others) deep e m front room =
-      let shorter = (type_takes a).shorter in
-      let so_far = front ++ shape_of t ∷ [] in
-      let all = append_assoc front (shape_of t ∷ []) (map shape_of ts) in
-      let same_len = ap total_len all in
-      let more = total_more so_far (map shape_of ts) in
-      let rest = again _ _ _ _ _ others (omega arith) (e + c.count) (max m c.peak) so_far (omega arith) in
-      rw (kinds _ _ _ _ _ a (omega arith) e m)
-      (met_unless (total_len so_far) (Some (goes_on so_far, state_at q (e + c.count) (max m c.peak))) (λ r. after_turn r.0 (loop (types_turn (parse_type d x)) n) r.1)
-      (omega arith) (met_as rest (same_read all refl refl (omega arith) (omega arith))))
-
-  types_met : (n : ℕ) → SomeTypesMet d n
-  unfolding loop types_turn
-  types_met zero x p q ts c a deep e m front room = absurd (omega arith)
-  types_met (suc n) x p q ts c a deep e m front room = types_as_met n (types_met n) a deep e m front room
-
-  pub params_met : {case : ParamsCase} {x : Context} {p q : Position} {ts : List Tree} {c : Cost} → ParamsAs case true x p ts q c → Small d c → (e m : ℕ)
-      → Met total_len (params_as case (parse_type d x) (state_at p e m)) (reached (map shape_of) ts q c e m)
-  params_met no_params deep e m = met (same_read refl refl refl (omega arith) (omega arith))
-  params_met (some_params {p = p} a) deep e m = types_met (length p.rest + 1) _ _ _ _ _ a deep e m [] (omega arith)
-
   pub function_met : {x : Context} {quals : Quals} {p q : Position} {t : Tree} {c : Cost} → Function x quals p t q c → Small d c → (e m : ℕ)
       → Met text_len (parse_function (parse_type d x) quals (state_at p e m)) (reached shape_of t q c e m)
   function_met (function {quals = quals} {r = r} {t = t} {ts = ts} {c = c} plain a b there) deep e m =
       let all = with_reference quals r.rest in
-      let whole = sym (shape-function_to t ts all) in
-      rw (plain, kinds _ _ _ _ _ a (omega arith) e m)
-      (met_then _ (params_met b (omega arith) (e + c.count) (max m c.peak))
-      (subst (λ (s : Shape). total_len (map shape_of ts) ≤ text_len s) whole (function_longer (shape_of t) (map shape_of ts) all))
-      (met (rw there (same_read whole refl refl (omega arith) (omega arith)))))
+      let opened = function_opened (shape_of t) in
+      let list = listed_each true opened (map shape_of ts) in
+      let whole = function_built (shape_of t) (map shape_of ts) all ∙ sym (shape-function_to t ts all) in
+      rw (plain, kinds _ _ _ _ _ a (omega arith) e m, there)
+      (met_then _ (typed_params_met d kinds b (omega arith) (e + c.count) (max m c.peak) opened)
+      (subst (λ (s : Shape). text_len list ≤ text_len s) whole (function_longer (text_len (shape_of t)) all list))
+      (met (same_read whole refl refl (omega arith) (omega arith))))
 
   pub cv_met : {case : CvCase} {x : Context} {quals : Quals} {p q : Position} {t : Tree} {c : Cost} → CvAs case x quals p t q c → Small d c → (e m : ℕ)
       → Met text_len (cv_as case (parse_type d x) quals (state_at p e m)) (reached shape_of t q c e m)

@@ -10,7 +10,7 @@ use Rattle.itanium_syntax.specs.Scalars.{front_digits, weighted, number, index_o
 use Rattle.itanium_grammar.specs.Answer.{after_prefix, start, initial, suffix, max_depth, max_text, IsAnswer}
 use Rattle.itanium_syntax.specs.Expressions.{literal_value}
 use Rattle.itanium_syntax.specs.Offsets.{thunk_offsets, past_base_offset}
-use Rattle.itanium_reader.specs.Parser.{ParserState, begun, loop, segment_turn, tag_turn, list_turn, typed_turn, types_turn, parse_unqualified, parse_substitution, parse_parameter, parse_nested, parse_bare_name, parse_encoding, parse_local, parse_thunk, parse_special, parse_primary, parse_expression, parse_argument, parse_name, parse_symbol}
+use Rattle.itanium_reader.specs.Parser.{ParserState, begun, loop, segment_turn, tag_turn, list_turn, typed_turn, parse_unqualified, parse_substitution, parse_parameter, parse_nested, parse_bare_name, parse_encoding, parse_local, parse_thunk, parse_special, parse_primary, parse_expression, parse_argument, parse_name, parse_symbol}
 use Rattle.itanium_demangle.specs.Examples.{WorkedSymbols, e_acute}
 use Rattle.itanium_demangle.proofs.Readers.{symbols}
 use Rattle.itanium_demangle.proofs.Symbols.{no_prefix, not_read, printed}
@@ -45,7 +45,7 @@ not_text symbol inside answer prefix is = go (parse_symbol max_depth initial (be
         printed symbol inside 0 0 s after None prefix ((symbols max_depth initial).reads (start inside) 0 0 s after e) (λ u. let yes = is_utf8-from_IsUtf8 (text s) u in cc)
 
 pub worked_symbols : WorkedSymbols
-unfolding max_text parse_symbol parse_name parse_bare_name parse_encoding parse_local parse_thunk parse_special parse_primary parse_expression parse_argument literal_value thunk_offsets past_base_offset parse_nested loop segment_turn tag_turn list_turn typed_turn types_turn parse_unqualified parse_substitution parse_parameter source_name number index_of ordinal optional_number front_digits weighted digits is_utf8 chars lib.Utf8.encode
+unfolding max_text parse_symbol parse_name parse_bare_name parse_encoding parse_local parse_thunk parse_special parse_primary parse_expression parse_argument literal_value thunk_offsets past_base_offset parse_nested loop segment_turn tag_turn list_turn typed_turn parse_unqualified parse_substitution parse_parameter source_name number index_of ordinal optional_number front_digits weighted digits is_utf8 chars lib.Utf8.encode
 worked_symbols = record {
   nested = some_answer (codes "_ZN3Foo3barEv") (codes "N3Foo3barEv") (codes "Foo::bar") refl refl;
   reference_qualified = some_answer (codes "_ZNO3Foo3barEv") (codes "NO3Foo3barEv") (codes "Foo::bar &&") refl refl;

@@ -80,23 +80,6 @@ met_passed {z = z} {y = y} m read through = rw (sym (met_is m read)) ((passed z 
 pub met_passed_bare : {parsed : Option ((Shape × Quals) × ParserState)} {g z y : (Shape × Quals) × ParserState} → Met bare_len parsed g → parsed ≡ Some z → fitting_bare z ≡ Some y → bare_len g.0 ≤ max_text
 met_passed_bare {z = z} {y = y} m read through = rw (sym (met_is m read)) ((passed_bare z y through).1)
 
--- what ends where so many bytes are too many
-pub met_unless : {L B : Type 0} {long : B → ℕ} {h : B × ParserState} (n : ℕ) (o : Option (L × ParserState)) (again : L × ParserState → Option (B × ParserState))
-    → n ≤ long h.0 → Met long (o >>= again) h → Met long ((if nat_lt max_text n then None else o) >>= again) h
-met_unless {long = long} {h = h} n o again grows more = go (nat_lt max_text n) refl
-  where
-    go : (b : Bool) → nat_lt max_text n ≡ b → Met long ((if b then None else o) >>= again) h
-    go true e = let big : max_text < n = grind (arith, nat_tests) in wide (omega arith) refl
-    go false e = more
-
--- and has an answer, hasn't ended
-pub not_ended : {A : Type 0} (n : ℕ) (o : Option A) (v : A) → (if nat_lt max_text n then None else o) ≡ Some v → o ≡ Some v
-not_ended n o v is = go (nat_lt max_text n) is
-  where
-    go : (b : Bool) → (if b then None else o) ≡ Some v → o ≡ Some v
-    go true f = cc
-    go false f = f
-
 -- a turn of a loop that ends where its list is too long
 pub met_turn : {L B : Type 0} {long : B → ℕ} {h : B × ParserState} (l : Shape) (s : ParserState) (next : Shape × ParserState → Option (L × ParserState)) (again : L × ParserState → Option (B × ParserState))
     → text_len l ≤ long h.0 → Met long (next (l, s) >>= again) h → Met long (fitting (l, s) >>= next >>= again) h

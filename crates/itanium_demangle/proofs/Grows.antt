@@ -1,16 +1,14 @@
 -- A text grows as it is built: what is put onto a text, and what is read after it, makes it no shorter.
-use Rattle.std.proofs.Common.{◌≡◌, ◌≤◌, ℕ, ◌+◌, Bool, true, false, List, [], ◌∷◌, ◌++◌, map, length, arith, codes, decimal, if◌then◌else◌, nat_eq}
-use Rattle.std.proofs.lemmas.List.{length-append}
+use Rattle.std.proofs.Common.{◌≡◌, ◌≤◌, ℕ, ◌+◌, Bool, true, false, List, [], ◌∷◌, ◌++◌, length, ap, arith, codes, decimal, if◌then◌else◌, nat_eq}
+use Rattle.std.proofs.lemmas.List.{length-append, take-append-drop}
 use Rattle.std.specs.List.{ends_with}
 use Rattle.demangle_text.specs.Shape.{Shape, Form, Plain, Declared, text, text_len, form_text, form_with, grouped, appended, flattened, own_shape}
 use Rattle.demangle_text.specs.declared.shape.Place.TheVariants.{End}
 use Rattle.demangle_quals.specs.declared.quals.Quals.{Quals}
 use Rattle.demangle_quals.specs.Quals.{quals_text, words_text, reference_text, has_quals}
-use Rattle.demangle_edit.specs.Lists.{listed, params_text, arguments_closed}
+use Rattle.demangle_edit.specs.Lists.{arguments_closed}
 use Rattle.demangle_edit.specs.Names.{qualified, default_arg_opened, default_arg_shape, qualified_ctor, angle_gap, attached, tagged, with_name_qualifiers}
-use Rattle.demangle_edit.specs.Types.{function_shape}
-use Rattle.demangle_edit.specs.Built.{separator, listed_more, listed_each, params_opened, params_closed, lambda_closed}
-use Rattle.itanium_reader.specs.Parser.{total_len}
+use Rattle.demangle_edit.specs.Built.{separator, listed_more, listed_each, params_opened, params_closed, lambda_closed, function_closed}
 
 -- a form with bytes at its end
 form_longer : (bytes : List ℕ) (f : Form) → length (form_text f) ≤ length (form_text (form_with End bytes f))
@@ -101,25 +99,9 @@ pub default_entity_longer : (parent entity : Shape) (number : ℕ) → text_len 
 default_entity_longer parent entity number = omega (arith, default_len parent entity number)
 
 -- a function's parameters
-listed_total : (items : List Shape) → total_len items ≤ length (listed (map text items))
-listed_total [] = omega arith
-listed_total (s ∷ []) = omega arith
-listed_total (s ∷ next ∷ rest) =
-    let more = listed_total (next ∷ rest) in
-    let all = listed (map text (next ∷ rest)) in
-    omega (arith, length-append (text s) (codes ", " ++ all), length-append (codes ", ") all)
-
-pub function_longer : (ret : Shape) (params : List Shape) (quals : Quals) → total_len params ≤ text_len (function_shape ret params quals)
-function_longer ret params quals =
-    let all = listed (map text params) in
-    let total = listed_total params in
-    omega (
-      arith,
-      length-append (text ret ++ codes " ") (params_text params quals),
-      length-append (codes "(") (all ++ (codes ")" ++ quals_text quals)),
-      length-append all (codes ")" ++ quals_text quals),
-    )
-
-pub total_more : (front : List Shape) (items : List Shape) → total_len (front ++ items) ≡ total_len front + total_len items
-total_more [] items = omega arith
-total_more (s ∷ front) items = let more = total_more front items in omega arith
+pub function_longer : (front : ℕ) (quals : Quals) (list : Shape) → text_len list ≤ text_len (function_closed front quals list)
+function_longer front quals list =
+    let back = codes ")" ++ quals_text quals in
+    let all = text list ++ back in
+    let whole = ap length (take-append-drop (front + 1) all) in
+    omega (arith, whole, length-append (text list) back)

@@ -146,8 +146,8 @@ module _ (d : ℕ) (complete : TypesComplete d) (lists_are : ArgsComplete d) (ki
       let w : Within (FreeAs UnnamedTypeName x p) d = record { tree = _; next = _; cost = _; reading = unnamed_type_free found; deep = omega arith } in
       record { within = w; is = met_is (free_met d lists_are complete w.reading w.deep e m) is })
   free_sound LambdaName x p e m y is =
-      option_and_then_some _ (typed_params_as (params_case (drop 2 p.rest)) (parse_type d (inside_lambda x)) (plain_shape (codes "{lambda(")) (state_at (skip 2 p) e m)) y is (λ z params ends.
-      let listed = typed_params_sound d complete kinds (params_case (drop 2 p.rest)) (inside_lambda x) (plain_shape (codes "{lambda(")) (skip 2 p) e m z params in
+      option_and_then_some _ (typed_params_as (params_case (drop 2 p.rest)) false (parse_type d (inside_lambda x)) (plain_shape (codes "{lambda(")) (state_at (skip 2 p) e m)) y is (λ z params ends.
+      let listed = typed_params_sound false d complete kinds (params_case (drop 2 p.rest)) (inside_lambda x) (plain_shape (codes "{lambda(")) (skip 2 p) e m z params in
       let o = listed.within in
       let there = rw listed.is at ends in
       option_and_then_some _ (ordinal (drop 1 o.next.rest)) y there (λ b found _.
@@ -336,8 +336,8 @@ signature_sound : (d : ℕ) → TypesComplete d → TypesSound d → (case : Sig
     → signature_as case (parse_type d x) (bare_of t) (state_at p e m) ≡ Some y → Within (SignatureAs case x t p) d
 signature_sound d complete kinds NoSignature x t p e m y is = record { tree = _; next = _; cost = _; reading = no_signature; deep = omega arith }
 signature_sound d complete kinds SomeSignature x t p e m y is =
-    option_and_then_some _ (typed_params_as (params_case p.rest) (parse_type d x) (params_opened (bare_shape t)) (state_at p e m)) y is (λ z params _.
-    let i = (typed_params_sound d complete kinds (params_case p.rest) x (params_opened (bare_shape t)) p e m z params).within in
+    option_and_then_some _ (typed_params_as (params_case p.rest) false (parse_type d x) (params_opened (bare_shape t)) (state_at p e m)) y is (λ z params _.
+    let i = (typed_params_sound false d complete kinds (params_case p.rest) x (params_opened (bare_shape t)) p e m z params).within in
     record { tree = _; next = _; cost = _; reading = some_signature i.reading; deep = i.deep })
 
 -- a name with its own qualifiers

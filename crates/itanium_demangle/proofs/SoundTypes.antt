@@ -1,27 +1,27 @@
 -- Of types: what the parser reads, the grammar reads.
-use Rattle.std.proofs.Common.{◌≡◌, ◌<◌, ℕ, zero, suc, ◌+◌, max, true, false, List, [], ◌∷◌, ◌++◌, map, length, drop, refl, ◌∙◌, sym, arith, Option, Some}
+use Rattle.std.proofs.Common.{◌≡◌, ℕ, suc, ◌+◌, max, true, false, map, length, drop, refl, ◌∙◌, sym, arith, Option, Some}
 use Rattle.std.proofs.lemmas.Option.{same_Some, cond_some, option_and_then_some}
 use Rattle.demangle_text.specs.Shape.{Shape, is_plain}
 use Rattle.demangle_quals.specs.declared.quals.Quals.{Quals}
 use Rattle.demangle_quals.specs.Quals.{no_quals}
 use Rattle.demangle_edit.specs.Types.{has_array, has_member_pointer}
-use Rattle.demangle_edit.specs.Calls.{array_step, member_pointer_step, function_step}
+use Rattle.demangle_edit.specs.Calls.{array_step, member_pointer_step, opening_step}
 use Rattle.itanium_syntax.specs.declared.context.Context.{Context}
 use Rattle.itanium_syntax.specs.Context.{inside_type}
 use Rattle.itanium_syntax.specs.Scalars.{source_name, optional_number}
 use Rattle.itanium_syntax.specs.Names.{source_text}
 use Rattle.itanium_syntax.specs.Args.{attached_case}
-use Rattle.itanium_syntax.specs.Types.{type_case, cv_case, function_case, params_case, types_case, cv_quals, past_cv, with_reference}
+use Rattle.itanium_syntax.specs.Types.{type_case, cv_case, function_case, params_case, cv_quals, past_cv}
 use Rattle.itanium_grammar.specs.Tree.{Tree, plain_text, shape_of}
-use Rattle.itanium_grammar.specs.Grammar.{Position, with_rest, skip, save, TypeOf, TypeAs, CvAs, Function, ParamsAs, TypesAs, TypeAttachedAs, type, builtin_type, expansion_type, vendor_type, array_type, function_type, member_type, pointer_type, cv_type, elaborated_type, parameter_type, substitution_type, name_type, cv_function, cv_other, function, no_params, some_params, end_of_types, one_more_type, none_attached_to_type, args_attached_to_type}
-use Rattle.itanium_grammar.proofs.Progress.{type_takes}
-use Rattle.itanium_demangle.specs.Cases.{TypeCase, BuiltinType, ExpansionType, VendorType, ArrayType, FunctionType, MemberType, PointerType, CvType, ElaboratedType, ParameterType, SubstitutionType, UnreadType, NameType, CvCase, CvFunction, CvOther, FunctionCase, ExternFunction, PlainFunction, ParamsCase, NoParams, SomeParams, TypesCase, EndOfTypes, NextType, AttachedCase, NoneAttached, ArgsAttached}
-use Rattle.itanium_reader.specs.Parser.{ParserState, goes_on, total_len, after_turn, loop, ◌>>=◌, parse_source, parse_parameter, saved_parameter, parse_substitution, attached_by, type_attached_as, types_as, types_turn, params_as, function_as, parse_function, cv_as, vendor_as, type_as, parse_name, parse_args, parse_type}
+use Rattle.itanium_grammar.specs.Grammar.{Position, with_rest, skip, save, TypeOf, TypeAs, CvAs, Function, TypeAttachedAs, type, builtin_type, expansion_type, vendor_type, array_type, function_type, member_type, pointer_type, cv_type, elaborated_type, parameter_type, substitution_type, name_type, cv_function, cv_other, function, none_attached_to_type, args_attached_to_type}
+use Rattle.itanium_demangle.specs.Cases.{TypeCase, BuiltinType, ExpansionType, VendorType, ArrayType, FunctionType, MemberType, PointerType, CvType, ElaboratedType, ParameterType, SubstitutionType, UnreadType, NameType, CvCase, CvFunction, CvOther, FunctionCase, ExternFunction, PlainFunction, AttachedCase, NoneAttached, ArgsAttached}
+use Rattle.itanium_reader.specs.Parser.{ParserState, parse_source, parse_parameter, saved_parameter, parse_substitution, attached_by, type_attached_as, typed_params_as, function_as, parse_function, cv_as, vendor_as, type_as, parse_name, parse_args, parse_type}
 use Rattle.itanium_demangle.specs.Meaning.{state_at}
 use Rattle.itanium_demangle.proofs.Shapes.{one_more}
-use Rattle.itanium_demangle.proofs.Fitting.{met_is, met_passed, not_ended}
-use Rattle.itanium_demangle.proofs.Readings.{Within, Found, NamesComplete, NamesSound, ArgsComplete, ArgsSound, TypesComplete, TypesSound}
-use Rattle.itanium_demangle.proofs.CompleteTypes.{params_met, type_as_met, types_complete_at}
+use Rattle.itanium_demangle.proofs.Fitting.{met_passed}
+use Rattle.itanium_demangle.proofs.Readings.{Within, NamesComplete, NamesSound, ArgsComplete, ArgsSound, TypesComplete, TypesSound}
+use Rattle.itanium_demangle.proofs.CompleteTypes.{type_as_met, types_complete_at}
+use Rattle.itanium_demangle.proofs.SoundLists.{typed_params_sound}
 use Rattle.itanium_demangle.proofs.SoundNames.{attached_sound, substitution_sound, parameter_sound, source_is}
 
 type_attached_sound : (d : ℕ) → ArgsSound d → (case : AttachedCase) (x : Context) (t : Tree) (p : Position) (e m : ℕ) (y : Shape × ParserState)
@@ -32,14 +32,9 @@ type_attached_sound d lists ArgsAttached x t p e m y is =
     let a = (attached_sound d lists x false t p e m z list).within in
     record { tree = _; next = _; cost = _; reading = args_attached_to_type a.reading; deep = omega (arith, a.deep) })
 
--- types up to their end, after those that stand in front, in n turns
-abbrev SomeTypesSound : ℕ → ℕ → Type 0
-SomeTypesSound d n = (x : Context) (front : List Shape) (p : Position) (e m : ℕ) (y : List Shape × ParserState) → length p.rest < n
-    → loop (types_turn (parse_type d x)) n front (state_at p e m) ≡ Some y → Within (TypesAs (types_case true p.rest) true x p) d
-
 -- a step that may not exist, exists where it has an answer
-plain_sound : (ret : Shape) (params : List Shape) (quals : Quals) (v : Shape) → function_step ret params quals ≡ Some v → is_plain ret.form ≡ true
-plain_sound ret params quals v is = (cond_some (is_plain ret.form) _ v is).0
+plain_sound : (ret v : Shape) → opening_step ret ≡ Some v → is_plain ret.form ≡ true
+plain_sound ret v is = (cond_some (is_plain ret.form) _ v is).0
 
 array_sound : (dimension : Option ℕ) (elem v : Shape) → array_step dimension elem ≡ Some v → has_array elem.form ≡ true
 array_sound dimension elem v is = (cond_some (has_array elem.form) _ v is).0
@@ -52,35 +47,6 @@ vendor_sound NoneAttached t s y is = refl
 vendor_sound ArgsAttached t s y is = cc
 
 module _ (d : ℕ) (complete : TypesComplete d) (kinds : TypesSound d) where
-  types_as_sound : (n : ℕ) → SomeTypesSound d n → (case : TypesCase) (x : Context) (front : List Shape) (p : Position) (e m : ℕ) (y : List Shape × ParserState) → length p.rest < suc n
-      → (types_as case (parse_type d x) front (state_at p e m) >>= λ r. after_turn r.0 (loop (types_turn (parse_type d x)) n) r.1) ≡ Some y → Within (TypesAs case true x p) d
-  types_as_sound n again EndOfTypes x front p e m y room is = record { tree = _; next = _; cost = _; reading = end_of_types; deep = omega arith }
-  types_as_sound n again NextType x front p e m y room is =
-      option_and_then_some _ (types_as NextType (parse_type d x) front (state_at p e m)) y is (λ v turned rest.
-      option_and_then_some _ (parse_type d x (state_at p e m)) v turned (λ z first made.
-      let found = kinds x p e m z first in
-      let i = found.within in
-      let shorter = (type_takes i.reading).shorter in
-      let stepped = not_ended (total_len (front ++ z.0 ∷ [])) (Some (goes_on (front ++ z.0 ∷ []), z.1)) v made in
-      let there = rw (← same_Some _ _ stepped, found.is) at rest in
-      let o = again x (front ++ shape_of i.tree ∷ []) i.next (e + i.cost.count) (max m i.cost.peak) y (omega arith) there in
-      record { tree = i.tree ∷ o.tree; next = o.next; cost = _; reading = one_more_type i.reading o.reading; deep = omega (arith, i.deep, o.deep) }))
-
-  types_sound : (n : ℕ) → SomeTypesSound d n
-  unfolding loop types_turn
-  types_sound zero x front p e m y room is = cc
-  types_sound (suc n) x front p e m y room is = types_as_sound n (types_sound n) (types_case true p.rest) x front p e m y room is
-
-  params_sound : (case : ParamsCase) (x : Context) (p : Position) (e m : ℕ) (y : List Shape × ParserState)
-      → params_as case (parse_type d x) (state_at p e m) ≡ Some y → Found (ParamsAs case true x p) (map shape_of) d e m y
-  params_sound NoParams x p e m y is =
-      let w : Within (ParamsAs NoParams true x p) d = record { tree = _; next = _; cost = _; reading = no_params; deep = omega arith } in
-      record { within = w; is = met_is (params_met d complete w.reading w.deep e m) is }
-  params_sound SomeParams x p e m y is =
-      let i = types_sound (length p.rest + 1) x [] p e m y (omega arith) is in
-      let w : Within (ParamsAs SomeParams true x p) d = record { tree = i.tree; next = i.next; cost = i.cost; reading = some_params i.reading; deep = i.deep } in
-      record { within = w; is = met_is (params_met d complete w.reading w.deep e m) is }
-
   function_as_sound : (case : FunctionCase) (x : Context) (quals : Quals) (p : Position) (e m : ℕ) (y : Shape × ParserState) → function_case p.rest ≡ case
       → function_as case (parse_type d x) quals (state_at p e m) ≡ Some y → Within (Function x quals p) d
   function_as_sound ExternFunction x quals p e m y case is = cc
@@ -89,12 +55,10 @@ module _ (d : ℕ) (complete : TypesComplete d) (kinds : TypesSound d) where
       let found = kinds x (skip 1 p) e m z ret in
       let i = found.within in
       let there = rw found.is at more in
-      option_and_then_some _ (params_as (params_case i.next.rest) (parse_type d x) (state_at i.next (e + i.cost.count) (max m i.cost.peak))) y there (λ v params ends.
-      let listed = params_sound (params_case i.next.rest) x i.next (e + i.cost.count) (max m i.cost.peak) v params in
-      let o = listed.within in
-      let all = with_reference quals v.1.rest in
-      option_and_then_some _ (function_step (shape_of i.tree) v.0 all) y ends (λ w made _.
-      let plain = plain_sound (shape_of i.tree) v.0 all w made in
+      option_and_then_some _ (opening_step (shape_of i.tree)) y there (λ opened begun follows.
+      option_and_then_some _ (typed_params_as (params_case i.next.rest) true (parse_type d x) opened (state_at i.next (e + i.cost.count) (max m i.cost.peak))) y follows (λ v params _.
+      let o = (typed_params_sound true d complete kinds (params_case i.next.rest) x opened i.next (e + i.cost.count) (max m i.cost.peak) v params).within in
+      let plain = plain_sound (shape_of i.tree) opened begun in
       record { tree = _; next = _; cost = _; reading = function case i.reading o.reading plain; deep = omega (arith, i.deep, o.deep) })))
 
   function_sound : (x : Context) (quals : Quals) (p : Position) (e m : ℕ) (y : Shape × ParserState)

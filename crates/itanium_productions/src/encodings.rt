@@ -110,7 +110,7 @@ pub(crate) fn end_encoding(
         }
         SignatureCase::SomeSignature => {
             let list = open_params(&mut reader.buffer, name)?;
-            read_typed_params(reader, depth, context, list)?;
+            read_typed_params(reader, depth, context, false, list)?;
             reader.found = close_params(&mut reader.buffer, reader.found, quals)?;
             Ok(())
         }

@@ -112,10 +112,11 @@ pub(crate) fn read_pre(reader: &mut Reader, depth: usize, context: Context) -> R
     ensures bounds { Bounds 2 result (state reader.old) (state reader.new) }
     ensures saved { SavedBounds 1 result (state reader.old) (state reader.new) }
 {
-    let text = expression_text(reader.rest);
+    // The operator's text goes in front before the operand is read, so that nothing moves after it.
+    let front = reader.buffer.push(expression_text(reader.rest).as_bytes())?;
     reader.skip(3);
-    read_expression(reader, depth, context)?;
-    reader.print_pre(text)?;
+    framed_expression(reader, depth, context)?;
+    reader.print_pre(front)?;
     Ok(())
 }
 
@@ -149,10 +150,10 @@ pub(crate) fn read_unary(reader: &mut Reader, depth: usize, context: Context) ->
     ensures bounds { Bounds 2 result (state reader.old) (state reader.new) }
     ensures saved { SavedBounds 1 result (state reader.old) (state reader.new) }
 {
-    let text = expression_text(reader.rest);
+    let front = reader.buffer.push(expression_text(reader.rest).as_bytes())?;
     reader.skip(2);
-    read_operand(reader, depth, context)?;
-    reader.print_pre(text)?;
+    framed_operand(reader, depth, context)?;
+    reader.print_pre(front)?;
     Ok(())
 }
 

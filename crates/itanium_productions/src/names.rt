@@ -34,7 +34,7 @@ pub(crate) fn read_lambda(reader: &mut Reader, depth: usize, context: Context) -
     ensures saved { SavedBounds 1 result (state reader.old) (state reader.new) }
 {
     let list = reader.buffer.push(b"{lambda(")?;
-    read_typed_params(reader, depth, context, list)?;
+    read_typed_params(reader, depth, context, false, list)?;
     reader.end_lambda(reader.found)
 }
 

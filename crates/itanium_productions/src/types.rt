@@ -5,13 +5,13 @@ ghost use Rattle.demangle_quals.specs.Quals.{no_quals};
 ghost use Rattle.itanium_syntax.specs.Args.{attached_case};
 ghost use Rattle.itanium_syntax.specs.Types.{params_case, past_cv};
 ghost use Rattle.itanium_reader.specs.Parser as spec;
-ghost use Rattle.itanium_reader.specs.Outcome.{state, Gives, HasRoom, Bounds, OptionalBounds, GivesList, ListBounds, SavedBounds};
+ghost use Rattle.itanium_reader.specs.Outcome.{state, Gives, HasRoom, Bounds, OptionalBounds, ListBounds, SavedBounds};
 
 use crate::args::read_attached;
 use crate::names::read_name;
-use demangle_edit::{Pointer, Quals, list_next};
+use demangle_edit::{Pointer, Quals, list_next, open_function};
 use demangle_text::Piece;
-use itanium_reader::{Reader, Stop, text_limit};
+use itanium_reader::{Reader, Stop};
 use itanium_syntax::args::{AttachedCase, attached_case};
 use itanium_syntax::context::Context;
 use itanium_syntax::numerals::optional_number;
@@ -348,84 +348,30 @@ pub(crate) fn read_function(
         FunctionCase::PlainFunction => {
             reader.skip(1);
             read_type(reader, depth, context)?;
-            let ret = reader.found;
-            let params = read_params(reader, depth, context)?;
-            reader.end_function(quals, ret, &params)
+            let front = reader.buffer.len(reader.found);
+            let Some(list) = open_function(&mut reader.buffer, reader.found)? else {
+                return Err(Stop::Unread);
+            };
+            read_typed_params(reader, depth, context, true, list)?;
+            reader.end_function(front, quals)
         }
     }
 }
 
-/// The parameters of a `<function-type>`: `v` right in front of its end stands for none.
-#[tactic(auto, using(itanium_reader::proofs::Rules::buffers))]
-#[cycle(reader)]
-pub(crate) fn read_params(
-    reader: &mut Reader,
-    depth: usize,
-    context: Context,
-) -> Result<Vec<Piece>, Stop>
-    requires room { HasRoom 2 (state reader.old) }
-    ensures reads { GivesList result reader.new
-        (spec.params_as (params_case reader.old.rest.now) (spec.parse_type depth context) (state reader.old)) }
-    ensures kept { OnOk result (SameFrame reader.old.buffer.value reader.new.buffer.value) }
-    ensures bounds { ListBounds result (state reader.old) (state reader.new) }
-    ensures saved { SavedBounds 0 result (state reader.old) (state reader.new) }
-{
-    match params_case(reader.rest) {
-        ParamsCase::NoParams => {
-            reader.skip(1);
-            let none = Vec::new(reader.alloc);
-            Ok(none)
-        }
-        ParamsCase::SomeParams => read_types(reader, depth, context),
-    }
-}
-
-/// Types up to `E`, or to a `<ref-qualifier>` in front of it.
-#[tactic(auto, using(itanium_reader::proofs::Rules::buffers))]
-#[cycle(reader)]
-pub(crate) fn read_types(
-    reader: &mut Reader,
-    depth: usize,
-    context: Context,
-) -> Result<Vec<Piece>, Stop>
-    requires room { HasRoom 2 (state reader.old) }
-    ensures reads { GivesList result reader.new (spec.parse_types (spec.parse_type depth context) (state reader.old)) }
-    ensures kept { OnOk result (SameFrame reader.old.buffer.value reader.new.buffer.value) }
-    ensures bounds { ListBounds result (state reader.old) (state reader.new) }
-    ensures saved { SavedBounds 0 result (state reader.old) (state reader.new) }
-{
-    let mut list = Vec::new(reader.alloc);
-    // How many bytes these types may still have.
-    let mut left = text_limit();
-    loop {
-        match types_case(true, reader.rest) {
-            TypesCase::EndOfTypes => return Ok(list),
-            TypesCase::NextType => {
-                framed_type(reader, depth, context)?;
-                let len = reader.buffer.len(reader.found);
-                if len > left {
-                    return Err(Stop::Unread);
-                }
-                left -= len;
-                list.push(reader.found)?;
-            }
-        }
-    }
-}
-
-/// Types up to `E`, put onto a list as they are read.
+/// Types up to `E`, or of a function type to a `<ref-qualifier>` in front of it, put onto a list as they are read.
 #[tactic(auto, using(itanium_reader::proofs::Rules::typed_lists))]
 #[cycle(reader)]
 pub(crate) fn read_typed(
     reader: &mut Reader,
     depth: usize,
     context: Context,
+    of_function: bool,
     list: Piece,
 ) -> Result<(), Stop>
     requires room { HasRoom 2 (state reader.old) }
     requires living { IsLiving reader.old.buffer.value list }
-    ensures reads { Gives result reader.new
-        (spec.parse_typed (spec.parse_type depth context) (shape reader.old.buffer.value list) (state reader.old)) }
+    ensures reads { Gives result reader.new (spec.parse_typed of_function (spec.parse_type depth context)
+        (shape reader.old.buffer.value list) (state reader.old)) }
     ensures run { OnOk result (IsRun reader.old.buffer.value reader.new.buffer.value) }
     ensures bounds { ListBounds result (state reader.old) (state reader.new) }
     ensures saved { SavedBounds 0 result (state reader.old) (state reader.new) }
@@ -433,7 +379,7 @@ pub(crate) fn read_typed(
     let mut list = list;
     let mut first = true;
     loop {
-        match types_case(false, reader.rest) {
+        match types_case(of_function, reader.rest) {
             TypesCase::EndOfTypes => {
                 reader.found = list;
                 return Ok(());
@@ -451,18 +397,19 @@ pub(crate) fn read_typed(
     }
 }
 
-/// Parameters up to `E`, put onto a list as they are read: `v` right in front of the `E` stands for none.
+/// Such parameters, put onto a list as they are read: `v` right in front of their end stands for none.
 #[tactic(auto, using(itanium_reader::proofs::Rules::fronts))]
 #[cycle(reader)]
 pub(crate) fn read_typed_params(
     reader: &mut Reader,
     depth: usize,
     context: Context,
+    of_function: bool,
     list: Piece,
 ) -> Result<(), Stop>
     requires room { HasRoom 2 (state reader.old) }
     requires living { IsLiving reader.old.buffer.value list }
-    ensures reads { Gives result reader.new (spec.typed_params_as (params_case reader.old.rest.now)
+    ensures reads { Gives result reader.new (spec.typed_params_as (params_case reader.old.rest.now) of_function
         (spec.parse_type depth context) (shape reader.old.buffer.value list) (state reader.old)) }
     ensures run { OnOk result (IsRun reader.old.buffer.value reader.new.buffer.value) }
     ensures bounds { ListBounds result (state reader.old) (state reader.new) }
@@ -474,6 +421,6 @@ pub(crate) fn read_typed_params(
             reader.found = list;
             Ok(())
         }
-        ParamsCase::SomeParams => read_typed(reader, depth, context, list),
+        ParamsCase::SomeParams => read_typed(reader, depth, context, of_function, list),
     }
 }

@@ -1,5 +1,5 @@
 -- One level of the parser's functions, and the turns of its loops.
-use Rattle.std.proofs.Common.{◌≡◌, ◌<◌, ◌≤◌, ℕ, zero, suc, ◌+◌, ◌-◌, max, Bool, true, false, List, [], ◌∷◌, ◌++◌, length, drop, map, All, refl, sym, ◌∙◌, ap, ap₂, append_assoc, arith, Option, Some, None, Result, Ok, Err}
+use Rattle.std.proofs.Common.{◌≡◌, ◌<◌, ◌≤◌, ℕ, zero, suc, ◌+◌, ◌-◌, max, Bool, true, false, List, [], ◌∷◌, ◌++◌, length, drop, refl, sym, ◌∙◌, ap, append_assoc, arith, Option, Some, None, Result, Ok, Err}
 use Rattle.std.specs.Prelude.{IfSome, option_map, is_some, nat_le, nat_lt, ◌&&◌, ◌==◌, if◌then◌else◌}
 use Rattle.std.proofs.lemmas.Bool.Decides.{nat_tests}
 use Rattle.std.proofs.lemmas.Option.{same_Some}
@@ -25,11 +25,11 @@ use Rattle.itanium_syntax.specs.Types.{types_case, type_case, letter_text, two_l
 use Rattle.itanium_reader.specs.declared.reader.Reader.{Reader}
 use Rattle.itanium_reader.specs.declared.stop.Stop.{Stop}
 use Rattle.itanium_reader.specs.declared.stop.Stop.TheVariants.{Unread, Memory}
-use Rattle.itanium_reader.specs.Outcome.{Gives, GivesList, SavedBounds}
+use Rattle.itanium_reader.specs.Outcome.{Gives, SavedBounds}
 use Rattle.itanium_reader.proofs.Loops.{LoopSoFar, loop_start, loop_end, loop_more, loop_fail, ListSoFar, list_start, list_end, list_more, list_fail}
 use Rattle.itanium_reader.specs.Cases.{FreeName, ConstructorName, DestructorName, SourceName, NoTag, NextTag, EndOfSegments, ArgsSegment, NameSegment, EndOfArguments, NextArgument, EndOfTypes, NextType}
 use Rattle.itanium_grammar.specs.Answer.{max_text}
-use Rattle.itanium_reader.specs.Parser.{ParserState, Parses, ParsesName, ParsesBareName, ◌>>=◌, is_wide, fitting, fitting_bare, total_len, enter, with_rest, save, skip, begin_list, add_argument, add_nowhere, taken_back, past_initializer, substitution_as, parse_substitution, parameter_as, parse_parameter, tag_turn, unqualified_as, parse_unqualified, parse_free, in_parent, parse_tags, parse_source_in, parse_first_source, parse_next_source, end_segment, next_segment, goes_on, first_as, attached_by, segment_turn, parse_segments, parse_after_quals, with_quals, parse_nested, name_as, qualified_by, parse_bare_name, parse_name, encoding_as, parse_encoding, entity_as, parse_local, primary_by, parse_primary, special_by, parse_special, thunk_by, parse_thunk, expression_as, parse_expression, parse_argument, argument_by, list_turn, typed_turn, parse_list, parse_packed, parse_args, parse_pack, types_turn, type_as, parse_type, symbol_as, parse_symbol}
+use Rattle.itanium_reader.specs.Parser.{ParserState, Parses, ParsesName, ParsesBareName, ◌>>=◌, is_wide, fitting, fitting_bare, enter, with_rest, save, skip, begin_list, add_argument, add_nowhere, taken_back, past_initializer, substitution_as, parse_substitution, parameter_as, parse_parameter, tag_turn, unqualified_as, parse_unqualified, parse_free, in_parent, parse_tags, parse_source_in, parse_first_source, parse_next_source, end_segment, next_segment, goes_on, first_as, attached_by, segment_turn, parse_segments, parse_after_quals, with_quals, parse_nested, name_as, qualified_by, parse_bare_name, parse_name, encoding_as, parse_encoding, entity_as, parse_local, primary_by, parse_primary, special_by, parse_special, thunk_by, parse_thunk, expression_as, parse_expression, parse_argument, argument_by, list_turn, typed_turn, parse_list, parse_packed, parse_args, parse_pack, type_as, parse_type, symbol_as, parse_symbol}
 
 pub bare_name_opens : (d : ℕ) (x : Context) (s : ParserState) → 0 < d → parse_bare_name d x s
     ≡ (name_as (name_case s.rest) (parse_unqualified (parse_type (d - 1) x) (parse_type (d - 1) (inside_lambda x))) (parse_args (d - 1) x true)
@@ -254,10 +254,6 @@ builtin_fits bytes = not_wide (plain_shape (builtin_text bytes)) (omega (arith, 
 pub stops : (after : Reader) {inner whole : Option (Shape × ParserState)} (e : Stop) → Gives (Err e) after inner → (inner ≡ None → whole ≡ None) → Gives (Err e) after whole
 stops after Unread none follows = follows none
 stops after Memory gives follows = tt
-
-pub list_stops : (after : Reader) {inner : Option (Shape × ParserState)} {whole : Option (List Shape × ParserState)} (e : Stop) → Gives (Err e) after inner → (inner ≡ None → whole ≡ None) → GivesList (Err e) after whole
-list_stops after Unread none follows = follows none
-list_stops after Memory gives follows = tt
 
 -- a name is saved, and then a list with a byte of its own is read
 pub saved_first : (result : Result (Unit {0}) Stop) (before mid after : ParserState) → SavedBounds 2 result mid after → length mid.saved ≡ length before.saved + 1
@@ -579,59 +575,28 @@ pub no_attached : (d : ℕ) (x : Context) (of_name : Bool) (name : Shape) (s : P
 no_attached d x of_name name s none = rw (none, no_args x of_name s) refl
 
 -- the turns of types that are put onto a list
-module _ {whole : Option (Shape × ParserState)} (type : Parses Shape) {first : Bool} {list : Shape} {s : ParserState} (so_far : LoopSoFar whole (typed_turn type) (first, list) s) where
-  pub typed_end : types_case false s.rest ≡ EndOfTypes → whole ≡ Some (list, s)
+module _ {whole : Option (Shape × ParserState)} (type : Parses Shape) {of_function first : Bool} {list : Shape} {s : ParserState} (so_far : LoopSoFar whole (typed_turn of_function type) (first, list) s) where
+  pub typed_end : types_case of_function s.rest ≡ EndOfTypes → whole ≡ Some (list, s)
   unfolding typed_turn
   typed_end case = loop_end so_far (rw case refl)
 
-  pub typed_more : {next found : Shape} {after : ParserState} → types_case false s.rest ≡ NextType → type s ≡ Some (next, after) → length after.rest < length s.rest
-      → found ≡ listed_more first list next → is_wide found ≡ false → LoopSoFar whole (typed_turn type) (false, found) after
+  pub typed_more : {next found : Shape} {after : ParserState} → types_case of_function s.rest ≡ NextType → type s ≡ Some (next, after) → length after.rest < length s.rest
+      → found ≡ listed_more first list next → is_wide found ≡ false → LoopSoFar whole (typed_turn of_function type) (false, found) after
   unfolding typed_turn
   typed_more {next} case read shorter built fits =
       let narrow : is_wide (listed_more first list next) ≡ false = ap is_wide (sym built) ∙ fits in
       loop_more so_far (rw (case, read, narrow, built) refl) shorter
 
-  pub typed_wide : {next found : Shape} {after : ParserState} → types_case false s.rest ≡ NextType → type s ≡ Some (next, after)
+  pub typed_wide : {next found : Shape} {after : ParserState} → types_case of_function s.rest ≡ NextType → type s ≡ Some (next, after)
       → found ≡ listed_more first list next → is_wide found ≡ true → whole ≡ None
   unfolding typed_turn
   typed_wide {next} case read built wide =
       let long : is_wide (listed_more first list next) ≡ true = ap is_wide (sym built) ∙ wide in
       loop_fail so_far (rw (case, read, long) refl)
 
-  pub typed_fail : types_case false s.rest ≡ NextType → type s ≡ None → whole ≡ None
+  pub typed_fail : types_case of_function s.rest ≡ NextType → type s ≡ None → whole ≡ None
   unfolding typed_turn
   typed_fail case none = loop_fail so_far (rw (case, none) refl)
-
--- one text more
-pub total_more : (ts : List Shape) (t : Shape) → total_len (ts ++ t ∷ []) ≡ total_len ts + text_len t
-total_more [] t = omega arith
-total_more (u ∷ ts) t = omega (arith, total_more ts t)
-
--- the turns of a list of types
-pub types_end : {whole : Option (List Shape × ParserState)} (type : Parses Shape) {so_far : List Shape} {s : ParserState} → LoopSoFar whole (types_turn type) so_far s
-    → types_case true s.rest ≡ EndOfTypes → whole ≡ Some (so_far, s)
-unfolding types_turn
-types_end type sofar case = loop_end sofar (rw case refl)
-
-pub types_more : {whole : Option (List Shape × ParserState)} (type : Parses Shape) {so_far : List Shape} {next : Shape} {s after : ParserState} → LoopSoFar whole (types_turn type) so_far s
-    → types_case true s.rest ≡ NextType → type s ≡ Some (next, after) → total_len so_far + text_len next ≤ max_text → length after.rest < length s.rest
-    → LoopSoFar whole (types_turn type) (so_far ++ next ∷ []) after
-unfolding types_turn
-types_more type {so_far} {next} sofar case found short shorter =
-    let fits : nat_lt max_text (total_len (so_far ++ next ∷ [])) ≡ false = not_longer (omega (arith, short, total_more so_far next)) in
-    loop_more sofar (rw (case, found, fits) refl) shorter
-
-pub types_wide : {whole : Option (List Shape × ParserState)} (type : Parses Shape) {so_far : List Shape} {next : Shape} {s after : ParserState} → LoopSoFar whole (types_turn type) so_far s
-    → types_case true s.rest ≡ NextType → type s ≡ Some (next, after) → max_text < total_len so_far + text_len next → whole ≡ None
-unfolding types_turn
-types_wide type {so_far} {next} sofar case found long =
-    let wide : nat_lt max_text (total_len (so_far ++ next ∷ [])) ≡ true = longer (omega (arith, long, total_more so_far next)) in
-    loop_fail sofar (rw (case, found, wide) refl)
-
-pub types_fail : {whole : Option (List Shape × ParserState)} (type : Parses Shape) {so_far : List Shape} {s : ParserState} → LoopSoFar whole (types_turn type) so_far s
-    → types_case true s.rest ≡ NextType → type s ≡ None → whole ≡ None
-unfolding types_turn
-types_fail type sofar case none = loop_fail sofar (rw (case, none) refl)
 
 -- a parent that may be there keeps its shape
 pub kept_parent : (old new : Buffer) (parent : Option Piece) → SameFrame old new → IfSome parent (IsLiving old) → option_map (shape new) parent ≡ option_map (shape old) parent
@@ -641,16 +606,3 @@ kept_parent old new (Some p) kept living = ap Some (kept.pieces p living).shape_
 pub some_parent : (b : Buffer) (parent : Option Piece) → is_some (option_map (shape b) parent) ≡ is_some parent
 some_parent b None = refl
 some_parent b (Some p) = refl
-
--- what lived keeps its shape
-pub kept_shapes : (old new : Buffer) (ps : List Piece) → SameFrame old new → All (IsLiving old) ps → map (shape new) ps ≡ map (shape old) ps
-kept_shapes old new [] kept live = refl
-kept_shapes old new (p ∷ ps) kept live =
-    ap₂ (λ t ts. t ∷ ts) (kept.pieces p (live 0 p (omega arith))).shape_is (kept_shapes old new ps kept (λ k d h. live (suc k) d (omega arith)))
-
--- and one more piece lives
-pub one_more_lives : (old new : Buffer) (ps : List Piece) (p : Piece) → SameFrame old new → All (IsLiving old) ps → IsLiving new p → All (IsLiving new) (ps ++ p ∷ [])
-one_more_lives old new [] p kept live lives zero d h = lives
-one_more_lives old new [] p kept live lives (suc k) d h = absurd (omega arith)
-one_more_lives old new (q ∷ ps) p kept live lives zero d h = (kept.pieces q (live 0 q (omega arith))).living
-one_more_lives old new (q ∷ ps) p kept live lives (suc k) d h = one_more_lives old new ps p kept (λ i e g. live (suc i) e (omega arith)) lives k d (omega arith)

@@ -1,7 +1,5 @@
 -- What a reader says of a call.
-use Rattle.std.specs.Prelude.{◌≡◌, ◌≤◌, ℕ, ◌+◌, ◌*◌, ◌^◌, ◌<◌, ◌-◌, max, List, length, map, All, Vec, Option, Some, None, Result, Ok, Err}
-use Rattle.std.specs.Global.{Global}
-use Rattle.demangle_text.specs.declared.shape.Piece.{Piece}
+use Rattle.std.specs.Prelude.{◌≡◌, ◌≤◌, ℕ, ◌+◌, ◌*◌, ◌^◌, ◌<◌, ◌-◌, max, length, Option, Some, None, Result, Ok, Err}
 use Rattle.demangle_text.specs.Shape.{Shape}
 use Rattle.demangle_text.specs.State.{IsLiving, shape, saved, scopes}
 use Rattle.demangle_quals.specs.declared.quals.Quals.{Quals}
@@ -42,14 +40,6 @@ abbrev pub Leaves : Result (Unit {0}) Stop → Reader → Option ParserState →
 Leaves (Ok u) after parsed = parsed ≡ Some (state after)
 Leaves (Err Unread) after parsed = parsed ≡ None
 Leaves (Err Memory) after parsed = Unit {0}
-
--- the same of a call that answers several pieces
-abbrev pub GivesList : Result (Vec Piece Global) Stop → Reader → Option (List Shape × ParserState) → Type 0
-GivesList (Ok ps) after parsed =
-    All (IsLiving after.buffer.value) ps.items
-    × (parsed ≡ Some (map (shape after.buffer.value) ps.items, state after))
-GivesList (Err Unread) after parsed = parsed ≡ None
-GivesList (Err Memory) after parsed = Unit {0}
 
 -- there is room to count what a reading or a failing run can enter
 abbrev pub HasRoom : ℕ → ParserState → Type 0

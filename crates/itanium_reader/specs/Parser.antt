@@ -8,9 +8,9 @@ use Rattle.demangle_quals.specs.declared.quals.Pointer.{Pointer}
 use Rattle.demangle_quals.specs.Quals.{no_quals}
 use Rattle.demangle_edit.specs.Names.{qualified, default_arg_shape, qualified_ctor, attached, tagged, with_name_qualifiers}
 use Rattle.demangle_edit.specs.Types.{pointer_shape, cv_shape, expansion_shape}
-use Rattle.demangle_edit.specs.Calls.{array_step, member_pointer_step, function_step, literal_step}
+use Rattle.demangle_edit.specs.Calls.{array_step, member_pointer_step, opening_step, literal_step}
 use Rattle.demangle_edit.specs.Expressions.{operand_shape, address_shape}
-use Rattle.demangle_edit.specs.Built.{listed_more, lambda_closed, params_opened, params_closed}
+use Rattle.demangle_edit.specs.Built.{listed_more, lambda_closed, params_opened, params_closed, function_closed}
 use Rattle.demangle_edit.specs.Lists.{arguments_closed}
 use Rattle.itanium_syntax.specs.declared.context.Context.{Context}
 use Rattle.itanium_syntax.specs.declared.numerals.Radix.TheVariants.{Decimal, Base36}
@@ -82,11 +82,6 @@ fitting found = if is_wide found.0 then None else Some found
 -- a name without its own qualifiers that isn't too long; else nothing
 abbrev pub fitting_bare : (Shape × Quals) × ParserState → Option ((Shape × Quals) × ParserState)
 fitting_bare found = if is_wide found.0.0 then None else Some found
-
--- how many bytes the texts of several shapes have together
-abbrev pub total_len : List Shape → ℕ
-total_len [] = 0
-total_len (t ∷ ts) = text_len t + total_len ts
 
 -- past the M of a data member's initializer
 abbrev pub past_initializer : ParserState → ParserState
@@ -198,17 +193,17 @@ typed_as NextType type so_far s =
     type s >>= λ next. fitting (listed_more so_far.0 so_far.1 next.0, next.1) >>= next_item
 
 -- its parser, by what comes next
-unfoldable pub typed_turn : Parses Shape → Bool × Shape → Parses (Turn (Bool × Shape) Shape)
-typed_turn type so_far s = typed_as (types_case false s.rest) type so_far s
+unfoldable pub typed_turn : Bool → Parses Shape → Bool × Shape → Parses (Turn (Bool × Shape) Shape)
+typed_turn of_function type so_far s = typed_as (types_case of_function s.rest) type so_far s
 
--- types up to E, put onto a list
-abbrev pub parse_typed : Parses Shape → Shape → Parses Shape
-parse_typed type list s = parse_loop (typed_turn type) (true, list) s
+-- types up to E, or of a function type to a <ref-qualifier> in front of it, put onto a list
+abbrev pub parse_typed : Bool → Parses Shape → Shape → Parses Shape
+parse_typed of_function type list s = parse_loop (typed_turn of_function type) (true, list) s
 
--- parameters up to E, put onto a list: v right before the E stands for none
-abbrev pub typed_params_as : ParamsCase → Parses Shape → Shape → Parses Shape
-typed_params_as NoParams type list s = Some (list, skip 1 s)
-typed_params_as SomeParams type list s = parse_typed type list s
+-- such parameters, put onto a list: v right before the end stands for none
+abbrev pub typed_params_as : ParamsCase → Bool → Parses Shape → Shape → Parses Shape
+typed_params_as NoParams of_function type list s = Some (list, skip 1 s)
+typed_params_as SomeParams of_function type list s = parse_typed of_function type list s
 
 -- what is after the parameters of a lambda
 abbrev pub lambda_end : Shape → Parses Shape
@@ -217,7 +212,7 @@ lambda_end list s = ordinal (drop 1 s.rest) >>= λ found. Some (lambda_closed fo
 -- <closure-type-name> after its Ul
 abbrev pub parse_lambda : Parses Shape → Parses Shape
 parse_lambda type s =
-    typed_params_as (params_case s.rest) type (plain_shape (codes "{lambda(")) s >>= λ list. lambda_end list.0 list.1
+    typed_params_as (params_case s.rest) false type (plain_shape (codes "{lambda(")) s >>= λ list. lambda_end list.0 list.1
 
 -- <unnamed-type-name> after its Ut
 abbrev pub parse_unnamed_type : Parses Shape
@@ -378,7 +373,7 @@ return_as SomeReturnType type s = dropped (type s)
 abbrev pub signature_as : SignatureCase → Parses Shape → Shape × Quals → Parses Shape
 signature_as NoSignature type name s = Some (with_name_qualifiers name.0 name.1 true, s)
 signature_as SomeSignature type name s =
-    typed_params_as (params_case s.rest) type (params_opened name.0) s >>= λ list.
+    typed_params_as (params_case s.rest) false type (params_opened name.0) s >>= λ list.
     Some (params_closed name.1 list.0, list.1)
 
 -- what is after the name of an encoding
@@ -592,39 +587,21 @@ abbrev pub type_attached_as : AttachedCase → Parses Shape → Shape → Parses
 type_attached_as NoneAttached args name s = Some (name, s)
 type_attached_as ArgsAttached args name s = attached_by args name s >>= λ whole. Some (whole.0, save whole.0 whole.1)
 
--- one more type of a list, or its end. Types that are too long together already aren't read on
-abbrev pub types_as : TypesCase → Parses Shape → List Shape → Parses (Turn (List Shape) (List Shape))
-types_as EndOfTypes type so_far s = Some (ends so_far, s)
-types_as NextType type so_far s =
-    type s >>= λ next.
-    if nat_lt max_text (total_len (so_far ++ next.0 ∷ [])) then None else
-    Some (goes_on (so_far ++ next.0 ∷ []), next.1)
+-- what is after the parameters of a function, which returns a text of this length
+abbrev pub function_end : ℕ → Quals → Shape → Parses Shape
+function_end front quals list s =
+    Some (function_closed front (with_reference quals s.rest) list, skip 1 (with_rest (past_reference s.rest) s))
 
--- its parser, by what comes next
-unfoldable pub types_turn : Parses Shape → List Shape → Parses (Turn (List Shape) (List Shape))
-types_turn type so_far s = types_as (types_case true s.rest) type so_far s
-
--- types up to their end
-abbrev pub parse_types : Parses Shape → Parses (List Shape)
-parse_types type s = parse_loop (types_turn type) [] s
-
--- the parameters of a function
-abbrev pub params_as : ParamsCase → Parses Shape → Parses (List Shape)
-params_as NoParams type s = Some ([], skip 1 s)
-params_as SomeParams type s = parse_types type s
-
--- what is after the parameters of a function
-abbrev pub function_end : Quals → Shape → List Shape → Parses Shape
-function_end quals ret params s =
-    function_step ret params (with_reference quals s.rest) >>= λ whole.
-    Some (whole, skip 1 (with_rest (past_reference s.rest) s))
+-- what is after what a function returns, where that is plain
+abbrev pub function_params : Parses Shape → Quals → Shape → Parses Shape
+function_params type quals ret s =
+    opening_step ret >>= λ opened. typed_params_as (params_case s.rest) true type opened s >>= λ list.
+    function_end (text_len ret) quals list.0 list.1
 
 -- <function-type>, by what it begins with
 abbrev pub function_as : FunctionCase → Parses Shape → Quals → Parses Shape
 function_as ExternFunction type quals s = None
-function_as PlainFunction type quals s =
-    type (skip 1 s) >>= λ ret. params_as (params_case ret.1.rest) type ret.1 >>= λ params.
-    function_end quals ret.0 params.0 params.1
+function_as PlainFunction type quals s = type (skip 1 s) >>= λ ret. function_params type quals ret.0 ret.1
 
 -- <function-type>
 abbrev pub parse_function : Parses Shape → Quals → Parses Shape

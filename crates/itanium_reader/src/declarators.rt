@@ -1,5 +1,5 @@
 //! The methods for types: each makes a type of those that were found, and saves it.
-ghost use Rattle.std.specs.Prelude.{◌≡◌, ◌≤◌, OnOk, All, map, length};
+ghost use Rattle.std.specs.Prelude.{◌≡◌, OnOk};
 ghost use Rattle.demangle_text.specs.State.{IsLiving, shape, Lives, IsRun, SameFrame, scopes};
 ghost use Rattle.demangle_edit.specs.Types.{pointer_shape, cv_shape};
 ghost use Rattle.itanium_syntax.specs.Args.{attached_case};
@@ -10,7 +10,7 @@ ghost use Rattle.itanium_reader.specs.Outcome.{state, Gives, Bounds, OptionalBou
 use crate::reader::Reader;
 use crate::stop::Stop;
 use demangle_edit::{
-    Glue, Pointer, Quals, expand, function_type, glue, wrap_array, wrap_cv, wrap_member_pointer,
+    Glue, Pointer, Quals, close_function, expand, glue, wrap_array, wrap_cv, wrap_member_pointer,
     wrap_pointer,
 };
 use demangle_text::Piece;
@@ -96,23 +96,19 @@ impl<'a> Reader<'a> {
         Ok(())
     }
 
-    /// The function type, where there is one, and what is after its parameters: `[<ref-qualifier>] E`.
-    pub fn end_function(&mut self, quals: Quals, ret: Piece, params: &[Piece]) -> Result<(), Stop>
-        requires ret { IsLiving self.old.buffer.value ret }
-        requires params { All (IsLiving self.old.buffer.value) params.now }
-        ensures reads { Gives result self.new
-            (spec.function_end quals (shape self.old.buffer.value ret) (map (shape self.old.buffer.value) params.now)
-            (state self.old)) }
+    /// The function type whose list of parameters was found, and what is after them: `[<ref-qualifier>] E`. What it
+    /// returns has `front` bytes.
+    pub fn end_function(&mut self, front: usize, quals: Quals) -> Result<(), Stop>
+        requires living { IsLiving self.old.buffer.value self.old.found }
+        ensures reads { Gives result self.new (spec.function_end front quals
+            (shape self.old.buffer.value self.old.found) (state self.old)) }
         ensures run { OnOk result (IsRun self.old.buffer.value self.new.buffer.value) }
         ensures bounds { OptionalBounds result (state self.old) (state self.new) }
         ensures saved { SavedBounds 0 result (state self.old) (state self.new) }
     {
         let (reference, rest) = ref_qualifier(self.rest);
         let all = Quals { reference, ..quals };
-        let Some(whole) = function_type(&mut self.buffer, ret, params, all)? else {
-            return Err(Stop::Unread);
-        };
-        self.found = whole;
+        self.found = close_function(&mut self.buffer, self.found, front, all)?;
         self.rest = rest;
         self.skip(1);
         Ok(())

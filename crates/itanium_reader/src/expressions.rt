@@ -1,6 +1,6 @@
 //! Literals, external names and expressions (Itanium C++ ABI 5.1, "Expressions").
 ghost use Rattle.std.specs.Prelude.{◌≡◌, ◌<◌, codes, OnOk};
-ghost use Rattle.demangle_text.specs.Shape.{plain_shape};
+ghost use Rattle.demangle_text.specs.Shape.{plain_shape, text};
 ghost use Rattle.demangle_text.specs.State.{IsLiving, Lives, shape, IsRun, SameFrame};
 ghost use Rattle.itanium_grammar.specs.Tree.{pre_shape, post_shape, binary_shape, greater_shape, conditional_shape};
 ghost use Rattle.itanium_reader.specs.Cases.{BuiltinType};
@@ -100,16 +100,17 @@ impl<'a> Reader<'a> {
         Ok(())
     }
 
-    /// An operator's text in front of what was found.
-    pub fn print_pre(&mut self, text: &str) -> Result<(), AllocError>
+    /// An operator's text, the piece `front`, in front of what was found. Nothing moves where the two stand one after the
+    /// other at the end of the main text.
+    pub fn print_pre(&mut self, front: Piece) -> Result<(), AllocError>
+        requires front { IsLiving self.old.buffer.value front }
         requires living { IsLiving self.old.buffer.value self.old.found }
         ensures shape { OnOk result (Lives self.new.buffer.value self.new.found
-            (pre_shape text.now (shape self.old.buffer.value self.old.found))) }
+            (pre_shape (text (shape self.old.buffer.value front)) (shape self.old.buffer.value self.old.found))) }
         ensures state { OnOk result (state self.new ≡ state self.old) }
         ensures run { OnOk result (IsRun self.old.buffer.value self.new.buffer.value) }
     {
-        let parts = [Glue::Text(text.as_bytes()), Glue::Piece(self.found)];
-        self.found = glue(&mut self.buffer, &parts)?;
+        self.found = self.buffer.join(front, b"", self.found)?;
         Ok(())
     }
 

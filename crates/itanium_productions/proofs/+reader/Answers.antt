@@ -1,8 +1,7 @@
-use Rattle.std.proofs.Common.{◌≡◌, ℕ, List, drop, map, refl, rules, sym, arith, Some}
-use Rattle.std.proofs.lemmas.List.{map-append}
+use Rattle.std.proofs.Common.{◌≡◌, ℕ, List, drop, refl, rules, sym, arith, Some}
 use Rattle.std.proofs.lemmas.Result.{err_from_is_err_and}
 use Rattle.itanium_syntax.proofs.Fronts.{attached_some}
-use Rattle.demangle_text.specs.State.{shape, SameFrame}
+use Rattle.demangle_text.specs.State.{shape}
 use Rattle.demangle_text.specs.Shape.{Shape, text_len}
 use Rattle.demangle_quals.specs.declared.quals.Quals.{Quals}
 use Rattle.demangle_edit.specs.Names.{default_arg_shape}
@@ -11,7 +10,7 @@ use Rattle.itanium_syntax.specs.Encodings.{entity_case}
 use Rattle.itanium_reader.specs.Cases.{DefaultArgumentEntity}
 use Rattle.itanium_reader.specs.Outcome.{state}
 use Rattle.itanium_reader.specs.Parser as spec
-use Rattle.itanium_reader.proofs.Unfold.{source_opens, saved_first, free_found, kept_parent, some_parent, stops, list_stops, attached_start, attached_end, attached_more, attached_fail, attached_plain, attached_front, pack_start, segments_end, segments_args, segments_no_args, segments_name, segments_no_name, segments_source, segments_no_source, items_more, items_fail, typed_end, typed_more, typed_fail, types_end, types_more, types_fail, kept_shapes, one_more_lives, begun_front, attached_wide, attached_more_wide, segments_wide_args, segments_wide_source, segments_wide_name, types_wide, total_more, pack_ends, pack_wide, typed_wide, attached_room, items_wide}
+use Rattle.itanium_reader.proofs.Unfold.{source_opens, saved_first, free_found, kept_parent, some_parent, stops, attached_start, attached_end, attached_more, attached_fail, attached_plain, attached_front, pack_start, segments_end, segments_args, segments_no_args, segments_name, segments_no_name, segments_source, segments_no_source, items_more, items_fail, typed_end, typed_more, typed_fail, begun_front, attached_wide, attached_more_wide, segments_wide_args, segments_wide_source, segments_wide_name, pack_ends, pack_wide, typed_wide, attached_room, items_wide}
 use Rattle.itanium_productions.proofs.+reader.Goals as goal
 
 pub args::read_attached-loop-reader-init : goal.args::read_attached-loop-reader-init
@@ -164,49 +163,6 @@ names::read_segments-loop-reader-preserved-in-ArgsSegment t c = record {
   most = search rules;
   scopes_stand = search rules;
 }
-
-pub types::read_types-returns-in-EndOfTypes-clause-reads : goal.types::read_types-returns-in-EndOfTypes-clause-reads
-types::read_types-returns-in-EndOfTypes-clause-reads t c =
-    let l = c.loop-list in (l.invariant.living, types_end _ l.invariant.reads (sym c.in-EndOfTypes.ensures.case))
-
-pub types::read_types-returns-in_err-framed_type-in-NextType-clause-reads : goal.types::read_types-returns-in_err-framed_type-in-NextType-clause-reads
-types::read_types-returns-in_err-framed_type-in-NextType-clause-reads t c =
-    let e = err_from_is_err_and c.from_residual.result c.from_residual.ensures.1 in
-    rw (e.1, e.2) (list_stops _ _ (c.in_err-framed_type-in-NextType.ensures {u = tt}).reads
-    (types_fail _ c.loop-list.invariant.reads (sym c.in-NextType.ensures.case)))
-
-pub types::read_types-returns-then-len-left-clause-reads : goal.types::read_types-returns-then-len-left-clause-reads
-types::read_types-returns-then-len-left-clause-reads t c =
-    let next = shape c.framed_type.new.reader.buffer.value c.framed_type.new.reader.found in
-    let long : c.len-len.result ≡ text_len next = search rules in
-    types_wide _ {next = next} {after = state c.framed_type.new.reader} c.loop-list.invariant.reads (sym c.in-NextType.ensures.case) (search rules)
-    (omega (arith, c.if-len-left.true, long, c.loop-list.invariant.left))
-
-pub types::read_types-loop-list-preserved : goal.types::read_types-loop-list-preserved
-types::read_types-loop-list-preserved t c =
-    let l = c.loop-list in
-    let items = (c.in_ok-push-in-NextType.ensures {u = tt}).items in
-    let kept : SameFrame l.reader.buffer.value c.framed_type.new.reader.buffer.value = search rules in
-    let next = shape c.framed_type.new.reader.buffer.value c.framed_type.new.reader.found in
-    let long : c.len-len.result ≡ text_len next = search rules in
-    let shapes = kept_shapes l.reader.buffer.value c.framed_type.new.reader.buffer.value l.list.items kept l.invariant.living in
-    record {
-      reads = rw (items, map-append, shapes) (types_more _ l.invariant.reads (sym c.in-NextType.ensures.case) (search rules) (search rules) (search rules));
-      left = rw (items, map-append, shapes) (omega (
-        arith,
-        long,
-        c.if-len-left.false,
-        l.invariant.left,
-        total_more (map (shape l.reader.buffer.value) l.list.items) next,
-      ));
-      living = rw items (one_more_lives _ _ _ _ kept l.invariant.living (search rules));
-      kept = search rules;
-      scopes_stand = search rules;
-      taken = search rules;
-      counted = search rules;
-      list = search rules;
-      most = search rules;
-    }
 
 pub names::read_attached_args-returns-in_ok-save_found-in-ArgsAttached-clause-saved : goal.names::read_attached_args-returns-in_ok-save_found-in-ArgsAttached-clause-saved
 names::read_attached_args-returns-in_ok-save_found-in-ArgsAttached-clause-saved t c =

@@ -1,8 +1,7 @@
-use Rattle.std.proofs.Common.{◌≡◌, ◌+◌, ◌-◌, ◌*◌, ◌<◌, ◌≤◌, length, max, true, map, All}
-use Rattle.demangle_text.specs.State.{IsLiving, IsRun, SameFrame, shape, saved, scopes}
+use Rattle.std.proofs.Common.{◌≡◌, ◌+◌, ◌-◌, ◌*◌, ◌<◌, ◌≤◌, length, max, true}
+use Rattle.demangle_text.specs.State.{IsLiving, IsRun, shape, saved, scopes}
 use Rattle.itanium_reader.specs.Parser as spec
 use Rattle.itanium_reader.specs.Outcome.{state}
-use Rattle.itanium_grammar.specs.Answer.{max_text}
 use Rattle.itanium_syntax.specs.Context.{inside_lambda}
 use Rattle.itanium_reader.proofs.Loops.{LoopSoFar, ListSoFar}
 use Rattle.itanium_reader.proofs.Unfold.{AttachedSoFar, front_len, pack_end}
@@ -108,33 +107,11 @@ decreases-args::read_attached-loop-reader l = length l.reader.rest.now
 abbrev pub decreases-types::framed_type : goal.decreases-types::framed_type
 decreases-types::framed_type l = 16 * l.depth + 1
 
-abbrev pub decreases-types::read_types : goal.decreases-types::read_types
-decreases-types::read_types l = 16 * l.depth + 2
-
-abbrev pub decreases-types::read_params : goal.decreases-types::read_params
-decreases-types::read_params l = 16 * l.depth + 3
-
 abbrev pub decreases-types::read_function : goal.decreases-types::read_function
 decreases-types::read_function l = 16 * l.depth + 4
 
 abbrev pub decreases-types::read_cv : goal.decreases-types::read_cv
 decreases-types::read_cv l = 16 * l.depth + 5
-
-abbrev pub invariant-types::read_types-loop-list : goal.invariant-types::read_types-loop-list
-invariant-types::read_types-loop-list l = record {
-  reads : LoopSoFar (spec.parse_types (spec.parse_type l.depth l.context) (state l.fn.reader)) (spec.types_turn (spec.parse_type l.depth l.context)) (map (shape l.reader.buffer.value) l.list.items) (state l.reader);
-  left : l.left + spec.total_len (map (shape l.reader.buffer.value) l.list.items) ≡ max_text;
-  living : All (IsLiving l.reader.buffer.value) l.list.items;
-  kept : SameFrame l.fn.reader.buffer.value l.reader.buffer.value;
-  scopes_stand : length (scopes l.fn.reader.buffer.value) ≤ length (scopes l.reader.buffer.value);
-  taken : length l.reader.rest.now ≤ length l.fn.reader.rest.now;
-  counted : l.reader.entered + 2 * length l.reader.rest.now ≤ l.fn.reader.entered + 2 * length l.fn.reader.rest.now;
-  list : length (saved l.reader.buffer.value) + length l.reader.rest.now ≤ length (saved l.fn.reader.buffer.value) + length l.fn.reader.rest.now;
-  most : l.reader.most_saved ≤ max l.fn.reader.most_saved (length (saved l.fn.reader.buffer.value) + length l.fn.reader.rest.now);
-}
-
-abbrev pub decreases-types::read_types-loop-list : goal.decreases-types::read_types-loop-list
-decreases-types::read_types-loop-list l = length l.reader.rest.now
 
 abbrev pub decreases-types::read_member : goal.decreases-types::read_member
 decreases-types::read_member l = 16 * l.depth + 2
@@ -225,8 +202,8 @@ decreases-args::read_pack-loop-reader l = length l.reader.rest.now
 
 abbrev pub invariant-types::read_typed-loop-list : goal.invariant-types::read_typed-loop-list
 invariant-types::read_typed-loop-list l = record {
-  reads : LoopSoFar (spec.parse_typed (spec.parse_type l.depth l.context) (shape l.fn.reader.buffer.value l.fn.list) (state l.fn.reader))
-      (spec.typed_turn (spec.parse_type l.depth l.context)) (l.first, shape l.reader.buffer.value l.list) (state l.reader);
+  reads : LoopSoFar (spec.parse_typed l.of_function (spec.parse_type l.depth l.context) (shape l.fn.reader.buffer.value l.fn.list) (state l.fn.reader))
+      (spec.typed_turn l.of_function (spec.parse_type l.depth l.context)) (l.first, shape l.reader.buffer.value l.list) (state l.reader);
   living : IsLiving l.reader.buffer.value l.list;
   run : IsRun l.fn.reader.buffer.value l.reader.buffer.value;
   scopes_stand : length (scopes l.fn.reader.buffer.value) ≤ length (scopes l.reader.buffer.value);
@@ -252,7 +229,7 @@ abbrev pub decreases-expressions::framed_operand : goal.decreases-expressions::f
 decreases-expressions::framed_operand l = 16 * l.depth + 2
 
 abbrev pub decreases-expressions::read_pre : goal.decreases-expressions::read_pre
-decreases-expressions::read_pre l = 16 * l.depth + 1
+decreases-expressions::read_pre l = 16 * l.depth + 2
 
 abbrev pub decreases-expressions::read_address : goal.decreases-expressions::read_address
 decreases-expressions::read_address l = 16 * l.depth + 1
