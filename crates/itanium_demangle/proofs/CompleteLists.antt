@@ -21,7 +21,7 @@ TypedMet d of_function n = (x : Context) (p q : Position) (ts : List Tree) (c : 
     → (e m : ℕ) (first : Bool) (front : Shape) → length p.rest < n
     → Met text_len (loop (typed_turn of_function (parse_type d x)) n (first, front) (state_at p e m)) (reached (λ us. listed_each first front (map shape_of us)) ts q c e m)
 
-module _ {of_function : Bool} (d : ℕ) (kinds : TypesComplete d) where
+module _ (of_function : Bool) (d : ℕ) (kinds : TypesComplete d) where
   typed_as_met : (n : ℕ) → TypedMet d of_function n → {case : TypesCase} {x : Context} {p q : Position} {ts : List Tree} {c : Cost} → TypesAs case of_function x p ts q c → Small d c
       → (e m : ℕ) (first : Bool) (front : Shape) → length p.rest < suc n
       → Met text_len (typed_as case (parse_type d x) (first, front) (state_at p e m) >>= λ r. after_turn r.0 (loop (typed_turn of_function (parse_type d x)) n) r.1)

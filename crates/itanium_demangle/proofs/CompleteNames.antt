@@ -80,7 +80,7 @@ module _ (d : ℕ) (lists : ArgsComplete d) (kinds : TypesComplete d) where
       let begun = plain_shape (codes "{lambda(") in
       let list = listed_each true begun (map shape_of ts) in
       let whole = lambda_built (map shape_of ts) k ∙ sym (shape-lambda_of ts k) in
-      met_then _ (typed_params_met d kinds params deep e m begun)
+      met_then _ (typed_params_met false d kinds params deep e m begun)
       (subst (λ (s : Shape). text_len list ≤ text_len s) whole (lambda_longer k list))
       (met (rw found (same_read whole refl refl refl refl)))
   free_met (conversion_free {t = t} a) deep e m = met (rw (kinds _ _ _ _ _ a deep e m, ← shape-conversion_to t) refl)
@@ -185,7 +185,7 @@ signature_met d kinds (no_signature {t = t}) deep e m = met (same_read (sym (sha
 signature_met d kinds (some_signature {t = t} {ts = ts} params) deep e m =
     let list = listed_each true (params_opened (bare_shape t)) (map shape_of ts) in
     let whole = params_built (bare_shape t) (map shape_of ts) (own_quals t) ∙ sym (shape-function_encoding t ts) in
-    met_then _ (typed_params_met d kinds params deep e m (params_opened (bare_shape t)))
+    met_then _ (typed_params_met false d kinds params deep e m (params_opened (bare_shape t)))
     (subst (λ (s : Shape). text_len list ≤ text_len s) whole (params_longer (own_quals t) list))
     (met (same_read whole refl refl refl refl))
 

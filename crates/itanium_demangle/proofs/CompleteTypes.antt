@@ -29,7 +29,7 @@ module _ (d : ℕ) (kinds : TypesComplete d) where
       let list = listed_each true opened (map shape_of ts) in
       let whole = function_built (shape_of t) (map shape_of ts) all ∙ sym (shape-function_to t ts all) in
       rw (plain, kinds _ _ _ _ _ a (omega arith) e m, there)
-      (met_then _ (typed_params_met d kinds b (omega arith) (e + c.count) (max m c.peak) opened)
+      (met_then _ (typed_params_met true d kinds b (omega arith) (e + c.count) (max m c.peak) opened)
       (subst (λ (s : Shape). text_len list ≤ text_len s) whole (function_longer (text_len (shape_of t)) all list))
       (met (same_read whole refl refl (omega arith) (omega arith))))
 

@@ -45,8 +45,8 @@ module _ (of_function : Bool) (d : ℕ) (complete : TypesComplete d) (kinds : Ty
       → typed_params_as case of_function (parse_type d x) front (state_at p e m) ≡ Some y → Found (ParamsAs case of_function x p) (λ ts. listed_each true front (map shape_of ts)) d e m y
   typed_params_sound NoParams x front p e m y is =
       let w : Within (ParamsAs NoParams of_function x p) d = record { tree = _; next = _; cost = _; reading = no_params; deep = omega arith } in
-      record { within = w; is = met_is (typed_params_met d complete w.reading w.deep e m front) is }
+      record { within = w; is = met_is (typed_params_met of_function d complete w.reading w.deep e m front) is }
   typed_params_sound SomeParams x front p e m y is =
       let i = typed_sound (length p.rest + 1) x true front p e m y (omega arith) is in
       let w : Within (ParamsAs SomeParams of_function x p) d = record { tree = i.tree; next = i.next; cost = i.cost; reading = some_params i.reading; deep = i.deep } in
-      record { within = w; is = met_is (typed_params_met d complete w.reading w.deep e m front) is }
+      record { within = w; is = met_is (typed_params_met of_function d complete w.reading w.deep e m front) is }

@@ -575,7 +575,8 @@ pub no_attached : (d : ℕ) (x : Context) (of_name : Bool) (name : Shape) (s : P
 no_attached d x of_name name s none = rw (none, no_args x of_name s) refl
 
 -- the turns of types that are put onto a list
-module _ {whole : Option (Shape × ParserState)} (type : Parses Shape) {of_function first : Bool} {list : Shape} {s : ParserState} (so_far : LoopSoFar whole (typed_turn of_function type) (first, list) s) where
+module _ {whole : Option (Shape × ParserState)} (of_function : Bool) (type : Parses Shape) {first : Bool} {list : Shape} {s : ParserState}
+    (so_far : LoopSoFar whole (typed_turn of_function type) (first, list) s) where
   pub typed_end : types_case of_function s.rest ≡ EndOfTypes → whole ≡ Some (list, s)
   unfolding typed_turn
   typed_end case = loop_end so_far (rw case refl)

@@ -100,8 +100,8 @@ impl<'a> Reader<'a> {
         Ok(())
     }
 
-    /// An operator's text, the piece `front`, in front of what was found. Nothing moves where the two stand one after the
-    /// other at the end of the main text.
+    /// An operator's text, the piece `front`, in front of what was found. Nothing moves where the two stand one after
+    /// the other at the end of the main text.
     pub fn print_pre(&mut self, front: Piece) -> Result<(), AllocError>
         requires front { IsLiving self.old.buffer.value front }
         requires living { IsLiving self.old.buffer.value self.old.found }
