@@ -1,5 +1,5 @@
 -- Of types: what the grammar reads, the parser reads.
-use Rattle.std.proofs.Common.{◌≡◌, ◌≤◌, ℕ, suc, ◌+◌, max, true, false, map, length, refl, sym, subst, arith}
+use Rattle.std.proofs.Common.{◌≡◌, ◌≤◌, ◌∙◌, ℕ, suc, ◌+◌, max, true, false, map, length, refl, sym, subst, arith}
 use Rattle.std.proofs.lemmas.List.{length-map}
 use Rattle.demangle_text.specs.Shape.{Shape, text_len}
 use Rattle.demangle_quals.specs.declared.quals.Quals.{Quals}
