@@ -62,7 +62,8 @@ IsSplice-alone s t q p at bytes from h apart i = record {
 }
 
 -- both texts with bytes between them are the others'
-pub IsJoint-alone : (s t : Store) (q p : Piece) (bytes : List ℕ) (r o : Piece) (from : ℕ) → IsTextOf q p → IsTextOf r o → (IsAdjacent s p o → ⊥) → IsJoint s t q bytes r from → IsJoint s t p bytes o from
+pub IsJoint-alone : (s t : Store) (q p : Piece) (bytes : List ℕ) (r o : Piece) (from : ℕ) → IsTextOf q p
+    → IsTextOf r o → (IsAdjacent s p o → ⊥) → IsJoint s t q bytes r from → IsJoint s t p bytes o from
 IsJoint-alone s t q p bytes r o from one two apart i =
     let a = alone_text s.main_text s.side_text q p one in
     let b = alone_text s.main_text s.side_text r o two in

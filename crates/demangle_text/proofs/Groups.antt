@@ -72,7 +72,9 @@ layout-opened bytes (Declared k b None a) h = by_place (length b) (omega (arith,
         cc
 layout-opened bytes (Declared k b (Some g) a) h = by_place (length b + length g + 2) (omega (arith, length-append b (40 ∷ g ++ 41 ∷ []), length-append g (41 ∷ [])))
   where
-    by_place : (at : ℕ) → at ≡ length (b ++ grouped (Some g)) → layout_opened (length (group_text bytes (b ++ grouped (Some g)))) (length bytes + 2) (Cut k (Some (length b)) at) ≡ layout_for (opened_form bytes (Declared k b (Some g) a))
+    by_place : (at : ℕ) → at ≡ length (b ++ grouped (Some g))
+        → layout_opened (length (group_text bytes (b ++ grouped (Some g)))) (length bytes + 2)
+        (Cut k (Some (length b)) at) ≡ layout_for (opened_form bytes (Declared k b (Some g) a))
     by_place at e =
         let front = b ++ grouped (Some g) in
         let n = length-group_text bytes (b ++ grouped (Some g)) in

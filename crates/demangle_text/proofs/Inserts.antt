@@ -51,7 +51,9 @@ IsOutlined-outline_for f own templ ctor ordered within = record {
 -- a range stays a range
 pub moved_ordered : (at n : ℕ) (own : ℕ × ℕ) → own.0 ≤ own.1 → (moved at n own).0 ≤ (moved at n own).1
 moved_ordered at n own h =
-    elim (leb at own.0) as (λ b. (if b then (own.0 + n, own.1 + n) else (if leb own.1 at then own else (own.0, own.1 + n))).0 ≤ (if b then (own.0 + n, own.1 + n) else (if leb own.1 at then own else (own.0, own.1 + n))).1)
+    elim (leb at own.0) as
+        (λ b. (if b then (own.0 + n, own.1 + n) else (if leb own.1 at then own else (own.0, own.1 + n))).0 ≤
+        (if b then (own.0 + n, own.1 + n) else (if leb own.1 at then own else (own.0, own.1 + n))).1)
     [ true ↦ omega arith | false ↦ elim (leb own.1 at) as (λ b. (if b then own else (own.0, own.1 + n)).0 ≤ (if b then own else (own.0, own.1 + n)).1) [ true ↦ h | false ↦ omega arith ] ]
 
 pub moved_within : (at n len : ℕ) (own : ℕ × ℕ) → own.1 ≤ len → (moved at n own).1 ≤ len + n
@@ -95,7 +97,9 @@ at_split : (p q bytes : List ℕ) (n : ℕ) → length p ≡ n → take n (p ++ 
 at_split p q bytes n e = rw (take_at p q n e, drop_at p q n e) refl
 
 -- the text of the form with the bytes
-pub text-form_with : (place : Place) (bytes : List ℕ) (f : Form) → CanInsert place f → take (place_in place f) (form_text f) ++ (bytes ++ drop (place_in place f) (form_text f)) ≡ form_text (form_with place bytes f)
+pub text-form_with : (place : Place) (bytes : List ℕ) (f : Form) → CanInsert place f
+    → take (place_in place f) (form_text f) ++ (bytes ++ drop (place_in place f) (form_text f)) ≡ form_text
+    (form_with place bytes f)
 text-form_with Start bytes (Plain t) h = refl
 text-form_with Start bytes (Declared k b g a) h = sym (append_assoc bytes b (grouped g ++ a))
 text-form_with End bytes (Plain t) h = rw (take_all (length t) t (omega arith), drop_all (length t) t (omega arith)) (ap (λ (u : List ℕ). t ++ u) (append-nil bytes))
@@ -108,13 +112,16 @@ text-form_with Close bytes (Declared k b None a) h = elim h [ ]
 text-form_with Close bytes (Declared k b (Some g) a) h =
     let n : length (b ++ 40 ∷ g) ≡ length b + 1 + length g = omega (arith, length-append b (40 ∷ g)) in
     rw (parts b g a, parts b (g ++ bytes) a, closed_parts b g a, closed_parts b (g ++ bytes) a)
-    (at_split (b ++ 40 ∷ g) (41 ∷ a) bytes _ n ∙ append_assoc b (40 ∷ g) (bytes ++ 41 ∷ a) ∙ ap (λ (u : List ℕ). b ++ 40 ∷ u) (sym (append_assoc g bytes (41 ∷ a))) ∙ sym (append_assoc b (40 ∷ (g ++ bytes)) (41 ∷ a)))
+    (at_split (b ++ 40 ∷ g) (41 ∷ a) bytes _ n ∙ append_assoc b (40 ∷ g) (bytes ++ 41 ∷ a) ∙ ap
+        (λ (u : List ℕ). b ++ 40 ∷ u) (sym (append_assoc g bytes (41 ∷ a)))
+        ∙ sym (append_assoc b (40 ∷ (g ++ bytes)) (41 ∷ a)))
 text-form_with Suffix bytes (Plain t) h = elim h [ ]
 text-form_with Suffix bytes (Declared k b None a) h = at_split b a bytes (length b) refl ∙ sym (append_assoc b bytes a)
 text-form_with Suffix bytes (Declared k b (Some g) a) h = elim h [ ]
 
 -- the last own name of the form with the bytes
-pub own_at-form_with : (place : Place) (bytes : List ℕ) (f : Form) (own : ℕ × ℕ) → CanInsert place f → own_at (layout_for f) (length (form_text (form_with place bytes f))) own ≡ own_in (form_with place bytes f) own
+pub own_at-form_with : (place : Place) (bytes : List ℕ) (f : Form) (own : ℕ × ℕ) → CanInsert place f
+    → own_at (layout_for f) (length (form_text (form_with place bytes f))) own ≡ own_in (form_with place bytes f) own
 own_at-form_with Start bytes (Plain t) own h = refl
 own_at-form_with Start bytes (Declared Array b None a) own h = refl
 own_at-form_with Start bytes (Declared Array b (Some g) a) own h = refl
@@ -173,7 +180,9 @@ module _ (place : Place) (bytes t u : List ℕ) (m w : Outline) where
   outline_is : IsOutlined t m → CanInsert place (form_of t m.layout) → Inserts place bytes t u m w → w ≡ outline_for (form_with place bytes (form_of t m.layout)) range m.templ m.ctor
   outline_is h can i =
       let l = layout_for-form_of t m.layout h.layout in
-      let by_layout : w.layout ≡ layout_for (form_with place bytes (form_of t m.layout)) = i.layout ∙ ap (layout_with place (length bytes)) (sym l) ∙ layout_with-layout_for place bytes (form_of t m.layout) can in
+      let by_layout : w.layout ≡ layout_for (form_with place bytes (form_of t m.layout)) = i.layout
+          ∙ ap (layout_with place (length bytes)) (sym l)
+          ∙ layout_with-layout_for place bytes (form_of t m.layout) can in
       let own1 : w.own ≡ own_at m.layout (length u) range = i.own ∙ ap (λ (n : ℕ). own_at m.layout (length u) (moved n (length bytes) m.own)) (place_is h can) in
       let own2 : own_at m.layout (length u) range ≡ own_at (layout_for (form_of t m.layout)) (length (form_text (form_with place bytes (form_of t m.layout)))) range =
       ap (λ (k : Layout). own_at k (length u) range) (sym l) ∙ ap (λ (v : List ℕ). own_at (layout_for (form_of t m.layout)) (length v) range) (text_is h can i) in

@@ -30,7 +30,8 @@ within-set_kept : (P : Piece → Type 0) (ps : List Piece) (i n : ℕ) (p : Piec
 within-set_kept P ps i n p le h k d a b = subst P (sym (get_or-set_other ps i k p d (λ e. absurd (omega (arith, e, b, le))))) (h k d a b)
 
 -- a piece after the first ones, with a byte by which it and all before it end
-pub reached-set_kept : (ps : List Piece) (rs : List ℕ) (i : ℕ) (p : Piece) (end : ℕ) → AreReached ps rs i → i < length rs → AllWithin (EndsBy end) ps 0 i → EndsBy end p → AreReached (set ps i p) (set rs i end) (i + 1)
+pub reached-set_kept : (ps : List Piece) (rs : List ℕ) (i : ℕ) (p : Piece) (end : ℕ) → AreReached ps rs i
+    → i < length rs → AllWithin (EndsBy end) ps 0 i → EndsBy end p → AreReached (set ps i p) (set rs i end) (i + 1)
 reached-set_kept ps rs i p end h room all last = record {
   within = omega (arith, room, length-set rs i end);
   room = omega (arith, h.room, length-set rs i end, length-set ps i p);
@@ -68,4 +69,7 @@ over_at f xs ys i d lt e =
 -- the first pieces stay, since they end by the byte
 pub over_start : (low from dest : ℕ) (xs : List Piece) (n : ℕ) → AllWithin (EndsBy low) xs 0 n → xs ≡ map (carried low from dest) (take n xs) ++ drop n xs
 over_start low from dest xs n h =
-    sym (take-append-drop n xs) ∙ ap (λ v. v ++ drop n xs) (carried-below low from dest (take n xs) (λ k d lt. subst (EndsBy low) (sym (get_or-take n xs k d (within-length n xs k lt))) (h k d (omega arith) (within-length n xs k lt))))
+    sym (take-append-drop n xs) ∙ ap
+        (λ v. v ++ drop n xs) (carried-below low from dest (take n xs)
+        (λ k d lt. subst (EndsBy low) (sym (get_or-take n xs k d (within-length n xs k lt)))
+        (h k d (omega arith) (within-length n xs k lt))))

@@ -52,7 +52,8 @@ AreStarts-take (s ∷ t ∷ rest) n (suc zero) h lt = h.0
 AreStarts-take (s ∷ t ∷ rest) n (suc (suc k)) h lt = (h.0, AreStarts-take (t ∷ rest) n (suc k) h.1 (omega arith))
 
 -- the first parts are those of the arguments up to the next place
-pub parts_at-take : {X : Type 0} (starts : List ℕ) (xs : List X) (n k : ℕ) → AreStarts starts n → k < length starts → parts_at (take k starts) (take (get_or starts k 0) xs) ≡ take k (parts_at starts xs)
+pub parts_at-take : {X : Type 0} (starts : List ℕ) (xs : List X) (n k : ℕ) → AreStarts starts n → k < length starts
+    → parts_at (take k starts) (take (get_or starts k 0) xs) ≡ take k (parts_at starts xs)
 parts_at-take [] xs n k h lt = absurd (omega arith)
 parts_at-take (s ∷ []) xs n zero h lt = refl
 parts_at-take (s ∷ []) xs n (suc k) h lt = absurd (omega arith)
@@ -165,14 +166,18 @@ module _ (s new : Store) (main : new.main_text ≡ s.main_text) (side : new.side
   }
 
   -- the first scopes are kept
-  pub scopes-kept : IsStore s → (n from : ℕ) → n < length s.scope_starts → from ≡ get_or s.scope_starts n 0 → new.arg_pieces ≡ take from s.arg_pieces → new.scope_starts ≡ take n s.scope_starts → scopes new ≡ take n (scopes s)
+  pub scopes-kept : IsStore s → (n from : ℕ) → n < length s.scope_starts → from ≡ get_or s.scope_starts n 0
+      → new.arg_pieces ≡ take from s.arg_pieces → new.scope_starts ≡ take n s.scope_starts
+      → scopes new ≡ take n (scopes s)
   unfolding scopes
   scopes-kept i n from there e args starts =
       scopes_are (take from s.arg_pieces) (take n s.scope_starts) args starts
       ∙ ap (parts_at (take n s.scope_starts)) (sym (take-map (shape s) from s.arg_pieces) ∙ ap (λ (k : ℕ). take k (map (shape s) s.arg_pieces)) e)
       ∙ parts_at-take s.scope_starts (map (shape s) s.arg_pieces) (length s.arg_pieces) n i.starts_fit there
 
-  pub IsStore-kept : IsStore s → (n from : ℕ) → n < length s.scope_starts → from ≡ get_or s.scope_starts n 0 → new.saved_pieces ≡ s.saved_pieces → new.arg_pieces ≡ take from s.arg_pieces → new.scope_starts ≡ take n s.scope_starts → IsStore new
+  pub IsStore-kept : IsStore s → (n from : ℕ) → n < length s.scope_starts → from ≡ get_or s.scope_starts n 0
+      → new.saved_pieces ≡ s.saved_pieces → new.arg_pieces ≡ take from s.arg_pieces
+      → new.scope_starts ≡ take n s.scope_starts → IsStore new
   IsStore-kept i n from there e saved args starts =
       let within : from ≤ length s.arg_pieces = omega (arith, start_within s.scope_starts (length s.arg_pieces) n i.starts_fit there) in
       let m : length (take from s.arg_pieces) ≡ get_or s.scope_starts n 0 = length-take-le from s.arg_pieces within ∙ e in

@@ -7,7 +7,8 @@ use Rattle.growing_text.proofs.Parts.{part-append}
 use Rattle.demangle_text.specs.Flags.{lies_aside}
 
 -- a part stays when the main text grows
-part-longer : (main side more : List ℕ) (h : Bool) (a b : ℕ) → a ≤ b → b ≤ length (home_bytes main side h) → slice_range (home_bytes (main ++ more) side h) a b ≡ slice_range (home_bytes main side h) a b
+part-longer : (main side more : List ℕ) (h : Bool) (a b : ℕ) → a ≤ b → b ≤ length (home_bytes main side h)
+    → slice_range (home_bytes (main ++ more) side h) a b ≡ slice_range (home_bytes main side h) a b
 part-longer main side more false a b ordered within = part-append main more a b ordered within
 part-longer main side more true a b ordered within = refl
 
@@ -23,7 +24,8 @@ rest-part t from to at ordered within =
     ap (take (to - (from + at))) (sym (drop-drop at from t)) ∙ sym (drop-take at (to - (from + at)) (drop from t)) ∙ ap (λ (k : ℕ). drop at (take k (drop from t))) (sym n)
 
 -- both parts with bytes between them, one after another
-pub spliced_parts : (main side bytes : List ℕ) (p : Piece) (at : ℕ) (one two three : List ℕ) → p.from_byte ≤ p.to_byte → p.to_byte ≤ length (home_bytes main side (lies_aside p.flags)) → at ≤ p.to_byte - p.from_byte
+pub spliced_parts : (main side bytes : List ℕ) (p : Piece) (at : ℕ) (one two three : List ℕ) → p.from_byte ≤ p.to_byte
+    → p.to_byte ≤ length (home_bytes main side (lies_aside p.flags)) → at ≤ p.to_byte - p.from_byte
     → one ≡ main ++ slice_range (home_bytes main side (lies_aside p.flags)) p.from_byte (p.from_byte + at)
     → two ≡ one ++ bytes
     → three ≡ two ++ slice_range (home_bytes two side (lies_aside p.flags)) (p.from_byte + at) p.to_byte

@@ -64,7 +64,9 @@ module _ (main side new : List ℕ) (ps : List Piece) (i : ℕ) (d q : Piece) wh
   replaced_lie e lie h =
       All-set (IsPiece main new) ps i q h (All-weaker (IsPiece main side) (IsPiece main new) (IsPiece-extends main side new e) ps lie)
 
-  pub replaced_shapes : i < length ps → Extends side new → All (IsPiece main side) ps → shape_in main new q ≡ shape_in main side (get_or ps i d) → map (shape_in main new) (set ps i q) ≡ map (shape_in main side) ps
+  pub replaced_shapes : i < length ps → Extends side new → All (IsPiece main side) ps
+      → shape_in main new q ≡ shape_in main side (get_or ps i d)
+      → map (shape_in main new) (set ps i q) ≡ map (shape_in main side) ps
   replaced_shapes there e lie same =
       let at = All-get_or (IsPiece main side) ps i d there lie in
       map-set_same (shape_in main new) ps i q d (same ∙ sym (shape_in-extends main side new e (get_or ps i d) at)) ∙ shapes-extends main side new e ps lie

@@ -18,7 +18,9 @@ use Rattle.demangle_text.proofs.States.{Lives-at_end, text_is}
 use Rattle.demangle_text.specs.Flags.{lies_aside, templ_by, ctor_by}
 
 -- the text from a place on, with bytes inserted in it
-tail_inserted : (main bytes : List ℕ) (from at : ℕ) → from + at ≤ length main → drop from (take (from + at) main ++ (bytes ++ drop (from + at) main)) ≡ take at (drop from main) ++ (bytes ++ drop at (drop from main))
+tail_inserted : (main bytes : List ℕ) (from at : ℕ) → from + at ≤ length main
+    → drop from (take (from + at) main ++ (bytes ++ drop (from + at) main)) ≡ take at
+    (drop from main) ++ (bytes ++ drop at (drop from main))
 tail_inserted main bytes from at h =
     let n = length-take-le (from + at) main h in
     let one = drop-append-le from (take (from + at) main) (bytes ++ drop (from + at) main) (omega arith) in
@@ -326,7 +328,8 @@ Lives-kept_only b n p q at lies within is stands outline =
     record { living = lives.living; shape_is = lives.shape_is ∙ ap (shape_of t) outline }
 
 -- a text that stands there already
-pub kept_only-already : (b : Store) (p : Piece) (at : ℕ) → (lies_aside p.flags) ≡ false → p.from_byte ≡ at → p.to_byte ≡ length b.main_text → b.main_text ≡ take at b.main_text ++ piece_text b.main_text b.side_text p
+pub kept_only-already : (b : Store) (p : Piece) (at : ℕ) → (lies_aside p.flags) ≡ false → p.from_byte ≡ at
+    → p.to_byte ≡ length b.main_text → b.main_text ≡ take at b.main_text ++ piece_text b.main_text b.side_text p
 kept_only-already b p at home begins ends =
     let text : piece_text b.main_text b.side_text p ≡ drop at b.main_text =
     ap (λ (h : Bool). slice_range (home_bytes b.main_text b.side_text h) p.from_byte p.to_byte) home
@@ -342,7 +345,8 @@ kept_only-copy main mid t at from to is within starts ends =
     ap (λ (v : List ℕ). v ++ slice_range mid from to) low ∙ ap (λ (v : List ℕ). take at main ++ v) block
 
 -- where the last own name lies
-module _ (b : Store) (p q : Piece) (lies : IsLiving b p) (home : lies_aside q.flags ≡ lies_aside p.flags) (begins : q.from_byte ≡ p.from_byte + p.own_start) (ends : q.to_byte ≡ p.from_byte + p.own_end) where
+module _ (b : Store) (p q : Piece) (lies : IsLiving b p) (home : lies_aside q.flags ≡ lies_aside p.flags)
+    (begins : q.from_byte ≡ p.from_byte + p.own_start) (ends : q.to_byte ≡ p.from_byte + p.own_end) where
   pub own-ordered : q.from_byte ≤ q.to_byte
   unfolding IsLiving
   own-ordered = omega (arith, begins, ends, lies.outlined.own_ordered)

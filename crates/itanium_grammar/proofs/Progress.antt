@@ -131,7 +131,8 @@ mutual
   pub arguments_takes : {x : Context} {o : Bool} {k : ℕ} {p q : Position} {list : List Tree} {c : Cost} → Arguments x o k p list q c → Takes q.rest p.rest
   arguments_takes (arguments a) = arguments_as_takes refl a
 
-  arguments_as_takes : {case : ArgsCase} {x : Context} {o : Bool} {k : ℕ} {p q : Position} {list : List Tree} {c : Cost} → args_case p.rest ≡ case → ArgumentsAs case x o k p list q c → Takes q.rest p.rest
+  arguments_as_takes : {case : ArgsCase} {x : Context} {o : Bool} {k : ℕ} {p q : Position} {list : List Tree}
+      {c : Cost} → args_case p.rest ≡ case → ArgumentsAs case x o k p list q c → Takes q.rest p.rest
   arguments_as_takes form (end_of_arguments {p = p}) = record { after = after_drop 1 p.rest; shorter = arguments_end_shorter p.rest form }
   arguments_as_takes form (one_more_argument a b) = takes_takes (argument_takes a) (arguments_takes b)
 

@@ -12,6 +12,8 @@ pub more_written : (bytes rest left : List ℕ) (count : ℕ) (before mid after 
 more_written bytes rest left count before mid after so_far left_is more =
     record {
       front = so_far.front ++ take count rest;
-      bytes_are = so_far.bytes_are ∙ ap (λ l. so_far.front ++ l) (sym (take-append-drop count rest)) ∙ sym (append_assoc so_far.front (take count rest) (drop count rest)) ∙ ap (λ l. (so_far.front ++ take count rest) ++ l) (sym left_is);
+      bytes_are = so_far.bytes_are ∙ ap (λ l. so_far.front ++ l) (sym (take-append-drop count rest))
+          ∙ sym (append_assoc so_far.front (take count rest) (drop count rest)) ∙ ap
+          (λ l. (so_far.front ++ take count rest) ++ l) (sym left_is);
       written = Appends-trans before mid after so_far.front (take count rest) so_far.written more;
     }

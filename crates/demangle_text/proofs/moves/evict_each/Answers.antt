@@ -37,7 +37,8 @@ loop-i-preserved c =
     rw c.set.ensures.value (record {
       side = Extends-trans _ _ _ c.loop-i.invariant.side e;
       lie = replaced_lie main side new c.loop-i.pieces i q q e c.loop-i.invariant.lie c.in_ok-piece.ensures.lies;
-      shapes = replaced_shapes main side new c.loop-i.pieces i c.piece_at.result q there e c.loop-i.invariant.lie (rw (← c.piece_at.ensures.value) c.in_ok-piece.ensures.shape) ∙ c.loop-i.invariant.shapes;
+      shapes = replaced_shapes main side new c.loop-i.pieces i c.piece_at.result q there e c.loop-i.invariant.lie
+          (rw (← c.piece_at.ensures.value) c.in_ok-piece.ensures.shape) ∙ c.loop-i.invariant.shapes;
       long = length-set c.loop-i.pieces i q ∙ c.loop-i.invariant.long;
       apart = AllWithin-more_set c.loop-i.pieces i q there (IsApart c.args.block.low c.args.block.from c.args.block.end) c.loop-i.invariant.apart c.in_ok-piece.ensures.apart;
     })
