@@ -70,7 +70,7 @@ one_parameter_as (scope_parameter e) (scope_parameter g) = same_Some _ _ (sym e 
 pub one_parameter : {x : Context} {p q r : Position} {t u : Tree} → Parameter x p t q → Parameter x p u r → (t ≡ u) × (q ≡ r)
 one_parameter (parameter {x = x} {p = p} e a) (parameter {t = u} g b) =
     let found = some_pair_parts _ _ _ _ (sym g ∙ e) in
-    (one_parameter_as a (subst (λ k. ParameterAs x.lambda k p u) found.0 b), ap (λ v. at v p) (sym found.1))
+    (one_parameter_as a (subst (λ k. ParameterAs x.lambda k p u) found.0 b), ap (λ v. with_rest v p) (sym found.1))
 
 one_tagged : {case : TagCase} {t u v : Tree} {p q r : Position} → TaggedAs case t p u q → TaggedAs case t p v r → (u ≡ v) × (q ≡ r)
 one_tagged no_tag no_tag = (refl, refl)
@@ -80,7 +80,7 @@ one_tagged (next_tag {t = t} {p = p} e a) (next_tag {u = u} {q = r} g b) =
 
 -- a text with a front of the bytes taken, and nothing read inside
 same_text : {A : Type 0} (f : A → List ℕ) (p : Position) {a b : A} {v w : List ℕ} → (a ≡ b) × (v ≡ w) → Same (plain_text (f a)) (plain_text (f b)) (with_rest v p) (with_rest w p) nothing nothing
-same_text f p same = record { tree = ap (λ a. plain_text (f a)) same.0; next = ap (λ v. at v p) same.1; cost = refl }
+same_text f p same = record { tree = ap (λ a. plain_text (f a)) same.0; next = ap (λ v. with_rest v p) same.1; cost = refl }
 
 mutual
   pub one_name : {waits : Bool} {x : Context} {p q r : Position} {t u : Tree} {c d : Cost} → Name waits x p t q c → Name waits x p u r d → Same t u q r c d
@@ -126,11 +126,11 @@ mutual
   one_special (temporary_special a e) (temporary_special b g) =
       let same = one_name a b in
       let found = some_pair_parts _ _ _ _ (sym e ∙ ap (λ o. index_of Base36 o.rest) same.next ∙ g) in
-      record { tree = ap₂ temporary_of found.0 same.tree; next = ap₂ at found.1 same.next; cost = same.cost }
+      record { tree = ap₂ temporary_of found.0 same.tree; next = ap₂ with_rest found.1 same.next; cost = same.cost }
   one_special (construction_special {x = x} a e b) (construction_special {r = r} {u = v} {d = d} f g h) =
       let first = one_type a f in
       let left = same_Some _ _ (sym e ∙ ap (λ o. past_base_offset o.rest) first.next ∙ g) in
-      let same = one_type b (subst (λ o. TypeOf x o v r d) (sym (ap₂ at left first.next)) h) in
+      let same = one_type b (subst (λ o. TypeOf x o v r d) (sym (ap₂ with_rest left first.next)) h) in
       record { tree = ap₂ construction_of same.tree first.tree; next = same.next; cost = ap₂ both first.cost same.cost }
   one_special (thunk_special a) (thunk_special b) = one_thunk a b
 
@@ -185,7 +185,7 @@ mutual
       let found = some_pair_parts _ _ _ _ (sym e ∙ ap (λ o. ordinal (drop 1 o.rest)) params.next ∙ g) in
       record {
         tree = λ j. lambda_of (trees (params.tree j)) (found.0 j);
-        next = λ j. at (found.1 j) (params.next j);
+        next = λ j. with_rest (found.1 j) (params.next j);
         cost = params.cost;
       }
   one_free (conversion_free a) (conversion_free b) = same_made conversion_to (one_type a b)
@@ -273,7 +273,7 @@ mutual
   one_literal (value_literal a e has) (value_literal b g also) =
       let same = one_type a b in
       let found = some_pair_parts _ _ _ _ (sym e ∙ ap (λ o. literal_value o.rest) same.next ∙ g) in
-      record { tree = ap₂ literal_of same.tree found.0; next = ap₂ at found.1 same.next; cost = same.cost }
+      record { tree = ap₂ literal_of same.tree found.0; next = ap₂ with_rest found.1 same.next; cost = same.cost }
 
   pub one_expression : {x : Context} {p q r : Position} {t u : Tree} {c d : Cost} → Expression x p t q c → Expression x p u r d → Same t u q r c d
   one_expression (expression a) (expression b) = same_counted printing (one_expression_as a b)
@@ -330,7 +330,7 @@ mutual
   one_type_as (vendor_type {p = p} e f) (vendor_type g h) =
       let found = some_pair_parts _ _ _ _ (sym e ∙ g) in
       let source = ap (λ v. plain_text (source_text v)) found.0 in
-      record { tree = source; next = ap₂ save source (ap (λ v. at v p) found.1); cost = refl }
+      record { tree = source; next = ap₂ save source (ap (λ v. with_rest v p) found.1); cost = refl }
   one_type_as (array_type {x = x} {p = p} e a there) (array_type {q = r} {t = u} {c = d} g b here) =
       let found = some_pair_parts _ _ _ _ (sym g ∙ e) in
       let same = one_type a (subst (λ v. TypeOf x (with_rest v p) u r d) found.1 b) in
