@@ -475,10 +475,11 @@ pub(crate) fn read_name(reader: &mut Reader, depth: usize, context: Context) -> 
     ensures bounds { Bounds 1 result (state reader.old) (state reader.new) }
     ensures saved { SavedBounds 1 result (state reader.old) (state reader.new) }
 {
-    let shown = shows_words(name_case(reader.rest), context.shown);
+    let name = reader.rest;
     let quals = read_bare_name(reader, depth, context)?;
     // Without qualifiers it is what was measured.
     if quals.is_set() {
+        let shown = shows_words(name_case(name), context.shown);
         reader.print_quals(quals, shown)?;
         if reader.is_wide(reader.found) {
             return Err(Stop::Unread);

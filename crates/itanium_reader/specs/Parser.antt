@@ -648,7 +648,8 @@ saved_by parse s = parse s >>= λ found. saved_as found.0 found.1
 -- <array-type>
 abbrev pub parse_array : Parses Shape → Parses Shape
 parse_array type s =
-    optional_number (drop 1 s.rest) >>= λ found. type (with_rest found.1 s) >>= λ elem. saved_array found.0 elem.0 elem.1
+    optional_number (drop 1 s.rest) >>= λ found. type (with_rest found.1 s) >>= λ elem.
+    saved_array found.0 elem.0 elem.1
 
 -- P <type>, R <type> and O <type>
 abbrev pub parse_pointer : Parses Shape → Pointer → Parses Shape
