@@ -94,7 +94,8 @@ pub fn close_default_arg(
 }
 
 /// The entity in a default argument of a parent, `parent::{default arg#k}::entity` with k for its number, as a plain
-/// piece with the last own name and the flags of the entity.
+/// piece with the last own name and the flags of the entity. It is offered to others: the readers here put what stands
+/// in front of the entity first (`open_default_arg`).
 #[tactic(auto, using(demangle_text::proofs::Laws::laws))]
 pub fn default_arg(
     buf: &mut Buffer,
@@ -145,7 +146,7 @@ fn gap_before_args(name: &[u8]) -> &'static [u8]
 
 /// The name with the list of its template arguments after it, and a space between them where the
 /// name ends in `<`. A plain piece with the last own name and the flag `ctor` of the name; `templ`
-/// holds.
+/// holds. It is offered to others: the readers here build the list on the name (`begin_arguments`).
 #[inline(always)]
 #[tactic(auto, using(demangle_text::proofs::Laws::laws))]
 pub fn attach_template_args(buf: &mut Buffer, name: Piece, args: Piece) -> Result<Piece, AllocError>
@@ -164,7 +165,8 @@ pub fn attach_template_args(buf: &mut Buffer, name: Piece, args: Piece) -> Resul
 
 /// The name of a function with its parameters in parentheses, `, ` between them, and its
 /// qualifiers: the words and then the reference. A plain piece with the last own name and the flag
-/// `ctor` of the name; `templ` doesn't hold. Of no parameters it is `name()`.
+/// `ctor` of the name; `templ` doesn't hold. Of no parameters it is `name()`. It is offered to
+/// others: the readers here build the list on the name (`open_params`).
 #[tactic(auto, using(demangle_text::proofs::Laws::laws))]
 pub fn format_params(
     buf: &mut Buffer,

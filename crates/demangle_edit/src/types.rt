@@ -368,7 +368,7 @@ pub fn wrap_member_pointer(
 ///
 /// `None`, and all stays, where what is returned is a declarator.
 ///
-/// The readers of a symbol don't call it: they build the type as they read it (`open_function`).
+/// It is offered to others: the readers here build the type as they read it (`open_function`).
 #[tactic(auto, using(demangle_text::proofs::Laws::laws, crate::proofs::Declarators::declarators))]
 pub fn function_type(
     buf: &mut Buffer,
@@ -431,9 +431,8 @@ fn after_start(front: usize, len: usize) -> usize
 }
 
 /// The function type whose parameters are this list: the list with its `)` and the qualifiers, the words and then the
-/// reference. It is declared as a function with `after` from the parenthesis on, so behind the space after what is
-/// returned, which has `front` bytes; all of it is `before` where the list is that short. Its last own name is its
-/// whole text, and no flag holds.
+/// reference. What it returns has `front` bytes, and `after` begins one byte later, at the parenthesis; where the list
+/// is no longer than that all of it is `before`. Its last own name is its whole text, and no flag holds.
 #[tactic(auto, using(demangle_text::proofs::Laws::laws, crate::proofs::Cuts::declared_within))]
 pub fn close_function(
     buf: &mut Buffer,

@@ -129,8 +129,8 @@ Moves-inserted main bytes new at len h by_len by_new = rw (by_new, by_len) moves
         let split : take at main ++ (bytes ++ drop at main) ≡ (take at main ++ bytes) ++ drop at main = sym (append_assoc (take at main) bytes (drop at main)) in
         let front : length (take at main ++ bytes) ≡ at + length bytes = omega arith in
         let after : drop (at + length bytes) (take at main ++ (bytes ++ drop at main)) ≡ drop at main
-            = ap (drop (at + length bytes)) split
-            ∙ drop_at (take at main ++ bytes) (drop at main) (at + length bytes) front in
+        = ap (drop (at + length bytes)) split
+        ∙ drop_at (take at main ++ bytes) (drop at main) (at + length bytes) front in
         record {
           low_old = h;
           low_new = omega arith;

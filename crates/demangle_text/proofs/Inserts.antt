@@ -52,8 +52,8 @@ IsOutlined-outline_for f own templ ctor ordered within = record {
 pub moved_ordered : (at n : ℕ) (own : ℕ × ℕ) → own.0 ≤ own.1 → (moved at n own).0 ≤ (moved at n own).1
 moved_ordered at n own h =
     elim (leb at own.0) as
-        (λ b. (if b then (own.0 + n, own.1 + n) else (if leb own.1 at then own else (own.0, own.1 + n))).0 ≤
-        (if b then (own.0 + n, own.1 + n) else (if leb own.1 at then own else (own.0, own.1 + n))).1)
+    (λ b. (if b then (own.0 + n, own.1 + n) else (if leb own.1 at then own else (own.0, own.1 + n))).0 ≤
+    (if b then (own.0 + n, own.1 + n) else (if leb own.1 at then own else (own.0, own.1 + n))).1)
     [ true ↦ omega arith | false ↦ elim (leb own.1 at) as (λ b. (if b then own else (own.0, own.1 + n)).0 ≤ (if b then own else (own.0, own.1 + n)).1) [ true ↦ h | false ↦ omega arith ] ]
 
 pub moved_within : (at n len : ℕ) (own : ℕ × ℕ) → own.1 ≤ len → (moved at n own).1 ≤ len + n
@@ -113,8 +113,8 @@ text-form_with Close bytes (Declared k b (Some g) a) h =
     let n : length (b ++ 40 ∷ g) ≡ length b + 1 + length g = omega (arith, length-append b (40 ∷ g)) in
     rw (parts b g a, parts b (g ++ bytes) a, closed_parts b g a, closed_parts b (g ++ bytes) a)
     (at_split (b ++ 40 ∷ g) (41 ∷ a) bytes _ n ∙ append_assoc b (40 ∷ g) (bytes ++ 41 ∷ a) ∙ ap
-        (λ (u : List ℕ). b ++ 40 ∷ u) (sym (append_assoc g bytes (41 ∷ a)))
-        ∙ sym (append_assoc b (40 ∷ (g ++ bytes)) (41 ∷ a)))
+    (λ (u : List ℕ). b ++ 40 ∷ u) (sym (append_assoc g bytes (41 ∷ a)))
+    ∙ sym (append_assoc b (40 ∷ (g ++ bytes)) (41 ∷ a)))
 text-form_with Suffix bytes (Plain t) h = elim h [ ]
 text-form_with Suffix bytes (Declared k b None a) h = at_split b a bytes (length b) refl ∙ sym (append_assoc b bytes a)
 text-form_with Suffix bytes (Declared k b (Some g) a) h = elim h [ ]
@@ -181,8 +181,8 @@ module _ (place : Place) (bytes t u : List ℕ) (m w : Outline) where
   outline_is h can i =
       let l = layout_for-form_of t m.layout h.layout in
       let by_layout : w.layout ≡ layout_for (form_with place bytes (form_of t m.layout)) = i.layout
-          ∙ ap (layout_with place (length bytes)) (sym l)
-          ∙ layout_with-layout_for place bytes (form_of t m.layout) can in
+      ∙ ap (layout_with place (length bytes)) (sym l)
+      ∙ layout_with-layout_for place bytes (form_of t m.layout) can in
       let own1 : w.own ≡ own_at m.layout (length u) range = i.own ∙ ap (λ (n : ℕ). own_at m.layout (length u) (moved n (length bytes) m.own)) (place_is h can) in
       let own2 : own_at m.layout (length u) range ≡ own_at (layout_for (form_of t m.layout)) (length (form_text (form_with place bytes (form_of t m.layout)))) range =
       ap (λ (k : Layout). own_at k (length u) range) (sym l) ∙ ap (λ (v : List ℕ). own_at (layout_for (form_of t m.layout)) (length v) range) (text_is h can i) in

@@ -70,6 +70,6 @@ over_at f xs ys i d lt e =
 pub over_start : (low from dest : ℕ) (xs : List Piece) (n : ℕ) → AllWithin (EndsBy low) xs 0 n → xs ≡ map (carried low from dest) (take n xs) ++ drop n xs
 over_start low from dest xs n h =
     sym (take-append-drop n xs) ∙ ap
-        (λ v. v ++ drop n xs) (carried-below low from dest (take n xs)
-        (λ k d lt. subst (EndsBy low) (sym (get_or-take n xs k d (within-length n xs k lt)))
-        (h k d (omega arith) (within-length n xs k lt))))
+    (λ v. v ++ drop n xs) (carried-below low from dest (take n xs)
+    (λ k d lt. subst (EndsBy low) (sym (get_or-take n xs k d (within-length n xs k lt)))
+    (h k d (omega arith) (within-length n xs k lt))))

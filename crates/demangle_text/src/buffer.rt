@@ -182,7 +182,7 @@ impl Buffer {
     }
 
     /// A new piece of the same shape, whose text goes to the end of the main text. After
-    /// `AllocError` all is as it was.
+    /// `AllocError` all is as it was. It is offered to others: nothing here calls it.
     #[inline(always)]
     pub fn copy(&mut self, piece: Piece) -> Result<Piece, AllocError>
         requires living { IsLiving self.old piece }

@@ -96,7 +96,7 @@ impl Buffer {
     }
 
     /// Adds the shape of the piece to the end of the last scope. After `AllocError` all is as it
-    /// was.
+    /// was. It is offered to others: nothing here calls it.
     pub fn push_arg(&mut self, piece: Piece) -> Result<(), AllocError>
         requires living { IsLiving self.old piece }
         requires open { 0 < length (scopes self.old) }

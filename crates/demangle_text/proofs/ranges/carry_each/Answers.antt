@@ -29,7 +29,7 @@ carry_one-piece-requires-clause-ordered c =
     let here : i < length ks = omega (arith, there, c.loop-i.invariant.long, length-map c.args.kept.now.items (λ (k : Kept). k.piece)) in
     let is : k.piece ≡ get_or (pieces_of ks) i k.piece = ap (λ (k : Kept). k.piece) c.index.ensures ∙ sym (get_or-map (λ (k : Kept). k.piece) ks i k k.piece here) in
     let was = is ∙ over_at (carried c.args.by.block.low c.args.by.block.from c.args.by.dest) xs (pieces_of ks) i
-        k.piece there c.loop-i.invariant.value ∙ sym (get_or-take c.args.count xs i k.piece lt) in
+    k.piece there c.loop-i.invariant.value ∙ sym (get_or-take c.args.count xs i k.piece lt) in
     let all : i < length (take c.args.count xs) = omega (arith, lt, r.within, r.room, length-take-le c.args.count xs) in
     subst (λ q. q.from_byte ≤ q.to_byte) (sym was) (c.requires.ordered i k.piece all)
 
@@ -45,7 +45,7 @@ carry_one-piece-requires-clause-apart c =
     let here : i < length ks = omega (arith, there, c.loop-i.invariant.long, length-map c.args.kept.now.items (λ (k : Kept). k.piece)) in
     let is : k.piece ≡ get_or (pieces_of ks) i k.piece = ap (λ (k : Kept). k.piece) c.index.ensures ∙ sym (get_or-map (λ (k : Kept). k.piece) ks i k k.piece here) in
     let was = is ∙ over_at (carried c.args.by.block.low c.args.by.block.from c.args.by.dest) xs (pieces_of ks) i
-        k.piece there c.loop-i.invariant.value ∙ sym (get_or-take c.args.count xs i k.piece lt) in
+    k.piece there c.loop-i.invariant.value ∙ sym (get_or-take c.args.count xs i k.piece lt) in
     let all : i < length (take c.args.count xs) = omega (arith, lt, r.within, r.room, length-take-le c.args.count xs) in
     subst (IsApart c.args.by.block.low c.args.by.block.from c.args.by.block.end) (sym was) (c.requires.apart i k.piece all)
 

@@ -6,5 +6,5 @@ pub returns-then-is_tail-clause-splice : goal.returns-then-is_tail-clause-splice
 unfolding IsLiving
 returns-then-is_tail-clause-splice c =
     IsSplice-inserted c.args.self.now c.insert_at.new.self c.args.piece c.args.at c.args.bytes.now
-        (c.is_tail.ensures.tail c.if-is_tail.true) c.requires.living.ordered c.requires.within
-        c.in_ok-insert_at.ensures.main
+    (c.is_tail.ensures.tail c.if-is_tail.true) c.requires.living.ordered c.requires.within
+    c.in_ok-insert_at.ensures.main
