@@ -212,7 +212,8 @@ lambda_end list s = ordinal (drop 1 s.rest) >>= λ found. Some (lambda_closed fo
 -- <closure-type-name> after its Ul
 abbrev pub parse_lambda : Parses Shape → Parses Shape
 parse_lambda type s =
-    typed_params_as (params_case s.rest) false type (plain_shape (codes "{lambda(")) s >>= λ list. lambda_end list.0 list.1
+    typed_params_as (params_case s.rest) false type (plain_shape (codes "{lambda(")) s >>= λ list.
+    lambda_end list.0 list.1
 
 -- <unnamed-type-name> after its Ut
 abbrev pub parse_unnamed_type : Parses Shape

@@ -22,9 +22,9 @@ pub line_with : {A : Type 0} (text_of : A → List ℕ) (line symbol text : List
     → symbol ≡ line → IsUtf8 line → IsAnswer symbol (option_map text_of found) → found ≡ Some answer → text ≡ text_of answer → IsLineAnswer line text
 line_with text_of line symbol text found answer symbol_is is_utf8 is_answer found_is text_is =
     answered is_utf8 (subst
-        (λ t. IsAnswer line (Some t)) (sym text_is) (subst
-        (λ s. IsAnswer s (Some (text_of answer))) symbol_is (subst
-        (λ o. IsAnswer symbol (option_map text_of o)) found_is is_answer)))
+    (λ t. IsAnswer line (Some t)) (sym text_is) (subst
+    (λ s. IsAnswer s (Some (text_of answer))) symbol_is (subst
+    (λ o. IsAnswer symbol (option_map text_of o)) found_is is_answer)))
 
 -- a symbol begins with an underscore
 no_prefix : (line : List ℕ) → get_or line 0 0 ≢ 95 → after_prefix line ≡ None

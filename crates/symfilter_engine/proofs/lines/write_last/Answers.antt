@@ -15,12 +15,12 @@ pub returns-clause-ok : goal.returns-clause-ok
 returns-clause-ok g c =
     let some : c.args.line.now ≢ [] = λ e. let n = ap length e in grind (arith, nat_tests) in
     on_ok_weaker _ (λ writes. last_written c.args.line.now c.in_ok-answer.answer.now (g.W.Sink.taken c.args.sink.now)
-        (g.W.Sink.taken c.write_all.new.sink) some c.requires.unended c.in_ok-answer.ensures writes)
-        c.write_all.ensures.ok
+    (g.W.Sink.taken c.write_all.new.sink) some c.requires.unended c.in_ok-answer.ensures writes)
+    c.write_all.ensures.ok
 
 pub returns-clause-err : goal.returns-clause-err
 returns-clause-err g c =
     let some : c.args.line.now ≢ [] = λ e. let n = ap length e in grind (arith, nat_tests) in
     on_err_weaker _ (λ writes. last_begins c.args.line.now c.in_ok-answer.answer.now (g.W.Sink.taken c.args.sink.now)
-        (g.W.Sink.taken c.write_all.new.sink) some c.requires.unended c.in_ok-answer.ensures writes)
-        c.write_all.ensures.err
+    (g.W.Sink.taken c.write_all.new.sink) some c.requires.unended c.in_ok-answer.ensures writes)
+    c.write_all.ensures.err
