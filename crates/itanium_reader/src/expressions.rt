@@ -11,7 +11,7 @@ ghost use Rattle.itanium_reader.specs.Outcome.{state, Gives, Bounds, SavedBounds
 use crate::reader::Reader;
 use crate::stop::Stop;
 use demangle_edit::{Glue, glue, write_literal, write_literal_of, write_opened_literal};
-use demangle_text::Piece;
+use demangle_text::{Piece, Place};
 use itanium_syntax::expressions::literal_value;
 use itanium_syntax::types::{builtin_text, past_builtin};
 use std::alloc::AllocError;
@@ -136,12 +136,7 @@ impl<'a> Reader<'a> {
         ensures state { OnOk result (state self.new ≡ state self.old) }
         ensures run { OnOk result (IsRun self.old.buffer.value self.new.buffer.value) }
     {
-        let parts = [
-            Glue::Piece(left),
-            Glue::Text(text.as_bytes()),
-            Glue::Piece(self.found),
-        ];
-        self.found = glue(&mut self.buffer, &parts)?;
+        self.found = self.buffer.join(left, text.as_bytes(), self.found)?;
         Ok(())
     }
 
@@ -154,14 +149,10 @@ impl<'a> Reader<'a> {
         ensures state { OnOk result (state self.new ≡ state self.old) }
         ensures run { OnOk result (IsRun self.old.buffer.value self.new.buffer.value) }
     {
-        let parts = [
-            Glue::Text(b"(("),
-            Glue::Piece(left),
-            Glue::Text(b")>("),
-            Glue::Piece(self.found),
-            Glue::Text(b"))"),
-        ];
-        self.found = glue(&mut self.buffer, &parts)?;
+        let both = self.buffer.join(left, b")>(", self.found)?;
+        let opened = self.buffer.insert(both, Place::Start, b"((")?;
+        let closed = self.buffer.append(opened, b"))")?;
+        self.found = self.buffer.whole(closed);
         Ok(())
     }
 
