@@ -1,11 +1,12 @@
-//! The filter between two ends of which one fails, at each call in turn.
+//! The filter and the replacement between two ends of which one fails, at each call in turn.
 
+use crate::engine::Engine;
 use crate::turns::{Note, TurnSink, TurnSource};
 use std::alloc::Global;
 use std::process::Abort;
-use symfilter_engine::{FilterFault, filter};
+use symfilter_engine::FilterFault;
 
-/// Lines, each with what is written for it. The last one has no line feed.
+/// Lines, each with what is written for it by both. The last one has no line feed.
 const LINES: [(&[u8], &[u8]); 6] = [
     (b"_Z3foov\n", b"foo\n"),
     (b"x\n", b"x\n"),
@@ -66,11 +67,12 @@ fn assert_written(rt: &impl Abort, end: Result<(), FilterFault>, given: usize, f
     }
 }
 
-/// Runs the filter between ends that fail at these calls, or never. It must end so, and no end may be called after the
+/// Runs the engine between ends that fail at these calls, or never. It must end so, and no end may be called after the
 /// fault. The answer is how many calls there were.
 fn run(
     rt: &impl Abort,
     alloc: Global,
+    engine: Engine,
     most: Most,
     fails_at: Calls,
     expected: Result<(), FilterFault>,
@@ -78,7 +80,7 @@ fn run(
     let note = Note::new();
     let mut source = TurnSource::new(GIVEN, most.give, fails_at.source, &note);
     let mut sink = TurnSink::new(alloc, most.take, fails_at.sink, &note);
-    let outcome = filter(alloc, &mut source, &mut sink);
+    let outcome = engine.run(alloc, &mut source, &mut sink);
     assert_eq!(rt; outcome, expected);
     assert_eq!(rt; note.calls_after(), 0);
     let given = GIVEN.len().saturating_sub(source.rest.len());
@@ -92,31 +94,31 @@ fn run(
 }
 
 /// How many calls there are where no end fails.
-fn calls_to_the_end(rt: &impl Abort, alloc: Global, most: Most) -> Calls {
+fn calls_to_the_end(rt: &impl Abort, alloc: Global, engine: Engine, most: Most) -> Calls {
     let never = Calls {
         source: NEVER,
         sink: NEVER,
     };
-    run(rt, alloc, most, never, Ok(()))
+    run(rt, alloc, engine, most, never, Ok(()))
 }
 
 /// The source fails at this call: it is the last one that it gets.
-fn assert_source_fails(rt: &impl Abort, alloc: Global, most: Most, at: usize) {
+fn assert_source_fails(rt: &impl Abort, alloc: Global, engine: Engine, most: Most, at: usize) {
     let fails_at = Calls {
         source: at,
         sink: NEVER,
     };
-    let calls = run(rt, alloc, most, fails_at, Err(FilterFault::Read));
+    let calls = run(rt, alloc, engine, most, fails_at, Err(FilterFault::Read));
     assert_eq!(rt; calls.source, at);
 }
 
 /// The sink fails at this call: it is the last one that it gets.
-fn assert_sink_fails(rt: &impl Abort, alloc: Global, most: Most, at: usize) {
+fn assert_sink_fails(rt: &impl Abort, alloc: Global, engine: Engine, most: Most, at: usize) {
     let fails_at = Calls {
         source: NEVER,
         sink: at,
     };
-    let calls = run(rt, alloc, most, fails_at, Err(FilterFault::Write));
+    let calls = run(rt, alloc, engine, most, fails_at, Err(FilterFault::Write));
     assert_eq!(rt; calls.sink, at);
 }
 
@@ -132,26 +134,38 @@ const WAYS: [Most; 5] = [
     },
 ];
 
+/// The source fails at each call in turn.
+fn assert_each_source_call(rt: &impl Abort, alloc: Global, engine: Engine, most: Most) {
+    let calls = calls_to_the_end(rt, alloc, engine, most);
+    // One byte a call, and then the end.
+    assert!(rt; most.give > 1 || calls.source == GIVEN.len() + 1);
+    for at in 1..=calls.source {
+        assert_source_fails(rt, alloc, engine, most, at);
+    }
+}
+
+/// The sink fails at each call in turn.
+fn assert_each_sink_call(rt: &impl Abort, alloc: Global, engine: Engine, most: Most) {
+    let calls = calls_to_the_end(rt, alloc, engine, most);
+    // One byte a call.
+    assert!(rt; most.take > 1 || calls.sink == WRITTEN.len());
+    for at in 1..=calls.sink {
+        assert_sink_fails(rt, alloc, engine, most, at);
+    }
+}
+
 #[test]
 fn the_source_fails_at_each_call(rt: HostRuntime) {
     for most in WAYS {
-        let calls = calls_to_the_end(&rt, rt.alloc(), most);
-        // One byte a call, and then the end.
-        assert!(rt; most.give > 1 || calls.source == GIVEN.len() + 1);
-        for at in 1..=calls.source {
-            assert_source_fails(&rt, rt.alloc(), most, at);
-        }
+        assert_each_source_call(&rt, rt.alloc(), Engine::Filter, most);
+        assert_each_source_call(&rt, rt.alloc(), Engine::Replace, most);
     }
 }
 
 #[test]
 fn the_sink_fails_at_each_call(rt: HostRuntime) {
     for most in WAYS {
-        let calls = calls_to_the_end(&rt, rt.alloc(), most);
-        // One byte a call.
-        assert!(rt; most.take > 1 || calls.sink == WRITTEN.len());
-        for at in 1..=calls.sink {
-            assert_sink_fails(&rt, rt.alloc(), most, at);
-        }
+        assert_each_sink_call(&rt, rt.alloc(), Engine::Filter, most);
+        assert_each_sink_call(&rt, rt.alloc(), Engine::Replace, most);
     }
 }

@@ -11,7 +11,7 @@ use symfilter_engine::{FilterFault, Sink, Source, filter};
 const CHUNK_LEN: usize = 131072;
 
 /// The filter ends as expected.
-fn assert_outcome(
+pub fn assert_outcome(
     rt: &impl Abort,
     outcome: Result<(), FilterFault>,
     expected: Result<(), FilterFault>,
@@ -20,7 +20,7 @@ fn assert_outcome(
 }
 
 /// The bytes are as expected. A message leaves them out where there are many.
-fn assert_bytes(rt: &impl Abort, found: &[u8], expected: &[u8]) {
+pub fn assert_bytes(rt: &impl Abort, found: &[u8], expected: &[u8]) {
     if expected.len() < 1000 {
         assert_eq!(rt; found, expected);
     }
@@ -97,7 +97,7 @@ fn other_lines_among_symbols(rt: HostRuntime) {
 }
 
 /// The bytes so many times more.
-fn append(rt: &impl Abort, all: &mut Vec<u8>, bytes: &[u8], count: usize) {
+pub fn append(rt: &impl Abort, all: &mut Vec<u8>, bytes: &[u8], count: usize) {
     for _ in 0..count {
         assert!(rt; all.extend_from_slice(bytes).is_ok());
     }

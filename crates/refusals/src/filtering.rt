@@ -1,23 +1,26 @@
-//! The rows of the filter, between two ends in memory that take no memory themselves.
+//! The rows of the filter and of the replacement, between two ends in memory that take no memory themselves.
 ghost use Rattle.std.specs.Prelude.{◌<◌};
 
 use crate::outcome::{Memory, Wrong, must};
 use crate::watch::{NOTHING, Watch, Watched};
+use filter_vectors::engine::Engine;
 use filter_vectors::memory::MemorySource;
 use std::alloc::Global;
-use symfilter_engine::{FilterFault, Tally, filter};
+use symfilter_engine::{FilterFault, Tally};
 
 /// Some lines, and what must be written for them.
 #[derive(Clone, Copy)]
 pub struct Lines {
+    pub engine: Engine,
     pub name: &'static str,
     text: &'static [u8],
     filtered: &'static [u8],
 }
 
 /// The lines of each row. Of the first the third is longer as its answer than all before it.
-pub const LINES: [Lines; 2] = [
+pub const LINES: [Lines; 4] = [
     Lines {
+        engine: Engine::Filter,
         name: "lines_between_two_ends_in_memory",
         text: b"_Z3foov\nmalloc\n_Z1fI1A1BIS0_S0_ES1_IS2_S2_ES1_IS3_S3_EEvv\n\n_Z3bar",
         filtered: b"foo
@@ -27,9 +30,26 @@ f<A, B<A, A>, B<B<A, A>, B<A, A> >, B<B<B<A, A>, B<A, A> >, B<B<A, A>, B<A, A> >
 bar",
     },
     Lines {
+        engine: Engine::Filter,
         name: "short_answers_between_two_ends_in_memory",
         text: b"_Z3foov\nmalloc\n_Z1fI1AEvv\n_Z3bar",
         filtered: b"foo\nmalloc\nf<A>\nbar",
+    },
+    Lines {
+        engine: Engine::Replace,
+        name: "words_between_two_ends_in_memory",
+        text: b"at _Z3foov (a.cc)\nmalloc\n(_Z3foo _Z1fI1A1BIS0_S0_ES1_IS2_S2_ES1_IS3_S3_EEvv)\n\n._Z3bar.",
+        filtered: b"at foo (a.cc)
+malloc
+(foo f<A, B<A, A>, B<B<A, A>, B<A, A> >, B<B<B<A, A>, B<A, A> >, B<B<A, A>, B<A, A> > > >)
+
+.bar.",
+    },
+    Lines {
+        engine: Engine::Replace,
+        name: "short_words_between_two_ends_in_memory",
+        text: b"(_Z3foov)\nmalloc\n_Z1fI1AEvv _Z4foo\n_Z3bar@plt",
+        filtered: b"(foo)\nmalloc\nf<A> _Z4foo\nbar@plt",
     },
 ];
 
@@ -43,7 +63,7 @@ const CALLS: usize = 1000;
 /// written.
 fn filter_into(
     alloc: Global,
-    text: &[u8],
+    lines: &Lines,
     most: usize,
     watch: &Watch,
     room: &mut [u8; ROOM],
@@ -51,7 +71,7 @@ fn filter_into(
     requires { 0 < most }
 {
     let mut source = Watched {
-        end: MemorySource::new(text, most, CALLS),
+        end: MemorySource::new(lines.text, most, CALLS),
         watch,
     };
     let mut rest = room.as_mut_slice();
@@ -59,7 +79,7 @@ fn filter_into(
         end: Tally::new(&mut rest),
         watch,
     };
-    let outcome = filter(alloc, &mut source, &mut sink);
+    let outcome = lines.engine.run(alloc, &mut source, &mut sink);
     let left = rest.len();
     (outcome, ROOM.saturating_sub(left))
 }
@@ -74,7 +94,7 @@ fn run_once(alloc: Global, lines: &Lines, most: usize, watch: &Watch) -> Result<
     requires { 0 < most }
 {
     let mut room = [0u8; ROOM];
-    let (outcome, len) = filter_into(alloc, lines.text, most, watch, &mut room);
+    let (outcome, len) = filter_into(alloc, lines, most, watch, &mut room);
     let Some(written) = room.as_slice().get(..len) else {
         return Err(Wrong("more is written than there is room for"));
     };

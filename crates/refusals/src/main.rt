@@ -1,7 +1,7 @@
-//! Asks the demangler, a buffer and the filter row after row, and prints a line for each row: its name, and `answer`
-//! where all is answered as it must be, `refused` where memory was refused once and all holds that must hold then, or
-//! what is wrong. It asks the row that standard input names; all of them, one after the other, where that is empty.
-//! Status 1 says that something is wrong, or that there is no such row.
+//! Asks the demangler, a buffer and the engine of the filter row after row, and prints a line for each row: its name,
+//! and `answer` where all is answered as it must be, `refused` where memory was refused once and all holds that must
+//! hold then, or what is wrong. It asks the row that standard input names; all of them, one after the other, where that
+//! is empty. Status 1 says that something is wrong, or that there is no such row.
 #![tactic(auto)]
 
 mod calls;
@@ -90,12 +90,12 @@ fn play_scripts(rt: &HostRuntime, rows: &mut Rows) -> io::Result<()> {
     Ok(())
 }
 
-/// The rows of the filter.
-fn ask_filter(rt: &HostRuntime, rows: &mut Rows) -> io::Result<()> {
+/// The rows of the filter and of the replacement.
+fn ask_engine(rt: &HostRuntime, rows: &mut Rows) -> io::Result<()> {
     for lines in LINES {
-        if rows.has("filter", lines.name) {
+        if rows.has(lines.engine.name(), lines.name) {
             let found = filtering::run(rt.alloc(), &lines);
-            rows.tell(rt, "filter", lines.name, found)?;
+            rows.tell(rt, lines.engine.name(), lines.name, found)?;
         }
     }
     Ok(())
@@ -108,7 +108,7 @@ fn ask_rows(rt: &HostRuntime, rows: &mut Rows) -> io::Result<()> {
     ask_symbols(rt, rows, &mut demangler, Call::DemangleOwned)?;
     drop(demangler);
     play_scripts(rt, rows)?;
-    ask_filter(rt, rows)
+    ask_engine(rt, rows)
 }
 
 /// The name that was read.

@@ -1,33 +1,69 @@
 -- Filtered text, line by line and piece by piece.
-use Rattle.std.proofs.Common.{◌≡◌, ◌≢◌, ℕ, Result, Ok, Err, OnErr, List, [], ◌∷◌, ◌++◌, Option, take, drop, refl, sym, ap, subst, ◌∙◌, append_assoc, append-nil, Bool, true, false, inl, inr, ◌⊎◌, Some, None}
-use Rattle.std.proofs.lemmas.List.{take-append-drop}
+use Rattle.std.proofs.Common.{◌≡◌, ◌≢◌, ℕ, ◌+◌, ◌-◌, length, get_or, arith, Result, Ok, Err, OnErr, List, [], ◌∷◌, ◌++◌, Option, take, drop, refl, sym, ap, subst, ◌∙◌, append_assoc, append-nil, Bool, true, false, inl, inr, ◌⊎◌, Some, None}
+use Rattle.std.proofs.lemmas.List.{take-append-drop, length-append, get_or-append_right, get_or_append_left}
 use Rattle.std.proofs.lemmas.List.Elements.{All-nil, All-push}
 use Rattle.std.specs.Str.{is_utf8}
 use Rattle.std.proofs.lemmas.Str.{IsUtf8-from_is_utf8, is_utf8-from_IsUtf8}
-use Rattle.std.proofs.lemmas.Bool.{false≢true, cases_eq}
+use Rattle.std.proofs.lemmas.Bool.{false≢true, cases_eq, cases_lt}
 use Rattle.itanium_grammar.specs.Answer.{IsAnswer}
 use Rattle.itanium_demangle.proofs.Answered.{each_answered}
 use Rattle.std.proofs.KnownBytes.{Appends-nil, Appends-trans, Appends-kept}
 use Rattle.std.specs.Io.KnownBytes.{Appends, Keeps}
-use Rattle.symfilter_engine.specs.Filtered.{line_feed, HasNoLineFeed, AreLinesFiltered, no_line, one_more, IsFiltered, ended, unended, IsFront, IsBeginning, IsLineAnswer, answered, unanswered, not_utf8, WritesFiltered, WritesBeginning}
-use Rattle.symfilter_engine.specs.Progress.{WritesFront, WritesLines, WritesLinesFront, HasFiltered}
+use Rattle.symfilter_engine.specs.declared.symbols.Symbols.{Symbols}
+use Rattle.symfilter_engine.specs.declared.symbols.Symbols.TheVariants.{Lines, Words}
+use Rattle.symfilter_engine.specs.Replaced.{no_byte}
+use Rattle.symfilter_engine.specs.Filtered.{line_feed, HasNoLineFeed, EndsInLineFeed, AreLinesAnswered, no_line, one_more, IsAnswered, ended, unended, AreLinesFiltered, IsFiltered, IsFront, IsBeginning, IsLineAnswer, answered, unanswered, not_utf8, WritesFiltered, WritesBeginning}
+use Rattle.symfilter_engine.specs.Progress.{AppendsReplaced, WritesFront, WritesLines, WritesLinesFront, HasFiltered}
+use Rattle.symfilter_engine.proofs.ReplacedText.{IsReplaced-append, ended_parted, replaced_of}
+
+-- lines after lines, where each is a symbol
+pub AreLinesAnswered-append : {lines text lines' text' : List ℕ} → AreLinesAnswered lines text → AreLinesAnswered lines' text' → AreLinesAnswered (lines ++ lines') (text ++ text')
+AreLinesAnswered-append {lines} {text} first no_line =
+    subst (λ l. AreLinesAnswered l (text ++ [])) (sym (append-nil lines)) (subst (AreLinesAnswered lines) (sym (append-nil text)) first)
+AreLinesAnswered-append {lines} {text} first (one_more {lines = lines'} {text = text'} {line = line} {answer = answer} before unended_line is_answer) =
+    subst (λ l. AreLinesAnswered l (text ++ (text' ++ (answer ++ line_feed ∷ [])))) (append_assoc lines lines' (line ++ line_feed ∷ []))
+    (subst (AreLinesAnswered ((lines ++ lines') ++ (line ++ line_feed ∷ []))) (append_assoc text text' (answer ++ line_feed ∷ []))
+    (one_more (AreLinesAnswered-append first before) unended_line is_answer))
+
+-- bytes after such lines
+IsAnswered-append : {lines text given text' : List ℕ} → AreLinesAnswered lines text → IsAnswered given text' → IsAnswered (lines ++ given) (text ++ text')
+IsAnswered-append first (ended more) = ended (AreLinesAnswered-append first more)
+IsAnswered-append {lines} {text} first (unended {lines = lines'} {text = text'} {line = line} {answer = answer} before some unended_line is_answer) =
+    subst (λ l. IsAnswered l (text ++ (text' ++ answer))) (append_assoc lines lines' line)
+    (subst (IsAnswered ((lines ++ lines') ++ line)) (append_assoc text text' answer)
+    (unended (AreLinesAnswered-append first before) some unended_line is_answer))
+
+-- what ends in a line feed after what does
+ends_after : (front bytes : List ℕ) → EndsInLineFeed front → EndsInLineFeed bytes → EndsInLineFeed (front ++ bytes)
+ends_after front bytes first second some =
+    let long : length (front ++ bytes) ≡ length front + length bytes = length-append front bytes in
+    elim (cases_lt 0 (length bytes)) [
+      | inl more ↦
+          get_or-append_right front bytes (length front) (length (front ++ bytes) - 1) 0 refl (omega (arith, long, more))
+          ∙ ap (λ k. get_or bytes k 0) (omega (arith, long, more)) ∙ second more
+      | inr none ↦
+          get_or_append_left front bytes 0 (length (front ++ bytes) - 1) (omega (arith, long, none, some))
+          ∙ ap (λ k. get_or front k 0) (omega (arith, long, none)) ∙ first (omega (arith, long, none, some))
+    ]
+
+-- no line
+pub no_lines : (symbols : Symbols) → AreLinesFiltered symbols [] []
+no_lines Lines = no_line
+no_lines (Words strip) = (λ some. absurd (omega (arith, some)), no_byte)
 
 -- lines after lines
-pub AreLinesFiltered-append : {lines text lines' text' : List ℕ} → AreLinesFiltered lines text → AreLinesFiltered lines' text' → AreLinesFiltered (lines ++ lines') (text ++ text')
-AreLinesFiltered-append {lines} {text} first no_line =
-    subst (λ l. AreLinesFiltered l (text ++ [])) (sym (append-nil lines)) (subst (AreLinesFiltered lines) (sym (append-nil text)) first)
-AreLinesFiltered-append {lines} {text} first (one_more {lines = lines'} {text = text'} {line = line} {answer = answer} before unended_line is_answer) =
-    subst (λ l. AreLinesFiltered l (text ++ (text' ++ (answer ++ line_feed ∷ [])))) (append_assoc lines lines' (line ++ line_feed ∷ []))
-    (subst (AreLinesFiltered ((lines ++ lines') ++ (line ++ line_feed ∷ []))) (append_assoc text text' (answer ++ line_feed ∷ []))
-    (one_more (AreLinesFiltered-append first before) unended_line is_answer))
+pub AreLinesFiltered-append : (symbols : Symbols) (lines text lines' text' : List ℕ) → AreLinesFiltered symbols lines text → AreLinesFiltered symbols lines' text'
+    → AreLinesFiltered symbols (lines ++ lines') (text ++ text')
+AreLinesFiltered-append Lines lines text lines' text' first second = AreLinesAnswered-append first second
+AreLinesFiltered-append (Words strip) lines text lines' text' first second =
+    (ends_after lines lines' first.0 second.0, IsReplaced-append strip first.1 second.1 (ended_parted lines lines' first.0))
 
 -- bytes after lines
-IsFiltered-append : {lines text given text' : List ℕ} → AreLinesFiltered lines text → IsFiltered given text' → IsFiltered (lines ++ given) (text ++ text')
-IsFiltered-append first (ended more) = ended (AreLinesFiltered-append first more)
-IsFiltered-append {lines} {text} first (unended {lines = lines'} {text = text'} {line = line} {answer = answer} before some unended_line is_answer) =
-    subst (λ l. IsFiltered l (text ++ (text' ++ answer))) (append_assoc lines lines' line)
-    (subst (IsFiltered ((lines ++ lines') ++ line)) (append_assoc text text' answer)
-    (unended (AreLinesFiltered-append first before) some unended_line is_answer))
+IsFiltered-append : (symbols : Symbols) (lines text given text' : List ℕ) → AreLinesFiltered symbols lines text → IsFiltered symbols given text'
+    → IsFiltered symbols (lines ++ given) (text ++ text')
+IsFiltered-append Lines lines text given text' first second = IsAnswered-append first second
+IsFiltered-append (Words strip) lines text given text' first second =
+    IsReplaced-append strip first.1 second (ended_parted lines given first.0)
 
 -- a front after a text
 pub IsFront-append : (text written more : List ℕ) → IsFront written more → IsFront (text ++ written) (text ++ more)
@@ -43,91 +79,110 @@ answer_of_line line true good (Some text) is_answer = (text, answered (IsUtf8-fr
 line_answered : (line : List ℕ) → (text : List ℕ) × IsLineAnswer line text
 line_answered line = let found = each_answered line in answer_of_line line (is_utf8 line) refl found.0 found.1
 
--- a last line has a filtered text
-last_filtered : (line : List ℕ) → HasNoLineFeed line → (text : List ℕ) × IsFiltered line text
-last_filtered [] unended_line = ([], ended no_line)
-last_filtered (byte ∷ bytes) unended_line =
+-- a last line has an answer, or stands for itself
+last_answered : (line : List ℕ) → HasNoLineFeed line → (text : List ℕ) × IsAnswered line text
+last_answered [] unended_line = ([], ended no_line)
+last_answered (byte ∷ bytes) unended_line =
     let found = line_answered (byte ∷ bytes) in
     (found.0, unended no_line (λ e. cc) unended_line found.1)
 
 -- the next byte ends the line or is in it
 at_byte : (line bytes : List ℕ) (byte : ℕ) → HasNoLineFeed line → (byte ≡ line_feed) ⊎ (byte ≡ line_feed → ⊥)
-    → ((text : List ℕ) × IsFiltered bytes text) → (HasNoLineFeed (line ++ byte ∷ []) → (text : List ℕ) × IsFiltered ((line ++ byte ∷ []) ++ bytes) text)
-    → (text : List ℕ) × IsFiltered (line ++ byte ∷ bytes) text
+    → ((text : List ℕ) × IsAnswered bytes text) → (HasNoLineFeed (line ++ byte ∷ []) → (text : List ℕ) × IsAnswered ((line ++ byte ∷ []) ++ bytes) text)
+    → (text : List ℕ) × IsAnswered (line ++ byte ∷ bytes) text
 at_byte line bytes byte unended_line (inl is_feed) rest longer =
     let found = line_answered line in
     let text : List ℕ = (found.0 ++ line_feed ∷ []) ++ rest.0 in (
       text,
-      subst (λ l. IsFiltered l text) (append_assoc line (line_feed ∷ []) bytes ∙ ap (λ b. line ++ b ∷ bytes) (sym is_feed))
-          (IsFiltered-append (one_more no_line unended_line found.1) rest.1),
+      subst (λ l. IsAnswered l text) (append_assoc line (line_feed ∷ []) bytes ∙ ap (λ b. line ++ b ∷ bytes) (sym is_feed))
+          (IsAnswered-append (one_more no_line unended_line found.1) rest.1),
     )
 at_byte line bytes byte unended_line (inr no_feed) rest longer =
     let more = longer (All-push (λ b. b ≢ line_feed) line byte unended_line no_feed) in
-    (more.0, subst (λ l. IsFiltered l more.0) (append_assoc line (byte ∷ []) bytes) more.1)
+    (more.0, subst (λ l. IsAnswered l more.0) (append_assoc line (byte ∷ []) bytes) more.1)
 
 -- bytes after the beginning of a line have one
-after_line : (line bytes : List ℕ) → HasNoLineFeed line → (text : List ℕ) × IsFiltered (line ++ bytes) text
+after_line : (line bytes : List ℕ) → HasNoLineFeed line → (text : List ℕ) × IsAnswered (line ++ bytes) text
 after_line line [] unended_line =
-    let found = last_filtered line unended_line in
-    (found.0, subst (λ l. IsFiltered l found.0) (sym (append-nil line)) found.1)
+    let found = last_answered line unended_line in
+    (found.0, subst (λ l. IsAnswered l found.0) (sym (append-nil line)) found.1)
 after_line line (byte ∷ bytes) unended_line =
     at_byte line bytes byte unended_line (cases_eq byte line_feed)
     (after_line [] bytes (All-nil (λ b. b ≢ line_feed)))
     (λ longer. after_line (line ++ byte ∷ []) bytes longer)
 
 -- all bytes have a filtered text
-filtered_of : (bytes : List ℕ) → (text : List ℕ) × IsFiltered bytes text
-filtered_of bytes = after_line [] bytes (All-nil (λ byte. byte ≢ line_feed))
+filtered_of : (symbols : Symbols) (bytes : List ℕ) → (text : List ℕ) × IsFiltered symbols bytes text
+filtered_of Lines bytes = after_line [] bytes (All-nil (λ byte. byte ≢ line_feed))
+filtered_of (Words strip) bytes = replaced_of strip bytes
 
 -- a front of the filtered text of the first lines
-of_lines : {lines text : List ℕ} (given rest written : List ℕ) → given ≡ lines ++ rest → AreLinesFiltered lines text → IsFront written text → IsBeginning given written
-of_lines {lines} {text} given rest written given_is filtered is_front =
-    let more = filtered_of rest in (
+of_lines : (symbols : Symbols) (lines text given rest written : List ℕ) → given ≡ lines ++ rest → AreLinesFiltered symbols lines text → IsFront written text
+    → IsBeginning symbols given written
+of_lines symbols lines text given rest written given_is filtered is_front =
+    let more = filtered_of symbols rest in (
       text ++ more.0,
-      subst (λ l. IsFiltered l (text ++ more.0)) (sym given_is) (IsFiltered-append filtered more.1),
+      subst (λ l. IsFiltered symbols l (text ++ more.0)) (sym given_is) (IsFiltered-append symbols lines text rest more.0 filtered more.1),
       (is_front.0 ++ more.0, ap (λ l. l ++ more.0) is_front.1 ∙ append_assoc written is_front.0 more.0),
     )
 
+-- no byte
+nothing_filtered : (symbols : Symbols) → IsFiltered symbols [] []
+nothing_filtered Lines = ended no_line
+nothing_filtered (Words strip) = no_byte
+
 -- no last line was written
-pub no_last : (line : List ℕ) (at : Option (List ℕ)) → line ≡ [] → WritesFiltered line at at
-no_last line at line_is = subst (λ l. WritesFiltered l at at) (sym line_is) ([], ended no_line, Appends-nil at)
+pub no_last : (symbols : Symbols) (line : List ℕ) (at : Option (List ℕ)) → line ≡ [] → WritesFiltered symbols line at at
+no_last symbols line at line_is = subst (λ l. WritesFiltered symbols l at at) (sym line_is) ([], nothing_filtered symbols, Appends-nil at)
 
 -- a last line was written
 pub last_written : (line answer : List ℕ) (before after : Option (List ℕ)) → line ≢ [] → HasNoLineFeed line → IsLineAnswer line answer → Appends before after answer
-    → WritesFiltered line before after
+    → WritesFiltered Lines line before after
 last_written line answer before after some unended_line is_answer writes = (answer, unended no_line some unended_line is_answer, writes)
 
 -- nothing of it was written
-pub last_unwritten : (line : List ℕ) (at : Option (List ℕ)) → WritesBeginning line at at
-last_unwritten line at =
-    let found = filtered_of line in ([], (found.0, found.1, (found.0, refl)), Appends-nil at)
+pub last_unwritten : (symbols : Symbols) (line : List ℕ) (at : Option (List ℕ)) → WritesBeginning symbols line at at
+last_unwritten symbols line at =
+    let found = filtered_of symbols line in ([], (found.0, found.1, (found.0, refl)), Appends-nil at)
 
 -- a front of it was written
 pub last_begins : (line answer : List ℕ) (before after : Option (List ℕ)) → line ≢ [] → HasNoLineFeed line → IsLineAnswer line answer → WritesFront answer before after
-    → WritesBeginning line before after
+    → WritesBeginning Lines line before after
 last_begins line answer before after some unended_line is_answer (rest, writes) =
     (writes.front, (answer, unended no_line some unended_line is_answer, (rest, writes.bytes_are)), writes.written)
 
+-- a last line was written replaced
+pub last_replaced : (strip : Bool) (line old output bytes : List ℕ) (before after : Option (List ℕ)) → old ≡ [] → AppendsReplaced strip line old output → bytes ≡ output
+    → Appends before after bytes → WritesFiltered (Words strip) line before after
+last_replaced strip line old output bytes before after none (text, replaced, output_is) bytes_are writes =
+    (text, replaced, subst (Appends before after) (bytes_are ∙ output_is ∙ ap (λ l. l ++ text) none) writes)
+
+-- a front of its replaced text was written
+pub replaced_begins : (strip : Bool) (line old output bytes : List ℕ) (before after : Option (List ℕ)) → old ≡ [] → AppendsReplaced strip line old output → bytes ≡ output
+    → WritesFront bytes before after → WritesBeginning (Words strip) line before after
+replaced_begins strip line old output bytes before after none (text, replaced, output_is) bytes_are (rest, writes) =
+    (writes.front, (text, replaced, (rest, sym (bytes_are ∙ output_is ∙ ap (λ l. l ++ text) none) ∙ writes.bytes_are)), writes.written)
+
 -- nothing was given yet
-pub none_filtered : (given : List ℕ) (at : Option (List ℕ)) → HasFiltered given given at at
-none_filtered given at = record { lines = []; text = []; given_is = refl; filtered = no_line; written = Appends-nil at }
+pub none_filtered : (symbols : Symbols) (given : List ℕ) (at : Option (List ℕ)) → HasFiltered symbols given given at at
+none_filtered symbols given at = record { lines = []; text = []; given_is = refl; filtered = no_lines symbols; written = Appends-nil at }
 
 -- lines of what was left were written too
-pub lines_filtered : (given rest : List ℕ) (n : ℕ) (before mid after : Option (List ℕ))
-    → HasFiltered given rest before mid → WritesLines (take n rest) mid after → HasFiltered given (drop n rest) before after
-lines_filtered given rest n before mid after so_far (text, filtered, writes) =
+pub lines_filtered : (symbols : Symbols) (given rest : List ℕ) (n : ℕ) (before mid after : Option (List ℕ))
+    → HasFiltered symbols given rest before mid → WritesLines symbols (take n rest) mid after → HasFiltered symbols given (drop n rest) before after
+lines_filtered symbols given rest n before mid after so_far (text, filtered, writes) =
     record {
       lines = so_far.lines ++ take n rest;
       text = so_far.text ++ text;
       given_is = so_far.given_is ∙ ap (λ l. so_far.lines ++ l) (sym (take-append-drop n rest)) ∙ sym (append_assoc so_far.lines (take n rest) (drop n rest));
-      filtered = AreLinesFiltered-append so_far.filtered filtered;
+      filtered = AreLinesFiltered-append symbols so_far.lines so_far.text (take n rest) text so_far.filtered filtered;
       written = Appends-trans before mid after so_far.text text so_far.written writes;
     }
 
 -- nothing of the next line was written
-pub next_unwritten : (given left : List ℕ) (before mid after : Option (List ℕ))
-    → HasFiltered given left before mid → Keeps mid after → HasFiltered given left before after
-next_unwritten given left before mid after so_far keeps =
+pub next_unwritten : (symbols : Symbols) (given left : List ℕ) (before mid after : Option (List ℕ))
+    → HasFiltered symbols given left before mid → Keeps mid after → HasFiltered symbols given left before after
+next_unwritten symbols given left before mid after so_far keeps =
     record {
       lines = so_far.lines;
       text = so_far.text;
@@ -137,9 +192,9 @@ next_unwritten given left before mid after so_far keeps =
     }
 
 -- whatever follows what was given
-pub lines_before : (given left rest : List ℕ) (before after : Option (List ℕ))
-    → HasFiltered given left before after → HasFiltered (given ++ rest) (left ++ rest) before after
-lines_before given left rest before after so_far =
+pub lines_before : (symbols : Symbols) (given left rest : List ℕ) (before after : Option (List ℕ))
+    → HasFiltered symbols given left before after → HasFiltered symbols (given ++ rest) (left ++ rest) before after
+lines_before symbols given left rest before after so_far =
     record {
       lines = so_far.lines;
       text = so_far.text;
@@ -149,75 +204,85 @@ lines_before given left rest before after so_far =
     }
 
 -- what is written stays a beginning
-pub filtered_begins : (given left : List ℕ) (before after : Option (List ℕ)) → HasFiltered given left before after → WritesBeginning given before after
-filtered_begins given left before after so_far =
-    (so_far.text, of_lines given left so_far.text so_far.given_is so_far.filtered ([], sym (append-nil so_far.text)), so_far.written)
+pub filtered_begins : (symbols : Symbols) (given left : List ℕ) (before after : Option (List ℕ)) → HasFiltered symbols given left before after
+    → WritesBeginning symbols given before after
+filtered_begins symbols given left before after so_far = (
+  so_far.text,
+  of_lines symbols so_far.lines so_far.text given left so_far.text so_far.given_is so_far.filtered ([], sym (append-nil so_far.text)),
+  so_far.written,
+)
 
 -- nothing of lines was written
-pub lines_unwritten : (lines : List ℕ) (at : Option (List ℕ)) → WritesLinesFront lines at at
-lines_unwritten lines at rest = last_unwritten (lines ++ rest) at
+pub lines_unwritten : (symbols : Symbols) (lines : List ℕ) (at : Option (List ℕ)) → WritesLinesFront symbols lines at at
+lines_unwritten symbols lines at rest = last_unwritten symbols (lines ++ rest) at
 
 -- a front of the text of the first lines was written
-pub lines_begin : (lines text : List ℕ) (n : ℕ) (before after : Option (List ℕ)) → AreLinesFiltered (take n lines) text → WritesFront text before after
-    → WritesLinesFront lines before after
-lines_begin lines text n before after filtered (left, writes) rest = (
+pub lines_begin : (symbols : Symbols) (lines text : List ℕ) (n : ℕ) (before after : Option (List ℕ)) → AreLinesFiltered symbols (take n lines) text → WritesFront text before after
+    → WritesLinesFront symbols lines before after
+lines_begin symbols lines text n before after filtered (left, writes) rest = (
   writes.front,
-  of_lines (lines ++ rest) (drop n lines ++ rest) writes.front
+  of_lines symbols (take n lines) text (lines ++ rest) (drop n lines ++ rest) writes.front
       (ap (λ l. l ++ rest) (sym (take-append-drop n lines)) ∙ append_assoc (take n lines) (drop n lines) rest)
       filtered (left, writes.bytes_are),
   writes.written,
 )
 
 -- the lines of the next piece
-pub piece_filtered : (given piece left left' : List ℕ) (before mid after : Option (List ℕ))
-    → HasFiltered given left before mid → HasFiltered (left ++ piece) left' mid after
-    → HasFiltered (given ++ piece) left' before after
-piece_filtered given piece left left' before mid after so_far more =
+pub piece_filtered : (symbols : Symbols) (given piece left left' : List ℕ) (before mid after : Option (List ℕ))
+    → HasFiltered symbols given left before mid → HasFiltered symbols (left ++ piece) left' mid after
+    → HasFiltered symbols (given ++ piece) left' before after
+piece_filtered symbols given piece left left' before mid after so_far more =
     record {
       lines = so_far.lines ++ more.lines;
       text = so_far.text ++ more.text;
       given_is = ap (λ l. l ++ piece) so_far.given_is ∙ append_assoc so_far.lines left piece ∙ ap (λ l. so_far.lines ++ l) more.given_is ∙ sym (append_assoc so_far.lines more.lines left');
-      filtered = AreLinesFiltered-append so_far.filtered more.filtered;
+      filtered = AreLinesFiltered-append symbols so_far.lines so_far.text more.lines more.text so_far.filtered more.filtered;
       written = Appends-trans before mid after so_far.text more.text so_far.written more.written;
     }
 
 -- lines, and a last one
-pub WritesFiltered-append : (given left : List ℕ) (before mid after : Option (List ℕ)) → HasFiltered given left before mid → WritesFiltered left mid after → WritesFiltered given before after
-WritesFiltered-append given left before mid after so_far (text, filtered, writes) = (
+pub WritesFiltered-append : (symbols : Symbols) (given left : List ℕ) (before mid after : Option (List ℕ)) → HasFiltered symbols given left before mid
+    → WritesFiltered symbols left mid after → WritesFiltered symbols given before after
+WritesFiltered-append symbols given left before mid after so_far (text, filtered, writes) = (
   so_far.text ++ text,
-  subst (λ l. IsFiltered l (so_far.text ++ text)) (sym so_far.given_is) (IsFiltered-append so_far.filtered filtered),
+  subst (λ l. IsFiltered symbols l (so_far.text ++ text)) (sym so_far.given_is)
+      (IsFiltered-append symbols so_far.lines so_far.text left text so_far.filtered filtered),
   Appends-trans before mid after so_far.text text so_far.written writes,
 )
 
 -- a beginning after lines
-IsBeginning-append : {lines text : List ℕ} (given written : List ℕ) → AreLinesFiltered lines text → IsBeginning given written → IsBeginning (lines ++ given) (text ++ written)
-IsBeginning-append {lines} {text} given written first begins =
-    (text ++ begins.0, IsFiltered-append first begins.1, IsFront-append text written begins.0 begins.2)
+IsBeginning-append : (symbols : Symbols) (lines text given written : List ℕ) → AreLinesFiltered symbols lines text → IsBeginning symbols given written
+    → IsBeginning symbols (lines ++ given) (text ++ written)
+IsBeginning-append symbols lines text given written first begins =
+    (text ++ begins.0, IsFiltered-append symbols lines text given begins.0 first begins.1, IsFront-append text written begins.0 begins.2)
 
 -- a beginning of the next piece
-pub piece_begins : (given piece left : List ℕ) (before mid after : Option (List ℕ))
-    → HasFiltered given left before mid → WritesBeginning (left ++ piece) mid after
-    → WritesBeginning (given ++ piece) before after
-piece_begins given piece left before mid after so_far (written, begins, writes) = (
+pub piece_begins : (symbols : Symbols) (given piece left : List ℕ) (before mid after : Option (List ℕ))
+    → HasFiltered symbols given left before mid → WritesBeginning symbols (left ++ piece) mid after
+    → WritesBeginning symbols (given ++ piece) before after
+piece_begins symbols given piece left before mid after so_far (written, begins, writes) = (
   so_far.text ++ written,
-  subst (λ l. IsBeginning l (so_far.text ++ written)) (sym (ap (λ l. l ++ piece) so_far.given_is ∙ append_assoc so_far.lines left piece))
-      (IsBeginning-append (left ++ piece) written so_far.filtered begins),
+  subst (λ l. IsBeginning symbols l (so_far.text ++ written)) (sym (ap (λ l. l ++ piece) so_far.given_is ∙ append_assoc so_far.lines left piece))
+      (IsBeginning-append symbols so_far.lines so_far.text (left ++ piece) written so_far.filtered begins),
   Appends-trans before mid after so_far.text written so_far.written writes,
 )
 
 -- a beginning of a last line
-pub WritesBeginning-append : (given left : List ℕ) (before mid after : Option (List ℕ)) → HasFiltered given left before mid → WritesBeginning left mid after → WritesBeginning given before after
-WritesBeginning-append given left before mid after so_far (written, begins, writes) = (
+pub WritesBeginning-append : (symbols : Symbols) (given left : List ℕ) (before mid after : Option (List ℕ)) → HasFiltered symbols given left before mid
+    → WritesBeginning symbols left mid after → WritesBeginning symbols given before after
+WritesBeginning-append symbols given left before mid after so_far (written, begins, writes) = (
   so_far.text ++ written,
-  subst (λ l. IsBeginning l (so_far.text ++ written)) (sym so_far.given_is) (IsBeginning-append left written so_far.filtered begins),
+  subst (λ l. IsBeginning symbols l (so_far.text ++ written)) (sym so_far.given_is)
+      (IsBeginning-append symbols so_far.lines so_far.text left written so_far.filtered begins),
   Appends-trans before mid after so_far.text written so_far.written writes,
 )
 
 -- a beginning of more lines
-pub WritesLinesFront-append : (given left : List ℕ) (before mid after : Option (List ℕ)) → HasFiltered given left before mid → WritesLinesFront left mid after → WritesLinesFront given before after
-WritesLinesFront-append given left before mid after so_far begins rest =
-    WritesBeginning-append (given ++ rest) (left ++ rest) before mid after
-    (lines_before given left rest before mid so_far)
+pub WritesLinesFront-append : (symbols : Symbols) (given left : List ℕ) (before mid after : Option (List ℕ)) → HasFiltered symbols given left before mid
+    → WritesLinesFront symbols left mid after → WritesLinesFront symbols given before after
+WritesLinesFront-append symbols given left before mid after so_far begins rest =
+    WritesBeginning-append symbols (given ++ rest) (left ++ rest) before mid after
+    (lines_before symbols given left rest before mid so_far)
     (begins rest)
 
 -- what holds after a fault

@@ -1,3 +1,6 @@
+pub mod ReplacedText
+pub mod WordPlaces
+mod WordLanes
 pub mod FilteredText
 pub mod Writing
 pub mod LineAnswers

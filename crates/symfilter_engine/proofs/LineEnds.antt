@@ -1,5 +1,5 @@
 -- Where lines end.
-use Rattle.std.proofs.Common.{◌≡◌, ◌≢◌, inl, inr, ℕ, zero, suc, ◌+◌, ◌-◌, ◌<◌, ◌≤◌, List, [], ◌∷◌, ◌++◌, not, eqb, length, take, drop, get_or, refl, sym, ap, subst, ◌∙◌, arith, append_assoc}
+use Rattle.std.proofs.Common.{Bool, ◌≡◌, ◌≢◌, inl, inr, ℕ, zero, suc, ◌+◌, ◌-◌, ◌<◌, ◌≤◌, List, [], ◌∷◌, ◌++◌, not, eqb, length, take, drop, get_or, sym, ap, subst, ◌∙◌, arith, append_assoc}
 use Rattle.std.proofs.lemmas.Bool.{eqb-true, eqb-false, cases_lt}
 use Rattle.std.proofs.lemmas.List.{get_or-take, get_or-drop, length-take-le, length-drop, length-append, take_more, length_push, get_or_push, get_or_append_left, drop_at, drop-drop, take-append-drop}
 use Rattle.std.proofs.lemmas.List.Elements.{All-from_get_or, All-get_or}
@@ -9,45 +9,48 @@ use Rattle.std.proofs.lemmas.Str.{IsUtf8-take, IsUtf8-drop, IsCharBoundary-after
 use Rattle.std.specs.Prelude.{IsUtf8}
 use Rattle.std.specs.Simd.Lanes.{chunk}
 use Rattle.std.specs.List.{prefix_len}
-use Rattle.symfilter_engine.specs.Filtered.{line_feed, HasNoLineFeed, AreLinesFiltered, no_line, one_more, IsLineAnswer}
-use Rattle.symfilter_engine.specs.Progress.{EndsAt, EndsInLineFeed, AppendsLine, AppendsLines}
-use Rattle.symfilter_engine.proofs.FilteredText.{AreLinesFiltered-append}
+use Rattle.symfilter_engine.specs.declared.symbols.Symbols.{Symbols}
+use Rattle.symfilter_engine.specs.declared.symbols.Symbols.TheVariants.{Lines, Words}
+use Rattle.symfilter_engine.specs.Filtered.{line_feed, EndsInLineFeed, AreLinesAnswered, no_line, one_more, AreLinesFiltered, IsLineAnswer}
+use Rattle.symfilter_engine.specs.Progress.{HasNone, IsFirst, EndsAt, HasNoPrefix, AppendsReplaced, AppendsLine, AppendsLines}
+use Rattle.symfilter_engine.proofs.FilteredText.{AreLinesAnswered-append, AreLinesFiltered-append}
+use Rattle.symfilter_engine.proofs.ReplacedText.{unprefixed}
 use Rattle.symfilter_engine.proofs.LineAnswers.{other_line}
 
 -- a byte is no line feed
 abbrev pub is_other : ℕ → Type 0
 is_other byte = byte ≢ line_feed
 
--- no byte of the front is a line feed, place by place
-none_at : (bytes : List ℕ) (at k : ℕ) → at ≤ length bytes → HasNoLineFeed (take at bytes) → k < at → get_or bytes k 0 ≢ line_feed
-none_at bytes at k inside before below =
-    subst is_other (get_or-take at bytes k 0 below)
-    (All-get_or is_other (take at bytes) k 0 (omega (arith, length-take-le at bytes inside)) before)
+-- no byte of the front is the one that is wanted, place by place
+none_at : (wanted : ℕ) (bytes : List ℕ) (at k : ℕ) → at ≤ length bytes → HasNone wanted (take at bytes) → k < at → get_or bytes k 0 ≢ wanted
+none_at wanted bytes at k inside before below =
+    subst (λ byte. byte ≢ wanted) (get_or-take at bytes k 0 below)
+    (All-get_or (λ byte. byte ≢ wanted) (take at bytes) k 0 (omega (arith, length-take-le at bytes inside)) before)
 
-none_before : (bytes : List ℕ) (at : ℕ) → at ≤ length bytes → ((k : ℕ) → k < at → get_or bytes k 0 ≢ line_feed) → HasNoLineFeed (take at bytes)
-none_before bytes at inside each =
-    All-from_get_or is_other (take at bytes) 0 (λ k below.
+none_before : (wanted : ℕ) (bytes : List ℕ) (at : ℕ) → at ≤ length bytes → ((k : ℕ) → k < at → get_or bytes k 0 ≢ wanted) → HasNone wanted (take at bytes)
+none_before wanted bytes at inside each =
+    All-from_get_or (λ byte. byte ≢ wanted) (take at bytes) 0 (λ k below.
     let low : k < at = omega (arith, length-take-le at bytes inside) in
-    subst is_other (sym (get_or-take at bytes k 0 low)) (each k low))
+    subst (λ byte. byte ≢ wanted) (sym (get_or-take at bytes k 0 low)) (each k low))
 
--- lanes that were passed have no line feed
-pub lanes_passed : (bytes : List ℕ) (at count n : ℕ) → at + 32 ≤ length bytes → HasNoLineFeed (take at bytes)
-    → count ≡ prefix_len (λ byte. not (eqb byte line_feed)) (chunk at 32 bytes) → n ≤ count → n ≤ 32 → HasNoLineFeed (take (at + n) bytes)
-lanes_passed bytes at count n room before counted passed small =
-    none_before bytes (at + n) (omega arith) (λ k below.
+-- it isn't in lanes that were passed
+pub lanes_passed : (wanted : ℕ) (bytes : List ℕ) (at count n : ℕ) → at + 32 ≤ length bytes → HasNone wanted (take at bytes)
+    → count ≡ prefix_len (λ byte. not (eqb byte wanted)) (chunk at 32 bytes) → n ≤ count → n ≤ 32 → HasNone wanted (take (at + n) bytes)
+lanes_passed wanted bytes at count n room before counted passed small =
+    none_before wanted bytes (at + n) (omega arith) (λ k below.
     elim (cases_lt k at) [
-      | inl low ↦ none_at bytes at k (omega arith) before low
-      | inr high ↦ eqb-false (get_or bytes k 0) line_feed (run_in_chunk_fails (λ byte. eqb byte line_feed) bytes at 32 count 0 room counted k high (omega arith))
+      | inl low ↦ none_at wanted bytes at k (omega arith) before low
+      | inr high ↦ eqb-false (get_or bytes k 0) wanted (run_in_chunk_fails (λ byte. eqb byte wanted) bytes at 32 count 0 room counted k high (omega arith))
     ])
 
--- the lanes with the first line feed
-pub lanes_end : (bytes : List ℕ) (at count : ℕ) → at + 32 ≤ length bytes → HasNoLineFeed (take at bytes)
-    → count ≡ prefix_len (λ byte. not (eqb byte line_feed)) (chunk at 32 bytes) → count < 32 → EndsAt bytes (at + count)
-lanes_end bytes at count room before counted small =
+-- the lanes with the first one
+pub lanes_end : (wanted : ℕ) (bytes : List ℕ) (at count : ℕ) → at + 32 ≤ length bytes → HasNone wanted (take at bytes)
+    → count ≡ prefix_len (λ byte. not (eqb byte wanted)) (chunk at 32 bytes) → count < 32 → IsFirst wanted bytes (at + count)
+lanes_end wanted bytes at count room before counted small =
     record {
       inside = omega arith;
-      feed = eqb-true (get_or bytes (at + count) 0) line_feed (run_in_chunk_stops (λ byte. eqb byte line_feed) bytes at 32 count 0 room counted small);
-      before = lanes_passed bytes at count count room before counted (omega arith) (omega arith);
+      found = eqb-true (get_or bytes (at + count) 0) wanted (run_in_chunk_stops (λ byte. eqb byte wanted) bytes at 32 count 0 room counted small);
+      before = lanes_passed wanted bytes at count count room before counted (omega arith) (omega arith);
     }
 
 -- what follows lines ends in a line feed where they all do
@@ -60,13 +63,13 @@ ended_after lines n ended some =
 
 -- the first line with its line feed
 pub with_feed : (lines : List ℕ) (end : ℕ) → EndsAt lines end → take (end + 1) lines ≡ take end lines ++ line_feed ∷ []
-with_feed lines end ends = take_more lines end 0 ends.inside ∙ ap (λ byte. take end lines ++ byte ∷ []) ends.feed
+with_feed lines end ends = take_more lines end 0 ends.inside ∙ ap (λ byte. take end lines ++ byte ∷ []) ends.found
 
 -- the first line, and what is written for it
 pub first_line : (lines answer : List ℕ) (end : ℕ) → EndsAt lines end → IsLineAnswer (take end lines) answer
-    → AreLinesFiltered (take (end + 1) lines) (answer ++ line_feed ∷ [])
+    → AreLinesAnswered (take (end + 1) lines) (answer ++ line_feed ∷ [])
 first_line lines answer end ends is_answer =
-    subst (λ l. AreLinesFiltered l (answer ++ line_feed ∷ [])) (sym (with_feed lines end ends)) (one_more no_line ends.before is_answer)
+    subst (λ l. AreLinesAnswered l (answer ++ line_feed ∷ [])) (sym (with_feed lines end ends)) (one_more no_line ends.before is_answer)
 
 -- the first byte of a line
 front_byte : (lines : List ℕ) (end : ℕ) → get_or lines 0 0 ≢ 95 → get_or (take end lines) 0 0 ≢ 95
@@ -74,64 +77,88 @@ front_byte lines zero ordinary = λ e. absurd (omega (arith, e))
 front_byte lines (suc end) ordinary = subst (λ byte. byte ≢ 95) (sym (get_or-take (suc end) lines 0 0 (omega arith))) ordinary
 
 -- the first line, where it is ordinary
-pub ordinary_line : (lines : List ℕ) (end : ℕ) → EndsAt lines end → get_or lines 0 0 ≢ 95 → AreLinesFiltered (take (end + 1) lines) (take (end + 1) lines)
+pub ordinary_line : (lines : List ℕ) (end : ℕ) → EndsAt lines end → get_or lines 0 0 ≢ 95 → AreLinesAnswered (take (end + 1) lines) (take (end + 1) lines)
 ordinary_line lines end ends ordinary =
-    subst (AreLinesFiltered (take (end + 1) lines)) (sym (with_feed lines end ends))
+    subst (AreLinesAnswered (take (end + 1) lines)) (sym (with_feed lines end ends))
     (first_line lines (take end lines) end ends (other_line (take end lines) (front_byte lines end ordinary)))
 
 -- such lines, and more of them
-pub more_ordinary : (lines : List ℕ) (n m : ℕ) → AreLinesFiltered (take n lines) (take n lines) → AreLinesFiltered (take m (drop n lines)) (take m (drop n lines))
-    → AreLinesFiltered (take (n + m) lines) (take (n + m) lines)
-more_ordinary lines n m first more = subst (λ l. AreLinesFiltered l l) (sym (take-add n m lines)) (AreLinesFiltered-append first more)
+pub more_ordinary : (lines : List ℕ) (n m : ℕ) → AreLinesAnswered (take n lines) (take n lines) → AreLinesAnswered (take m (drop n lines)) (take m (drop n lines))
+    → AreLinesAnswered (take (n + m) lines) (take (n + m) lines)
+more_ordinary lines n m first more = subst (λ l. AreLinesAnswered l l) (sym (take-add n m lines)) (AreLinesAnswered-append first more)
+
+-- whole lines without a prefix
+pub unprefixed_lines : (symbols : Symbols) (strip : Bool) (lines : List ℕ) → symbols ≡ Words strip → EndsInLineFeed lines → HasNoPrefix lines
+    → AreLinesFiltered symbols lines lines
+unprefixed_lines symbols strip lines is ended none = subst (λ s. AreLinesFiltered s lines lines) (sym is) (ended, unprefixed strip lines none)
+
+-- the first line with its line feed ends in one
+pub line_ended : (lines : List ℕ) (end : ℕ) → EndsAt lines end → EndsInLineFeed (take (end + 1) lines)
+line_ended lines end ends some =
+    let long : length (take (end + 1) lines) ≡ end + 1 = length-take-le (end + 1) lines (omega (arith, ends.inside)) in
+    ap (λ k. get_or (take (end + 1) lines) k 0) (omega (arith, long)) ∙ get_or-take (end + 1) lines end 0 (omega arith) ∙ ends.found
+
+-- whole lines were appended replaced
+pub block_appended : (strip : Bool) (lines before after : List ℕ) → EndsInLineFeed lines → AppendsReplaced strip lines before after → AppendsLines (Words strip) lines before after
+block_appended strip lines before after ended (text, replaced, after_is) = (text, (ended, replaced), after_is)
 
 -- one line was appended
-pub line_appended : (lines before after : List ℕ) (end : ℕ) → EndsAt lines end → AppendsLine (take end lines) before after → AppendsLines (take (end + 1) lines) before after
+pub line_appended : (lines before after : List ℕ) (end : ℕ) → EndsAt lines end → AppendsLine (take end lines) before after → AppendsLines Lines (take (end + 1) lines) before after
 line_appended lines before after end ends (answer, is_answer, after_is) = (answer ++ line_feed ∷ [], first_line lines answer end ends is_answer, after_is)
 
 -- more lines were appended
-pub lines_appended : (lines rest before after : List ℕ) (n m : ℕ) → AreLinesFiltered (take n lines) before → rest ≡ drop n lines → AppendsLines (take m rest) before after
-    → AreLinesFiltered (take (n + m) lines) after
-lines_appended lines rest before after n m first rest_is (text, filtered, after_is) =
-    subst (λ l. AreLinesFiltered l after) (sym (take-add n m lines))
-    (subst (AreLinesFiltered (take n lines ++ take m (drop n lines))) (sym after_is)
-    (AreLinesFiltered-append first (subst (λ l. AreLinesFiltered (take m l) text) rest_is filtered)))
+pub lines_appended : (symbols : Symbols) (lines rest before after : List ℕ) (n m : ℕ) → AreLinesFiltered symbols (take n lines) before → rest ≡ drop n lines
+    → AppendsLines symbols (take m rest) before after → AreLinesFiltered symbols (take (n + m) lines) after
+lines_appended symbols lines rest before after n m first rest_is (text, filtered, after_is) =
+    subst (λ l. AreLinesFiltered symbols l after) (sym (take-add n m lines))
+    (subst (AreLinesFiltered symbols (take n lines ++ take m (drop n lines))) (sym after_is)
+    (AreLinesFiltered-append symbols (take n lines) before (take m (drop n lines)) text first
+    (subst (λ l. AreLinesFiltered symbols (take m l) text) rest_is filtered)))
 
 -- lines of the rest were appended, and this is left of it
-pub rest_appended : (lines rest left before after : List ℕ) (gathered m : ℕ)
-    → gathered + length rest ≤ length lines → rest ≡ drop (length lines - length rest) lines → AreLinesFiltered (take (length lines - length rest) lines) before
-    → m ≤ length rest → AppendsLines (take m rest) before after → left ≡ drop m rest
-    → (gathered + length left ≤ length lines) × (left ≡ drop (length lines - length left) lines) × AreLinesFiltered (take (length lines - length left) lines) after
-rest_appended lines rest left before after gathered m kept rest_is first bound appended left_is =
+pub rest_appended : (symbols : Symbols) (lines rest left before after : List ℕ) (gathered m : ℕ)
+    → gathered + length rest ≤ length lines → rest ≡ drop (length lines - length rest) lines → AreLinesFiltered symbols (take (length lines - length rest) lines) before
+    → m ≤ length rest → AppendsLines symbols (take m rest) before after → left ≡ drop m rest
+    → (gathered + length left ≤ length lines) × (left ≡ drop (length lines - length left) lines) × AreLinesFiltered symbols (take (length lines - length left) lines) after
+rest_appended symbols lines rest left before after gathered m kept rest_is first bound appended left_is =
     let n : ℕ = length lines - length rest in
     let long : length left ≡ length rest - m = ap length left_is ∙ length-drop m rest in
     let more : n + m ≡ length lines - length left = omega arith in (
       omega arith,
       left_is ∙ ap (drop m) rest_is ∙ drop-drop m n lines ∙ ap (λ k. drop k lines) more,
-      subst (λ k. AreLinesFiltered (take k lines) after) more (lines_appended lines rest before after n m first rest_is appended),
+      subst (λ k. AreLinesFiltered symbols (take k lines) after) more (lines_appended symbols lines rest before after n m first rest_is appended),
     )
 
 -- a line feed is no part of a longer character
 pub line_utf8 : (bytes : List ℕ) (end : ℕ) → EndsAt bytes end → IsUtf8 bytes → IsUtf8 (take end bytes)
 line_utf8 bytes end ends utf8 =
-    IsUtf8-take bytes end utf8 (let inside = ends.inside in omega arith, λ _ high. absurd (omega (arith, ends.feed)))
+    IsUtf8-take bytes end utf8 (let inside = ends.inside in omega arith, λ _ high. absurd (omega (arith, ends.found)))
 
--- what follows a line feed
-after_feed : (front rest : List ℕ) → IsUtf8 ((front ++ line_feed ∷ []) ++ rest) → IsUtf8 rest
-after_feed front rest utf8 =
-    let lines : List ℕ = front ++ line_feed ∷ [] in
-    let long : length lines ≡ length front + 1 = length_push front line_feed in
+-- whole lines end in a line feed
+answered_ended : {lines text : List ℕ} → AreLinesAnswered lines text → EndsInLineFeed lines
+answered_ended no_line some = absurd (omega (arith, some))
+answered_ended (one_more {lines = lines} {line = line} before unended_line is_answer) some =
+    let front : List ℕ = lines ++ line in
+    let whole : front ++ line_feed ∷ [] ≡ lines ++ (line ++ line_feed ∷ []) = append_assoc lines line (line_feed ∷ []) in
+    subst EndsInLineFeed whole (λ _. get_or_push front line_feed 0 (length (front ++ line_feed ∷ []) - 1) (omega (arith, length_push front line_feed))) some
+
+filtered_ended : (symbols : Symbols) (lines text : List ℕ) → AreLinesFiltered symbols lines text → EndsInLineFeed lines
+filtered_ended Lines lines text filtered = answered_ended filtered
+filtered_ended (Words strip) lines text filtered = filtered.0
+
+-- what follows them
+after_lines : (lines rest : List ℕ) → EndsInLineFeed lines → IsUtf8 (lines ++ rest) → IsUtf8 rest
+after_lines [] rest ended utf8 = utf8
+after_lines (byte ∷ bytes) rest ended utf8 =
+    let lines : List ℕ = byte ∷ bytes in
+    let last : ℕ = length lines - 1 in
+    let some : 0 < length lines = omega arith in
     let all : length (lines ++ rest) ≡ length lines + length rest = length-append lines rest in
-    let feed : get_or (lines ++ rest) (length front) 0 ≡ line_feed =
-    get_or_append_left lines rest 0 (length front) (omega (arith, long)) ∙ get_or_push front line_feed 0 (length front) refl in
-    subst IsUtf8 (drop_at lines rest (length front + 1) long)
-    (IsUtf8-drop (lines ++ rest) (length front + 1) utf8
-    (IsCharBoundary-after_ascii (lines ++ rest) (length front) utf8 (omega (arith, long, all)) (omega (arith, feed))))
+    let feed : get_or (lines ++ rest) last 0 ≡ line_feed = get_or_append_left lines rest 0 last (omega (arith, some)) ∙ ended some in
+    subst IsUtf8 (drop_at lines rest (last + 1) (omega (arith, some)))
+    (IsUtf8-drop (lines ++ rest) (last + 1) utf8
+    (IsCharBoundary-after_ascii (lines ++ rest) last utf8 (omega (arith, some, all)) (omega (arith, feed))))
 
--- what follows whole lines
-after_lines : {lines text : List ℕ} → AreLinesFiltered lines text → (rest : List ℕ) → IsUtf8 (lines ++ rest) → IsUtf8 rest
-after_lines no_line rest utf8 = utf8
-after_lines (one_more {lines = lines} {line = line} before unended_line is_answer) rest utf8 =
-    after_feed (lines ++ line) rest (subst (λ l. IsUtf8 (l ++ rest)) (sym (append_assoc lines line (line_feed ∷ []))) utf8)
-
-pub utf8_after : (lines text : List ℕ) (n : ℕ) → AreLinesFiltered (take n lines) text → IsUtf8 lines → IsUtf8 (drop n lines)
-utf8_after lines text n filtered utf8 = after_lines filtered (drop n lines) (subst IsUtf8 (sym (take-append-drop n lines)) utf8)
+pub utf8_after : (symbols : Symbols) (lines text : List ℕ) (n : ℕ) → AreLinesFiltered symbols (take n lines) text → IsUtf8 lines → IsUtf8 (drop n lines)
+utf8_after symbols lines text n filtered utf8 =
+    after_lines (take n lines) (drop n lines) (filtered_ended symbols (take n lines) text filtered) (subst IsUtf8 (sym (take-append-drop n lines)) utf8)

@@ -1,7 +1,10 @@
 -- The filtered text of a list of bytes.
-use Rattle.std.specs.Prelude.{◌≡◌, ◌≢◌, ℕ, List, [], ◌∷◌, ◌++◌, All, IsUtf8, Option, Some, None}
+use Rattle.std.specs.Prelude.{◌≡◌, ◌≢◌, ℕ, ◌-◌, ◌<◌, List, [], ◌∷◌, ◌++◌, All, IsUtf8, Option, Some, None, length, slice_index}
 use Rattle.std.specs.Io.KnownBytes.{Appends, Consumes}
 use Rattle.itanium_grammar.specs.Answer.{IsAnswer}
+use Rattle.symfilter_engine.specs.declared.symbols.Symbols.{Symbols}
+use Rattle.symfilter_engine.specs.declared.symbols.Symbols.TheVariants.{Lines, Words}
+use Rattle.symfilter_engine.specs.Replaced.{IsReplaced}
 
 -- the byte that ends a line
 abbrev pub line_feed : ℕ
@@ -20,65 +23,80 @@ pub data IsLineAnswer (line : List ℕ) : List ℕ → Type 0 where
   -- the line itself, where it isn't UTF-8
   not_utf8 : ¬ (IsUtf8 line) → IsLineAnswer line line
 
--- lines that each end in a line feed, and their filtered text
-pub data AreLinesFiltered : List ℕ → List ℕ → Type 0 where
+-- lines that each end in a line feed, and what is written where each is a symbol
+pub data AreLinesAnswered : List ℕ → List ℕ → Type 0 where
   -- there is none
-  no_line : AreLinesFiltered [] []
+  no_line : AreLinesAnswered [] []
   -- one more line: its answer is written, then the line feed
-  one_more : {lines text line answer : List ℕ} → AreLinesFiltered lines text
+  one_more : {lines text line answer : List ℕ} → AreLinesAnswered lines text
       → HasNoLineFeed line → IsLineAnswer line answer
-      → AreLinesFiltered (lines ++ (line ++ line_feed ∷ [])) (text ++ (answer ++ line_feed ∷ []))
+      → AreLinesAnswered (lines ++ (line ++ line_feed ∷ [])) (text ++ (answer ++ line_feed ∷ []))
 
--- bytes that were read, and their filtered text
-pub data IsFiltered : List ℕ → List ℕ → Type 0 where
+-- bytes that were read, and what is written where each line is a symbol
+pub data IsAnswered : List ℕ → List ℕ → Type 0 where
   -- they end in a line feed, or there are none
-  ended : {lines text : List ℕ} → AreLinesFiltered lines text → IsFiltered lines text
+  ended : {lines text : List ℕ} → AreLinesAnswered lines text → IsAnswered lines text
   -- a last line has no line feed, and none is written for it
-  unended : {lines text line answer : List ℕ} → AreLinesFiltered lines text
+  unended : {lines text line answer : List ℕ} → AreLinesAnswered lines text
       → line ≢ [] → HasNoLineFeed line → IsLineAnswer line answer
-      → IsFiltered (lines ++ line) (text ++ answer)
+      → IsAnswered (lines ++ line) (text ++ answer)
+
+-- there is no byte, or the last is a line feed
+abbrev pub EndsInLineFeed : List ℕ → Type 0
+EndsInLineFeed bytes = 0 < length bytes → slice_index bytes (length bytes - 1) ≡ line_feed
+
+-- bytes that were read, and their filtered text: where symbols stand in words, it is the replaced text
+abbrev pub IsFiltered : Symbols → List ℕ → List ℕ → Type 0
+IsFiltered Lines bytes text = IsAnswered bytes text
+IsFiltered (Words strip) bytes text = IsReplaced strip bytes text
+
+-- lines that each end in a line feed, and their filtered text
+abbrev pub AreLinesFiltered : Symbols → List ℕ → List ℕ → Type 0
+AreLinesFiltered Lines lines text = AreLinesAnswered lines text
+AreLinesFiltered (Words strip) lines text = EndsInLineFeed lines × IsReplaced strip lines text
 
 -- written is a front of the text
 abbrev pub IsFront : List ℕ → List ℕ → Type 0
 IsFront written text = (rest : List ℕ) × (text ≡ written ++ rest)
 
 -- a beginning of the filtered text of the bytes given was written
-abbrev pub IsBeginning : List ℕ → List ℕ → Type 0
-IsBeginning given written = (text : List ℕ) × IsFiltered given text × IsFront written text
+abbrev pub IsBeginning : Symbols → List ℕ → List ℕ → Type 0
+IsBeginning symbols given written = (text : List ℕ) × IsFiltered symbols given text × IsFront written text
 
 -- the sink got the filtered text of what was given and nothing else, where its bytes are known
-abbrev pub WritesFiltered : List ℕ → Option (List ℕ) → Option (List ℕ) → Type 0
-WritesFiltered given before after =
-    (text : List ℕ) × IsFiltered given text × Appends before after text
+abbrev pub WritesFiltered : Symbols → List ℕ → Option (List ℕ) → Option (List ℕ) → Type 0
+WritesFiltered symbols given before after =
+    (text : List ℕ) × IsFiltered symbols given text × Appends before after text
 
 -- the sink got a beginning of the filtered text of what was given and nothing else, where its bytes are known
-abbrev pub WritesBeginning : List ℕ → Option (List ℕ) → Option (List ℕ) → Type 0
-WritesBeginning given before after =
-    (written : List ℕ) × IsBeginning given written × Appends before after written
+abbrev pub WritesBeginning : Symbols → List ℕ → Option (List ℕ) → Option (List ℕ) → Type 0
+WritesBeginning symbols given before after =
+    (written : List ℕ) × IsBeginning symbols given written × Appends before after written
 
 -- the source gave a front of its bytes, where they are known, and the sink got a beginning of its filtered text
-pub record FiltersFront (before after written_before written_after : Option (List ℕ)) : Type 0 where
+pub record FiltersFront (symbols : Symbols) (before after written_before written_after : Option (List ℕ)) : Type 0 where
   pub read : List ℕ
   pub consumed : Consumes before after read
-  pub begins : WritesBeginning read written_before written_after
+  pub begins : WritesBeginning symbols read written_before written_after
 
 -- the source gave whole lines and then these bytes, where its bytes are known, and the sink got the filtered text of
 -- the whole lines and nothing else
-pub record FiltersWholeLines (before after written_before written_after : Option (List ℕ)) : Type 0 where
+pub record FiltersWholeLines (symbols : Symbols)
+    (before after written_before written_after : Option (List ℕ)) : Type 0 where
   pub lines : List ℕ
   pub left : List ℕ
   pub consumed : Consumes before after (lines ++ left)
   pub text : List ℕ
-  pub filtered : AreLinesFiltered lines text
+  pub filtered : AreLinesFiltered symbols lines text
   pub written : Appends written_before written_after text
 
 -- the source gave whole lines and a part of one more, where its bytes are known, and the sink got the filtered text
 -- of the whole lines and nothing else
-pub record FiltersLines (before after written_before written_after : Option (List ℕ)) : Type 0 where
+pub record FiltersLines (symbols : Symbols) (before after written_before written_after : Option (List ℕ)) : Type 0 where
   pub lines : List ℕ
   pub line : List ℕ
   pub consumed : Consumes before after (lines ++ line)
   pub unended : HasNoLineFeed line
   pub text : List ℕ
-  pub filtered : AreLinesFiltered lines text
+  pub filtered : AreLinesFiltered symbols lines text
   pub written : Appends written_before written_after text

@@ -1,3 +1,4 @@
+pub mod Replaced
 pub mod Filtered
 pub mod Fault
 pub mod Progress

@@ -1,17 +1,63 @@
 -- What has been written on the way.
-use Rattle.std.specs.Prelude.{◌≡◌, ℕ, ◌-◌, ◌<◌, ◌≤◌, List, [], ◌∷◌, ◌++◌, Option, length, take, slice_index}
+use Rattle.std.specs.Prelude.{◌≡◌, ◌≢◌, ℕ, suc, ◌-◌, ◌<◌, ◌≤◌, List, [], ◌∷◌, ◌++◌, All, Bool, true, false, ◌==◌, Option, length, take, slice_index, if◌then◌else◌}
+use Rattle.std.specs.Int.{w64, trailing_zeros}
 use Rattle.std.specs.Io.KnownBytes.{Appends, Consumes, IsAtEnd}
-use Rattle.symfilter_engine.specs.Filtered.{line_feed, HasNoLineFeed, IsLineAnswer, AreLinesFiltered, WritesBeginning}
+use Rattle.symfilter_engine.specs.declared.symbols.Symbols.{Symbols}
+use Rattle.symfilter_engine.specs.Filtered.{line_feed, IsLineAnswer, AreLinesFiltered, WritesBeginning}
+use Rattle.symfilter_engine.specs.Replaced.{is_word_byte, IsReplaced}
+
+-- no byte is this one
+abbrev pub HasNone : ℕ → List ℕ → Type 0
+HasNone wanted bytes = All (λ byte. byte ≢ wanted) bytes
+
+-- the first such byte stands there
+pub record IsFirst (wanted : ℕ) (bytes : List ℕ) (place : ℕ) : Type 0 where
+  pub inside : place < length bytes
+  pub found : slice_index bytes place ≡ wanted
+  pub before : HasNone wanted (take place bytes)
 
 -- the first line feed stands there
-pub record EndsAt (bytes : List ℕ) (end : ℕ) : Type 0 where
-  pub inside : end < length bytes
-  pub feed : slice_index bytes end ≡ line_feed
-  pub before : HasNoLineFeed (take end bytes)
+abbrev pub EndsAt : List ℕ → ℕ → Type 0
+EndsAt bytes end = IsFirst line_feed bytes end
 
--- there is no byte, or the last is a line feed
-abbrev pub EndsInLineFeed : List ℕ → Type 0
-EndsInLineFeed bytes = 0 < length bytes → slice_index bytes (length bytes - 1) ≡ line_feed
+-- the two bytes of a symbol's prefix
+abbrev pub underscore : ℕ
+underscore = 95
+
+abbrev pub capital_z : ℕ
+capital_z = 90
+
+-- `_Z` stands nowhere
+abbrev pub HasNoPrefix : List ℕ → Type 0
+HasNoPrefix bytes = (k : ℕ) → slice_index bytes k ≡ underscore → slice_index bytes (suc k) ≡ capital_z → ⊥
+
+-- an underscore stands there, and no `_Z` before it
+pub record IsFirstPrefix (bytes : List ℕ) (place : ℕ) : Type 0 where
+  pub inside : place < length bytes
+  pub underscore : slice_index bytes place ≡ underscore
+  pub before : HasNoPrefix (take place bytes)
+
+-- from one place up to another all are bytes of words
+abbrev pub AreWordBytes : List ℕ → ℕ → ℕ → Type 0
+AreWordBytes bytes low high = (k : ℕ) → low ≤ k → k < high → is_word_byte (slice_index bytes k) ≡ true
+
+-- the place of the lowest bit that is set, or this one where none is
+abbrev pub first_set : ℕ → ℕ → ℕ
+first_set mask none = if mask == 0 then none else trailing_zeros w64 mask
+
+-- the place is none between two bytes of a word
+abbrev pub IsBoundary : List ℕ → ℕ → Type 0
+IsBoundary bytes place =
+    0 < place → is_word_byte (slice_index bytes (place - 1)) ≡ true → is_word_byte (slice_index bytes place) ≡ false
+
+-- more was appended
+abbrev pub Extends : List ℕ → List ℕ → Type 0
+Extends before after = (more : List ℕ) × (after ≡ before ++ more)
+
+-- the replaced text of the bytes was appended
+abbrev pub AppendsReplaced : Bool → List ℕ → List ℕ → List ℕ → Type 0
+AppendsReplaced strip bytes before after =
+    (text : List ℕ) × IsReplaced strip bytes text × (after ≡ before ++ text)
 
 -- these bytes were written but for the rest
 pub record WritesUpTo (bytes rest : List ℕ) (before after : Option (List ℕ)) : Type 0 where
@@ -23,41 +69,43 @@ pub record WritesUpTo (bytes rest : List ℕ) (before after : Option (List ℕ))
 abbrev pub WritesFront : List ℕ → Option (List ℕ) → Option (List ℕ) → Type 0
 WritesFront bytes before after = (rest : List ℕ) × WritesUpTo bytes rest before after
 
--- the line's answer and a line feed were appended
+-- the answer of a line, or the line itself, and a line feed were appended
 abbrev pub AppendsLine : List ℕ → List ℕ → List ℕ → Type 0
 AppendsLine line before after =
     (answer : List ℕ) × IsLineAnswer line answer × (after ≡ before ++ (answer ++ line_feed ∷ []))
 
 -- the filtered text of the lines was appended
-abbrev pub AppendsLines : List ℕ → List ℕ → List ℕ → Type 0
-AppendsLines lines before after =
-    (text : List ℕ) × AreLinesFiltered lines text × (after ≡ before ++ text)
+abbrev pub AppendsLines : Symbols → List ℕ → List ℕ → List ℕ → Type 0
+AppendsLines symbols lines before after =
+    (text : List ℕ) × AreLinesFiltered symbols lines text × (after ≡ before ++ text)
 
 -- whole lines of the bytes given were written filtered, and these bytes are left
-pub record HasFiltered (given left : List ℕ) (before after : Option (List ℕ)) : Type 0 where
+pub record HasFiltered (symbols : Symbols) (given left : List ℕ) (before after : Option (List ℕ)) : Type 0 where
   pub lines : List ℕ
   pub text : List ℕ
   pub given_is : given ≡ lines ++ left
-  pub filtered : AreLinesFiltered lines text
+  pub filtered : AreLinesFiltered symbols lines text
   pub written : Appends before after text
 
 -- of the bytes given whole lines were written filtered, and nothing of the next
-abbrev pub WritesWholeLines : List ℕ → Option (List ℕ) → Option (List ℕ) → Type 0
-WritesWholeLines given before after = (left : List ℕ) × HasFiltered given left before after
+abbrev pub WritesWholeLines : Symbols → List ℕ → Option (List ℕ) → Option (List ℕ) → Type 0
+WritesWholeLines symbols given before after = (left : List ℕ) × HasFiltered symbols given left before after
 
 -- the filtered text of these lines was written
-abbrev pub WritesLines : List ℕ → Option (List ℕ) → Option (List ℕ) → Type 0
-WritesLines lines before after = (text : List ℕ) × AreLinesFiltered lines text × Appends before after text
+abbrev pub WritesLines : Symbols → List ℕ → Option (List ℕ) → Option (List ℕ) → Type 0
+WritesLines symbols lines before after =
+    (text : List ℕ) × AreLinesFiltered symbols lines text × Appends before after text
 
 -- whatever follows these lines, a beginning of the filtered text of all was written
-abbrev pub WritesLinesFront : List ℕ → Option (List ℕ) → Option (List ℕ) → Type 0
-WritesLinesFront lines before after = (rest : List ℕ) → WritesBeginning (lines ++ rest) before after
+abbrev pub WritesLinesFront : Symbols → List ℕ → Option (List ℕ) → Option (List ℕ) → Type 0
+WritesLinesFront symbols lines before after = (rest : List ℕ) → WritesBeginning symbols (lines ++ rest) before after
 
 -- whole lines of what was read were written filtered, and of the next these bytes were read
-pub record HasCopied (line : List ℕ) (before after written_before written_after : Option (List ℕ)) : Type 0 where
+pub record HasCopied (symbols : Symbols) (line : List ℕ)
+    (before after written_before written_after : Option (List ℕ)) : Type 0 where
   pub read : List ℕ
   pub consumed : Consumes before after read
-  pub filtered : HasFiltered read line written_before written_after
+  pub filtered : HasFiltered symbols read line written_before written_after
 
 -- after the bytes kept a chunk holds what was read, up to this end, and no more than before at the end alone
 pub record ReadsMore (kept end : ℕ) (old new : List ℕ) (before after : Option (List ℕ)) : Type 0 where

@@ -1,6 +1,7 @@
-//! The filter's loop.
+//! The loop over what is read, and the two that it is run for: the filter and the replacement.
 ghost use Rattle.std.specs.Prelude.{◌≡◌, ◌≤◌, ◌↔◌, ◌<◌, ◌-◌, false, [], length, take, drop, IsTrue, IsErrOf, IfOk, IfSome, Some, OnOk, OnErr};
 ghost use Rattle.std.specs.Io.KnownBytes.{IsAtEnd, Keeps};
+ghost use Rattle.symfilter_engine.specs.declared.symbols.Symbols.TheVariants.{Lines, Words};
 ghost use Rattle.symfilter_engine.specs.Fault.{IsRunOutcome, IsReadOutcome};
 ghost use Rattle.symfilter_engine.specs.Filtered.{HasNoLineFeed, FiltersFront, FiltersLines, FiltersWholeLines, WritesFiltered};
 ghost use Rattle.symfilter_engine.specs.Progress.{HasCopied, ReadsMore};
@@ -9,6 +10,7 @@ use super::ends::{Failed, Sink, Source};
 use super::fault::FilterFault;
 use super::line_feeds::ended_len;
 use super::lines::{write_last, write_lines};
+use super::symbols::Symbols;
 use growing_text::Text;
 use itanium_demangle::Demangler;
 use std::alloc::{AllocError, Global};
@@ -42,28 +44,73 @@ pub fn filter<R: Source, W: Sink>(
     ensures used_up { OnOk result (IfSome (R.remaining source.old) (λ _.
         R.remaining source.new ≡ Some [])) }
     ensures ok { OnOk result (IfSome (R.remaining source.old) (λ given.
-        WritesFiltered given (W.taken sink.old) (W.taken sink.new))) }
-    ensures err { OnErr result (FiltersFront
+        WritesFiltered Lines given (W.taken sink.old) (W.taken sink.new))) }
+    ensures err { OnErr result (FiltersFront Lines
         (R.remaining source.old) (R.remaining source.new)
         (W.taken sink.old) (W.taken sink.new)) }
 
     // Any call of the source may fail. So whenever it is asked, all whole lines that it gave are written.
-    ensures put { IsErrOf result FilterFault.Read → FiltersLines
+    ensures put { IsErrOf result FilterFault.Read → FiltersLines Lines
         (R.remaining source.old) (R.remaining source.new)
         (W.taken sink.old) (W.taken sink.new) }
 
     // Where memory is refused, whole lines are written, and nothing of the next.
-    ensures memory { IsErrOf result FilterFault.Memory → FiltersWholeLines
+    ensures memory { IsErrOf result FilterFault.Memory → FiltersWholeLines Lines
         (R.remaining source.old) (R.remaining source.new)
         (W.taken sink.old) (W.taken sink.new) }
 {
     let mut chunk = vec![in alloc; 0u8; CHUNK_LEN]?;
-    filter_by_chunks(alloc, source, sink, &mut chunk)
+    filter_by_chunks(alloc, Symbols::Lines, source, sink, &mut chunk)
+}
+
+/// Reads to the end, and writes the replaced text: symbols are replaced by their answers wherever they stand in words.
+/// A word is a maximal run of ASCII letters, digits, `_`, `$` and `.`; a symbol begins it, after one dot or `$` that
+/// may stand in front, and the dots at its end stay. With `strip` a word may have one more underscore in front of its
+/// symbol, which is dropped with it. Whenever it reads, all whole lines that were read before are written.
+///
+/// Its faults are those of `filter`.
+pub fn replace<R: Source, W: Sink>(
+    alloc: Global,
+    strip: bool,
+    source: &mut R,
+    sink: &mut W,
+) -> Result<(), FilterFault>
+    requires source_not_failed { R.failed source.old ≡ false }
+    requires sink_not_failed { W.failed sink.old ≡ false }
+    ensures read { IsErrOf result FilterFault.Read ↔ IsTrue (R.failed source.new) }
+    ensures write { IsErrOf result FilterFault.Write ↔ IsTrue (W.failed sink.new) }
+
+    // Neither end is called once it has failed: it would tell so.
+    ensures source_in_time { R.called_late source.new ≡ R.called_late source.old }
+    ensures sink_in_time { W.called_late sink.new ≡ W.called_late sink.old }
+
+    // What follows holds where the bytes of the source are known, and the sink's.
+    ensures used_up { OnOk result (IfSome (R.remaining source.old) (λ _.
+        R.remaining source.new ≡ Some [])) }
+    ensures ok { OnOk result (IfSome (R.remaining source.old) (λ given.
+        WritesFiltered (Words strip) given (W.taken sink.old) (W.taken sink.new))) }
+    ensures err { OnErr result (FiltersFront (Words strip)
+        (R.remaining source.old) (R.remaining source.new)
+        (W.taken sink.old) (W.taken sink.new)) }
+
+    // Any call of the source may fail. So whenever it is asked, all whole lines that it gave are written.
+    ensures put { IsErrOf result FilterFault.Read → FiltersLines (Words strip)
+        (R.remaining source.old) (R.remaining source.new)
+        (W.taken sink.old) (W.taken sink.new) }
+
+    // Where memory is refused, whole lines are written, and nothing of the next.
+    ensures memory { IsErrOf result FilterFault.Memory → FiltersWholeLines (Words strip)
+        (R.remaining source.old) (R.remaining source.new)
+        (W.taken sink.old) (W.taken sink.new) }
+{
+    let mut chunk = vec![in alloc; 0u8; CHUNK_LEN]?;
+    filter_by_chunks(alloc, Symbols::Words(strip), source, sink, &mut chunk)
 }
 
 /// Reads into the chunk to the end, and writes each line. The chunk holds what is left of a line that isn't whole yet.
 fn filter_by_chunks<R: Source, W: Sink>(
     alloc: Global,
+    symbols: Symbols,
     source: &mut R,
     sink: &mut W,
     chunk: &mut Vec<u8>,
@@ -76,20 +123,20 @@ fn filter_by_chunks<R: Source, W: Sink>(
     ensures used_up { OnOk result (IfSome (R.remaining source.old) (λ _.
         R.remaining source.new ≡ Some [])) }
     ensures ok { OnOk result (IfSome (R.remaining source.old) (λ given.
-        WritesFiltered given (W.taken sink.old) (W.taken sink.new))) }
-    ensures err { OnErr result (FiltersFront
+        WritesFiltered symbols given (W.taken sink.old) (W.taken sink.new))) }
+    ensures err { OnErr result (FiltersFront symbols
         (R.remaining source.old) (R.remaining source.new)
         (W.taken sink.old) (W.taken sink.new)) }
-    ensures put { IsErrOf result FilterFault.Read → FiltersLines
+    ensures put { IsErrOf result FilterFault.Read → FiltersLines symbols
         (R.remaining source.old) (R.remaining source.new)
         (W.taken sink.old) (W.taken sink.new) }
-    ensures memory { IsErrOf result FilterFault.Memory → FiltersWholeLines
+    ensures memory { IsErrOf result FilterFault.Memory → FiltersWholeLines symbols
         (R.remaining source.old) (R.remaining source.new)
         (W.taken sink.old) (W.taken sink.new) }
 {
     let mut demangler = Demangler::new();
-    let kept = copy_lines(alloc, &mut demangler, chunk, source, sink)?;
-    write_last(alloc, &mut demangler, &chunk[..kept], sink)
+    let kept = copy_lines(alloc, &mut demangler, symbols, chunk, source, sink)?;
+    write_last(alloc, &mut demangler, symbols, &chunk[..kept], sink)
 }
 
 /// Writes each line that ends in a line feed, and answers how many bytes of a last one that doesn't are left at the
@@ -97,6 +144,7 @@ fn filter_by_chunks<R: Source, W: Sink>(
 fn copy_lines<R: Source, W: Sink>(
     alloc: Global,
     demangler: &mut Demangler,
+    symbols: Symbols,
     chunk: &mut Vec<u8>,
     source: &mut R,
     sink: &mut W,
@@ -109,16 +157,16 @@ fn copy_lines<R: Source, W: Sink>(
     ensures bound { IfOk result (λ kept. kept ≤ length chunk.new.items) }
     ensures at_end { OnOk result (IsAtEnd (R.remaining source.new)) }
     ensures unended { IfOk result (λ kept. HasNoLineFeed (take kept chunk.new.items)) }
-    ensures ok { IfOk result (λ kept. HasCopied (take kept chunk.new.items)
+    ensures ok { IfOk result (λ kept. HasCopied symbols (take kept chunk.new.items)
         (R.remaining source.old) (R.remaining source.new)
         (W.taken sink.old) (W.taken sink.new)) }
-    ensures err { OnErr result (FiltersFront
+    ensures err { OnErr result (FiltersFront symbols
         (R.remaining source.old) (R.remaining source.new)
         (W.taken sink.old) (W.taken sink.new)) }
-    ensures put { IsErrOf result FilterFault.Read → FiltersLines
+    ensures put { IsErrOf result FilterFault.Read → FiltersLines symbols
         (R.remaining source.old) (R.remaining source.new)
         (W.taken sink.old) (W.taken sink.new) }
-    ensures memory { IsErrOf result FilterFault.Memory → FiltersWholeLines
+    ensures memory { IsErrOf result FilterFault.Memory → FiltersWholeLines symbols
         (R.remaining source.old) (R.remaining source.new)
         (W.taken sink.old) (W.taken sink.new) }
 {
@@ -130,7 +178,14 @@ fn copy_lines<R: Source, W: Sink>(
             return Ok(kept);
         }
         let ended = ended_len(&chunk[..end], kept);
-        write_lines(alloc, demangler, &chunk[..ended], &mut output, sink)?;
+        write_lines(
+            alloc,
+            demangler,
+            symbols,
+            &chunk[..ended],
+            &mut output,
+            sink,
+        )?;
         move_rest(chunk, ended, end);
         kept = end - ended;
     }

@@ -10,14 +10,14 @@ append_next-requires-clause-known c =
     let lines = c.args.lines.now in
     let taken = length lines - length c.loop-output.rest.now in
     λ known. subst IsUtf8 (sym c.loop-output.invariant.left)
-    (utf8_after lines _ taken c.loop-output.invariant.so_far (c.requires.known known))
+    (utf8_after c.args.symbols lines _ taken c.loop-output.invariant.so_far (c.requires.known known))
 
 pub loop-output-preserved : goal.loop-output-preserved
 loop-output-preserved c =
     let rest = c.loop-output.rest.now in
     let more = c.in-Ok.more in
     let left = take (length rest - more) (drop more rest) in
-    let step = rest_appended c.args.lines.now rest left _ _ c.args.gathered more
+    let step = rest_appended c.args.symbols c.args.lines.now rest left _ _ c.args.gathered more
     c.loop-output.invariant.kept c.loop-output.invariant.left c.loop-output.invariant.so_far
     c.in-Ok.ensures.bound c.in-Ok.ensures.ok (take_rest rest more) in
     record { kept = step.0; left = step.1; so_far = step.2 }

@@ -7,7 +7,7 @@ invariant-loop-output l =
     record {
       kept : l.gathered + length l.rest ≤ length l.lines;
       left : l.rest ≡ drop (length l.lines - length l.rest) l.lines;
-      so_far : AreLinesFiltered (take (length l.lines - length l.rest) l.lines) l.output;
+      so_far : AreLinesFiltered l.symbols (take (length l.lines - length l.rest) l.lines) l.output;
     }
 
 abbrev pub decreases-loop-output : goal.decreases-loop-output

@@ -1,6 +1,6 @@
 use Rattle.std.proofs.Common.{◌≤◌, length, take, drop, subst, arith}
 use Rattle.std.proofs.lemmas.List.{take_rest, length-drop}
-use Rattle.symfilter_engine.specs.Filtered.{AreLinesFiltered, no_line}
+use Rattle.symfilter_engine.specs.Filtered.{AreLinesAnswered, no_line}
 use Rattle.symfilter_engine.proofs.LineEnds.{more_ordinary}
 use Rattle.symfilter_engine.proofs.lines.ordinary_run_len.Goals as goal
 
@@ -16,5 +16,5 @@ loop-more-preserved c =
     let bound : more ≤ length (drop len lines) = subst (λ l. more ≤ length l) rest c.in-Some.ensures.bound in
     record {
       inside = omega (arith, bound, length-drop len lines);
-      ordinary = more_ordinary lines len more c.loop-more.invariant.ordinary (subst (λ l. AreLinesFiltered (take more l) (take more l)) rest c.in-Some.ensures.ordinary);
+      ordinary = more_ordinary lines len more c.loop-more.invariant.ordinary (subst (λ l. AreLinesAnswered (take more l) (take more l)) rest c.in-Some.ensures.ordinary);
     }

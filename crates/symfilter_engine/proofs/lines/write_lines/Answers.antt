@@ -1,7 +1,8 @@
 use Rattle.std.proofs.Common.{rules, refl, sym, subst, ◌∙◌}
 use Rattle.std.specs.Prelude.{IsUtf8}
 use Rattle.std.proofs.lemmas.List.{take_rest}
-use Rattle.symfilter_engine.specs.Progress.{EndsInLineFeed, HasFiltered}
+use Rattle.symfilter_engine.specs.Filtered.{EndsInLineFeed}
+use Rattle.symfilter_engine.specs.Progress.{HasFiltered}
 use Rattle.symfilter_engine.proofs.FilteredText.{at_fault, none_filtered, lines_filtered, next_unwritten, WritesLinesFront-append}
 use Rattle.symfilter_engine.proofs.LineEnds.{ended_after, utf8_after}
 use Rattle.symfilter_engine.proofs.lines.write_lines.Goals as goal
@@ -13,15 +14,15 @@ loop-rest-init g c =
       in_time = refl;
       ended = c.requires.ended;
       known = search rules;
-      so_far = none_filtered _ _;
+      so_far = none_filtered c.args.symbols _ _;
     }
 
 pub returns-in_err-len-clause-err : goal.returns-in_err-len-clause-err
-returns-in_err-len-clause-err g c = at_fault _ (WritesLinesFront-append _ _ _ _ _ c.loop-rest.invariant.so_far c.in_err-len.ensures.err)
+returns-in_err-len-clause-err g c = at_fault _ (WritesLinesFront-append c.args.symbols _ _ _ _ _ c.loop-rest.invariant.so_far c.in_err-len.ensures.err)
 
 pub returns-in_err-len-clause-memory : goal.returns-in_err-len-clause-memory
 returns-in_err-len-clause-memory g c = λ refused.
-    (c.loop-rest.rest.now, next_unwritten _ _ _ _ _ c.loop-rest.invariant.so_far (c.in_err-len.ensures.memory (search rules)))
+    (c.loop-rest.rest.now, next_unwritten c.args.symbols _ _ _ _ _ c.loop-rest.invariant.so_far (c.in_err-len.ensures.memory (search rules)))
 
 pub loop-rest-preserved : goal.loop-rest-preserved
 loop-rest-preserved g c =
@@ -32,7 +33,7 @@ loop-rest-preserved g c =
       not_failed = search rules;
       in_time = c.in_ok-len.ensures.in_time ∙ c.loop-rest.invariant.in_time;
       ended = subst EndsInLineFeed left (ended_after rest len c.loop-rest.invariant.ended);
-      known = λ known. subst IsUtf8 left (utf8_after rest c.in_ok-len.ensures.ok.0 len c.in_ok-len.ensures.ok.1 (c.loop-rest.invariant.known known));
-      so_far = subst (λ l. HasFiltered c.args.lines.now l (g.W.Sink.taken c.args.sink.now) (g.W.Sink.taken c.write_next.new.sink)) left
-          (lines_filtered _ rest len _ _ _ c.loop-rest.invariant.so_far c.in_ok-len.ensures.ok);
+      known = λ known. subst IsUtf8 left (utf8_after c.args.symbols rest c.in_ok-len.ensures.ok.0 len c.in_ok-len.ensures.ok.1 (c.loop-rest.invariant.known known));
+      so_far = subst (λ l. HasFiltered c.args.symbols c.args.lines.now l (g.W.Sink.taken c.args.sink.now) (g.W.Sink.taken c.write_next.new.sink)) left
+          (lines_filtered c.args.symbols _ rest len _ _ _ c.loop-rest.invariant.so_far c.in_ok-len.ensures.ok);
     }

@@ -1,6 +1,7 @@
 use Rattle.std.proofs.Common.{◌≡◌, false, length, IsTrue}
 use Rattle.std.specs.Prelude.{IsUtf8}
-use Rattle.symfilter_engine.specs.Progress.{EndsInLineFeed, HasFiltered}
+use Rattle.symfilter_engine.specs.Filtered.{EndsInLineFeed}
+use Rattle.symfilter_engine.specs.Progress.{HasFiltered}
 use Rattle.symfilter_engine.proofs.lines.write_lines.Given as goal
 
 abbrev pub invariant-loop-rest : goal.invariant-loop-rest
@@ -10,7 +11,7 @@ invariant-loop-rest g l =
       in_time : g.W.Sink.called_late l.sink ≡ g.W.Sink.called_late l.fn.sink;
       ended : EndsInLineFeed l.rest;
       known : IsTrue l.known_utf8 → IsUtf8 l.rest;
-      so_far : HasFiltered l.lines l.rest (g.W.Sink.taken l.fn.sink) (g.W.Sink.taken l.sink);
+      so_far : HasFiltered l.symbols l.lines l.rest (g.W.Sink.taken l.fn.sink) (g.W.Sink.taken l.sink);
     }
 
 abbrev pub decreases-loop-rest : goal.decreases-loop-rest

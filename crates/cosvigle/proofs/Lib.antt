@@ -1,0 +1,3 @@
+mod Meanings
+mod Choosing
+mod Printed

@@ -1,0 +1,40 @@
+//! The two calls of the engine.
+ghost use Rattle.std.specs.Prelude.{◌≡◌, false};
+
+use std::alloc::Global;
+use symfilter_engine::{FilterFault, Sink, Source, filter, replace};
+
+/// What the engine is asked for.
+#[derive(Clone, Copy)]
+pub enum Engine {
+    /// Lines are symbols.
+    Filter,
+    /// Symbols stand in words, and no underscore is stripped.
+    Replace,
+}
+
+impl Engine {
+    /// The name of the call.
+    pub fn name(self) -> &'static str {
+        match self {
+            Engine::Filter => "filter",
+            Engine::Replace => "replace",
+        }
+    }
+
+    /// Runs between these ends, which haven't failed.
+    pub fn run<R: Source, W: Sink>(
+        self,
+        alloc: Global,
+        source: &mut R,
+        sink: &mut W,
+    ) -> Result<(), FilterFault>
+        requires source_not_failed { R.failed source.old ≡ false }
+        requires sink_not_failed { W.failed sink.old ≡ false }
+    {
+        match self {
+            Engine::Filter => filter(alloc, source, sink),
+            Engine::Replace => replace(alloc, false, source, sink),
+        }
+    }
+}

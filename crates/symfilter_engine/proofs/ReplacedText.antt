@@ -1,0 +1,245 @@
+-- Replaced text, word by word and piece by piece.
+use Rattle.std.proofs.Common.{◌≡◌, ◌≢◌, ℕ, zero, suc, ◌+◌, ◌-◌, ◌<◌, ◌≤◌, List, [], ◌∷◌, ◌++◌, Bool, true, false, ◌&&◌, ◌||◌, ◌==◌, Option, Some, None, ◌⊎◌, inl, inr, if◌then◌else◌, codes, length, take, drop, get_or, refl, sym, ap, subst, ◌∙◌, arith, append_assoc, append-nil}
+use Rattle.std.proofs.lemmas.List.{length-take-le, get_or-take, get_or-drop, get_or_append_left, get_or_past}
+use Rattle.std.proofs.lemmas.List.Elements.{All-nil, All-cons, All-head, All-tail, All-push, All-same}
+use Rattle.std.proofs.lemmas.Bool.{false≢true, and_parts, eqb-true, cases_lt}
+use Rattle.std.proofs.Math.Seq.{take-add}
+use Rattle.std.specs.Prelude.{All}
+use Rattle.itanium_syntax.specs.Bytes.{is, begins}
+use Rattle.itanium_grammar.specs.Answer.{IsAnswer}
+use Rattle.itanium_demangle.proofs.Answered.{each_answered}
+use Rattle.symfilter_engine.specs.Filtered.{EndsInLineFeed}
+use Rattle.symfilter_engine.specs.Replaced.{is_word_byte, IsWordByte, begins_word, IsDot, ends_in_dot, sign_of, past_sign, symbol_at, symbol_in, IsWordAnswer, answered, unanswered, no_symbol, IsReplaced, no_byte, other, one_word}
+use Rattle.symfilter_engine.specs.Progress.{underscore, capital_z, HasNoPrefix, IsBoundary}
+
+-- the last byte is one of words
+abbrev pub ends_word : List ℕ → Bool
+ends_word [] = false
+ends_word (byte ∷ []) = is_word_byte byte
+ends_word (byte ∷ next ∷ bytes) = ends_word (next ∷ bytes)
+
+ends_word-cons : (byte : ℕ) (bytes : List ℕ) → ends_word bytes ≡ true → ends_word (byte ∷ bytes) ≡ true
+ends_word-cons byte [] ends = absurd (false≢true ends)
+ends_word-cons byte (next ∷ bytes) ends = ends
+
+ends_word-append : (front bytes : List ℕ) → ends_word bytes ≡ true → ends_word (front ++ bytes) ≡ true
+ends_word-append [] bytes ends = ends
+ends_word-append (byte ∷ front) bytes ends = ends_word-cons byte (front ++ bytes) (ends_word-append front bytes ends)
+
+-- bytes of words end in one
+ends_word-all : (word : List ℕ) → word ≢ [] → All IsWordByte word → ends_word word ≡ true
+ends_word-all [] some all = absurd (some refl)
+ends_word-all (byte ∷ []) some all = All-head IsWordByte byte [] all
+ends_word-all (byte ∷ next ∷ bytes) some all = ends_word-all (next ∷ bytes) (λ e. cc) (All-tail IsWordByte byte (next ∷ bytes) all)
+
+-- the last byte, by its place
+ends_word-last : (bytes : List ℕ) → ends_word bytes ≡ true → (0 < length bytes) × (is_word_byte (get_or bytes (length bytes - 1) 0) ≡ true)
+ends_word-last [] ends = absurd (false≢true ends)
+ends_word-last (byte ∷ []) ends = (omega arith, ends)
+ends_word-last (byte ∷ next ∷ bytes) ends =
+    let more = ends_word-last (next ∷ bytes) ends in
+    let place : suc (length (next ∷ bytes) - 1) ≡ length (byte ∷ next ∷ bytes) - 1 = omega arith in
+    (omega arith, subst (λ k. is_word_byte (get_or (byte ∷ next ∷ bytes) k 0) ≡ true) place more.1)
+
+-- the first byte, by its place
+begins_word-at : (bytes : List ℕ) → begins_word bytes ≡ is_word_byte (get_or bytes 0 0)
+begins_word-at [] = refl
+begins_word-at (byte ∷ bytes) = refl
+
+begins_word-take : (n : ℕ) (bytes : List ℕ) → begins_word bytes ≡ false → begins_word (take n bytes) ≡ false
+begins_word-take zero bytes none = refl
+begins_word-take (suc n) [] none = refl
+begins_word-take (suc n) (byte ∷ bytes) none = none
+
+-- no byte of a word follows a word
+next_after : (word bytes rest : List ℕ) → ends_word word ≡ true → begins_word bytes ≡ false → (ends_word (word ++ bytes) ≡ true → begins_word rest ≡ false)
+    → begins_word (bytes ++ rest) ≡ false
+next_after word [] rest ends next parted = parted (subst (λ l. ends_word l ≡ true) (sym (append-nil word)) ends)
+next_after word (byte ∷ bytes) rest ends next parted = next
+
+-- bytes after bytes, where no word goes on
+pub IsReplaced-append : (strip : Bool) {first text rest more : List ℕ} → IsReplaced strip first text → IsReplaced strip rest more
+    → (ends_word first ≡ true → begins_word rest ≡ false) → IsReplaced strip (first ++ rest) (text ++ more)
+IsReplaced-append strip no_byte second parted = second
+IsReplaced-append strip (other {byte = byte} {bytes = bytes} no_word first) second parted =
+    other no_word (IsReplaced-append strip first second (λ ends. parted (ends_word-cons byte bytes ends)))
+IsReplaced-append strip {rest = rest} {more = more} (one_word {word = word} {bytes = bytes} {answer = answer} {text = text} dots some all dotted undotted is_answer next first) second parted =
+    subst (λ l. IsReplaced strip l (((answer ++ dots) ++ text) ++ more)) (sym (append_assoc (word ++ dots) bytes rest))
+    (subst (IsReplaced strip ((word ++ dots) ++ (bytes ++ rest))) (sym (append_assoc (answer ++ dots) text more))
+    (one_word dots some all dotted undotted is_answer
+    (next_after (word ++ dots) bytes rest (ends_word-all (word ++ dots) some all) next parted)
+    (IsReplaced-append strip first second (λ ends. parted (ends_word-append (word ++ dots) bytes ends)))))
+
+-- no word goes on after a line feed
+pub ended_parted : (lines rest : List ℕ) → EndsInLineFeed lines → ends_word lines ≡ true → begins_word rest ≡ false
+ended_parted lines rest ended ends =
+    let last = ends_word-last lines ends in
+    absurd (false≢true (sym (ap is_word_byte (ended last.0)) ∙ last.1))
+
+-- nor at a boundary
+boundary_parted : (bytes : List ℕ) (n m : ℕ) → n ≤ length bytes → IsBoundary bytes n → ends_word (take n bytes) ≡ true
+    → begins_word (take m (drop n bytes)) ≡ false
+boundary_parted bytes n m inside boundary ends =
+    let long : length (take n bytes) ≡ n = length-take-le n bytes inside in
+    let last = ends_word-last (take n bytes) ends in
+    let some : 0 < n = omega (arith, last.0, long) in
+    let place : length (take n bytes) - 1 ≡ n - 1 = ap (λ k. k - 1) long in
+    let byte : get_or (take n bytes) (n - 1) 0 ≡ get_or bytes (n - 1) 0 = get_or-take n bytes (n - 1) 0 (omega (arith, some)) in
+    let before : is_word_byte (get_or bytes (n - 1) 0) ≡ true =
+    ap is_word_byte (sym byte ∙ ap (λ k. get_or (take n bytes) k 0) (sym place)) ∙ last.1 in
+    let after : get_or (drop n bytes) 0 0 ≡ get_or bytes n 0 = get_or-drop n bytes 0 0 ∙ ap (λ k. get_or bytes k 0) (omega arith) in
+    begins_word-take m (drop n bytes) (begins_word-at (drop n bytes) ∙ ap is_word_byte after ∙ boundary some before)
+
+-- more bytes after a boundary
+pub more_replaced : (strip : Bool) (bytes text more : List ℕ) (n m : ℕ) → n ≤ length bytes → IsBoundary bytes n → IsReplaced strip (take n bytes) text
+    → IsReplaced strip (take m (drop n bytes)) more → IsReplaced strip (take (n + m) bytes) (text ++ more)
+more_replaced strip bytes text more n m inside boundary first second =
+    subst (λ l. IsReplaced strip l (text ++ more)) (sym (take-add n m bytes))
+    (IsReplaced-append strip first second (boundary_parted bytes n m inside boundary))
+
+-- a word is its stem and the dots at its end
+record Split (word : List ℕ) : Type 0 where
+  stem : List ℕ
+  dots : List ℕ
+  word_is : word ≡ stem ++ dots
+  dotted : All IsDot dots
+  undotted : ends_in_dot stem ≡ false
+
+split_more : (byte : ℕ) (stem dots : List ℕ) → All IsDot dots → ends_in_dot stem ≡ false → (t : Bool) → is "." byte ≡ t → Split (byte ∷ (stem ++ dots))
+split_more byte [] dots dotted undotted true dot =
+    record { stem = []; dots = byte ∷ dots; word_is = refl; dotted = All-cons IsDot byte dots dot dotted; undotted = refl }
+split_more byte [] dots dotted undotted false dot =
+    record { stem = byte ∷ []; dots = dots; word_is = refl; dotted = dotted; undotted = dot }
+split_more byte (next ∷ stem) dots dotted undotted t dot =
+    record { stem = byte ∷ next ∷ stem; dots = dots; word_is = refl; dotted = dotted; undotted = undotted }
+
+split_of : (word : List ℕ) → Split word
+split_of [] = record { stem = []; dots = []; word_is = refl; dotted = All-nil IsDot; undotted = refl }
+split_of (byte ∷ bytes) =
+    let more = split_of bytes in
+    subst (λ l. Split (byte ∷ l)) (sym more.word_is) (split_more byte more.stem more.dots more.dotted more.undotted (is "." byte) refl)
+
+-- parts of bytes without a prefix
+no_prefix-right : (front bytes : List ℕ) → HasNoPrefix (front ++ bytes) → HasNoPrefix bytes
+no_prefix-right [] bytes none = none
+no_prefix-right (byte ∷ front) bytes none = no_prefix-right front bytes (λ k. none (suc k))
+
+pub no_prefix-left : (bytes rest : List ℕ) → HasNoPrefix (bytes ++ rest) → HasNoPrefix bytes
+no_prefix-left bytes rest none k first second =
+    elim (cases_lt (suc k) (length bytes)) [
+      | inl low ↦ none k (get_or_append_left bytes rest 0 k (omega (arith, low)) ∙ first) (get_or_append_left bytes rest 0 (suc k) low ∙ second)
+      | inr high ↦ absurd (omega (arith, sym (get_or_past bytes (suc k) 0 high) ∙ second))
+    ]
+
+-- bytes that begin with the prefix of a symbol
+has_prefix : (bytes : List ℕ) → begins (underscore ∷ capital_z ∷ []) bytes ≡ true → HasNoPrefix bytes → ⊥
+has_prefix [] front none = absurd (false≢true front)
+has_prefix (first ∷ []) front none = absurd (false≢true ((and_parts (first == underscore) false front).1))
+has_prefix (first ∷ second ∷ bytes) front none =
+    let one = and_parts (first == underscore) ((second == capital_z) && true) front in
+    let two = and_parts (second == capital_z) true one.1 in
+    none 0 (eqb-true first underscore one.0) (eqb-true second capital_z two.0)
+
+after_underscore : (word bytes : List ℕ) → begins (underscore ∷ word) bytes ≡ true → HasNoPrefix bytes → ((rest : List ℕ) → begins word rest ≡ true → HasNoPrefix rest → ⊥) → ⊥
+after_underscore word [] front none goes_on = absurd (false≢true front)
+after_underscore word (byte ∷ bytes) front none goes_on =
+    goes_on bytes ((and_parts (byte == underscore) (begins word bytes) front).1) (λ k. none (suc k))
+
+-- which test was passed
+passed : (a b c : Bool) (first second symbol : List ℕ) → (if a || b then Some first else (if c then Some second else None)) ≡ Some symbol
+    → (a ≡ true) ⊎ ((b ≡ true) ⊎ (c ≡ true))
+passed true b c first second symbol is = inl refl
+passed false true c first second symbol is = inr (inl refl)
+passed false false true first second symbol is = inr (inr refl)
+passed false false false first second symbol is = absurd (cc)
+
+symbol_has_prefix : (strip : Bool) (bytes symbol : List ℕ) → symbol_at strip bytes ≡ Some symbol → HasNoPrefix bytes → ⊥
+symbol_has_prefix strip bytes symbol is none =
+    elim (passed (begins (codes "_Z") bytes) (begins (codes "__Z") bytes) (strip && begins (codes "___Z") bytes) bytes (drop 1 bytes) symbol is) [
+      | inl one ↦ has_prefix bytes one none
+      | inr (inl two) ↦ after_underscore (codes "_Z") bytes two none has_prefix
+      | inr (inr three) ↦
+          after_underscore (codes "__Z") bytes ((and_parts strip (begins (codes "___Z") bytes) three).1) none
+          (λ rest front no. after_underscore (codes "_Z") rest front no has_prefix)
+    ]
+
+-- past the sign
+sign_or_none : (t : Bool) (word : List ℕ) → HasNoPrefix word → HasNoPrefix (if t then drop 1 word else word)
+sign_or_none false word none = none
+sign_or_none true [] none = none
+sign_or_none true (byte ∷ word) none = λ k. none (suc k)
+
+word_has_prefix : (strip : Bool) (word symbol : List ℕ) → symbol_in strip word ≡ Some symbol → HasNoPrefix word → ⊥
+word_has_prefix strip word symbol is none = symbol_has_prefix strip (past_sign word) symbol is (sign_or_none _ word none)
+
+-- what is written for a word: the word itself, where no prefix is in it
+record WordText (strip : Bool) (word : List ℕ) : Type 0 where
+  answer : List ℕ
+  is_answer : IsWordAnswer strip word answer
+  same : HasNoPrefix word → answer ≡ word
+
+symbol_text : (strip : Bool) (word symbol : List ℕ) → symbol_in strip word ≡ Some symbol → (found : Option (List ℕ)) → IsAnswer symbol found → WordText strip word
+symbol_text strip word symbol is None none = record { answer = word; is_answer = unanswered is none; same = λ _. refl }
+symbol_text strip word symbol is (Some text) has =
+    record { answer = sign_of word ++ text; is_answer = answered is has; same = λ none. absurd (word_has_prefix strip word symbol is none) }
+
+word_text : (strip : Bool) (word : List ℕ) (found : Option (List ℕ)) → symbol_in strip word ≡ found → WordText strip word
+word_text strip word None is = record { answer = word; is_answer = no_symbol is; same = λ _. refl }
+word_text strip word (Some symbol) is = let found = each_answered symbol in symbol_text strip word symbol is found.0 found.1
+
+-- bytes have a replaced text: they themselves, where no prefix is in them
+record BytesText (strip : Bool) (bytes : List ℕ) : Type 0 where
+  text : List ℕ
+  replaced : IsReplaced strip bytes text
+  same : HasNoPrefix bytes → text ≡ bytes
+
+-- a word, and what follows it
+after_word : (strip : Bool) (word bytes : List ℕ) → word ≢ [] → All IsWordByte word → begins_word bytes ≡ false → BytesText strip bytes → BytesText strip (word ++ bytes)
+after_word strip word bytes some all next rest =
+    let split = split_of word in
+    let found = word_text strip split.stem (symbol_in strip split.stem) refl in
+    let text : List ℕ = (found.answer ++ split.dots) ++ rest.text in
+    let back : split.stem ++ split.dots ≡ word = sym split.word_is in
+    record {
+      text = text;
+      replaced = subst (λ l. IsReplaced strip (l ++ bytes) text) back
+          (one_word split.dots (λ e. some (split.word_is ∙ e)) (All-same IsWordByte (split.stem ++ split.dots) word back all) split.dotted split.undotted found.is_answer next rest.replaced);
+      same = λ none.
+          let in_word : HasNoPrefix (split.stem ++ split.dots) = subst HasNoPrefix split.word_is (no_prefix-left word bytes none) in
+          ap (λ l. (l ++ split.dots) ++ rest.text) (found.same (no_prefix-left split.stem split.dots in_word))
+          ∙ ap (λ l. l ++ rest.text) back ∙ ap (λ l. word ++ l) (rest.same (no_prefix-right word bytes none));
+    }
+
+-- there may be no byte of the word yet
+after_front : (strip : Bool) (word bytes : List ℕ) → All IsWordByte word → begins_word bytes ≡ false → BytesText strip bytes → BytesText strip (word ++ bytes)
+after_front strip [] bytes all next rest = rest
+after_front strip (byte ∷ word) bytes all next rest = after_word strip (byte ∷ word) bytes (λ e. cc) all next rest
+
+none_text : (strip : Bool) → BytesText strip []
+none_text strip = record { text = []; replaced = no_byte; same = λ _. refl }
+
+-- the next byte is in the word, or none of words
+at_byte : (strip : Bool) (word bytes : List ℕ) (byte : ℕ) → All IsWordByte word → (t : Bool) → is_word_byte byte ≡ t
+    → (All IsWordByte (word ++ byte ∷ []) → BytesText strip ((word ++ byte ∷ []) ++ bytes)) → BytesText strip bytes
+    → BytesText strip (word ++ byte ∷ bytes)
+at_byte strip word bytes byte all true is longer rest =
+    subst (BytesText strip) (append_assoc word (byte ∷ []) bytes) (longer (All-push IsWordByte word byte all is))
+at_byte strip word bytes byte all false is longer rest =
+    after_front strip word (byte ∷ bytes) all is
+    (record { text = byte ∷ rest.text; replaced = other is rest.replaced; same = λ none. ap (λ l. byte ∷ l) (rest.same (no_prefix-right (byte ∷ []) bytes none)) })
+
+from_word : (strip : Bool) (word bytes : List ℕ) → All IsWordByte word → BytesText strip (word ++ bytes)
+from_word strip word [] all = after_front strip word [] all refl (none_text strip)
+from_word strip word (byte ∷ bytes) all =
+    at_byte strip word bytes byte all (is_word_byte byte) refl (λ longer. from_word strip (word ++ byte ∷ []) bytes longer)
+    (from_word strip [] bytes (All-nil IsWordByte))
+
+-- all bytes have a replaced text
+pub replaced_of : (strip : Bool) (bytes : List ℕ) → (text : List ℕ) × IsReplaced strip bytes text
+replaced_of strip bytes = let found = from_word strip [] bytes (All-nil IsWordByte) in (found.text, found.replaced)
+
+-- bytes without a prefix stay
+pub unprefixed : (strip : Bool) (bytes : List ℕ) → HasNoPrefix bytes → IsReplaced strip bytes bytes
+unprefixed strip bytes none =
+    let found = from_word strip [] bytes (All-nil IsWordByte) in
+    subst (IsReplaced strip bytes) (found.same none) found.replaced

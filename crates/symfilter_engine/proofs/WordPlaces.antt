@@ -1,0 +1,255 @@
+-- Where prefixes and words stand.
+use Rattle.std.proofs.Common.{◌≡◌, ◌≢◌, ℕ, suc, ◌+◌, ◌-◌, ◌<◌, ◌≤◌, List, [], ◌∷◌, ◌++◌, Bool, true, false, ◌&&◌, ◌||◌, ◌==◌, Some, None, Result, Ok, Err, OnOk, ◌⊎◌, inl, inr, if◌then◌else◌, nat_le, codes, length, take, drop, get_or, refl, sym, ap, subst, ◌∙◌, arith, append_assoc, append-nil}
+use Rattle.std.proofs.lemmas.List.{length-drop, length-take-le, get_or-take, get_or-drop, get_or_past, take-append-drop, take-take, take_all, take_rest, drop-take}
+use Rattle.std.proofs.lemmas.List.Elements.{All-get_or, All-from_get_or, All-drop, All-same}
+use Rattle.std.proofs.lemmas.Bool.{false≢true, and_parts, or_cases, eqb-true, leb-true, cases_lt, cases_Bool}
+use Rattle.std.proofs.lemmas.Str.{IsUtf8-from_ascii}
+use Rattle.std.specs.Prelude.{All, IsUtf8}
+use Rattle.itanium_syntax.specs.Bytes.{is, is_between, is_digit, one_of, begins}
+use Rattle.itanium_grammar.specs.Answer.{IsAnswer}
+use Rattle.symfilter_engine.specs.Replaced.{is_word_byte, IsWordByte, IsDot, ends_in_dot, sign_of, past_sign, symbol_at, symbol_in, IsWordAnswer, answered, IsReplaced, no_byte, one_word}
+use Rattle.symfilter_engine.specs.Progress.{underscore, capital_z, HasNone, IsFirst, HasNoPrefix, IsFirstPrefix, AreWordBytes, IsBoundary, AppendsReplaced}
+use Rattle.symfilter_engine.proofs.ReplacedText.{no_prefix-left, more_replaced, unprefixed}
+
+-- no prefix ends before the place
+abbrev pub NoneUpTo : List ℕ → ℕ → Type 0
+NoneUpTo bytes place = (k : ℕ) → suc k < place → get_or bytes k 0 ≡ underscore → get_or bytes (suc k) 0 ≡ capital_z → ⊥
+
+-- nor up to the next `Z`
+none_up_to : (bytes : List ℕ) (at more : ℕ) → NoneUpTo bytes at → IsFirst capital_z (drop at bytes) more → NoneUpTo bytes (at + more)
+none_up_to bytes at more none first k low one two =
+    elim (cases_lt (suc k) at) [
+      | inl before ↦ none k before one two
+      | inr after ↦
+          let j : ℕ = suc k - at in
+          let below : j < more = omega (arith, after, low) in
+          let inside : j < length (take more (drop at bytes)) = omega (arith, below, first.inside, length-take-le more (drop at bytes) (omega (arith, first.inside))) in
+          let place : at + j ≡ suc k = omega (arith, after) in
+          All-get_or (λ byte. byte ≢ capital_z) (take more (drop at bytes)) j 0 inside first.before
+          (get_or-take more (drop at bytes) j 0 below ∙ get_or-drop at bytes j 0 ∙ ap (λ n. get_or bytes n 0) place ∙ two)
+    ]
+
+no_prefix-take : (bytes : List ℕ) (n : ℕ) → n ≤ length bytes → NoneUpTo bytes n → HasNoPrefix (take n bytes)
+no_prefix-take bytes n inside none k one two =
+    let long : length (take n bytes) ≡ n = length-take-le n bytes inside in
+    elim (cases_lt (suc k) n) [
+      | inl low ↦ none k low (sym (get_or-take n bytes k 0 (omega (arith, low))) ∙ one) (sym (get_or-take n bytes (suc k) 0 low) ∙ two)
+      | inr high ↦ absurd (omega (arith, sym (get_or_past (take n bytes) (suc k) 0 (omega (arith, high, long))) ∙ two))
+    ]
+
+-- the rest, as a slice has it
+first_in_rest : (bytes : List ℕ) (at more : ℕ) → IsFirst capital_z (take (length bytes - at) (drop at bytes)) more → IsFirst capital_z (drop at bytes) more
+first_in_rest bytes at more first = subst (λ l. IsFirst capital_z l more) (take_rest bytes at) first
+
+-- an underscore before the next `Z` begins the first prefix
+pub prefix_found : (bytes : List ℕ) (at more : ℕ) → at ≤ length bytes → NoneUpTo bytes at → IsFirst capital_z (take (length bytes - at) (drop at bytes)) more
+    → 0 < at + more → get_or bytes (at + more - 1) 0 ≡ underscore → IsFirstPrefix bytes (at + more - 1)
+prefix_found bytes at more low none first some is_underscore =
+    let rest = first_in_rest bytes at more first in
+    let inside : at + more < length bytes = omega (arith, rest.inside, length-drop at bytes) in
+    record {
+      inside = omega (arith, inside);
+      underscore = is_underscore;
+      before = no_prefix-take bytes (at + more - 1) (omega (arith, inside)) (λ k below. none_up_to bytes at more none rest k (omega (arith, below)));
+    }
+
+-- no underscore before it begins none
+pub none_past : (bytes : List ℕ) (at more : ℕ) → NoneUpTo bytes at → IsFirst capital_z (take (length bytes - at) (drop at bytes)) more
+    → (0 < at + more → get_or bytes (at + more - 1) 0 ≢ underscore) → NoneUpTo bytes (at + more + 1)
+none_past bytes at more none first other k low one two =
+    elim (cases_lt (suc k) (at + more)) [
+      | inl before ↦ none_up_to bytes at more none (first_in_rest bytes at more first) k before one two
+      | inr after ↦
+          let here : k ≡ at + more - 1 = omega (arith, after, low) in
+          other (omega (arith, after, low)) (ap (λ n. get_or bytes n 0) (sym here) ∙ one)
+    ]
+
+-- no `Z` is left
+pub none_left : (bytes : List ℕ) (at : ℕ) → NoneUpTo bytes at → HasNone capital_z (take (length bytes - at) (drop at bytes)) → HasNoPrefix bytes
+none_left bytes at none rest k one two =
+    elim (cases_lt (suc k) at) [
+      | inl before ↦ none k before one two
+      | inr after ↦
+          let j : ℕ = suc k - at in
+          let place : at + j ≡ suc k = omega (arith, after) in
+          let byte : get_or (drop at bytes) j 0 ≡ capital_z = get_or-drop at bytes j 0 ∙ ap (λ n. get_or bytes n 0) place ∙ two in
+          let none_there : HasNone capital_z (drop at bytes) = subst (HasNone capital_z) (take_rest bytes at) rest in
+          elim (cases_lt j (length (drop at bytes))) [
+            | inl inside ↦ All-get_or (λ b. b ≢ capital_z) (drop at bytes) j 0 inside none_there byte
+            | inr past ↦ absurd (omega (arith, sym (get_or_past (drop at bytes) j 0 past) ∙ byte))
+          ]
+    ]
+
+-- a front of bytes without a prefix
+pub no_prefix-front : (bytes : List ℕ) (n : ℕ) → HasNoPrefix bytes → HasNoPrefix (take n bytes)
+no_prefix-front bytes n none = no_prefix-left (take n bytes) (drop n bytes) (subst HasNoPrefix (sym (take-append-drop n bytes)) none)
+
+pub no_prefix-shorter : (bytes : List ℕ) (n m : ℕ) → n ≤ m → HasNoPrefix (take m bytes) → HasNoPrefix (take n bytes)
+no_prefix-shorter bytes n m small none = subst HasNoPrefix (take-take n m bytes small) (no_prefix-front (take m bytes) n none)
+
+-- in what is left, as a slice has it
+pub no_prefix-rest : (bytes : List ℕ) (done more : ℕ) → HasNoPrefix (take more (take (length bytes - done) (drop done bytes))) → HasNoPrefix (take more (drop done bytes))
+no_prefix-rest bytes done more none = subst (λ l. HasNoPrefix (take more l)) (take_rest bytes done) none
+
+-- a byte of words is ASCII
+between_below : (low high byte : ℕ) → (nat_le low byte && nat_le byte high) ≡ true → byte ≤ high
+between_below low high byte is = leb-true byte high ((and_parts (nat_le low byte) (nat_le byte high) is).1)
+
+word_byte_ascii : (byte : ℕ) → is_word_byte byte ≡ true → byte < 128
+word_byte_ascii byte is =
+    elim (or_cases (is_between "A" "Z" byte || is_between "a" "z" byte || is_digit byte) (one_of (codes "_$.") byte) is) [
+      | inl front ↦ elim (or_cases (is_between "A" "Z" byte || is_between "a" "z" byte) (is_digit byte) front) [
+        | inl letter ↦ elim (or_cases (is_between "A" "Z" byte) (is_between "a" "z" byte) letter) [
+          | inl upper ↦ omega (arith, between_below 65 90 byte upper)
+          | inr lower ↦ omega (arith, between_below 97 122 byte lower)
+        ]
+        | inr digit ↦ omega (arith, between_below 48 57 byte digit)
+      ]
+      | inr sign ↦ elim (or_cases (byte == 95) ((byte == 36) || ((byte == 46) || false)) sign) [
+        | inl one ↦ omega (arith, eqb-true byte 95 one)
+        | inr more ↦ elim (or_cases (byte == 36) ((byte == 46) || false) more) [
+          | inl two ↦ omega (arith, eqb-true byte 36 two)
+          | inr last ↦ elim (or_cases (byte == 46) false last) [
+            | inl three ↦ omega (arith, eqb-true byte 46 three)
+            | inr none ↦ absurd (false≢true none)
+          ]
+        ]
+      ]
+    ]
+
+-- so bytes of words are UTF-8
+pub word_utf8 : (word : List ℕ) → All IsWordByte word → IsUtf8 word
+word_utf8 word all =
+    IsUtf8-from_ascii word (λ i.
+    elim (cases_lt i (length word)) [
+      | inl inside ↦ word_byte_ascii (get_or word i 0) (All-get_or IsWordByte word i 0 inside all)
+      | inr past ↦ omega (arith, get_or_past word i 0 past)
+    ])
+
+-- the last byte, where it is a dot
+ends_in_dot-last : (bytes : List ℕ) → ends_in_dot bytes ≡ true → (0 < length bytes) × (is "." (get_or bytes (length bytes - 1) 0) ≡ true)
+ends_in_dot-last [] ends = absurd (false≢true ends)
+ends_in_dot-last (byte ∷ []) ends = (omega arith, ends)
+ends_in_dot-last (byte ∷ next ∷ bytes) ends =
+    let more = ends_in_dot-last (next ∷ bytes) ends in
+    let place : suc (length (next ∷ bytes) - 1) ≡ length (byte ∷ next ∷ bytes) - 1 = omega arith in
+    (omega arith, subst (λ k. is "." (get_or (byte ∷ next ∷ bytes) k 0) ≡ true) place more.1)
+
+pub undotted_at : (word : List ℕ) (len : ℕ) → len ≤ length word → get_or word (len - 1) 0 ≢ 46 → ends_in_dot (take len word) ≡ false
+undotted_at word len inside no_dot =
+    elim (cases_Bool (ends_in_dot (take len word))) [
+      | inl ends ↦
+          let long : length (take len word) ≡ len = length-take-le len word inside in
+          let last = ends_in_dot-last (take len word) ends in
+          let dot : get_or (take len word) (length (take len word) - 1) 0 ≡ 46 = eqb-true (get_or (take len word) (length (take len word) - 1) 0) 46 last.1 in
+          absurd (no_dot (sym (get_or-take len word (len - 1) 0 (omega (arith, last.0, long))) ∙ ap (λ k. get_or (take len word) (k - 1) 0) (sym long) ∙ dot))
+      | inr none ↦ none
+    ]
+
+-- bytes of words from one place on, and more of them
+pub words_joined : (bytes : List ℕ) (low mid high : ℕ) → AreWordBytes bytes low mid → AreWordBytes bytes mid high → AreWordBytes bytes low high
+words_joined bytes low mid high first second k above below =
+    elim (cases_lt k mid) [ inl before ↦ first k above before | inr after ↦ second k after below ]
+
+pub word_slice : (bytes : List ℕ) (low high : ℕ) → low ≤ high → high ≤ length bytes → AreWordBytes bytes low high → All IsWordByte (take (high - low) (drop low bytes))
+word_slice bytes low high ordered inside word =
+    let long : length (take (high - low) (drop low bytes)) ≡ high - low = length-take-le (high - low) (drop low bytes) (omega (arith, length-drop low bytes)) in
+    All-from_get_or IsWordByte (take (high - low) (drop low bytes)) 0 (λ k below.
+    let small : k < high - low = omega (arith, below, long) in
+    subst (λ byte. is_word_byte byte ≡ true) (sym (get_or-take (high - low) (drop low bytes) k 0 small ∙ get_or-drop low bytes k 0))
+    (word (low + k) (omega arith) (omega (arith, small))))
+
+-- the symbol is among the bytes
+which : (a b c : Bool) (first second symbol : List ℕ) → (if a || b then Some first else (if c then Some second else None)) ≡ Some symbol
+    → (symbol ≡ first) ⊎ (symbol ≡ second)
+which true b c first second symbol is = inl (cc)
+which false true c first second symbol is = inl (cc)
+which false false true first second symbol is = inr (cc)
+which false false false first second symbol is = absurd (cc)
+
+pub symbol_words : (strip : Bool) (bytes symbol : List ℕ) → symbol_at strip bytes ≡ Some symbol → All IsWordByte bytes → All IsWordByte symbol
+symbol_words strip bytes symbol is all =
+    elim (which (begins (codes "_Z") bytes) (begins (codes "__Z") bytes) (strip && begins (codes "___Z") bytes) bytes (drop 1 bytes) symbol is) [
+      | inl whole ↦ All-same IsWordByte symbol bytes whole all
+      | inr rest ↦ All-same IsWordByte symbol (drop 1 bytes) rest (All-drop IsWordByte 1 bytes all)
+    ]
+
+-- what follows the sign of a stem
+pub past_sign_is : (word : List ℕ) (sign stem : ℕ) → sign ≤ length (take stem word) → stem ≤ length word → drop sign (take stem word) ≡ past_sign (take stem word)
+    → take (stem - sign) (drop sign word) ≡ past_sign (take stem word)
+past_sign_is word sign stem low inside rest =
+    sym (drop-take sign (stem - sign) word) ∙ ap (λ n. drop sign (take n word)) (omega (arith, low, length-take-le stem word inside)) ∙ rest
+
+-- a word, and what is written for it
+pub word_replaced : (strip : Bool) (word answer : List ℕ) (stem : ℕ) → 0 < length word → All IsWordByte word → All IsDot (drop stem word)
+    → ends_in_dot (take stem word) ≡ false → IsWordAnswer strip (take stem word) answer → IsReplaced strip word (answer ++ drop stem word)
+word_replaced strip word answer stem some all dotted undotted is_answer =
+    let whole : take stem word ++ drop stem word ≡ word = take-append-drop stem word in
+    let nonempty : take stem word ++ drop stem word ≢ [] = λ e. absurd (omega (arith, some, ap length (sym whole ∙ e))) in
+    subst (IsReplaced strip word) (append-nil (answer ++ drop stem word))
+    (subst (λ l. IsReplaced strip l ((answer ++ drop stem word) ++ [])) (append-nil (take stem word ++ drop stem word) ∙ whole)
+    (one_word (drop stem word) nonempty (All-same IsWordByte (take stem word ++ drop stem word) word whole all) dotted undotted is_answer refl no_byte))
+
+-- the word itself
+pub word_stays : (strip : Bool) (word : List ℕ) (stem : ℕ) → 0 < length word → All IsWordByte word → All IsDot (drop stem word)
+    → ends_in_dot (take stem word) ≡ false → IsWordAnswer strip (take stem word) (take stem word) → IsReplaced strip word word
+word_stays strip word stem some all dotted undotted is_answer =
+    subst (IsReplaced strip word) (take-append-drop stem word) (word_replaced strip word (take stem word) stem some all dotted undotted is_answer)
+
+-- the word was appended as it stands
+pub word_appended : {T E : Type 0} (r : Result T E) (strip : Bool) (word before after : List ℕ) → IsReplaced strip word word → OnOk r (after ≡ before ++ word)
+    → OnOk r (AppendsReplaced strip word before after)
+word_appended (Ok _) strip word before after replaced after_is = (word, replaced, after_is)
+word_appended (Err _) strip word before after replaced after_is = tt
+
+-- its sign, the answer and its dots were appended
+pub answer_appended : {T E : Type 0} (r : Result T E) (strip : Bool) (word symbol text before mid after : List ℕ) (stem sign : ℕ) → 0 < length word → All IsWordByte word
+    → All IsDot (drop stem word) → ends_in_dot (take stem word) ≡ false → stem ≤ length word → sign ≤ length (take stem word)
+    → take sign (take stem word) ≡ sign_of (take stem word) → symbol_in strip (take stem word) ≡ Some symbol → IsAnswer symbol (Some text)
+    → mid ≡ before ++ (take sign word ++ text) → OnOk r (after ≡ mid ++ take (length word - stem) (drop stem word)) → OnOk r (AppendsReplaced strip word before after)
+answer_appended (Ok _) strip word symbol text before mid after stem sign some all dotted undotted inside low sign_is is has mid_is after_is =
+    let front : List ℕ = sign_of (take stem word) in
+    let same : take sign word ≡ front = sym (take-take sign stem word (omega (arith, low, length-take-le stem word inside))) ∙ sign_is in (
+      (front ++ text) ++ drop stem word,
+      word_replaced strip word (front ++ text) stem some all dotted undotted (answered is has),
+      after_is ∙ ap (λ l. mid ++ l) (take_rest word stem) ∙ ap (λ l. l ++ drop stem word) (mid_is ∙ ap (λ l. before ++ (l ++ text)) same)
+          ∙ append_assoc before (front ++ text) (drop stem word),
+    )
+answer_appended (Err _) strip word symbol text before mid after stem sign some all dotted undotted inside low sign_is is has mid_is after_is = tt
+
+-- after bytes without a prefix a word was replaced too
+pub turn_replaced : (strip : Bool) (text old before mid after : List ℕ) (done more start end : ℕ) → end ≤ length text → done ≤ start → start ≤ done + more → start ≤ end
+    → IsBoundary text done → IsBoundary text start → AppendsReplaced strip (take done text) old before → HasNoPrefix (take more (drop done text))
+    → mid ≡ before ++ take (start - done) (drop done text) → AppendsReplaced strip (take (end - start) (drop start text)) mid after
+    → AppendsReplaced strip (take end text) old after
+turn_replaced strip text old before mid after done more start end inside low high ordered first second (written, replaced, before_is) none mid_is (answer, is_answer, after_is) =
+    let front : List ℕ = take (start - done) (drop done text) in
+    let stays : IsReplaced strip front front = unprefixed strip front (no_prefix-shorter (drop done text) (start - done) more (omega (arith, high)) none) in
+    let up_to : IsReplaced strip (take (done + (start - done)) text) (written ++ front) =
+    more_replaced strip text written front done (start - done) (omega (arith, inside, low, ordered)) first replaced stays in
+    let to_start : IsReplaced strip (take start text) (written ++ front) = subst (λ n. IsReplaced strip (take n text) (written ++ front)) (omega (arith, low)) up_to in
+    let to_end : IsReplaced strip (take (start + (end - start)) text) ((written ++ front) ++ answer) =
+    more_replaced strip text (written ++ front) answer start (end - start) (omega (arith, inside, ordered)) second to_start is_answer in (
+      (written ++ front) ++ answer,
+      subst (λ n. IsReplaced strip (take n text) ((written ++ front) ++ answer)) (omega (arith, ordered)) to_end,
+      after_is ∙ ap (λ l. l ++ answer) (mid_is ∙ ap (λ l. l ++ front) before_is ∙ append_assoc old written front) ∙ append_assoc old (written ++ front) answer,
+    )
+
+-- no prefix is left
+rest_replaced : (strip : Bool) (text old before after : List ℕ) (done : ℕ) → done ≤ length text → IsBoundary text done
+    → AppendsReplaced strip (take done text) old before → HasNoPrefix (take (length text - done) (drop done text))
+    → after ≡ before ++ take (length text - done) (drop done text) → AppendsReplaced strip text old after
+rest_replaced strip text old before after done inside boundary (written, replaced, before_is) none after_is =
+    let rest : List ℕ = take (length text - done) (drop done text) in
+    let all : take (done + (length text - done)) text ≡ text = take_all (done + (length text - done)) text (omega (arith, inside)) in (
+      written ++ rest,
+      subst (λ l. IsReplaced strip l (written ++ rest)) all (more_replaced strip text written rest done (length text - done) inside boundary replaced (unprefixed strip rest none)),
+      after_is ∙ ap (λ l. l ++ rest) before_is ∙ append_assoc old written rest,
+    )
+
+pub rest_appended : {T E : Type 0} (r : Result T E) (strip : Bool) (text old before after : List ℕ) (done : ℕ) → done ≤ length text → IsBoundary text done
+    → AppendsReplaced strip (take done text) old before → HasNoPrefix (take (length text - done) (drop done text))
+    → OnOk r (after ≡ before ++ take (length text - done) (drop done text)) → OnOk r (AppendsReplaced strip text old after)
+rest_appended (Ok _) strip text old before after done inside boundary so_far none after_is =
+    rest_replaced strip text old before after done inside boundary so_far none after_is
+rest_appended (Err _) strip text old before after done inside boundary so_far none after_is = tt

@@ -1,0 +1,81 @@
+-- The replaced text of a list of bytes: symbols that stand in words are replaced by their answers.
+use Rattle.std.specs.Prelude.{◌≡◌, ◌≢◌, ℕ, List, [], ◌∷◌, ◌++◌, All, Bool, false, ◌&&◌, ◌||◌, Option, Some, None, IsTrue, codes, take, drop, if◌then◌else◌}
+use Rattle.itanium_syntax.specs.Bytes.{is, is_between, is_digit, one_of, begins, begins_one_of}
+use Rattle.itanium_grammar.specs.Answer.{IsAnswer}
+
+-- a byte of words: an ASCII letter, a digit, `_`, `$` or `.`
+abbrev pub is_word_byte : ℕ → Bool
+is_word_byte byte = is_between "A" "Z" byte || is_between "a" "z" byte || is_digit byte || one_of (codes "_$.") byte
+
+abbrev pub IsWordByte : ℕ → Type 0
+IsWordByte byte = IsTrue (is_word_byte byte)
+
+-- the next byte is one of words
+abbrev pub begins_word : List ℕ → Bool
+begins_word [] = false
+begins_word (byte ∷ bytes) = is_word_byte byte
+
+abbrev pub IsDot : ℕ → Type 0
+IsDot byte = IsTrue (is "." byte)
+
+-- the last byte is a dot
+abbrev pub ends_in_dot : List ℕ → Bool
+ends_in_dot [] = false
+ends_in_dot (byte ∷ []) = is "." byte
+ends_in_dot (byte ∷ next ∷ bytes) = ends_in_dot (next ∷ bytes)
+
+-- one dot or `$` that stands in front
+abbrev pub sign_of : List ℕ → List ℕ
+sign_of word = if begins_one_of (codes ".$") word then take 1 word else []
+
+-- what follows it
+abbrev pub past_sign : List ℕ → List ℕ
+past_sign word = if begins_one_of (codes ".$") word then drop 1 word else word
+
+-- the symbol that the bytes are: they begin with `_Z` or `__Z`; or, where an underscore is stripped, they begin with
+-- `___Z`, and the first one is dropped
+abbrev pub symbol_at : Bool → List ℕ → Option (List ℕ)
+symbol_at strip bytes =
+    if begins (codes "_Z") bytes || begins (codes "__Z") bytes then Some bytes else
+    if strip && begins (codes "___Z") bytes then Some (drop 1 bytes) else None
+
+-- the symbol in a word without the dots at its end: what follows the sign, if it is one
+abbrev pub symbol_in : Bool → List ℕ → Option (List ℕ)
+symbol_in strip word = symbol_at strip (past_sign word)
+
+-- a word without the dots at its end, and what is written for it
+pub data IsWordAnswer (strip : Bool) (word : List ℕ) : List ℕ → Type 0 where
+  -- its sign stays, and the symbol in it has an answer
+  answered : {symbol text : List ℕ}
+      → symbol_in strip word ≡ Some symbol
+      → IsAnswer symbol (Some text)
+      → IsWordAnswer strip word (sign_of word ++ text)
+  -- it stays, where the symbol in it has none
+  unanswered : {symbol : List ℕ}
+      → symbol_in strip word ≡ Some symbol
+      → IsAnswer symbol None
+      → IsWordAnswer strip word word
+  -- it stays, where no symbol is in it
+  no_symbol : symbol_in strip word ≡ None → IsWordAnswer strip word word
+
+-- bytes, and their replaced text
+pub data IsReplaced (strip : Bool) : List ℕ → List ℕ → Type 0 where
+  -- there are none
+  no_byte : IsReplaced strip [] []
+  -- a byte of no word stays; more bytes follow
+  other : {byte : ℕ} {bytes text : List ℕ}
+      → is_word_byte byte ≡ false
+      → IsReplaced strip bytes text
+      → IsReplaced strip (byte ∷ bytes) (byte ∷ text)
+  -- a word, which has a byte at least
+  one_word : {word bytes answer text : List ℕ} (dots : List ℕ)
+      → word ++ dots ≢ []
+      → All IsWordByte (word ++ dots)
+      -- all dots at its end stay
+      → All IsDot dots
+      → ends_in_dot word ≡ false
+      → IsWordAnswer strip word answer
+      -- no more bytes of the word follow
+      → begins_word bytes ≡ false
+      → IsReplaced strip bytes text
+      → IsReplaced strip ((word ++ dots) ++ bytes) ((answer ++ dots) ++ text)

@@ -1,0 +1,59 @@
+//! Where a byte stands.
+ghost use Rattle.std.specs.Prelude.{◌+◌, ◌^◌, ◌<◌, ◌≤◌, length, take, IfSome, IfNone};
+ghost use Rattle.symfilter_engine.specs.Progress.{HasNone, IsFirst};
+
+use std::simd::prelude::*;
+
+/// How many bytes are compared at once.
+const LANES: usize = 32;
+
+/// The place of the first such byte, where it is among the 32 bytes from `at` on; none is before them.
+#[inline(always)]
+fn place_among(bytes: &[u8], at: usize, wanted: u8) -> Option<usize>
+    requires inside { at + 32 ≤ length bytes.now }
+    requires before { HasNone wanted (take at bytes.now) }
+    ensures found { IfSome result (IsFirst wanted bytes.now) }
+    ensures none { IfNone result (HasNone wanted (take (at + 32) bytes.now)) }
+{
+    let found = u8x32::from_slice(&bytes[at..])
+        .simd_eq(u8x32::splat(wanted))
+        .to_bitmask();
+    if found == 0 {
+        return None;
+    }
+    Some(at + found.trailing_zeros() as usize)
+}
+
+/// The place of the first such byte from `start` on, byte by byte; none is before it.
+fn place_from(bytes: &[u8], start: usize, wanted: u8) -> Option<usize>
+    requires inside { start ≤ length bytes.now }
+    requires before { HasNone wanted (take start bytes.now) }
+    ensures found { IfSome result (IsFirst wanted bytes.now) }
+    ensures none { IfNone result (HasNone wanted bytes.now) }
+{
+    for place in start..bytes.len() {
+        if bytes[place] == wanted {
+            return Some(place);
+        }
+    }
+    None
+}
+
+/// The place of the first such byte, or `None` where there is none.
+#[inline(always)]
+pub(crate) fn first_place(bytes: &[u8], wanted: u8) -> Option<usize>
+    ensures found { IfSome result (IsFirst wanted bytes.now) }
+    ensures none { IfNone result (HasNone wanted bytes.now) }
+{
+    let mut at = 0;
+    if bytes.len() >= LANES {
+        let last = bytes.len() - LANES;
+        while at <= last {
+            if let Some(place) = place_among(bytes, at, wanted) {
+                return Some(place);
+            }
+            at += LANES;
+        }
+    }
+    place_from(bytes, at, wanted)
+}

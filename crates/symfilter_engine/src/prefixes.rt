@@ -1,0 +1,41 @@
+//! Where the prefix of a symbol, `_Z`, stands in bytes.
+ghost use Rattle.std.specs.Prelude.{◌≡◌, ◌+◌, ◌≤◌, length, take, IfSome, IfNone};
+ghost use Rattle.symfilter_engine.specs.Filtered.{EndsInLineFeed};
+ghost use Rattle.symfilter_engine.specs.Progress.{HasNoPrefix, IsFirstPrefix};
+
+use super::line_feeds::ended_len;
+use super::places::first_place;
+
+const UNDERSCORE: u8 = b'_';
+
+/// The second byte of the prefix. It is looked for, since it is the rarer one.
+const PREFIX_END: u8 = b'Z';
+
+/// The place of the first `_Z`, or `None` where there is none.
+pub(crate) fn first_prefix(bytes: &[u8]) -> Option<usize>
+    ensures found { IfSome result (IsFirstPrefix bytes.now) }
+    ensures none { IfNone result (HasNoPrefix bytes.now) }
+{
+    let mut at = 0;
+    while let Some(more) = first_place(&bytes[at..], PREFIX_END) {
+        let place = at + more;
+        if place > 0 && bytes[place - 1] == UNDERSCORE {
+            return Some(place - 1);
+        }
+        at = place + 1;
+    }
+    None
+}
+
+/// How many bytes the first whole lines have, as far as no `_Z` is in them.
+#[inline(never)]
+pub(crate) fn unprefixed_len(lines: &[u8]) -> usize
+    ensures bound { result ≤ length lines.now }
+    ensures ended { EndsInLineFeed (take result lines.now) }
+    ensures unprefixed { HasNoPrefix (take result lines.now) }
+{
+    match first_prefix(lines) {
+        Some(place) => ended_len(&lines[..place], 0),
+        None => ended_len(lines, 0),
+    }
+}
