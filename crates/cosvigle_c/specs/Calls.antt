@@ -1,0 +1,29 @@
+-- What the two calls from C write.
+use Rattle.std.specs.Prelude.{ℕ, List, Some}
+use Rattle.itanium_grammar.specs.Answer.{IsAnswer}
+use Rattle.symfilter_engine.specs.Filtered.{IsAnswered}
+use Rattle.cosvigle_c.specs.Room.{Fills, IsShort}
+
+-- the answer of the symbol is written
+pub record WritesAnswer (symbol old new : List ℕ) (needed : ℕ) : Type 0 where
+  pub text : List ℕ
+  pub answer : IsAnswer symbol (Some text)
+  pub fills : Fills text old new needed
+
+-- there is too little room for the answer of the symbol
+pub record LacksRoom (symbol old new : List ℕ) (needed : ℕ) : Type 0 where
+  pub text : List ℕ
+  pub answer : IsAnswer symbol (Some text)
+  pub short : IsShort text old new needed
+
+-- the filtered text of the lines is written
+pub record WritesLines (lines old new : List ℕ) (needed : ℕ) : Type 0 where
+  pub text : List ℕ
+  pub filtered : IsAnswered lines text
+  pub fills : Fills text old new needed
+
+-- there is too little room for the filtered text of the lines
+pub record LacksLines (lines old new : List ℕ) (needed : ℕ) : Type 0 where
+  pub text : List ℕ
+  pub filtered : IsAnswered lines text
+  pub short : IsShort text old new needed

@@ -1,0 +1,9 @@
+// Reads names, one a line, and prints the answer of each, or the name itself.
+#include <cosvigle.hpp>
+#include <iostream>
+
+int main() {
+    for (std::string line; std::getline(std::cin, line);) {
+        std::cout << cosvigle::demangle(line).value_or(line) << '\n';
+    }
+}

@@ -1,0 +1,44 @@
+/* Cosvigle: mangled C++ symbols (Itanium C++ ABI) and their answers. Each answer is proved: see README.md.
+ *
+ * What a caller owes, and nothing checks:
+ * - Each pointer is valid for the bytes that its length says, also where that is 0, and none is NULL.
+ * - What a call writes to (answer or text, and needed) doesn't overlap anything else that it is given.
+ * - malloc, realloc and free are of one allocator.
+ * - No call is made from a signal handler, nor from the forked child of a process with threads.
+ * Calls share nothing: threads may make them at the same time. */
+#ifndef COSVIGLE_H
+#define COSVIGLE_H
+
+#include <stddef.h>
+#include <stdint.h>
+
+#ifdef __cplusplus
+extern "C" {
+#endif
+
+/* What a call answers. */
+enum {
+    COSVIGLE_WRITTEN = 0,   /* the text is written, and its length in bytes told in *needed */
+    COSVIGLE_NO_ANSWER = 1, /* the symbol has no answer */
+    COSVIGLE_NO_MEMORY = 2, /* memory was refused */
+    COSVIGLE_NO_ROOM = 3,   /* there is too little room: *needed says how many bytes are */
+    COSVIGLE_NOT_UTF8 = 4   /* the symbol isn't UTF-8 */
+};
+
+/* Writes the answer of a symbol of len bytes to answer, which has room bytes. It is written without a NUL at its end,
+ * and the bytes after it stay. With another status than COSVIGLE_WRITTEN nothing is written to answer; *needed is 0,
+ * but with COSVIGLE_NO_ROOM. A symbol begins with _Z or __Z; the parameters of a function aren't read, and all that
+ * follows from a dot right after what was read ends the answer. An answer is UTF-8. */
+int cosvigle_demangle(const uint8_t *symbol, size_t len, uint8_t *answer, size_t room, size_t *needed);
+
+/* Writes the filtered text of a block of lines, of len bytes, to text, which has room bytes: each line that is a symbol
+ * as its answer, each other line as it is. A line goes up to the next line feed, which is written too, or the end. The
+ * bytes after it stay. COSVIGLE_WRITTEN, or COSVIGLE_NO_MEMORY or COSVIGLE_NO_ROOM, with which nothing is written; with
+ * COSVIGLE_NO_MEMORY *needed is 0. */
+int cosvigle_filter(const uint8_t *lines, size_t len, uint8_t *text, size_t room, size_t *needed);
+
+#ifdef __cplusplus
+}
+#endif
+
+#endif
