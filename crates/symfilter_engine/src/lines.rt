@@ -241,6 +241,38 @@ fn append_block(
     }
 }
 
+/// Appends what is written for the first of these lines, and answers how many bytes they have: so many ordinary bytes,
+/// or other lines where these are none. After an error nothing is appended.
+#[inline(always)]
+fn append_front(
+    alloc: Global,
+    demangler: &mut Demangler,
+    symbols: Symbols,
+    lines: &[u8],
+    ordinary: usize,
+    known_utf8: bool,
+    output: &mut Text,
+) -> Result<usize, AllocError>
+    requires some { 0 < length lines.now }
+    requires ended { EndsInLineFeed lines.now }
+    requires inside { ordinary ≤ length lines.now }
+    requires ordinary { AreLinesFiltered symbols (take ordinary lines.now) (take ordinary lines.now) }
+    requires known { IsTrue known_utf8 → IsUtf8 lines.now }
+    ensures some { IfOk result (λ len. 0 < len) }
+    ensures bound { IfOk result (λ len. len ≤ length lines.now) }
+    ensures ok { IfOk result (λ len. AppendsLines symbols (take len lines.now) output.old output.new) }
+    ensures err { OnErr result (output.new ≡ output.old) }
+{
+    if ordinary > 0 {
+        output.add_many(&lines[..ordinary])?;
+        return Ok(ordinary);
+    }
+    match symbols {
+        Symbols::Lines => append_line(alloc, demangler, lines, known_utf8, output),
+        Symbols::Words(strip) => append_block(alloc, demangler, strip, lines, output),
+    }
+}
+
 /// Appends what is written for the first of these lines, a run of ordinary ones or others, and answers how many bytes
 /// they have. After an error nothing is appended.
 #[inline(always)]
@@ -261,14 +293,7 @@ fn append_next(
     ensures err { OnErr result (output.new ≡ output.old) }
 {
     let ordinary = ordinary_len(symbols, lines);
-    if ordinary > 0 {
-        output.add_many(&lines[..ordinary])?;
-        return Ok(ordinary);
-    }
-    match symbols {
-        Symbols::Lines => append_line(alloc, demangler, lines, known_utf8, output),
-        Symbols::Words(strip) => append_block(alloc, demangler, strip, lines, output),
-    }
+    append_front(alloc, demangler, symbols, lines, ordinary, known_utf8, output)
 }
 
 /// Appends what is written for more of these lines, until the output is long or memory is refused, and answers how many
@@ -333,7 +358,7 @@ fn write_next<W: Sink>(
     }
     output.clear();
     output.reserve(OUTPUT_ROOM)?;
-    let first = append_next(alloc, demangler, symbols, lines, known_utf8, output)?;
+    let first = append_front(alloc, demangler, symbols, lines, ordinary, known_utf8, output)?;
     let len = gather_lines(alloc, demangler, symbols, lines, known_utf8, first, output);
     write_all(sink, output.as_slice())?;
     Ok(len)
