@@ -463,18 +463,12 @@ mutual
   pub data Args : Context → Bool → Position → List Tree → Position → Cost → Type 0 where
     args :
         {x : Context} {of_name : Bool} {p q : Position} {list : List Tree} {c : Cost}
-        → Arguments x (opens_scope of_name x) (scopes_in (opens_scope of_name x) p)
+        → ArgumentsAs (args_case (drop 1 p.rest)) x (opens_scope of_name x) (scopes_in (opens_scope of_name x) p)
         (begin_list (opens_scope of_name x) (skip 1 p)) list q c
         → Args x of_name p list q (counted (length (list_printing list)) c)
 
-  -- arguments up to the E; the scopes that each opened are dropped, and it goes into the list's own
-  pub data Arguments : Context → Bool → ℕ → Position → List Tree → Position → Cost → Type 0 where
-    arguments :
-        {x : Context} {opens : Bool} {n : ℕ} {p q : Position} {list : List Tree} {c : Cost}
-        → ArgumentsAs (args_case p.rest) x opens n p list q c
-        → Arguments x opens n p list q c
-
-  -- one more <template-arg>, or the E after them
+  -- one more <template-arg>, or the E after them; the scopes that each opened are dropped, and it goes into the list's
+  -- own
   pub data ArgumentsAs : ArgsCase → Context → Bool → ℕ → Position → List Tree → Position → Cost → Type 0 where
     -- E
     end_of_arguments :
@@ -484,7 +478,7 @@ mutual
     one_more_argument :
         {x : Context} {opens : Bool} {n : ℕ} {p q r : Position} {t : Tree} {ts : List Tree} {c d : Cost}
         → ArgumentAs (argument_case p.rest) x p t q c
-        → Arguments x opens n (add_argument opens n t q) ts r d
+        → ArgumentsAs (args_case q.rest) x opens n (add_argument opens n t q) ts r d
         → ArgumentsAs NextArgument x opens n p (t ∷ ts) r (both c d)
 
   -- <template-arg> ::= J <template-arg>* E: counted, with the context of a pack inside

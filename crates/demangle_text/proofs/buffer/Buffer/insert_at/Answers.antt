@@ -3,7 +3,7 @@ use Rattle.std.proofs.Common.{◌≡◌, ◌++◌, length, take, drop, refl, ari
 use Rattle.demangle_text.specs.View.{store_of}
 use Rattle.demangle_text.specs.Gaps.{IsGap}
 use Rattle.demangle_text.proofs.Gaps.{IsGap-same, IsStore-filled, IsEdit-filled, length-gap, one-put}
-use Rattle.demangle_text.proofs.buffer.Buffer.insert_within.Goals as goal
+use Rattle.demangle_text.proofs.buffer.Buffer.insert_at.Goals as goal
 
 pub put-requires : goal.put-requires
 put-requires c =
