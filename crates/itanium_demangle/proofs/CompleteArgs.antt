@@ -13,7 +13,9 @@ use Rattle.itanium_grammar.specs.Grammar as parsed
 use Rattle.itanium_grammar.specs.Grammar.{Position, Cost, skip, begin_list, scopes_in, ArgumentsAs, PackedAs, args, end_of_arguments, one_more_argument, pack, end_of_pack, one_more_packed}
 use Rattle.itanium_grammar.proofs.Progress.{argument_takes}
 use Rattle.itanium_demangle.specs.Cases.{ArgsCase}
-use Rattle.itanium_reader.specs.Parser.{after_turn, loop, add_argument, add_nowhere, ◌>>=◌, parse_argument, parse_primary, parse_encoding, parse_special, parse_name, next_item, list_as, list_turn, parse_list, parse_packed, parse_args, parse_pack}
+use Rattle.itanium_reader.specs.Parser.{after_turn, loop, add_argument, add_nowhere, ◌>>=◌, parse_argument}
+use Rattle.itanium_reader.specs.Parser.{parse_primary, parse_encoding, parse_special, parse_name, next_item, list_as}
+use Rattle.itanium_reader.specs.Parser.{list_turn, parse_list, parse_packed, parse_args, parse_pack}
 use Rattle.itanium_demangle.specs.Meaning.{state_at}
 use Rattle.itanium_demangle.proofs.Shapes.{same_read, add_argument-scopes, begin_list-scopes, shape-pack_of}
 use Rattle.itanium_demangle.specs.Readers.{shape_of_args}
@@ -82,7 +84,9 @@ module _ (d : ℕ) (each : ArgumentsComplete d) where
   packed_met (suc n) x p q list c a deep e m first front room = packed_as_met n (packed_met n) a deep e m first front room
 
   -- a list from its I to its E
-  pub list_met : {x : Context} {o : Bool} (p : Position) {q : Position} {list : List Tree} {c : Cost} → ArgumentsAs (args_case (drop 1 p.rest)) x o (scopes_in o p) (begin_list o (skip 1 p)) list q c → Small d c → (e m : ℕ)
+  pub list_met : {x : Context} {o : Bool} (p : Position) {q : Position} {list : List Tree} {c : Cost}
+      → ArgumentsAs (args_case (drop 1 p.rest)) x o (scopes_in o p) (begin_list o (skip 1 p)) list q c → Small d c
+      → (e m : ℕ)
       → Met text_len (parse_list (parse_argument d x) o (state_at p e m)) (reached shape_of_args list q c e m)
   list_met {o = o} p {list = list} a deep e m =
       let within = after-le (after_drop 1 p.rest) in

@@ -8,11 +8,15 @@ use Rattle.itanium_syntax.specs.Context.{opens_scope, inside_pack}
 use Rattle.itanium_syntax.specs.Args.{args_case}
 use Rattle.itanium_syntax.proofs.Fronts.{after_drop, after-le}
 use Rattle.itanium_grammar.specs.Tree.{shape_of}
-use Rattle.itanium_grammar.specs.Grammar.{Position, add_argument, begin_list, skip, both, Args, ArgumentsAs, Pack, PackedAs, args, end_of_arguments, one_more_argument, pack, end_of_pack, one_more_packed}
+use Rattle.itanium_grammar.specs.Grammar.{Position, add_argument, begin_list, skip, both, Args, ArgumentsAs, Pack}
+use Rattle.itanium_grammar.specs.Grammar.{PackedAs, args, end_of_arguments, one_more_argument, pack, end_of_pack}
+use Rattle.itanium_grammar.specs.Grammar.{one_more_packed}
 use Rattle.itanium_grammar.proofs.Progress.{argument_takes}
 use Rattle.itanium_demangle.specs.Cases.{ArgsCase, EndOfArguments, NextArgument}
 use Rattle.itanium_reader.specs.Parser as parser
-use Rattle.itanium_reader.specs.Parser.{ParserState, Turn, after_turn, loop, parse_loop, add_nowhere, ◌>>=◌, parse_argument, parse_primary, parse_encoding, parse_special, parse_name, next_item, list_as, list_turn, parse_list, parse_packed, parse_args, parse_pack}
+use Rattle.itanium_reader.specs.Parser.{ParserState, Turn, after_turn, loop, parse_loop, add_nowhere, ◌>>=◌}
+use Rattle.itanium_reader.specs.Parser.{parse_argument, parse_primary, parse_encoding, parse_special, parse_name}
+use Rattle.itanium_reader.specs.Parser.{next_item, list_as, list_turn, parse_list, parse_packed, parse_args, parse_pack}
 use Rattle.itanium_demangle.specs.Meaning.{state_at}
 use Rattle.itanium_demangle.proofs.Shapes.{add_argument-scopes, begin_list-scopes}
 use Rattle.itanium_demangle.proofs.Fitting.{met_passed, past_fitting}
