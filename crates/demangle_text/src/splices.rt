@@ -45,7 +45,8 @@ impl Buffer {
         self.keep_only_alone(at, piece)
     }
 
-    // `keep_only_elsewhere` of the piece's text alone. It is inlined, so that this second piece is made on no other way.
+    // `keep_only_elsewhere` of the piece's text alone. It is inlined, so that this second piece is made on no other
+    // way.
     #[inline(always)]
     fn keep_only_alone(&mut self, at: usize, piece: &mut Piece) -> Result<(), AllocError>
         requires mark { self.old.frame_main ≡ at }
