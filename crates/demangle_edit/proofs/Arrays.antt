@@ -14,7 +14,9 @@ pub first_shape : (elem longer array : Shape) (dimension : Option ℕ) (at : ℕ
 first_shape elem longer array dimension at flat by_at by_longer by_array =
     by_array ∙ ap (λ (n : ℕ). declared_at Array n longer) by_at ∙ ap (declared_at Array (text_len elem)) by_longer ∙ plain_array elem.form flat
   where
-    plain_array : (f : Form) → IsPlain f → declared_at Array (length (form_text f)) (inserted End (codes " " ++ dimension_text dimension) (record elem { form = f })) ≡ array_shape dimension (record elem { form = f })
+    plain_array : (f : Form) → IsPlain f → declared_at Array (length (form_text f))
+        (inserted End (codes " " ++ dimension_text dimension) (record elem { form = f })) ≡ array_shape dimension
+        (record elem { form = f })
     plain_array (Plain t) h = refl
     plain_array (Declared k before group after) h = absurd h
 

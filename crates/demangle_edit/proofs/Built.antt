@@ -1,5 +1,7 @@
 -- Lists that are built as they are read: one text after another gives the whole list.
-use Rattle.std.proofs.Common.{◌≡◌, ℕ, ◌+◌, ◌-◌, ◌<◌, ◌==◌, Bool, true, false, List, [], ◌∷◌, ◌++◌, length, take, drop, get_or, map, codes, sym, ap, ◌∙◌, refl, arith, append_assoc, if◌then◌else◌, nat_eq, bytes_eq, subst, All}
+use Rattle.std.proofs.Common.{◌≡◌, ℕ, ◌+◌, ◌-◌, ◌<◌, ◌==◌, Bool, true, false, List, [], ◌∷◌, ◌++◌, length, take, drop}
+use Rattle.std.proofs.Common.{get_or, map, codes, sym, ap, ◌∙◌, refl, arith, append_assoc, if◌then◌else◌, nat_eq}
+use Rattle.std.proofs.Common.{bytes_eq, subst, All}
 use Rattle.std.specs.List.{ends_with}
 use Rattle.std.proofs.Math.Seq.{drop-append-add}
 use Rattle.std.proofs.lemmas.Bool.Decides.{nat_tests}

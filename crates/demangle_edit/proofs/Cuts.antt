@@ -63,7 +63,8 @@ function_shape_is ret list begun closed worded whole declared params quals words
     })
 
 -- what is no declarator may be returned by a function
-pub function_found : (ret found : Shape) (params : List Shape) (quals : Quals) → is_some (kind_of ret.form) ≡ false → found ≡ function_shape ret params quals → function_step ret params quals ≡ Some found
+pub function_found : (ret found : Shape) (params : List Shape) (quals : Quals) → is_some (kind_of ret.form) ≡ false
+    → found ≡ function_shape ret params quals → function_step ret params quals ≡ Some found
 function_found ret found params quals flat e =
     ap (λ (b : Bool). if b then Some (function_shape ret params quals) else None) (plain_form ret.form flat) ∙ ap Some (sym e)
   where

@@ -99,4 +99,19 @@ cut_found Left s h none =
     let some = ap (λ (b : Bool). if b then Some (if ends_with nat_eq (text s) (codes "&&") then shortened 1 s else s) else None) found in
     let e = none ∙ some in cc
 
-pub ruleset declarators = (plain_kind, plain_form, declared_kind, declared_form, pointed_end, pointed_close, pointed_open, can_close, can_word, words_end, words_close, words_suffix, words_after, cut_found)
+pub ruleset declarators = (
+  plain_kind,
+  plain_form,
+  declared_kind,
+  declared_form,
+  pointed_end,
+  pointed_close,
+  pointed_open,
+  can_close,
+  can_word,
+  words_end,
+  words_close,
+  words_suffix,
+  words_after,
+  cut_found,
+)

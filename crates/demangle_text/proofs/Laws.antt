@@ -6,7 +6,9 @@ use Rattle.demangle_text.specs.declared.shape.Piece.{Piece}
 use Rattle.demangle_text.specs.declared.shape.Mark.{Mark}
 use Rattle.demangle_text.specs.Shape.{Shape}
 use Rattle.demangle_text.specs.Pieces.{Store}
-use Rattle.demangle_text.specs.State.{Frame, frame, frame_start, inside, main_bytes, IsLiving, IsOlder, IsAsOld, shape, Lives, SameLists, SameFrame, KeepsFront, KeepsAll, IsEdit, Opens, Closes, IsRun, IsSince}
+use Rattle.demangle_text.specs.State.{Frame, frame, frame_start, inside, main_bytes, IsLiving, IsOlder, IsAsOld, shape}
+use Rattle.demangle_text.specs.State.{Lives, SameLists, SameFrame, KeepsFront, KeepsAll, IsEdit, Opens, Closes, IsRun}
+use Rattle.demangle_text.specs.State.{IsSince}
 use Rattle.demangle_text.specs.State.{Stands, StandsAs, StandsBefore, EndsMain, IsEditOf, IsJoinOf, StaysInPlace, JoinsInPlace, Appends}
 use Rattle.demangle_text.proofs.States.{Stands-begins, Stands-ordered, Stands-tail}
 

@@ -1,5 +1,7 @@
 -- What stays when a buffer's texts grow, and when the texts that it keeps lie elsewhere.
-use Rattle.std.proofs.Common.{◌≡◌, ℕ, ◌-◌, ◌<◌, ◌≤◌, Bool, true, false, List, [], ◌++◌, length, take, drop, slice_range, leb, All, map, refl, sym, ap, ◌∙◌, subst, arith, Result, Ok, Err, OnErr, append_assoc, set, get_or}
+use Rattle.std.proofs.Common.{◌≡◌, ℕ, ◌-◌, ◌<◌, ◌≤◌, Bool, true, false, List, [], ◌++◌, length, take, drop, slice_range}
+use Rattle.std.proofs.Common.{leb, All, map, refl, sym, ap, ◌∙◌, subst, arith, Result, Ok, Err, OnErr, append_assoc}
+use Rattle.std.proofs.Common.{set, get_or}
 use Rattle.std.proofs.Math.Seq.{map-set_same}
 use Rattle.std.proofs.lemmas.Bool.{leb-true, leb-false}
 use Rattle.std.proofs.lemmas.List.Elements.{All-set, All-get_or, All-weaker}
@@ -8,7 +10,9 @@ use Rattle.demangle_text.specs.declared.shape.Piece.{Piece}
 use Rattle.demangle_text.specs.declared.shape.Mark.{Mark}
 use Rattle.demangle_text.specs.Shape.{text}
 use Rattle.demangle_text.specs.Pieces.{Store, IsStore, IsPiece, IsAt, IsOutlined, outline_of, shape_of, shape_in, piece_text, home_bytes, Extends}
-use Rattle.demangle_text.specs.State.{IsLiving, shape, saved, scopes, main_bytes, Stands, StandsBefore, frame, frame_start, inside, outside, Frame, IsBelow, IsOlder, KeepsAll, IsEdit, Opens, Closes, Lives, parts_at}
+use Rattle.demangle_text.specs.State.{IsLiving, shape, saved, scopes, main_bytes, Stands, StandsBefore, frame}
+use Rattle.demangle_text.specs.State.{frame_start, inside, outside, Frame, IsBelow, IsOlder, KeepsAll, IsEdit, Opens}
+use Rattle.demangle_text.specs.State.{Closes, Lives, parts_at}
 use Rattle.demangle_text.proofs.Forms.{text-form_of}
 use Rattle.growing_text.proofs.Parts.{part-append}
 use Rattle.demangle_text.proofs.Texts.{map_same}

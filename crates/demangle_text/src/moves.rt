@@ -74,7 +74,12 @@ fn set_aside(main: &[u8], side: &mut Text, piece: Piece) -> Result<Piece, AllocE
 }
 
 // A kept piece before a block is moved: one that would be torn is set aside.
-fn evict_one(main: &[u8], side: &mut Text, piece: Piece, block: Block) -> Result<Piece, AllocError>
+fn evict_alone(
+    main: &[u8],
+    side: &mut Text,
+    piece: Piece,
+    block: Block,
+) -> Result<Piece, AllocError>
     requires lies { IsPiece main.now side.old piece }
     ensures side { Extends side.old side.new }
     ensures lies { IfOk result (IsPiece main.now side.new) }
@@ -91,7 +96,8 @@ fn evict_one(main: &[u8], side: &mut Text, piece: Piece, block: Block) -> Result
     set_aside(main, side, piece)
 }
 
-// Sets aside the texts of all pieces of a list that would be torn.
+// Sets aside the texts of all pieces of a list that would be torn: none of them lies before the first that a move can
+// reach.
 #[inline(always)]
 fn evict(main: &[u8], side: &mut Text, pieces: &mut Ranges, block: Block) -> Result<(), AllocError>
     requires lie { All (IsPiece main.now side.old) pieces.old }
@@ -102,31 +108,8 @@ fn evict(main: &[u8], side: &mut Text, pieces: &mut Ranges, block: Block) -> Res
     ensures apart { OnOk result (All (IsApart block.low block.from block.end) pieces.new) }
 {
     let first = pieces.count_by(block.low);
-    if first == pieces.len() {
-        return Ok(());
-    }
-    evict_each(main, side, pieces, first, block)
-}
-
-// `evict` from the first piece on that a move can reach, piece by piece.
-fn evict_each(
-    main: &[u8],
-    side: &mut Text,
-    pieces: &mut Ranges,
-    first: usize,
-    block: Block,
-) -> Result<(), AllocError>
-    requires lie { All (IsPiece main.now side.old) pieces.old }
-    requires first { first ≤ length pieces.old }
-    requires below { AllWithin (EndsBy block.low) pieces.old 0 first }
-    ensures side { Extends side.old side.new }
-    ensures lie { All (IsPiece main.now side.new) pieces.new }
-    ensures shapes { map (shape_in main.now side.new) pieces.new ≡ map (shape_in main.now side.old) pieces.old }
-    ensures long { length pieces.new ≡ length pieces.old }
-    ensures apart { OnOk result (All (IsApart block.low block.from block.end) pieces.new) }
-{
     for i in first..pieces.len() {
-        let piece = evict_one(main, side, pieces.piece_at(i), block)?;
+        let piece = evict_alone(main, side, pieces.piece_at(i), block)?;
         pieces.set(i, piece);
     }
     Ok(())

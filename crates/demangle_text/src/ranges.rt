@@ -201,7 +201,7 @@ fn carry_each(kept: &mut Vec<Kept>, first: usize, count: usize, reach: usize, by
 {
     let mut reach = reach;
     for i in first..count {
-        let piece = carry_one(kept[i].piece, &by);
+        let piece = carry_alone(kept[i].piece, &by);
         reach = reached(reach, &piece);
         set_kept(kept, i, &piece, reach);
     }
@@ -225,7 +225,7 @@ fn set_kept(kept: &mut Vec<Kept>, at: usize, piece: &Piece, end: usize)
 }
 
 // A kept piece after the block was moved.
-fn carry_one(piece: Piece, by: &Move) -> Piece
+fn carry_alone(piece: Piece, by: &Move) -> Piece
     requires ordered { piece.from_byte ≤ piece.to_byte }
     requires block { by.now.block.from ≤ by.now.block.end }
     requires apart { IsApart by.now.block.low by.now.block.from by.now.block.end piece }

@@ -42,12 +42,13 @@ impl Buffer {
         if !piece.is_aside() && piece.from_byte == at && piece.to_byte == len {
             return Ok(());
         }
-        self.keep_only_elsewhere(at, piece)
+        self.keep_only_alone(at, piece)
     }
 
-    // `keep_only` of a piece that stands elsewhere.
+    // `keep_only_elsewhere` of the piece's text alone. It is inlined, so that this second piece is made on no other
+    // way.
     #[inline(always)]
-    fn keep_only_elsewhere(&mut self, at: usize, piece: &mut Piece) -> Result<(), AllocError>
+    fn keep_only_alone(&mut self, at: usize, piece: &mut Piece) -> Result<(), AllocError>
         requires mark { self.old.frame_main ≡ at }
         requires living { IsLiving self.old piece.old }
         ensures edit { OnOk result (IsEdit self.old self.new) }
@@ -56,7 +57,7 @@ impl Buffer {
         ensures stands { OnOk result (IsAt piece.new at (length self.new.main_text)) }
         ensures outline { OnOk result (outline_of piece.new ≡ outline_of piece.old) }
     {
-        self.move_down(at, piece.alone())?;
+        self.keep_only_elsewhere(at, piece.alone())?;
         *piece = piece.moved_to(at, self.main.len());
         Ok(())
     }
@@ -64,7 +65,7 @@ impl Buffer {
     // The text of a piece that stands elsewhere becomes all of the main text since the innermost mark.
     #[cold]
     #[inline(never)]
-    fn move_down(&mut self, at: usize, piece: Piece) -> Result<(), AllocError>
+    fn keep_only_elsewhere(&mut self, at: usize, piece: Piece) -> Result<(), AllocError>
         requires mark { self.old.frame_main ≡ at }
         requires living { IsLiving self.old piece }
         ensures edit { OnOk result (IsEdit self.old self.new) }
@@ -151,7 +152,9 @@ impl Buffer {
         if bytes.is_empty() {
             return Ok(());
         }
-        self.insert_within(at, bytes)
+        self.open_gap(at, bytes.len())?;
+        self.main.put(at, bytes);
+        Ok(())
     }
 
     // Bytes at the end of the main text.
@@ -166,7 +169,7 @@ impl Buffer {
     }
 
     // Room of n bytes at a place of the main text since the innermost mark: what lies after it moves on.
-    #[inline(always)]
+    #[inline(never)]
     fn open_gap(&mut self, at: usize, n: usize) -> Result<(), AllocError>
         requires inner { self.old.frame_main ≤ at }
         requires within { at ≤ length self.old.main_text }
@@ -184,22 +187,6 @@ impl Buffer {
         self.main.open_room(at, n)?;
         let dest = at + (self.main.len() - len);
         self.lists.carry(rest, dest);
-        Ok(())
-    }
-
-    // Bytes at a place of the main text that has bytes after it.
-    #[inline(never)]
-    fn insert_within(&mut self, at: usize, bytes: &[u8]) -> Result<(), AllocError>
-        requires inner { self.old.frame_main ≤ at }
-        requires within { at ≤ length self.old.main_text }
-        ensures edit { OnOk result (IsEdit self.old self.new) }
-        ensures err { OnErr result (KeepsAll self.old self.new) }
-        ensures main { OnOk result (self.new.main_text ≡ take at self.old.main_text
-            ++ (bytes.now ++ drop at self.old.main_text)) }
-        ensures main_err { OnErr result (self.new.main_text ≡ self.old.main_text) }
-    {
-        self.open_gap(at, bytes.len())?;
-        self.main.put(at, bytes);
         Ok(())
     }
 
@@ -223,19 +210,19 @@ impl Buffer {
             return Ok(piece.from_byte);
         }
         if at == piece.text_len() {
-            return self.extend_elsewhere(piece, bytes, b"");
+            return self.extend_alone(piece, bytes, b"");
         }
         let texts = Three {
             front: b"",
             bytes,
             back: b"",
         };
-        self.splice_elsewhere(piece, at, texts)
+        self.splice_alone(piece, at, texts)
     }
 
-    // `extend_copy` of the piece's text alone. It is inlined, so that this second piece is made on no other way.
+    // `extend_elsewhere` of the piece's text alone, inlined as well.
     #[inline(always)]
-    fn extend_elsewhere(
+    fn extend_alone(
         &mut self,
         piece: Piece,
         first: &[u8],
@@ -248,12 +235,12 @@ impl Buffer {
         ensures kept { KeepsAll self.old self.new }
         ensures main_err { OnErr result (self.new.main_text ≡ self.old.main_text) }
     {
-        self.extend_copy(piece.alone(), first, second)
+        self.extend_elsewhere(piece.alone(), first, second)
     }
 
-    // `splice_copy` of the piece's text alone, inlined as well.
+    // `splice_elsewhere` of the piece's text alone, inlined as well.
     #[inline(always)]
-    fn splice_elsewhere(
+    fn splice_alone(
         &mut self,
         piece: Piece,
         at: usize,
@@ -266,13 +253,13 @@ impl Buffer {
         ensures kept { KeepsAll self.old self.new }
         ensures main_err { OnErr result (self.new.main_text ≡ self.old.main_text) }
     {
-        self.splice_copy(piece.alone(), at, texts)
+        self.splice_elsewhere(piece.alone(), at, texts)
     }
 
     // The text of a piece that doesn't stand at the end, with both texts after it, at the end of the main text: where
     // it begins.
     #[inline(never)]
-    fn extend_copy(
+    fn extend_elsewhere(
         &mut self,
         piece: Piece,
         first: &[u8],
@@ -293,7 +280,7 @@ impl Buffer {
     // The text of a piece that doesn't stand at the end, with three texts at a place of it, at the end of the main
     // text: where it begins.
     #[inline(never)]
-    fn splice_copy(
+    fn splice_elsewhere(
         &mut self,
         piece: Piece,
         at: usize,
@@ -330,7 +317,7 @@ impl Buffer {
             self.add_pair(first, second)?;
             return Ok(piece.from_byte);
         }
-        self.extend_elsewhere(piece, first, second)
+        self.extend_alone(piece, first, second)
     }
 
     // Two texts at the end of the main text.
@@ -396,7 +383,7 @@ impl Buffer {
             self.insert_three(piece.from_byte + at, texts)?;
             return Ok(piece.from_byte);
         }
-        self.splice_elsewhere(piece, at, texts)
+        self.splice_alone(piece, at, texts)
     }
 
     // Three texts at a place of the main text since the innermost mark: what lies after it moves on.
@@ -438,12 +425,12 @@ impl Buffer {
             self.insert_at(second.from_byte, bytes)?;
             return Ok(first.from_byte);
         }
-        self.join_apart(first, bytes, second)
+        self.join_alone(first, bytes, second)
     }
 
     // `join_elsewhere` of the texts alone, inlined as well.
     #[inline(always)]
-    fn join_apart(&mut self, first: Piece, bytes: &[u8], second: Piece) -> Result<usize, AllocError>
+    fn join_alone(&mut self, first: Piece, bytes: &[u8], second: Piece) -> Result<usize, AllocError>
         requires first_living { IsLiving self.old first }
         requires second_living { IsLiving self.old second }
         requires apart { IsAdjacent self.old first second → ⊥ }
@@ -472,7 +459,7 @@ impl Buffer {
         ensures main_err { OnErr result (self.new.main_text ≡ self.old.main_text) }
     {
         if self.is_tail(second) && first.ends_by(second.from_byte) {
-            self.join_within(second.from_byte, first, bytes)?;
+            self.insert_piece(second.from_byte, first, bytes)?;
             return Ok(second.from_byte);
         }
         let from = self.main.len();
@@ -482,7 +469,7 @@ impl Buffer {
 
     // The text of a piece and bytes at a place of the main text since the innermost mark, by which the piece ends if it
     // lies there: what lies after the place moves on.
-    fn join_within(&mut self, at: usize, first: Piece, bytes: &[u8]) -> Result<(), AllocError>
+    fn insert_piece(&mut self, at: usize, first: Piece, bytes: &[u8]) -> Result<(), AllocError>
         requires inner { self.old.frame_main ≤ at }
         requires within { at ≤ length self.old.main_text }
         requires living { IsLiving self.old first }

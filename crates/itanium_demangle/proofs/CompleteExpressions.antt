@@ -5,11 +5,19 @@ use Rattle.itanium_syntax.specs.declared.context.Context.{Context}
 use Rattle.itanium_syntax.specs.Context.{inside_encoding}
 use Rattle.itanium_syntax.specs.Expressions.{is_external, literal_case, expression_text}
 use Rattle.itanium_grammar.specs.Tree.{Tree, Operand, shape_of, shape_of_operand}
-use Rattle.itanium_grammar.specs.Grammar.{Position, Cost, ArgumentAs, ExpressionAs, OperandOf, LiteralAs, external_name, value_literal, expression, operand_of, pre_expression, address_expression, unary_expression, post_expression, binary_expression, greater_expression, conditional_expression, parameter_expression, literal_expression, expression_argument, pack_argument, literal_argument, type_argument}
+use Rattle.itanium_grammar.specs.Grammar.{Position, Cost, ArgumentAs, ExpressionAs, OperandOf, LiteralAs, external_name}
+use Rattle.itanium_grammar.specs.Grammar.{value_literal, expression, operand_of, pre_expression, address_expression}
+use Rattle.itanium_grammar.specs.Grammar.{unary_expression, post_expression, binary_expression, greater_expression}
+use Rattle.itanium_grammar.specs.Grammar.{conditional_expression, parameter_expression, literal_expression}
+use Rattle.itanium_grammar.specs.Grammar.{expression_argument, pack_argument, literal_argument, type_argument}
 use Rattle.itanium_demangle.specs.Cases.{LiteralCase, ExpressionCase, ArgumentCase}
-use Rattle.itanium_reader.specs.Parser.{parse_type, parse_name, parse_special, parse_pack, parse_encoding, literal_as, parse_primary, operand_by, expression_as, parse_expression, argument_as, parse_argument}
+use Rattle.itanium_reader.specs.Parser.{parse_type, parse_name, parse_special, parse_pack, parse_encoding, literal_as}
+use Rattle.itanium_reader.specs.Parser.{parse_primary, operand_by, expression_as, parse_expression, argument_as}
+use Rattle.itanium_reader.specs.Parser.{parse_argument}
 use Rattle.itanium_demangle.specs.Meaning.{state_at}
-use Rattle.itanium_demangle.proofs.Shapes.{same_read, shape-literal_of, shape-address_of, shape-operand, shape-pre_of, shape-unary_of, shape-post_of, shape-binary_of, shape-greater_of, shape-conditional_of}
+use Rattle.itanium_demangle.proofs.Shapes.{same_read, shape-literal_of, shape-address_of, shape-operand, shape-pre_of}
+use Rattle.itanium_demangle.proofs.Shapes.{shape-unary_of, shape-post_of, shape-binary_of, shape-greater_of}
+use Rattle.itanium_demangle.proofs.Shapes.{shape-conditional_of}
 use Rattle.itanium_demangle.proofs.Fitting.{Met, met, met_then, met_as, met_fits}
 use Rattle.itanium_demangle.proofs.Readings.{Small, reached, given, TypesComplete, PacksComplete, BareNamesComplete, ThunksComplete, ExpressionsComplete, ArgumentsComplete}
 use Rattle.itanium_demangle.proofs.CompleteNames.{parameter_complete, encoding_met}

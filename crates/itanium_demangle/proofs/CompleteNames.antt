@@ -16,13 +16,40 @@ use Rattle.itanium_syntax.specs.Encodings.{shows_words}
 use Rattle.itanium_syntax.specs.Context.{inside_lambda, inside_local, inside_encoding}
 use Rattle.itanium_syntax.proofs.Fronts.{initializer_after, after_drop, source_takes, after-le}
 use Rattle.itanium_grammar.specs.Tree.{Tree, bare_shape, own_quals, thunk_of, with_args, trees, unnamed_text, literal_operator_text, shape_of, name_printing}
-use Rattle.itanium_grammar.specs.Grammar.{Position, Cost, with_rest, SpecialAs, SymbolAs, special_encoding, type_special, name_special, temporary_special, construction_special, thunk_special, thunk, special_symbol, name_symbol, past_initializer, last_of, SubstitutionAs, Substitution, ParameterAs, Parameter, TaggedAs, UnqualifiedAs, Unqualified, FirstAs, Name, NameAs, Local, EntityAs, Encoding, EncodingAs, ReturnAs, SignatureAs, UnscopedAs, AttachedAs, Nested, Segments, SegmentsAs, abbreviation_substitution, component_substitution, substitution, auto_parameter, scope_parameter, parameter, no_tag, next_tag, FreeAs, source_free, unnamed_type_free, lambda_free, conversion_free, literal_operator_free, operator_free, constructor_unqualified, destructor_unqualified, free_unqualified, unqualified, parameter_first, std_first, substitution_first, name_first, name, nested_name, local_name, local, string_literal_entity, default_argument_entity, name_entity, encoding, name_encoding, no_return_type, some_return_type, no_signature, some_signature, unscoped_name, std_name, substitution_name, global_name, none_attached, args_attached, nested, segments, end_of_segments, args_segment, name_segment}
+use Rattle.itanium_grammar.specs.Grammar.{Position, Cost, with_rest, SpecialAs, SymbolAs, special_encoding}
+use Rattle.itanium_grammar.specs.Grammar.{type_special, name_special, temporary_special, construction_special}
+use Rattle.itanium_grammar.specs.Grammar.{thunk_special, thunk, special_symbol, name_symbol, past_initializer, last_of}
+use Rattle.itanium_grammar.specs.Grammar.{SubstitutionAs, Substitution, ParameterAs, Parameter, TaggedAs, UnqualifiedAs}
+use Rattle.itanium_grammar.specs.Grammar.{Unqualified, FirstAs, Name, NameAs, Local, EntityAs, Encoding, EncodingAs}
+use Rattle.itanium_grammar.specs.Grammar.{ReturnAs, SignatureAs, UnscopedAs, AttachedAs, Nested, Segments, SegmentsAs}
+use Rattle.itanium_grammar.specs.Grammar.{abbreviation_substitution, component_substitution, substitution}
+use Rattle.itanium_grammar.specs.Grammar.{auto_parameter, scope_parameter, parameter, no_tag, next_tag, FreeAs}
+use Rattle.itanium_grammar.specs.Grammar.{source_free, unnamed_type_free, lambda_free, conversion_free}
+use Rattle.itanium_grammar.specs.Grammar.{literal_operator_free, operator_free, constructor_unqualified}
+use Rattle.itanium_grammar.specs.Grammar.{destructor_unqualified, free_unqualified, unqualified, parameter_first}
+use Rattle.itanium_grammar.specs.Grammar.{std_first, substitution_first, name_first, name, nested_name, local_name}
+use Rattle.itanium_grammar.specs.Grammar.{local, string_literal_entity, default_argument_entity, name_entity, encoding}
+use Rattle.itanium_grammar.specs.Grammar.{name_encoding, no_return_type, some_return_type, no_signature, some_signature}
+use Rattle.itanium_grammar.specs.Grammar.{unscoped_name, std_name, substitution_name, global_name, none_attached}
+use Rattle.itanium_grammar.specs.Grammar.{args_attached, nested, segments, end_of_segments, args_segment, name_segment}
 use Rattle.itanium_grammar.proofs.Progress.{unqualified_takes, args_takes}
-use Rattle.itanium_demangle.specs.Cases.{SymbolCase, SpecialCase, ReturnCase, SignatureCase, EntityCase, SubstitutionCase, TagCase, UnqualifiedCase, FreeCase, FirstCase, NameCase, UnscopedCase, AttachedCase, SegmentCase}
-use Rattle.itanium_reader.specs.Parser.{ParserState, after_turn, loop, ◌>>=◌, tag_as, tag_turn, parse_tags, free_as, parse_free, parse_type, substitution_as, parse_substitution, parameter_as, parse_parameter, unqualified_as, parse_unqualified, first_as, attached_by, attached_as, unscoped_as, segment_as, segment_turn, parse_nested, return_as, signature_as, special_as, parse_special, symbol_as, symbol_by, thunk_by, parse_thunk, encoding_as, parse_encoding, entity_as, parse_local, name_as, parse_bare_name, parse_name, parse_args}
+use Rattle.itanium_demangle.specs.Cases.{SymbolCase, SpecialCase, ReturnCase, SignatureCase, EntityCase}
+use Rattle.itanium_demangle.specs.Cases.{SubstitutionCase, TagCase, UnqualifiedCase, FreeCase, FirstCase, NameCase}
+use Rattle.itanium_demangle.specs.Cases.{UnscopedCase, AttachedCase, SegmentCase}
+use Rattle.itanium_reader.specs.Parser.{ParserState, after_turn, loop, ◌>>=◌, tag_as, tag_turn, parse_tags, free_as}
+use Rattle.itanium_reader.specs.Parser.{parse_free, parse_type, substitution_as, parse_substitution, parameter_as}
+use Rattle.itanium_reader.specs.Parser.{parse_parameter, unqualified_as, parse_unqualified, first_as, attached_by}
+use Rattle.itanium_reader.specs.Parser.{attached_as, unscoped_as, segment_as, segment_turn, parse_nested, return_as}
+use Rattle.itanium_reader.specs.Parser.{signature_as, special_as, parse_special, symbol_as, symbol_by, thunk_by}
+use Rattle.itanium_reader.specs.Parser.{parse_thunk, encoding_as, parse_encoding, entity_as, parse_local, name_as}
+use Rattle.itanium_reader.specs.Parser.{parse_bare_name, parse_name, parse_args}
 use Rattle.itanium_demangle.specs.Meaning.{state_at}
 use Rattle.itanium_demangle.specs.Readers.{bare_of}
-use Rattle.itanium_demangle.proofs.Shapes.{shape-worded, shape-temporary_of, shape-construction_of, shape-thunk_of, same_read, same_state, one_more, taken-map, some-map, last-map, shape-plain_text, shape-abbreviation, shape-ctor_dtor_of, shape-tagged_with, shape-lambda_of, shape-conversion_to, shape-with_args, shape-in_parent, shape-encoding_of, shape-function_encoding}
+use Rattle.itanium_demangle.proofs.Shapes.{shape-worded, shape-temporary_of, shape-construction_of, shape-thunk_of}
+use Rattle.itanium_demangle.proofs.Shapes.{same_read, same_state, one_more, taken-map, some-map, last-map}
+use Rattle.itanium_demangle.proofs.Shapes.{shape-plain_text, shape-abbreviation, shape-ctor_dtor_of, shape-tagged_with}
+use Rattle.itanium_demangle.proofs.Shapes.{shape-lambda_of, shape-conversion_to, shape-with_args, shape-in_parent}
+use Rattle.itanium_demangle.proofs.Shapes.{shape-encoding_of, shape-function_encoding}
 use Rattle.itanium_demangle.proofs.CompleteLists.{typed_params_met}
 use Rattle.itanium_demangle.proofs.Fitting.{bare_len, Met, met, met_then, met_as, met_step, met_fits, met_fits_bare, fits}
 use Rattle.itanium_demangle.proofs.Grows.{lambda_longer, params_longer}
@@ -137,12 +164,16 @@ module _ (d : ℕ) (lists : ArgsComplete d) (kinds : TypesComplete d) where
     unfolding loop segment_turn
 
     pub segments_met : {x : Context} {takes : Bool} {t u : Tree} {p q : Position} {c : Cost} → Segments x takes t p u q c → Small d c → (e m n : ℕ) → length p.rest < n
-        → Met text_len (loop (segment_turn (parse_unqualified (parse_type d x) (parse_type d (inside_lambda x))) (parse_args d x true)) n (takes, shape_of t) (state_at p e m)) (reached shape_of u q c e m)
+        → Met text_len (loop (segment_turn (parse_unqualified (parse_type d x) (parse_type d (inside_lambda x)))
+        (parse_args d x true)) n (takes, shape_of t) (state_at p e m)) (reached shape_of u q c e m)
     segments_met (segments a) deep e m zero room = absurd (omega arith)
     segments_met (segments a) deep e m (suc n) room = segment_met a deep e m n room
 
     segment_met : {case : SegmentCase} {x : Context} {takes : Bool} {t u : Tree} {p q : Position} {c : Cost} → SegmentsAs case x takes t p u q c → Small d c → (e m n : ℕ) → length p.rest < suc n
-        → Met text_len (segment_as case (parse_unqualified (parse_type d x) (parse_type d (inside_lambda x))) (parse_args d x true) (takes, shape_of t) (state_at p e m) >>= λ r. after_turn r.0 (loop (segment_turn (parse_unqualified (parse_type d x) (parse_type d (inside_lambda x))) (parse_args d x true)) n) r.1) (reached shape_of u q c e m)
+        → Met text_len (segment_as case (parse_unqualified (parse_type d x) (parse_type d (inside_lambda x)))
+        (parse_args d x true) (takes, shape_of t) (state_at p e m) >>= λ r. after_turn r.0
+        (loop (segment_turn (parse_unqualified (parse_type d x) (parse_type d (inside_lambda x)))
+        (parse_args d x true)) n) r.1) (reached shape_of u q c e m)
     segment_met (end_of_segments {takes = takes} {p = p}) deep e m n room = met (same_read refl (taken-map takes p.saved) refl (omega arith) (omega arith))
     segment_met (args_segment {x = x} {p = p} {q = q} {t = t} {list = ts} {c = c} a b) deep e m n room =
         let attached : attached_by (parse_args d x true) (shape_of t) (state_at p e m) ≡ given shape_of (with_args t (trees ts)) q c e m =

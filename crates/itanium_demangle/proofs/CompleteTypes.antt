@@ -9,11 +9,17 @@ use Rattle.itanium_syntax.specs.declared.context.Context.{Context}
 use Rattle.itanium_syntax.specs.Names.{source_text}
 use Rattle.itanium_syntax.specs.Types.{builtin_text, elaborated_text, with_reference}
 use Rattle.itanium_grammar.specs.Tree.{Tree, plain_text, with_args, pointer_to, array_of, member_of, elaborated, expanded, trees, shape_of}
-use Rattle.itanium_grammar.specs.Grammar.{Position, Cost, TypeAs, CvAs, Function, TypeAttachedAs, type, builtin_type, expansion_type, vendor_type, array_type, function_type, member_type, pointer_type, cv_type, elaborated_type, parameter_type, substitution_type, name_type, cv_function, cv_other, function, none_attached_to_type, args_attached_to_type}
+use Rattle.itanium_grammar.specs.Grammar.{Position, Cost, TypeAs, CvAs, Function, TypeAttachedAs, type, builtin_type}
+use Rattle.itanium_grammar.specs.Grammar.{expansion_type, vendor_type, array_type, function_type, member_type}
+use Rattle.itanium_grammar.specs.Grammar.{pointer_type, cv_type, elaborated_type, parameter_type, substitution_type}
+use Rattle.itanium_grammar.specs.Grammar.{name_type, cv_function, cv_other, function, none_attached_to_type}
+use Rattle.itanium_grammar.specs.Grammar.{args_attached_to_type}
 use Rattle.itanium_demangle.specs.Cases.{TypeCase, CvCase, AttachedCase}
 use Rattle.itanium_reader.specs.Parser.{parse_function, cv_as, type_attached_as, type_as, parse_name, parse_args, parse_type}
 use Rattle.itanium_demangle.specs.Meaning.{state_at}
-use Rattle.itanium_demangle.proofs.Shapes.{same_read, one_more, shape-plain_text, shape-with_args, shape-pointer_to, shape-cv_of, shape-array_of, shape-member_of, shape-function_to, shape-elaborated, shape-expanded}
+use Rattle.itanium_demangle.proofs.Shapes.{same_read, one_more, shape-plain_text, shape-with_args, shape-pointer_to}
+use Rattle.itanium_demangle.proofs.Shapes.{shape-cv_of, shape-array_of, shape-member_of, shape-function_to}
+use Rattle.itanium_demangle.proofs.Shapes.{shape-elaborated, shape-expanded}
 use Rattle.itanium_demangle.proofs.CompleteLists.{typed_params_met}
 use Rattle.itanium_demangle.proofs.CompleteNames.{substitution_complete, parameter_complete}
 use Rattle.itanium_demangle.proofs.Fitting.{Met, met, met_then, met_as, met_fits}

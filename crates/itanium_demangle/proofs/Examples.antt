@@ -10,7 +10,10 @@ use Rattle.itanium_syntax.specs.Scalars.{front_digits, weighted, number, index_o
 use Rattle.itanium_grammar.specs.Answer.{after_prefix, start, initial, suffix, max_depth, max_text, IsAnswer}
 use Rattle.itanium_syntax.specs.Expressions.{literal_value}
 use Rattle.itanium_syntax.specs.Offsets.{thunk_offsets, past_base_offset}
-use Rattle.itanium_reader.specs.Parser.{ParserState, begun, loop, segment_turn, tag_turn, list_turn, typed_turn, parse_unqualified, parse_substitution, parse_parameter, parse_nested, parse_bare_name, parse_encoding, parse_local, parse_thunk, parse_special, parse_primary, parse_expression, parse_argument, parse_name, parse_symbol}
+use Rattle.itanium_reader.specs.Parser.{ParserState, begun, loop, segment_turn, tag_turn, list_turn, typed_turn}
+use Rattle.itanium_reader.specs.Parser.{parse_unqualified, parse_substitution, parse_parameter, parse_nested}
+use Rattle.itanium_reader.specs.Parser.{parse_bare_name, parse_encoding, parse_local, parse_thunk, parse_special}
+use Rattle.itanium_reader.specs.Parser.{parse_primary, parse_expression, parse_argument, parse_name, parse_symbol}
 use Rattle.itanium_demangle.specs.Examples.{WorkedSymbols, e_acute}
 use Rattle.itanium_demangle.proofs.Readers.{symbols}
 use Rattle.itanium_demangle.proofs.Symbols.{no_prefix, not_read, printed}
@@ -45,7 +48,10 @@ not_text symbol inside answer prefix is = go (parse_symbol max_depth initial (be
         printed symbol inside 0 0 s after None prefix ((symbols max_depth initial).reads (start inside) 0 0 s after e) (λ u. let yes = is_utf8-from_IsUtf8 (text s) u in cc)
 
 pub worked_symbols : WorkedSymbols
-unfolding max_text parse_symbol parse_name parse_bare_name parse_encoding parse_local parse_thunk parse_special parse_primary parse_expression parse_argument literal_value thunk_offsets past_base_offset parse_nested loop segment_turn tag_turn list_turn typed_turn parse_unqualified parse_substitution parse_parameter source_name number index_of ordinal optional_number front_digits weighted digits is_utf8 chars lib.Utf8.encode
+unfolding max_text parse_symbol parse_name parse_bare_name parse_encoding parse_local parse_thunk parse_special
+    parse_primary parse_expression parse_argument literal_value thunk_offsets past_base_offset parse_nested loop
+    segment_turn tag_turn list_turn typed_turn parse_unqualified parse_substitution parse_parameter source_name number
+    index_of ordinal optional_number front_digits weighted digits is_utf8 chars lib.Utf8.encode
 worked_symbols = record {
   nested = some_answer (codes "_ZN3Foo3barEv") (codes "N3Foo3barEv") (codes "Foo::bar") refl refl;
   reference_qualified = some_answer (codes "_ZNO3Foo3barEv") (codes "NO3Foo3barEv") (codes "Foo::bar &&") refl refl;
@@ -113,5 +119,7 @@ worked_symbols = record {
   thunk = some_answer (codes "_ZTh0_1fv") (codes "Th0_1fv") (codes "{virtual override thunk({offset(0)}, f)}") refl refl;
   covariant_thunk = some_answer (codes "_ZTcv0_n16_h8_N3Foo3barEv") (codes "Tcv0_n16_h8_N3Foo3barEv") (codes "{virtual override thunk({virtual offset(0, -16)}, {offset(8)}, Foo::bar)}") refl refl;
   negative_offset = some_answer (codes "_ZThn8_N3Foo3barEv") (codes "Thn8_N3Foo3barEv") (codes "{virtual override thunk({offset(-8)}, Foo::bar)}") refl refl;
-  typeinfo = some_answer (codes "_ZTIMN4llvm4json6ObjectEKFSt8optionalINS_9StringRefEES3_E") (codes "TIMN4llvm4json6ObjectEKFSt8optionalINS_9StringRefEES3_E") (codes "typeinfo for std::optional<llvm::StringRef> (llvm::json::Object::*)(llvm::StringRef) const") refl refl;
+  typeinfo = some_answer (codes "_ZTIMN4llvm4json6ObjectEKFSt8optionalINS_9StringRefEES3_E")
+      (codes "TIMN4llvm4json6ObjectEKFSt8optionalINS_9StringRefEES3_E")
+      (codes "typeinfo for std::optional<llvm::StringRef> (llvm::json::Object::*)(llvm::StringRef) const") refl refl;
 }

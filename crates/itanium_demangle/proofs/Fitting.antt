@@ -77,11 +77,13 @@ met_fits {g = g} m narrow = rw (met_narrow m narrow) (fits g narrow)
 pub met_passed : {parsed : Option (Shape × ParserState)} {g z y : Shape × ParserState} → Met text_len parsed g → parsed ≡ Some z → fitting z ≡ Some y → text_len g.0 ≤ max_text
 met_passed {z = z} {y = y} m read through = rw (sym (met_is m read)) ((passed z y through).1)
 
-pub met_passed_bare : {parsed : Option ((Shape × Quals) × ParserState)} {g z y : (Shape × Quals) × ParserState} → Met bare_len parsed g → parsed ≡ Some z → fitting_bare z ≡ Some y → bare_len g.0 ≤ max_text
+pub met_passed_bare : {parsed : Option ((Shape × Quals) × ParserState)} {g z y : (Shape × Quals) × ParserState}
+    → Met bare_len parsed g → parsed ≡ Some z → fitting_bare z ≡ Some y → bare_len g.0 ≤ max_text
 met_passed_bare {z = z} {y = y} m read through = rw (sym (met_is m read)) ((passed_bare z y through).1)
 
 -- a turn of a loop that ends where its list is too long
-pub met_turn : {L B : Type 0} {long : B → ℕ} {h : B × ParserState} (l : Shape) (s : ParserState) (next : Shape × ParserState → Option (L × ParserState)) (again : L × ParserState → Option (B × ParserState))
+pub met_turn : {L B : Type 0} {long : B → ℕ} {h : B × ParserState} (l : Shape) (s : ParserState)
+    (next : Shape × ParserState → Option (L × ParserState)) (again : L × ParserState → Option (B × ParserState))
     → text_len l ≤ long h.0 → Met long (next (l, s) >>= again) h → Met long (fitting (l, s) >>= next >>= again) h
 met_turn {long = long} {h = h} l s next again grows more = go (nat_lt max_text (text_len l)) refl
   where

@@ -4,8 +4,14 @@ use Rattle.demangle_text.specs.Shape.{text_len}
 use Rattle.itanium_syntax.specs.declared.context.Context.{Context}
 use Rattle.std.specs.Prelude.{codes}
 use Rattle.itanium_syntax.specs.Names.{source_text}
-use Rattle.itanium_grammar.specs.Tree.{Tree, shape_as, shape_of, shape_each, bare_shape, name_in, ctor_dtor_of, tagged_with, with_args, local_in, string_literal_of, default_argument_of, trees, in_parent}
-use Rattle.itanium_grammar.specs.Grammar.{Position, Cost, TaggedAs, UnqualifiedAs, Unqualified, AttachedAs, Segments, SegmentsAs, EntityAs, no_tag, next_tag, constructor_unqualified, destructor_unqualified, free_unqualified, unqualified, none_attached, args_attached, segments, end_of_segments, args_segment, name_segment, string_literal_entity, default_argument_entity, name_entity}
+use Rattle.itanium_grammar.specs.Tree.{Tree, shape_as, shape_of, shape_each, bare_shape, name_in, ctor_dtor_of}
+use Rattle.itanium_grammar.specs.Tree.{tagged_with, with_args, local_in, string_literal_of, default_argument_of, trees}
+use Rattle.itanium_grammar.specs.Tree.{in_parent}
+use Rattle.itanium_grammar.specs.Grammar.{Position, Cost, TaggedAs, UnqualifiedAs, Unqualified, AttachedAs, Segments}
+use Rattle.itanium_grammar.specs.Grammar.{SegmentsAs, EntityAs, no_tag, next_tag, constructor_unqualified}
+use Rattle.itanium_grammar.specs.Grammar.{destructor_unqualified, free_unqualified, unqualified, none_attached}
+use Rattle.itanium_grammar.specs.Grammar.{args_attached, segments, end_of_segments, args_segment, name_segment}
+use Rattle.itanium_grammar.specs.Grammar.{string_literal_entity, default_argument_entity, name_entity}
 use Rattle.itanium_demangle.specs.Cases.{TagCase, UnqualifiedCase, AttachedCase, SegmentCase, EntityCase}
 use Rattle.demangle_edit.specs.Lists.{arguments_shape}
 use Rattle.itanium_demangle.proofs.Grows.{appended_longer, tagged_longer, attached_longer, ctor_longer, parent_longer, leaf_longer, default_parent_longer, default_entity_longer}
@@ -61,7 +67,8 @@ tags_longer (next_tag {t = t} {bytes = b} found tags) =
     let more = tags_longer tags in
     omega arith
 
-unqualified_as_longer : {case : UnqualifiedCase} {x : Context} {parent u : Tree} {p q : Position} {c : Cost} → UnqualifiedAs case x (Some parent) p u q c → text_len (shape_of parent) ≤ text_len (shape_of u)
+unqualified_as_longer : {case : UnqualifiedCase} {x : Context} {parent u : Tree} {p q : Position} {c : Cost}
+    → UnqualifiedAs case x (Some parent) p u q c → text_len (shape_of parent) ≤ text_len (shape_of u)
 unqualified_as_longer (constructor_unqualified {parent = parent} tags) = let here = ctor_of_longer parent false in let more = tags_longer tags in omega arith
 unqualified_as_longer (destructor_unqualified {parent = parent} tags) = let here = ctor_of_longer parent true in let more = tags_longer tags in omega arith
 unqualified_as_longer (free_unqualified {parent = Some parent} {u = u} a tags) = name_in_longer parent u

@@ -6,7 +6,9 @@ use Rattle.itanium_syntax.specs.declared.context.Context.{Context}
 use Rattle.itanium_grammar.specs.Tree.{Tree, shape_of}
 use Rattle.itanium_grammar.specs.Grammar.{Position, Cost, Name, Encoding, Thunk, Symbol, Args, Pack, Expression, TypeOf}
 use Rattle.itanium_grammar.proofs.Unambiguous.{Same, one_name, one_encoding, one_special, one_thunk, one_symbol, one_args, one_argument, one_pack, one_literal, one_expression, one_type}
-use Rattle.itanium_reader.specs.Parser.{ParserState, Parses, parse_bare_name, parse_name, parse_encoding, parse_special, parse_thunk, parse_symbol, parse_args, parse_argument, parse_pack, parse_primary, parse_expression, parse_type}
+use Rattle.itanium_reader.specs.Parser.{ParserState, Parses, parse_bare_name, parse_name, parse_encoding, parse_special}
+use Rattle.itanium_reader.specs.Parser.{parse_thunk, parse_symbol, parse_args, parse_argument, parse_pack}
+use Rattle.itanium_reader.specs.Parser.{parse_primary, parse_expression, parse_type}
 use Rattle.itanium_demangle.specs.Meaning.{state_at}
 use Rattle.itanium_demangle.specs.Readers.{IsParserOf, Narrow, bare_of, shape_of_args, SpecialName, Argument, Primary, LawsOfReaders}
 use Rattle.itanium_demangle.proofs.Fitting.{met_narrow, met_is}

@@ -13,7 +13,16 @@ use Rattle.demangle_edit.specs.Lists.{arguments_shape, pack_shape, lambda_shape}
 use Rattle.demangle_edit.specs.Names.{qualified, qualified_ctor, attached, tagged, with_name_qualifiers, encoding_shape}
 use Rattle.itanium_syntax.specs.declared.offsets.ThunkOffsets.{ThunkOffsets}
 use Rattle.itanium_syntax.specs.declared.abbreviations.Abbreviation.{Abbreviation}
-use Rattle.itanium_grammar.specs.Tree.{Tree, worded, temporary_of, construction_of, thunk_of, worded_shape, temporary_shape, construction_shape, thunk_shape, Operand, operand, shape_of_operand, literal_of, address_of, pre_of, unary_of, post_of, binary_of, greater_of, conditional_of, pre_shape, post_shape, binary_shape, greater_shape, conditional_shape, shape_as, bare_shape, own_quals, string_literal_of, encoding_of, function_encoding, plain_text, abbreviation, name_in, ctor_dtor_of, with_args, nested_of, pointer_to, cv_of, array_of, member_of, function_to, elaborated, elaborated_shape, abbreviation_shape, trees, shape_of, shape_each, in_parent, tagged_with, lambda_of, conversion_to, conversion_shape, pack_of, expansion_of, expanded}
+use Rattle.itanium_grammar.specs.Tree.{Tree, worded, temporary_of, construction_of, thunk_of, worded_shape}
+use Rattle.itanium_grammar.specs.Tree.{temporary_shape, construction_shape, thunk_shape, Operand, operand}
+use Rattle.itanium_grammar.specs.Tree.{shape_of_operand, literal_of, address_of, pre_of, unary_of, post_of, binary_of}
+use Rattle.itanium_grammar.specs.Tree.{greater_of, conditional_of, pre_shape, post_shape, binary_shape, greater_shape}
+use Rattle.itanium_grammar.specs.Tree.{conditional_shape, shape_as, bare_shape, own_quals, string_literal_of}
+use Rattle.itanium_grammar.specs.Tree.{encoding_of, function_encoding, plain_text, abbreviation, name_in, ctor_dtor_of}
+use Rattle.itanium_grammar.specs.Tree.{with_args, nested_of, pointer_to, cv_of, array_of, member_of, function_to}
+use Rattle.itanium_grammar.specs.Tree.{elaborated, elaborated_shape, abbreviation_shape, trees, shape_of, shape_each}
+use Rattle.itanium_grammar.specs.Tree.{in_parent, tagged_with, lambda_of, conversion_to, conversion_shape, pack_of}
+use Rattle.itanium_grammar.specs.Tree.{expansion_of, expanded}
 use Rattle.itanium_grammar.specs.Grammar.{last_of, with_last}
 use Rattle.itanium_reader.specs.Parser as parser
 use Rattle.itanium_reader.specs.Parser.{ParserState}
@@ -165,7 +174,9 @@ shape-in_parent (Some parent) leaf = shape-name_in parent leaf
 
 -- two answers that are the same, part by part
 pub same_read : {A : Type 0} {a b : A} {r : List ℕ} {xs ys : List Shape} {vs ws : List (List Shape)} {e f m n : ℕ} → a ≡ b → xs ≡ ys → vs ≡ ws → e ≡ f → m ≡ n
-    → ◌≡◌ {A = Option (A × ParserState)} (Some (a, record { rest = r; saved = xs; scopes = vs; entered = e; most_saved = m })) (Some (b, record { rest = r; saved = ys; scopes = ws; entered = f; most_saved = n }))
+    → ◌≡◌ {A = Option (A × ParserState)}
+    (Some (a, record { rest = r; saved = xs; scopes = vs; entered = e; most_saved = m }))
+    (Some (b, record { rest = r; saved = ys; scopes = ws; entered = f; most_saved = n }))
 same_read p q w r s = cc
 
 -- two states that are the same, part by part

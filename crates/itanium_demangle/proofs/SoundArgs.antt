@@ -8,11 +8,15 @@ use Rattle.itanium_syntax.specs.Context.{opens_scope, inside_pack}
 use Rattle.itanium_syntax.specs.Args.{args_case}
 use Rattle.itanium_syntax.proofs.Fronts.{after_drop, after-le}
 use Rattle.itanium_grammar.specs.Tree.{shape_of}
-use Rattle.itanium_grammar.specs.Grammar.{Position, add_argument, begin_list, skip, both, Args, Arguments, ArgumentsAs, Pack, PackedAs, args, arguments, end_of_arguments, one_more_argument, pack, end_of_pack, one_more_packed}
+use Rattle.itanium_grammar.specs.Grammar.{Position, add_argument, begin_list, skip, both, Args, ArgumentsAs, Pack}
+use Rattle.itanium_grammar.specs.Grammar.{PackedAs, args, end_of_arguments, one_more_argument, pack, end_of_pack}
+use Rattle.itanium_grammar.specs.Grammar.{one_more_packed}
 use Rattle.itanium_grammar.proofs.Progress.{argument_takes}
 use Rattle.itanium_demangle.specs.Cases.{ArgsCase, EndOfArguments, NextArgument}
 use Rattle.itanium_reader.specs.Parser as parser
-use Rattle.itanium_reader.specs.Parser.{ParserState, Turn, after_turn, loop, parse_loop, add_nowhere, ◌>>=◌, parse_argument, parse_primary, parse_encoding, parse_special, parse_name, next_item, list_as, list_turn, parse_list, parse_packed, parse_args, parse_pack}
+use Rattle.itanium_reader.specs.Parser.{ParserState, Turn, after_turn, loop, parse_loop, add_nowhere, ◌>>=◌}
+use Rattle.itanium_reader.specs.Parser.{parse_argument, parse_primary, parse_encoding, parse_special, parse_name}
+use Rattle.itanium_reader.specs.Parser.{next_item, list_as, list_turn, parse_list, parse_packed, parse_args, parse_pack}
 use Rattle.itanium_demangle.specs.Meaning.{state_at}
 use Rattle.itanium_demangle.proofs.Shapes.{add_argument-scopes, begin_list-scopes}
 use Rattle.itanium_demangle.proofs.Fitting.{met_passed, past_fitting}
@@ -23,7 +27,7 @@ use Rattle.demangle_edit.specs.Built.{listed_more}
 -- the arguments after what stands of a list, in n turns
 abbrev TurnsSound : ℕ → ℕ → Type 0
 TurnsSound d n = (x : Context) (o : Bool) (k : ℕ) (first : Bool) (front : Shape) (p : Position) (e m : ℕ) (y : Shape × ParserState) → length p.rest < n
-    → loop (list_turn (parser.add_argument o k) (parse_argument d x)) n (first, front) (state_at p e m) ≡ Some y → Within (Arguments x o k p) d
+    → loop (list_turn (parser.add_argument o k) (parse_argument d x)) n (first, front) (state_at p e m) ≡ Some y → Within (ArgumentsAs (args_case p.rest) x o k p) d
 
 -- a pack's arguments after what stands of its list, in n turns
 abbrev PackedSound : ℕ → ℕ → Type 0
@@ -57,9 +61,7 @@ module _ (d : ℕ) (each : ArgumentsSound d) where
   arguments_sound : (n : ℕ) → TurnsSound d n
   unfolding loop list_turn
   arguments_sound zero x o k first front p e m y room is = cc
-  arguments_sound (suc n) x o k first front p e m y room is =
-      let r = arguments_as_sound n (arguments_sound n) (args_case p.rest) x o k first front p e m y room is in
-      record { tree = _; next = _; cost = _; reading = arguments r.reading; deep = r.deep }
+  arguments_sound (suc n) x o k first front p e m y room is = arguments_as_sound n (arguments_sound n) (args_case p.rest) x o k first front p e m y room is
 
   packed_as_sound : (n : ℕ) → PackedSound d n → (case : ArgsCase) (x : Context) (first : Bool) (front : Shape) (p : Position) (e m : ℕ) (y : Shape × ParserState)
       → length p.rest < suc n

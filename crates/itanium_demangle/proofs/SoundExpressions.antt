@@ -10,12 +10,26 @@ use Rattle.itanium_syntax.specs.Bytes.{begins}
 use Rattle.itanium_syntax.specs.Args.{argument_case}
 use Rattle.itanium_syntax.specs.Expressions.{literal_case, literal_value, expression_case}
 use Rattle.itanium_grammar.specs.Tree.{shape_of, shape_of_operand}
-use Rattle.itanium_grammar.specs.Grammar.{Position, skip, ArgumentAs, Expression, ExpressionAs, OperandOf, LiteralAs, external_name, value_literal, expression, operand_of, pre_expression, address_expression, unary_expression, post_expression, binary_expression, greater_expression, conditional_expression, parameter_expression, literal_expression, expression_argument, pack_argument, literal_argument, type_argument}
-use Rattle.itanium_demangle.specs.Cases.{LiteralCase, ExternalName, ValueLiteral, NoLiteral, ExpressionCase, PreExpression, AddressExpression, UnaryExpression, PostExpression, BinaryExpression, GreaterExpression, ConditionalExpression, ParameterExpression, LiteralExpression, NoExpression, ArgumentCase, ExpressionArgument, PackArgument, LiteralArgument, ConstraintArgument, TypeArgument}
-use Rattle.itanium_reader.specs.Parser.{ParserState, parse_type, parse_name, parse_special, parse_pack, parse_encoding, past_end, literal_as, parse_primary, operand_by, expression_as, parse_expression, argument_as, parse_argument}
+use Rattle.itanium_grammar.specs.Grammar.{Position, skip, ArgumentAs, Expression, ExpressionAs, OperandOf, LiteralAs}
+use Rattle.itanium_grammar.specs.Grammar.{external_name, value_literal, expression, operand_of, pre_expression}
+use Rattle.itanium_grammar.specs.Grammar.{address_expression, unary_expression, post_expression, binary_expression}
+use Rattle.itanium_grammar.specs.Grammar.{greater_expression, conditional_expression, parameter_expression}
+use Rattle.itanium_grammar.specs.Grammar.{literal_expression, expression_argument, pack_argument, literal_argument}
+use Rattle.itanium_grammar.specs.Grammar.{type_argument}
+use Rattle.itanium_demangle.specs.Cases.{LiteralCase, ExternalName, ValueLiteral, NoLiteral, ExpressionCase}
+use Rattle.itanium_demangle.specs.Cases.{PreExpression, AddressExpression, UnaryExpression, PostExpression}
+use Rattle.itanium_demangle.specs.Cases.{BinaryExpression, GreaterExpression, ConditionalExpression}
+use Rattle.itanium_demangle.specs.Cases.{ParameterExpression, LiteralExpression, NoExpression, ArgumentCase}
+use Rattle.itanium_demangle.specs.Cases.{ExpressionArgument, PackArgument, LiteralArgument, ConstraintArgument}
+use Rattle.itanium_demangle.specs.Cases.{TypeArgument}
+use Rattle.itanium_reader.specs.Parser.{ParserState, parse_type, parse_name, parse_special, parse_pack, parse_encoding}
+use Rattle.itanium_reader.specs.Parser.{past_end, literal_as, parse_primary, operand_by, expression_as}
+use Rattle.itanium_reader.specs.Parser.{parse_expression, argument_as, parse_argument}
 use Rattle.itanium_demangle.specs.Meaning.{state_at}
 use Rattle.itanium_demangle.proofs.Fitting.{met_is, met_passed}
-use Rattle.itanium_demangle.proofs.Readings.{Within, Found, TypesComplete, PacksComplete, BareNamesComplete, ThunksComplete, ExpressionsComplete, TypesSound, PacksSound, BareNamesSound, ThunksSound, ExpressionsSound, ArgumentsSound}
+use Rattle.itanium_demangle.proofs.Readings.{Within, Found, TypesComplete, PacksComplete, BareNamesComplete}
+use Rattle.itanium_demangle.proofs.Readings.{ThunksComplete, ExpressionsComplete, TypesSound, PacksSound}
+use Rattle.itanium_demangle.proofs.Readings.{BareNamesSound, ThunksSound, ExpressionsSound, ArgumentsSound}
 use Rattle.itanium_demangle.proofs.CompleteExpressions.{operand_complete, expression_as_met, expressions_complete, each_argument_met}
 use Rattle.itanium_demangle.proofs.SoundNames.{parameter_sound, encoding_sound}
 
@@ -51,7 +65,9 @@ module _ (d : ℕ) (complete : TypesComplete d) (bares_are : BareNamesComplete d
   unfolding parse_primary
   primary_sound x p e m y is = literal_sound (literal_case p.rest) x p e m y is
 
-module _ (d : ℕ) (complete : TypesComplete d) (bares_are : BareNamesComplete d) (thunks_are : ThunksComplete d) (values_are : ExpressionsComplete d) (kinds : TypesSound d) (bares : BareNamesSound d) (thunks : ThunksSound d) (values : ExpressionsSound d) where
+module _ (d : ℕ) (complete : TypesComplete d) (bares_are : BareNamesComplete d) (thunks_are : ThunksComplete d)
+    (values_are : ExpressionsComplete d) (kinds : TypesSound d) (bares : BareNamesSound d) (thunks : ThunksSound d)
+    (values : ExpressionsSound d) where
   operand_sound : (x : Context) (p : Position) (e m : ℕ) (y : Shape × ParserState) → operand_by (parse_expression d x) (state_at p e m) ≡ Some y → Found (OperandOf x p) shape_of_operand d e m y
   operand_sound x p e m y is =
       option_and_then_some _ (parse_expression d x (state_at p e m)) y is (λ z read _.

@@ -22,7 +22,8 @@ TypedSound d of_function n = (x : Context) (first : Bool) (front : Shape) (p : P
 
 module _ (of_function : Bool) (d : ℕ) (complete : TypesComplete d) (kinds : TypesSound d) where
   typed_as_sound : (n : ℕ) → TypedSound d of_function n → (case : TypesCase) (x : Context) (first : Bool) (front : Shape) (p : Position) (e m : ℕ) (y : Shape × ParserState) → length p.rest < suc n
-      → (typed_as case (parse_type d x) (first, front) (state_at p e m) >>= λ r. after_turn r.0 (loop (typed_turn of_function (parse_type d x)) n) r.1) ≡ Some y → Within (TypesAs case of_function x p) d
+      → (typed_as case (parse_type d x) (first, front) (state_at p e m) >>= λ r. after_turn r.0
+      (loop (typed_turn of_function (parse_type d x)) n) r.1) ≡ Some y → Within (TypesAs case of_function x p) d
   typed_as_sound n again EndOfTypes x first front p e m y room is = record { tree = _; next = _; cost = _; reading = end_of_types; deep = omega arith }
   typed_as_sound n again NextType x first front p e m y room is =
       option_and_then_some _ (typed_as NextType (parse_type d x) (first, front) (state_at p e m)) y is (λ v turned rest.

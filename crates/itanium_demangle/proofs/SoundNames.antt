@@ -9,22 +9,61 @@ use Rattle.itanium_syntax.specs.Scalars.{source_name, index_of, ordinal}
 use Rattle.itanium_syntax.specs.Abbreviations.{abbreviation_of}
 use Rattle.itanium_syntax.specs.Offsets.{thunk_offsets, past_base_offset}
 use Rattle.itanium_syntax.specs.Specials.{special_case}
-use Rattle.itanium_syntax.specs.Names.{source_text, symbol_case, name_case, unscoped_case, first_case, segment_case, unqualified_case, free_case, tag_case, substitution_case, past_internal, past_name_quals, saves_first}
+use Rattle.itanium_syntax.specs.Names.{source_text, symbol_case, name_case, unscoped_case, first_case, segment_case}
+use Rattle.itanium_syntax.specs.Names.{unqualified_case, free_case, tag_case, substitution_case, past_internal}
+use Rattle.itanium_syntax.specs.Names.{past_name_quals, saves_first}
 use Rattle.itanium_syntax.specs.Args.{attached_case}
 use Rattle.itanium_syntax.proofs.Fronts.{initializer_after, after_drop, source_takes, after-le}
 use Rattle.itanium_grammar.specs.Tree.{Tree, bare_shape, own_quals, plain_text, abbreviation, ctor_dtor_of, tagged_with, with_args, trees, shape_of}
-use Rattle.itanium_grammar.specs.Grammar.{Position, Cost, with_rest, skip, save, last_of, past_initializer, both, saving, SubstitutionAs, Substitution, ParameterAs, Parameter, TaggedAs, FreeAs, UnqualifiedAs, Unqualified, FirstAs, NameAs, Name, nothing, SpecialAs, SymbolAs, Thunk, special_encoding, type_special, name_special, temporary_special, construction_special, thunk_special, thunk, special_symbol, name_symbol, Local, EntityAs, Encoding, EncodingAs, ReturnAs, SignatureAs, UnscopedAs, AttachedAs, Nested, Segments, SegmentsAs, Args, abbreviation_substitution, component_substitution, substitution, auto_parameter, scope_parameter, parameter, no_tag, next_tag, source_free, unnamed_type_free, lambda_free, conversion_free, literal_operator_free, operator_free, constructor_unqualified, destructor_unqualified, free_unqualified, unqualified, parameter_first, std_first, substitution_first, name_first, name, nested_name, local_name, local, string_literal_entity, default_argument_entity, name_entity, encoding, name_encoding, no_return_type, some_return_type, no_signature, some_signature, unscoped_name, std_name, substitution_name, global_name, none_attached, args_attached, nested, segments, end_of_segments, args_segment, name_segment}
+use Rattle.itanium_grammar.specs.Grammar.{Position, Cost, with_rest, skip, save, last_of, past_initializer, both}
+use Rattle.itanium_grammar.specs.Grammar.{saving, SubstitutionAs, Substitution, ParameterAs, Parameter, TaggedAs}
+use Rattle.itanium_grammar.specs.Grammar.{FreeAs, UnqualifiedAs, Unqualified, FirstAs, NameAs, Name, nothing, SpecialAs}
+use Rattle.itanium_grammar.specs.Grammar.{SymbolAs, Thunk, special_encoding, type_special, name_special}
+use Rattle.itanium_grammar.specs.Grammar.{temporary_special, construction_special, thunk_special, thunk, special_symbol}
+use Rattle.itanium_grammar.specs.Grammar.{name_symbol, Local, EntityAs, Encoding, EncodingAs, ReturnAs, SignatureAs}
+use Rattle.itanium_grammar.specs.Grammar.{UnscopedAs, AttachedAs, Nested, Segments, SegmentsAs, Args}
+use Rattle.itanium_grammar.specs.Grammar.{abbreviation_substitution, component_substitution, substitution}
+use Rattle.itanium_grammar.specs.Grammar.{auto_parameter, scope_parameter, parameter, no_tag, next_tag, source_free}
+use Rattle.itanium_grammar.specs.Grammar.{unnamed_type_free, lambda_free, conversion_free, literal_operator_free}
+use Rattle.itanium_grammar.specs.Grammar.{operator_free, constructor_unqualified, destructor_unqualified}
+use Rattle.itanium_grammar.specs.Grammar.{free_unqualified, unqualified, parameter_first, std_first, substitution_first}
+use Rattle.itanium_grammar.specs.Grammar.{name_first, name, nested_name, local_name, local, string_literal_entity}
+use Rattle.itanium_grammar.specs.Grammar.{default_argument_entity, name_entity, encoding, name_encoding, no_return_type}
+use Rattle.itanium_grammar.specs.Grammar.{some_return_type, no_signature, some_signature, unscoped_name, std_name}
+use Rattle.itanium_grammar.specs.Grammar.{substitution_name, global_name, none_attached, args_attached, nested}
+use Rattle.itanium_grammar.specs.Grammar.{segments, end_of_segments, args_segment, name_segment}
 use Rattle.itanium_grammar.proofs.Progress.{unqualified_takes, args_takes}
-use Rattle.itanium_demangle.specs.Cases.{SymbolCase, SpecialSymbol, NameSymbol, SpecialCase, TypeSpecial, NameSpecial, TemporarySpecial, ConstructionSpecial, ThunkSpecial, NoSpecial, ReturnCase, NoReturnType, SomeReturnType, SignatureCase, NoSignature, SomeSignature, EntityCase, StringLiteralEntity, DefaultArgumentEntity, NameEntity, NoEntity, SubstitutionCase, AbbreviationSubstitution, ComponentSubstitution, TagCase, NoTag, NextTag, UnqualifiedCase, ConstructorName, DestructorName, FreeName, FreeCase, SourceName, UnnamedTypeName, LambdaName, ConversionName, LiteralOperatorName, OperatorName, NoName, FirstCase, ParameterFirst, StdFirst, SubstitutionFirst, NameFirst, NameCase, NestedName, LocalName, UnscopedName, UnscopedCase, StdName, SubstitutionName, PlainName, AttachedCase, NoneAttached, ArgsAttached, SegmentCase, EndOfSegments, ArgsSegment, NameSegment}
-use Rattle.itanium_reader.specs.Parser.{ParserState, after_turn, loop, ◌>>=◌, next_segment, substitution_as, parse_substitution, parameter_as, parse_parameter, tag_as, tag_turn, parse_tags, typed_params_as, free_as, parse_free, ctor_dtor_as, unqualified_as, parse_unqualified, first_as, fitting, attached_by, attached_as, template_as, unscoped_as, segment_as, segment_turn, parse_segments, parse_nested, return_as, signature_as, special_as, parse_special, symbol_as, symbol_by, thunk_by, parse_thunk, encoding_as, parse_encoding, entity_as, parse_local, name_as, parse_bare_name, parse_name, parse_args, parse_type}
+use Rattle.itanium_demangle.specs.Cases.{SymbolCase, SpecialSymbol, NameSymbol, SpecialCase, TypeSpecial, NameSpecial}
+use Rattle.itanium_demangle.specs.Cases.{TemporarySpecial, ConstructionSpecial, ThunkSpecial, NoSpecial, ReturnCase}
+use Rattle.itanium_demangle.specs.Cases.{NoReturnType, SomeReturnType, SignatureCase, NoSignature, SomeSignature}
+use Rattle.itanium_demangle.specs.Cases.{EntityCase, StringLiteralEntity, DefaultArgumentEntity, NameEntity, NoEntity}
+use Rattle.itanium_demangle.specs.Cases.{SubstitutionCase, AbbreviationSubstitution, ComponentSubstitution, TagCase}
+use Rattle.itanium_demangle.specs.Cases.{NoTag, NextTag, UnqualifiedCase, ConstructorName, DestructorName, FreeName}
+use Rattle.itanium_demangle.specs.Cases.{FreeCase, SourceName, UnnamedTypeName, LambdaName, ConversionName}
+use Rattle.itanium_demangle.specs.Cases.{LiteralOperatorName, OperatorName, NoName, FirstCase, ParameterFirst, StdFirst}
+use Rattle.itanium_demangle.specs.Cases.{SubstitutionFirst, NameFirst, NameCase, NestedName, LocalName, UnscopedName}
+use Rattle.itanium_demangle.specs.Cases.{UnscopedCase, StdName, SubstitutionName, PlainName, AttachedCase, NoneAttached}
+use Rattle.itanium_demangle.specs.Cases.{ArgsAttached, SegmentCase, EndOfSegments, ArgsSegment, NameSegment}
+use Rattle.itanium_reader.specs.Parser.{ParserState, after_turn, loop, ◌>>=◌, next_segment, substitution_as}
+use Rattle.itanium_reader.specs.Parser.{parse_substitution, parameter_as, parse_parameter, tag_as, tag_turn, parse_tags}
+use Rattle.itanium_reader.specs.Parser.{typed_params_as, free_as, parse_free, ctor_dtor_as, unqualified_as}
+use Rattle.itanium_reader.specs.Parser.{parse_unqualified, first_as, fitting, attached_by, attached_as, template_as}
+use Rattle.itanium_reader.specs.Parser.{unscoped_as, segment_as, segment_turn, parse_segments, parse_nested, return_as}
+use Rattle.itanium_reader.specs.Parser.{signature_as, special_as, parse_special, symbol_as, symbol_by, thunk_by}
+use Rattle.itanium_reader.specs.Parser.{parse_thunk, encoding_as, parse_encoding, entity_as, parse_local, name_as}
+use Rattle.itanium_reader.specs.Parser.{parse_bare_name, parse_name, parse_args, parse_type}
 use Rattle.itanium_demangle.specs.Meaning.{state_at}
 use Rattle.itanium_demangle.specs.Readers.{bare_of}
 use Rattle.itanium_demangle.proofs.Shapes.{same_state, one_more, some-map, last-map, shape-plain_text, shape-ctor_dtor_of, shape-tagged_with, shape-with_args}
-use Rattle.itanium_demangle.proofs.Readings.{Small, Within, Found, reached, given, ArgsSound, ArgsComplete, TypesSound, TypesComplete, BareNamesComplete, BareNamesSound, NamesSound, ThunksComplete, ThunksSound}
+use Rattle.itanium_demangle.proofs.Readings.{Small, Within, Found, reached, given, ArgsSound, ArgsComplete, TypesSound}
+use Rattle.itanium_demangle.proofs.Readings.{TypesComplete, BareNamesComplete, BareNamesSound, NamesSound}
+use Rattle.itanium_demangle.proofs.Readings.{ThunksComplete, ThunksSound}
 use Rattle.itanium_demangle.proofs.Waiting.{same_return, whole_name}
 use Rattle.itanium_demangle.proofs.Whole.{with_own_quals}
 use Rattle.itanium_demangle.proofs.Fitting.{Met, met, met_is, met_passed, met_passed_bare, passed}
-use Rattle.itanium_demangle.proofs.CompleteNames.{substitution_complete, parameter_complete, free_met, unqualified_met, first_met, segments_met, encoding_met, thunk_by_complete, name_as_met, bare_names_complete, names_complete, thunks_complete}
+use Rattle.itanium_demangle.proofs.CompleteNames.{substitution_complete, parameter_complete, free_met, unqualified_met}
+use Rattle.itanium_demangle.proofs.CompleteNames.{first_met, segments_met, encoding_met, thunk_by_complete, name_as_met}
+use Rattle.itanium_demangle.proofs.CompleteNames.{bare_names_complete, names_complete, thunks_complete}
 use Rattle.itanium_syntax.specs.Types.{params_case}
 use Rattle.itanium_syntax.specs.Operators.{operator_here}
 use Rattle.itanium_syntax.specs.Context.{inside_lambda, inside_local, inside_encoding}
@@ -125,7 +164,9 @@ parse_tags_sound : (t : Tree) (p : Position) (e m : ℕ) (y : Shape × ParserSta
 parse_tags_sound t p e m y is = tags_sound (length p.rest + 1) t p e m y (omega arith) is
 
 -- the source name that a reading begins with
-pub source_is : (p : Position) (e m : ℕ) (x : Shape × ParserState) (b : List ℕ × List ℕ) → ◌≡◌ {A = Option (Shape × ParserState)} (Some (plain_shape (source_text b.0), state_at (with_rest b.1 p) e m)) (Some x)
+pub source_is : (p : Position) (e m : ℕ) (x : Shape × ParserState) (b : List ℕ × List ℕ)
+    → ◌≡◌ {A = Option (Shape × ParserState)} (Some (plain_shape (source_text b.0), state_at (with_rest b.1 p) e m))
+    (Some x)
     → x ≡ (shape_of (plain_text (source_text b.0)), state_at (with_rest b.1 p) e m)
 source_is p e m x b made = sym (same_Some _ _ made) ∙ ap (λ v. (v, state_at (with_rest b.1 p) e m)) (sym (shape-plain_text (source_text b.0)))
 
@@ -195,7 +236,9 @@ module _ (d : ℕ) (complete : TypesComplete d) (lists_are : ArgsComplete d) (ki
           → Met text_len (parse_unqualified (parse_type d x) (parse_type d (inside_lambda x)) (option_map shape_of parent) (state_at p e m)) (reached shape_of t q c e m)
       whole a deep = unqualified_met d lists_are complete a deep e m
 
-  first_sound : (case : FirstCase) (x : Context) (p : Position) (e m : ℕ) (y : Shape × ParserState) → first_as case (parse_unqualified (parse_type d x) (parse_type d (inside_lambda x))) x (state_at p e m) ≡ Some y → Within (FirstAs case x p) d
+  first_sound : (case : FirstCase) (x : Context) (p : Position) (e m : ℕ) (y : Shape × ParserState)
+      → first_as case (parse_unqualified (parse_type d x) (parse_type d (inside_lambda x))) x (state_at p e m) ≡ Some y
+      → Within (FirstAs case x p) d
   first_sound ParameterFirst x p e m y is =
       option_and_then_some _ (parse_parameter x (state_at p e m)) y is (λ z found _.
       let i = parameter_sound x p e m z found in record { tree = _; next = _; cost = _; reading = parameter_first i.reading; deep = omega arith })
@@ -260,11 +303,15 @@ module _ (d : ℕ) (complete : TypesComplete d) (lists_are : ArgsComplete d) (ki
 -- the segments after what stands, in n turns
 abbrev SegmentsSound : ℕ → ℕ → Type 0
 SegmentsSound d n = (x : Context) (takes : Bool) (t : Tree) (p : Position) (e m : ℕ) (y : Shape × ParserState) → length p.rest < n
-    → loop (segment_turn (parse_unqualified (parse_type d x) (parse_type d (inside_lambda x))) (parse_args d x true)) n (takes, shape_of t) (state_at p e m) ≡ Some y → Found (Segments x takes t p) shape_of d e m y
+    → loop (segment_turn (parse_unqualified (parse_type d x) (parse_type d (inside_lambda x))) (parse_args d x true))
+    n (takes, shape_of t) (state_at p e m) ≡ Some y → Found (Segments x takes t p) shape_of d e m y
 
 module _ (d : ℕ) (complete : TypesComplete d) (lists_are : ArgsComplete d) (kinds : TypesSound d) (lists : ArgsSound d) where
   segment_sound : (n : ℕ) → SegmentsSound d n → (case : SegmentCase) (x : Context) (takes : Bool) (t : Tree) (p : Position) (e m : ℕ) (y : Shape × ParserState) → length p.rest < suc n
-      → (segment_as case (parse_unqualified (parse_type d x) (parse_type d (inside_lambda x))) (parse_args d x true) (takes, shape_of t) (state_at p e m) >>= λ r. after_turn r.0 (loop (segment_turn (parse_unqualified (parse_type d x) (parse_type d (inside_lambda x))) (parse_args d x true)) n) r.1) ≡ Some y
+      → (segment_as case (parse_unqualified (parse_type d x) (parse_type d (inside_lambda x))) (parse_args d x true)
+      (takes, shape_of t) (state_at p e m) >>= λ r. after_turn r.0
+      (loop (segment_turn (parse_unqualified (parse_type d x) (parse_type d (inside_lambda x))) (parse_args d x true))
+      n) r.1) ≡ Some y
       → Within (SegmentsAs case x takes t p) d
   segment_sound n again EndOfSegments x takes t p e m y room is = record { tree = _; next = _; cost = _; reading = end_of_segments; deep = omega arith }
   segment_sound n again ArgsSegment x takes t p e m y room is =
@@ -279,7 +326,13 @@ module _ (d : ℕ) (complete : TypesComplete d) (lists_are : ArgsComplete d) (ki
       let whole = with_args t (trees i.tree) in
       let there = rw (← same_Some _ _ made, found.is, one_more i.next.saved whole) at rest in
       let o = (again x true whole (past_initializer (save whole i.next)) (e + i.cost.count) (max (max m i.cost.peak) (length (map shape_of i.next.saved) + 1)) y (omega arith) there).within in
-      record { tree = o.tree; next = o.next; cost = both i.cost (both (saving i.next) o.cost); reading = args_segment {r = o.next} {v = o.tree} {d = o.cost} i.reading o.reading; deep = omega (arith, i.deep, o.deep) })))
+      record {
+        tree = o.tree;
+        next = o.next;
+        cost = both i.cost (both (saving i.next) o.cost);
+        reading = args_segment {r = o.next} {v = o.tree} {d = o.cost} i.reading o.reading;
+        deep = omega (arith, i.deep, o.deep);
+      })))
   segment_sound n again NameSegment x takes t p e m y room is =
       option_and_then_some _ (parse_unqualified (parse_type d x) (parse_type d (inside_lambda x)) (Some (shape_of t)) (state_at p e m) >>= fitting >>= next_segment) y is (λ v turned rest.
       option_and_then_some _ (parse_unqualified (parse_type d x) (parse_type d (inside_lambda x)) (Some (shape_of t)) (state_at p e m) >>= fitting) v turned (λ u fitted next.
@@ -291,7 +344,13 @@ module _ (d : ℕ) (complete : TypesComplete d) (lists_are : ArgsComplete d) (ki
       let within = after-le (initializer_after i.next.rest) in
       let there = rw (← same_Some _ _ made, found.is, one_more i.next.saved i.tree) at rest in
       let o = (again x true i.tree (past_initializer (save i.tree i.next)) (e + i.cost.count) (max (max m i.cost.peak) (length (map shape_of i.next.saved) + 1)) y (omega arith) there).within in
-      record { tree = o.tree; next = o.next; cost = both i.cost (both (saving i.next) o.cost); reading = name_segment {r = o.next} {v = o.tree} {d = o.cost} i.reading o.reading; deep = omega (arith, i.deep, o.deep) })))
+      record {
+        tree = o.tree;
+        next = o.next;
+        cost = both i.cost (both (saving i.next) o.cost);
+        reading = name_segment {r = o.next} {v = o.tree} {d = o.cost} i.reading o.reading;
+        deep = omega (arith, i.deep, o.deep);
+      })))
 
   segments_sound : (n : ℕ) → SegmentsSound d n
   unfolding loop segment_turn
@@ -301,7 +360,9 @@ module _ (d : ℕ) (complete : TypesComplete d) (lists_are : ArgsComplete d) (ki
       let w : Within (Segments x takes t p) d = record { tree = _; next = _; cost = _; reading = segments r.reading; deep = r.deep } in
       record { within = w; is = met_is (segments_met d lists_are complete w.reading w.deep e m (suc n) room) is }
 
-  nested_sound : (x : Context) (p : Position) (e m : ℕ) (y : (Shape × Quals) × ParserState) → parse_nested (parse_unqualified (parse_type d x) (parse_type d (inside_lambda x))) (parse_args d x true) x (state_at p e m) ≡ Some y → Within (Nested x p) d
+  nested_sound : (x : Context) (p : Position) (e m : ℕ) (y : (Shape × Quals) × ParserState)
+      → parse_nested (parse_unqualified (parse_type d x) (parse_type d (inside_lambda x))) (parse_args d x true) x
+      (state_at p e m) ≡ Some y → Within (Nested x p) d
   unfolding parse_nested
   nested_sound x p e m y is =
       let begun = with_rest (past_name_quals p.rest) p in
@@ -310,7 +371,9 @@ module _ (d : ℕ) (complete : TypesComplete d) (lists_are : ArgsComplete d) (ki
       let i = first_sound d complete lists_are kinds case x begun e m z first in
       let is_z : z ≡ (shape_of i.tree, state_at i.next (e + i.cost.count) (max m i.cost.peak)) = met_is (first_met d lists_are complete i.reading i.deep e m) first in
       let there = rw is_z at more in
-      option_and_then_some _ (parse_segments (parse_unqualified (parse_type d x) (parse_type d (inside_lambda x))) (parse_args d x true) (saves_first case) (shape_of i.tree) (state_at (past_initializer i.next) (e + i.cost.count) (max m i.cost.peak))) y there (λ v rest _.
+      option_and_then_some _ (parse_segments (parse_unqualified (parse_type d x) (parse_type d (inside_lambda x)))
+      (parse_args d x true) (saves_first case) (shape_of i.tree)
+      (state_at (past_initializer i.next) (e + i.cost.count) (max m i.cost.peak))) y there (λ v rest _.
       let o = (segments_sound (length (past_initializer i.next).rest + 1) x (saves_first case) i.tree (past_initializer i.next) (e + i.cost.count) (max m i.cost.peak) v (omega arith) rest).within in
       record { tree = _; next = o.next; cost = _; reading = nested i.reading o.reading; deep = omega (arith, i.deep, o.deep) }))
 
@@ -456,7 +519,9 @@ module _ (d : ℕ) (complete : TypesComplete d) (bares_are : BareNamesComplete d
       let o = entity_sound (entity_case i.next.rest) (inside_local x) i.tree i.next (e + i.cost.count) (max m i.cost.peak) y (rw found.is at more) in
       record { tree = _; next = _; cost = _; reading = local i.reading o.reading; deep = omega (arith, i.deep, o.deep) })
 
-module _ (d : ℕ) (complete : TypesComplete d) (lists_are : ArgsComplete d) (bares_are : BareNamesComplete d) (thunks_are : ThunksComplete d) (kinds : TypesSound d) (lists : ArgsSound d) (bares : BareNamesSound d) (thunks : ThunksSound d) where
+module _ (d : ℕ) (complete : TypesComplete d) (lists_are : ArgsComplete d) (bares_are : BareNamesComplete d)
+    (thunks_are : ThunksComplete d) (kinds : TypesSound d) (lists : ArgsSound d) (bares : BareNamesSound d)
+    (thunks : ThunksSound d) where
   name_as_sound : (case : NameCase) (x : Context) (p : Position) (e m : ℕ) (y : (Shape × Quals) × ParserState)
       → name_as case (parse_unqualified (parse_type d x) (parse_type d (inside_lambda x))) (parse_args d x true)
       (parse_local (parse_encoding d (inside_encoding x)) (parse_bare_name d (inside_local x))) x (state_at p e m) ≡ Some y

@@ -13,9 +13,19 @@ use Rattle.itanium_syntax.specs.Names.{source_text}
 use Rattle.itanium_syntax.specs.Args.{attached_case}
 use Rattle.itanium_syntax.specs.Types.{type_case, cv_case, function_case, params_case, cv_quals, past_cv}
 use Rattle.itanium_grammar.specs.Tree.{Tree, plain_text, shape_of}
-use Rattle.itanium_grammar.specs.Grammar.{Position, with_rest, skip, save, TypeOf, TypeAs, CvAs, Function, TypeAttachedAs, type, builtin_type, expansion_type, vendor_type, array_type, function_type, member_type, pointer_type, cv_type, elaborated_type, parameter_type, substitution_type, name_type, cv_function, cv_other, function, none_attached_to_type, args_attached_to_type}
-use Rattle.itanium_demangle.specs.Cases.{TypeCase, BuiltinType, ExpansionType, VendorType, ArrayType, FunctionType, MemberType, PointerType, CvType, ElaboratedType, ParameterType, SubstitutionType, UnreadType, NameType, CvCase, CvFunction, CvOther, FunctionCase, ExternFunction, PlainFunction, AttachedCase, NoneAttached, ArgsAttached}
-use Rattle.itanium_reader.specs.Parser.{ParserState, parse_source, parse_parameter, saved_parameter, parse_substitution, attached_by, type_attached_as, typed_params_as, function_as, parse_function, cv_as, vendor_as, type_as, parse_name, parse_args, parse_type}
+use Rattle.itanium_grammar.specs.Grammar.{Position, with_rest, skip, save, TypeOf, TypeAs, CvAs, Function}
+use Rattle.itanium_grammar.specs.Grammar.{TypeAttachedAs, type, builtin_type, expansion_type, vendor_type, array_type}
+use Rattle.itanium_grammar.specs.Grammar.{function_type, member_type, pointer_type, cv_type, elaborated_type}
+use Rattle.itanium_grammar.specs.Grammar.{parameter_type, substitution_type, name_type, cv_function, cv_other, function}
+use Rattle.itanium_grammar.specs.Grammar.{none_attached_to_type, args_attached_to_type}
+use Rattle.itanium_demangle.specs.Cases.{TypeCase, BuiltinType, ExpansionType, VendorType, ArrayType, FunctionType}
+use Rattle.itanium_demangle.specs.Cases.{MemberType, PointerType, CvType, ElaboratedType, ParameterType}
+use Rattle.itanium_demangle.specs.Cases.{SubstitutionType, UnreadType, NameType, CvCase, CvFunction, CvOther}
+use Rattle.itanium_demangle.specs.Cases.{FunctionCase, ExternFunction, PlainFunction, AttachedCase, NoneAttached}
+use Rattle.itanium_demangle.specs.Cases.{ArgsAttached}
+use Rattle.itanium_reader.specs.Parser.{ParserState, parse_source, parse_parameter, saved_parameter, parse_substitution}
+use Rattle.itanium_reader.specs.Parser.{attached_by, type_attached_as, typed_params_as, function_as, parse_function}
+use Rattle.itanium_reader.specs.Parser.{cv_as, vendor_as, type_as, parse_name, parse_args, parse_type}
 use Rattle.itanium_demangle.specs.Meaning.{state_at}
 use Rattle.itanium_demangle.proofs.Shapes.{one_more}
 use Rattle.itanium_demangle.proofs.Fitting.{met_passed}
@@ -138,7 +148,8 @@ type_as_sound d complete kinds names lists NameType x p e m y is =
 pub types_sound_at : (d : ℕ) → TypesComplete d → NamesComplete d → ArgsComplete d → TypesSound d → NamesSound d → ArgsSound d → TypesSound (suc d)
 unfolding parse_type parse_name
 types_sound_at d complete names_are lists_are kinds names lists x p e m y is =
-    option_and_then_some _ (type_as (type_case p.rest) (parse_type d (inside_type x)) (parse_name d (inside_type x)) (parse_args d (inside_type x) false) (inside_type x) (state_at p (e + 1) m)) y is (λ z read through.
+    option_and_then_some _ (type_as (type_case p.rest) (parse_type d (inside_type x)) (parse_name d (inside_type x))
+    (parse_args d (inside_type x) false) (inside_type x) (state_at p (e + 1) m)) y is (λ z read through.
     let r = type_as_sound d complete kinds names lists (type_case p.rest) (inside_type x) p (e + 1) m z read in
     let narrow = met_passed (type_as_met d complete names_are lists_are r.reading r.deep (e + 1) m) read through in
     let w : Within (TypeOf x p) (suc d) = record { tree = _; next = _; cost = _; reading = type r.reading; deep = omega (arith, r.deep, narrow) } in

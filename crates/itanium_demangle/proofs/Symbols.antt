@@ -1,5 +1,7 @@
 -- What a reader of symbols says, in the grammar's words, and what follows for the answer.
-use Rattle.std.proofs.Common.{◌≡◌, ◌<◌, ℕ, ◌++◌, List, [], ◌∷◌, Bool, true, false, ◌&&◌, ◌==◌, ◌≤◌, ◌*◌, Option, Some, None, Result, Ok, Err, ap, if◌then◌else◌, map, ◌∙◌, sym, refl, subst, arith, length, drop, get_or, ◌+◌, max}
+use Rattle.std.proofs.Common.{◌≡◌, ◌<◌, ℕ, ◌++◌, List, [], ◌∷◌, Bool, true, false, ◌&&◌, ◌==◌, ◌≤◌, ◌*◌, Option, Some}
+use Rattle.std.proofs.Common.{None, Result, Ok, Err, ap, if◌then◌else◌, map, ◌∙◌, sym, refl, subst, arith, length, drop}
+use Rattle.std.proofs.Common.{get_or, ◌+◌, max}
 use Rattle.std.proofs.lemmas.Simd.{map-map}
 use Rattle.std.proofs.lemmas.Grind.{common_steps}
 use Rattle.std.proofs.lemmas.List.{length-drop, get_or-drop}
@@ -96,7 +98,9 @@ prefix_takes symbol inside e = go (begins (95 ∷ 90 ∷ []) symbol) (begins (95
     three : begins (95 ∷ 95 ∷ 90 ∷ []) symbol ≡ true → 3 ≤ length symbol
     three b = begins_takes (95 ∷ 95 ∷ 90 ∷ []) symbol b
 
-    go : (s t : Bool) → begins (95 ∷ 90 ∷ []) symbol ≡ s → begins (95 ∷ 95 ∷ 90 ∷ []) symbol ≡ t → (if s then Some (drop 2 symbol) else (if t then Some (drop 3 symbol) else None)) ≡ Some inside → length inside + 2 ≤ length symbol
+    go : (s t : Bool) → begins (95 ∷ 90 ∷ []) symbol ≡ s → begins (95 ∷ 95 ∷ 90 ∷ []) symbol ≡ t
+        → (if s then Some (drop 2 symbol) else (if t then Some (drop 3 symbol) else None)) ≡ Some inside
+        → length inside + 2 ≤ length symbol
     go true t b c e = let is : drop 2 symbol ≡ inside = cc in rw (sym is) (omega (arith, length-drop 2 symbol, two b))
     go false true b c e = let is : drop 3 symbol ≡ inside = cc in rw (sym is) (omega (arith, length-drop 3 symbol, three c))
     go false false b c e = cc
@@ -106,7 +110,8 @@ not_read symbol inside prefix none tree next cost reading within utf8 =
     let here : reading.inside ≡ inside = cc in
     none tree next cost (subst (λ v. Symbol initial (start v) tree next cost) here reading.reading) within
 
-read_wrongly : (symbol inside : List ℕ) (e m : ℕ) (found : Shape) (after : ParserState) → after_prefix symbol ≡ Some inside → HasReading (Symbol initial (start inside)) shape_of max_depth e m found after
+read_wrongly : (symbol inside : List ℕ) (e m : ℕ) (found : Shape) (after : ParserState)
+    → after_prefix symbol ≡ Some inside → HasReading (Symbol initial (start inside)) shape_of max_depth e m found after
     → ¬ (IsUtf8 (text found)) → HasNoAnswer symbol
 read_wrongly symbol inside e m found after prefix has bad tree next cost reading within utf8 =
     let here : reading.inside ≡ inside = cc in
@@ -114,7 +119,8 @@ read_wrongly symbol inside e m found after prefix has bad tree next cost reading
     let is : shape_of tree ≡ found = ap shape_of same.0 ∙ sym has.found_is in
     bad (subst (λ (v : Shape). IsUtf8 (text v)) is utf8)
 
-read_rightly : (symbol inside answer : List ℕ) (e m : ℕ) (found : Shape) (after : ParserState) → after_prefix symbol ≡ Some inside → HasReading (Symbol initial (start inside)) shape_of max_depth e m found after
+read_rightly : (symbol inside answer : List ℕ) (e m : ℕ) (found : Shape) (after : ParserState)
+    → after_prefix symbol ≡ Some inside → HasReading (Symbol initial (start inside)) shape_of max_depth e m found after
     → IsUtf8 (text found) → answer ≡ text found ++ suffix after.rest → HasAnswer symbol answer
 read_rightly symbol inside answer e m found after prefix has utf8 built =
     let same_rest : after.rest ≡ has.next.rest = ap (λ (s : ParserState). s.rest) has.state_is in
@@ -176,7 +182,8 @@ left_saved symbol inside e m found after components answer prefix has is tree ne
 
 -- what is kept as components after a reading that was found
 pub kept_components : (symbol inside : List ℕ) (e m : ℕ) (found : Shape) (after : ParserState) (buffer : Box Buffer Global) (answered : Bool) → after_prefix symbol ≡ Some inside
-    → HasReading (Symbol initial (start inside)) shape_of max_depth e m found after → saved buffer.value ≡ after.saved → HasComponents symbol (answer_text answered (Some buffer)) (component_texts answered (Some buffer))
+    → HasReading (Symbol initial (start inside)) shape_of max_depth e m found after → saved buffer.value ≡ after.saved
+    → HasComponents symbol (answer_text answered (Some buffer)) (component_texts answered (Some buffer))
 kept_components symbol inside e m found after buffer false prefix has same = refl
 kept_components symbol inside e m found after buffer true prefix has same = left_saved symbol inside e m found after _ (main_bytes buffer.value) prefix has (ap (map text) same)
 
@@ -190,12 +197,15 @@ left_shapes symbol inside e m found after shapes answer prefix has is tree next 
 
 -- what is kept as their shapes
 pub kept_shapes : (symbol inside : List ℕ) (e m : ℕ) (found : Shape) (after : ParserState) (buffer : Box Buffer Global) (answered : Bool) → after_prefix symbol ≡ Some inside
-    → HasReading (Symbol initial (start inside)) shape_of max_depth e m found after → saved buffer.value ≡ after.saved → HasSaved symbol (answer_text answered (Some buffer)) (component_shapes answered (Some buffer))
+    → HasReading (Symbol initial (start inside)) shape_of max_depth e m found after → saved buffer.value ≡ after.saved
+    → HasSaved symbol (answer_text answered (Some buffer)) (component_shapes answered (Some buffer))
 kept_shapes symbol inside e m found after buffer false prefix has same = refl
 kept_shapes symbol inside e m found after buffer true prefix has same = left_shapes symbol inside e m found after (saved buffer.value) (main_bytes buffer.value) prefix has same
 
 -- an answer that is kept is UTF-8
-pub kept_text : (printing after : List ℕ) (buffer : Box Buffer Global) (answered : Bool) → IsPrinted printing after (answer_text answered (Some buffer)) → IsUtf8 after → IsText (answer_text answered (Some buffer))
+pub kept_text : (printing after : List ℕ) (buffer : Box Buffer Global) (answered : Bool)
+    → IsPrinted printing after (answer_text answered (Some buffer)) → IsUtf8 after
+    → IsText (answer_text answered (Some buffer))
 kept_text printing after buffer false printed good = tt
 kept_text printing after buffer true printed good = subst IsUtf8 (sym printed.1) (IsUtf8-append printing after printed.0 good)
 

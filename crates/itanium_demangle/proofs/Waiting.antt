@@ -11,7 +11,13 @@ use Rattle.itanium_syntax.specs.declared.context.Context.{Context}
 use Rattle.itanium_syntax.specs.Names.{name_case}
 use Rattle.itanium_syntax.specs.Encodings.{return_case, shows_words}
 use Rattle.itanium_grammar.specs.Tree.{Tree, shape_as, shape_of, bare_shape, own_quals, local_in, nested_of, string_literal_of, default_argument_of}
-use Rattle.itanium_grammar.specs.Grammar.{Position, Cost, TaggedAs, FreeAs, UnqualifiedAs, Unqualified, UnscopedAs, AttachedAs, Name, NameAs, EntityAs, no_tag, next_tag, source_free, unnamed_type_free, lambda_free, conversion_free, literal_operator_free, operator_free, constructor_unqualified, destructor_unqualified, free_unqualified, unqualified, std_name, substitution_name, global_name, none_attached, args_attached, name, nested_name, local_name, unscoped_name, nested, local, string_literal_entity, default_argument_entity, name_entity}
+use Rattle.itanium_grammar.specs.Grammar.{Position, Cost, TaggedAs, FreeAs, UnqualifiedAs, Unqualified, UnscopedAs}
+use Rattle.itanium_grammar.specs.Grammar.{AttachedAs, Name, NameAs, EntityAs, no_tag, next_tag, source_free}
+use Rattle.itanium_grammar.specs.Grammar.{unnamed_type_free, lambda_free, conversion_free, literal_operator_free}
+use Rattle.itanium_grammar.specs.Grammar.{operator_free, constructor_unqualified, destructor_unqualified}
+use Rattle.itanium_grammar.specs.Grammar.{free_unqualified, unqualified, std_name, substitution_name, global_name}
+use Rattle.itanium_grammar.specs.Grammar.{none_attached, args_attached, name, nested_name, local_name, unscoped_name}
+use Rattle.itanium_grammar.specs.Grammar.{nested, local, string_literal_entity, default_argument_entity, name_entity}
 use Rattle.itanium_demangle.specs.Cases.{NameCase, NestedName, LocalName, UnscopedName, TagCase, FreeCase, UnqualifiedCase, UnscopedCase, AttachedCase, EntityCase}
 
 -- a name without own qualifiers
@@ -58,11 +64,15 @@ pub bare-nested_of : (t : Tree) (quals : Quals) (shown : Bool) → bare_shape (n
 unfolding shape_as
 bare-nested_of t quals shown = refl
 
-pub bare-string_literal_of : (encoding : Tree) → ◌≡◌ {A = Shape × Quals} (appended (codes "::string literal") (shape_of encoding), no_quals) (bare_shape (string_literal_of encoding), own_quals (string_literal_of encoding))
+pub bare-string_literal_of : (encoding : Tree)
+    → ◌≡◌ {A = Shape × Quals} (appended (codes "::string literal") (shape_of encoding), no_quals)
+    (bare_shape (string_literal_of encoding), own_quals (string_literal_of encoding))
 unfolding shape_as
 bare-string_literal_of encoding = refl
 
-pub bare-default_argument_of : (encoding : Tree) (number : ℕ) (entity : Tree) → bare_shape (default_argument_of encoding number entity) ≡ default_arg_shape (shape_of encoding) number (bare_shape entity)
+pub bare-default_argument_of : (encoding : Tree) (number : ℕ) (entity : Tree)
+    → bare_shape (default_argument_of encoding number entity) ≡ default_arg_shape (shape_of encoding) number
+    (bare_shape entity)
 unfolding shape_as
 bare-default_argument_of encoding number entity = refl
 
@@ -82,7 +92,9 @@ entity_words : (front : List ℕ) (entity : Shape) (words : List ℕ) → put_in
 entity_words front entity words =
     λ j. record {
       form = Plain (sym (append_assoc front (text entity) words) j);
-      own = (moved_both (length front) (length (text entity)) (length words) entity.own ∙ ap (λ n. moved n (length words) (moved 0 (length front) entity.own)) (sym (length-append front (text entity)))) j;
+      own = (moved_both (length front) (length (text entity)) (length words) entity.own
+          ∙ ap (λ n. moved n (length words) (moved 0 (length front) entity.own))
+          (sym (length-append front (text entity)))) j;
       templ = entity.templ;
       ctor = entity.ctor;
     }
@@ -124,7 +136,8 @@ mutual
       ∙ ap (default_arg_shape (shape_of t) k) (whole_name a)
   whole_entity (name_entity {t = t} {u = u} {p = p} a) on =
       sym (entity_quals (text (shape_of t) ++ codes "::") (bare_shape u) (own_quals u))
-      ∙ ap (λ (b : Bool). qualified (shape_of t) (with_name_qualifiers (bare_shape u) (own_quals u) b)) (sym (ap (shows_words (name_case (drop 1 p.rest))) on ∙ shown_inside (name_case (drop 1 p.rest))))
+      ∙ ap (λ (b : Bool). qualified (shape_of t) (with_name_qualifiers (bare_shape u) (own_quals u) b))
+      (sym (ap (shows_words (name_case (drop 1 p.rest))) on ∙ shown_inside (name_case (drop 1 p.rest))))
       ∙ ap (qualified (shape_of t)) (whole_name a)
 
 -- qualifiers change no flag

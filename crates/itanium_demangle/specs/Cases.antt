@@ -32,11 +32,21 @@ pub use Rattle.itanium_syntax.specs.declared.args.ArgumentCase.TheVariants.{Expr
 pub use Rattle.itanium_syntax.specs.declared.expressions.LiteralCase.{LiteralCase}
 pub use Rattle.itanium_syntax.specs.declared.expressions.LiteralCase.TheVariants.{ExternalName, ValueLiteral, NoLiteral}
 pub use Rattle.itanium_syntax.specs.declared.expressions.ExpressionCase.{ExpressionCase}
-pub use Rattle.itanium_syntax.specs.declared.expressions.ExpressionCase.TheVariants.{PreExpression, AddressExpression, UnaryExpression, PostExpression, BinaryExpression, GreaterExpression, ConditionalExpression, ParameterExpression, LiteralExpression, NoExpression}
+pub use Rattle.itanium_syntax.specs.declared.expressions.ExpressionCase.TheVariants.{PreExpression, AddressExpression}
+pub use Rattle.itanium_syntax.specs.declared.expressions.ExpressionCase.TheVariants.{UnaryExpression, PostExpression}
+pub use Rattle.itanium_syntax.specs.declared.expressions.ExpressionCase.TheVariants.{BinaryExpression}
+pub use Rattle.itanium_syntax.specs.declared.expressions.ExpressionCase.TheVariants.{GreaterExpression}
+pub use Rattle.itanium_syntax.specs.declared.expressions.ExpressionCase.TheVariants.{ConditionalExpression}
+pub use Rattle.itanium_syntax.specs.declared.expressions.ExpressionCase.TheVariants.{ParameterExpression}
+pub use Rattle.itanium_syntax.specs.declared.expressions.ExpressionCase.TheVariants.{LiteralExpression, NoExpression}
 pub use Rattle.itanium_syntax.specs.declared.specials.SpecialCase.{SpecialCase}
 pub use Rattle.itanium_syntax.specs.declared.specials.SpecialCase.TheVariants.{TypeSpecial, NameSpecial, TemporarySpecial, ConstructionSpecial, ThunkSpecial, NoSpecial}
 pub use Rattle.itanium_syntax.specs.declared.types.TypeCase.{TypeCase}
-pub use Rattle.itanium_syntax.specs.declared.types.TypeCase.TheVariants.{BuiltinType, ExpansionType, VendorType, ArrayType, FunctionType, MemberType, PointerType, CvType, ElaboratedType, ParameterType, SubstitutionType, UnreadType, NameType}
+pub use Rattle.itanium_syntax.specs.declared.types.TypeCase.TheVariants.{BuiltinType, ExpansionType, VendorType}
+pub use Rattle.itanium_syntax.specs.declared.types.TypeCase.TheVariants.{ArrayType, FunctionType, MemberType}
+pub use Rattle.itanium_syntax.specs.declared.types.TypeCase.TheVariants.{PointerType, CvType, ElaboratedType}
+pub use Rattle.itanium_syntax.specs.declared.types.TypeCase.TheVariants.{ParameterType, SubstitutionType, UnreadType}
+pub use Rattle.itanium_syntax.specs.declared.types.TypeCase.TheVariants.{NameType}
 pub use Rattle.itanium_syntax.specs.declared.types.CvCase.{CvCase}
 pub use Rattle.itanium_syntax.specs.declared.types.CvCase.TheVariants.{CvFunction, CvOther}
 pub use Rattle.itanium_syntax.specs.declared.types.FunctionCase.{FunctionCase}

@@ -3,13 +3,49 @@ use Rattle.std.proofs.Common.{◌≡◌, ℕ, Bool, List, Option, drop, refl, ar
 use Rattle.demangle_quals.specs.declared.quals.Quals.{Quals}
 use Rattle.itanium_syntax.specs.declared.context.Context.{Context}
 use Rattle.itanium_syntax.specs.declared.numerals.Radix.TheVariants.{Decimal, Base36}
-use Rattle.itanium_grammar.specs.Cases.{SymbolCase, SpecialCase, LiteralCase, ExpressionCase, NameCase, ReturnCase, SignatureCase, EntityCase, UnscopedCase, AttachedCase, FirstCase, SegmentCase, UnqualifiedCase, FreeCase, TagCase, SubstitutionCase, ArgsCase, ArgumentCase, TypeCase, CvCase, ParamsCase, TypesCase}
+use Rattle.itanium_grammar.specs.Cases.{SymbolCase, SpecialCase, LiteralCase, ExpressionCase, NameCase, ReturnCase}
+use Rattle.itanium_grammar.specs.Cases.{SignatureCase, EntityCase, UnscopedCase, AttachedCase, FirstCase, SegmentCase}
+use Rattle.itanium_grammar.specs.Cases.{UnqualifiedCase, FreeCase, TagCase, SubstitutionCase, ArgsCase, ArgumentCase}
+use Rattle.itanium_grammar.specs.Cases.{TypeCase, CvCase, ParamsCase, TypesCase}
 use Rattle.itanium_syntax.specs.Names.{first_case, segment_case, unqualified_case}
 use Rattle.itanium_syntax.specs.Args.{args_case}
 use Rattle.itanium_syntax.specs.Types.{type_case, past_reference}
-use Rattle.itanium_syntax.proofs.Fronts.{IsAfter, Takes, after_none, after_drop, after_then, takes_then, after_takes, takes_takes, takes_drop, internal_after, initializer_after, cv_after, quals_after, reference_after, builtin_after, builtin_shorter, abbreviation_takes, index_takes, source_takes, optional_number_takes, constructor_some, destructor_some, std_shorter, segments_end_shorter, arguments_end_shorter, ordinal_takes, operator_takes, literal_value_takes, thunk_offsets_after, base_offset_takes}
+use Rattle.itanium_syntax.proofs.Fronts.{IsAfter, Takes, after_none, after_drop, after_then, takes_then, after_takes}
+use Rattle.itanium_syntax.proofs.Fronts.{takes_takes, takes_drop, internal_after, initializer_after, cv_after}
+use Rattle.itanium_syntax.proofs.Fronts.{quals_after, reference_after, builtin_after, builtin_shorter}
+use Rattle.itanium_syntax.proofs.Fronts.{abbreviation_takes, index_takes, source_takes, optional_number_takes}
+use Rattle.itanium_syntax.proofs.Fronts.{constructor_some, destructor_some, std_shorter, segments_end_shorter}
+use Rattle.itanium_syntax.proofs.Fronts.{arguments_end_shorter, ordinal_takes, operator_takes, literal_value_takes}
+use Rattle.itanium_syntax.proofs.Fronts.{thunk_offsets_after, base_offset_takes}
 use Rattle.itanium_grammar.specs.Tree.{Tree, Operand}
-use Rattle.itanium_grammar.specs.Grammar.{Position, Cost, SpecialAs, Thunk, special_encoding, type_special, name_special, temporary_special, construction_special, thunk_special, thunk, special_symbol, Expression, ExpressionAs, OperandOf, LiteralAs, expression_argument, literal_argument, external_name, value_literal, expression, operand_of, pre_expression, address_expression, unary_expression, post_expression, binary_expression, greater_expression, conditional_expression, parameter_expression, literal_expression, SubstitutionAs, Substitution, Parameter, TaggedAs, UnqualifiedAs, Unqualified, FirstAs, Name, NameAs, Local, EntityAs, Encoding, EncodingAs, ReturnAs, SignatureAs, UnscopedAs, AttachedAs, Nested, Segments, SegmentsAs, Args, Arguments, ArgumentsAs, ArgumentAs, TypeOf, TypeAs, CvAs, Function, ParamsAs, TypesAs, TypeAttachedAs, SymbolAs, Symbol, abbreviation_substitution, component_substitution, substitution, parameter, no_tag, next_tag, source_free, unnamed_type_free, lambda_free, conversion_free, literal_operator_free, operator_free, FreeAs, free_unqualified, constructor_unqualified, destructor_unqualified, unqualified, parameter_first, std_first, substitution_first, name_first, name, nested_name, local_name, local, string_literal_entity, default_argument_entity, name_entity, encoding, name_encoding, no_return_type, some_return_type, no_signature, some_signature, unscoped_name, std_name, substitution_name, global_name, none_attached, args_attached, nested, segments, end_of_segments, args_segment, name_segment, args, arguments, end_of_arguments, one_more_argument, pack_argument, type_argument, Pack, PackedAs, pack, end_of_pack, one_more_packed, expansion_type, type, builtin_type, vendor_type, array_type, function_type, member_type, pointer_type, cv_type, elaborated_type, parameter_type, substitution_type, name_type, cv_function, cv_other, function, no_params, some_params, end_of_types, one_more_type, none_attached_to_type, args_attached_to_type, name_symbol, symbol}
+use Rattle.itanium_grammar.specs.Grammar.{Position, Cost, SpecialAs, Thunk, special_encoding, type_special}
+use Rattle.itanium_grammar.specs.Grammar.{name_special, temporary_special, construction_special, thunk_special, thunk}
+use Rattle.itanium_grammar.specs.Grammar.{special_symbol, Expression, ExpressionAs, OperandOf, LiteralAs}
+use Rattle.itanium_grammar.specs.Grammar.{expression_argument, literal_argument, external_name, value_literal}
+use Rattle.itanium_grammar.specs.Grammar.{expression, operand_of, pre_expression, address_expression, unary_expression}
+use Rattle.itanium_grammar.specs.Grammar.{post_expression, binary_expression, greater_expression}
+use Rattle.itanium_grammar.specs.Grammar.{conditional_expression, parameter_expression, literal_expression}
+use Rattle.itanium_grammar.specs.Grammar.{SubstitutionAs, Substitution, Parameter, TaggedAs, UnqualifiedAs, Unqualified}
+use Rattle.itanium_grammar.specs.Grammar.{FirstAs, Name, NameAs, Local, EntityAs, Encoding, EncodingAs, ReturnAs}
+use Rattle.itanium_grammar.specs.Grammar.{SignatureAs, UnscopedAs, AttachedAs, Nested, Segments, SegmentsAs, Args}
+use Rattle.itanium_grammar.specs.Grammar.{ArgumentsAs, ArgumentAs, TypeOf, TypeAs, CvAs, Function, ParamsAs, TypesAs}
+use Rattle.itanium_grammar.specs.Grammar.{TypeAttachedAs, SymbolAs, Symbol, abbreviation_substitution}
+use Rattle.itanium_grammar.specs.Grammar.{component_substitution, substitution, parameter, no_tag, next_tag}
+use Rattle.itanium_grammar.specs.Grammar.{source_free, unnamed_type_free, lambda_free, conversion_free}
+use Rattle.itanium_grammar.specs.Grammar.{literal_operator_free, operator_free, FreeAs, free_unqualified}
+use Rattle.itanium_grammar.specs.Grammar.{constructor_unqualified, destructor_unqualified, unqualified, parameter_first}
+use Rattle.itanium_grammar.specs.Grammar.{std_first, substitution_first, name_first, name, nested_name, local_name}
+use Rattle.itanium_grammar.specs.Grammar.{local, string_literal_entity, default_argument_entity, name_entity, encoding}
+use Rattle.itanium_grammar.specs.Grammar.{name_encoding, no_return_type, some_return_type, no_signature, some_signature}
+use Rattle.itanium_grammar.specs.Grammar.{unscoped_name, std_name, substitution_name, global_name, none_attached}
+use Rattle.itanium_grammar.specs.Grammar.{args_attached, nested, segments, end_of_segments, args_segment, name_segment}
+use Rattle.itanium_grammar.specs.Grammar.{args, end_of_arguments, one_more_argument, pack_argument, type_argument, Pack}
+use Rattle.itanium_grammar.specs.Grammar.{PackedAs, pack, end_of_pack, one_more_packed, expansion_type, type}
+use Rattle.itanium_grammar.specs.Grammar.{builtin_type, vendor_type, array_type, function_type, member_type}
+use Rattle.itanium_grammar.specs.Grammar.{pointer_type, cv_type, elaborated_type, parameter_type, substitution_type}
+use Rattle.itanium_grammar.specs.Grammar.{name_type, cv_function, cv_other, function, no_params, some_params}
+use Rattle.itanium_grammar.specs.Grammar.{end_of_types, one_more_type, none_attached_to_type, args_attached_to_type}
+use Rattle.itanium_grammar.specs.Grammar.{name_symbol, symbol}
 
 substitution_as_takes : {case : SubstitutionCase} {p q : Position} {t : Tree} → SubstitutionAs case p t q → Takes q.rest p.rest
 substitution_as_takes (abbreviation_substitution {p = p} known) = abbreviation_takes p.rest _ known
@@ -123,18 +159,15 @@ mutual
   segment_takes form (name_segment {q = q} a b) = takes_takes (unqualified_takes a) (after_takes (initializer_after q.rest) (segments_takes b))
 
   pub args_takes : {x : Context} {of_name : Bool} {p q : Position} {list : List Tree} {c : Cost} → Args x of_name p list q c → Takes q.rest p.rest
-  args_takes (args {p = p} a) = after_takes (after_drop 1 p.rest) (arguments_takes a)
+  args_takes (args {p = p} a) = after_takes (after_drop 1 p.rest) (arguments_takes refl a)
 
   args_after : {x : Context} {of_name : Bool} {p q : Position} {list : List Tree} {c : Cost} → Args x of_name p list q c → IsAfter q.rest p.rest
-  args_after (args {p = p} a) = (after_takes (after_drop 1 p.rest) (arguments_takes a)).after
+  args_after (args {p = p} a) = (after_takes (after_drop 1 p.rest) (arguments_takes refl a)).after
 
-  pub arguments_takes : {x : Context} {o : Bool} {k : ℕ} {p q : Position} {list : List Tree} {c : Cost} → Arguments x o k p list q c → Takes q.rest p.rest
-  arguments_takes (arguments a) = arguments_as_takes refl a
-
-  arguments_as_takes : {case : ArgsCase} {x : Context} {o : Bool} {k : ℕ} {p q : Position} {list : List Tree}
+  pub arguments_takes : {case : ArgsCase} {x : Context} {o : Bool} {k : ℕ} {p q : Position} {list : List Tree}
       {c : Cost} → args_case p.rest ≡ case → ArgumentsAs case x o k p list q c → Takes q.rest p.rest
-  arguments_as_takes form (end_of_arguments {p = p}) = record { after = after_drop 1 p.rest; shorter = arguments_end_shorter p.rest form }
-  arguments_as_takes form (one_more_argument a b) = takes_takes (argument_takes a) (arguments_takes b)
+  arguments_takes form (end_of_arguments {p = p}) = record { after = after_drop 1 p.rest; shorter = arguments_end_shorter p.rest form }
+  arguments_takes form (one_more_argument a b) = takes_takes (argument_takes a) (arguments_takes refl b)
 
   pub argument_takes : {case : ArgumentCase} {x : Context} {p q : Position} {t : Tree} {c : Cost} → ArgumentAs case x p t q c → Takes q.rest p.rest
   argument_takes (expression_argument {p = p} {q = q} a end) = takes_then (after_takes (after_drop 1 p.rest) (expression_takes a)) (after_drop 1 q.rest)

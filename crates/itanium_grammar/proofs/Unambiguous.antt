@@ -3,7 +3,10 @@ use Rattle.std.proofs.Common.{◌≡◌, ℕ, Bool, true, ◌∷◌, List, Optio
 use Rattle.std.proofs.lemmas.Option.{some_pair_parts, same_Some}
 use Rattle.demangle_quals.specs.declared.quals.Quals.{Quals}
 use Rattle.itanium_syntax.specs.declared.context.Context.{Context}
-use Rattle.itanium_grammar.specs.Cases.{SymbolCase, SpecialCase, LiteralCase, ExpressionCase, NameCase, ReturnCase, SignatureCase, EntityCase, UnscopedCase, AttachedCase, FirstCase, SegmentCase, UnqualifiedCase, FreeCase, TagCase, SubstitutionCase, ArgsCase, ArgumentCase, TypeCase, CvCase, ParamsCase, TypesCase}
+use Rattle.itanium_grammar.specs.Cases.{SymbolCase, SpecialCase, LiteralCase, ExpressionCase, NameCase, ReturnCase}
+use Rattle.itanium_grammar.specs.Cases.{SignatureCase, EntityCase, UnscopedCase, AttachedCase, FirstCase, SegmentCase}
+use Rattle.itanium_grammar.specs.Cases.{UnqualifiedCase, FreeCase, TagCase, SubstitutionCase, ArgsCase, ArgumentCase}
+use Rattle.itanium_grammar.specs.Cases.{TypeCase, CvCase, ParamsCase, TypesCase}
 use Rattle.itanium_syntax.specs.Names.{symbol_case, source_text, tag_case, past_name_quals, name_quals, saves_first, first_case}
 use Rattle.itanium_syntax.specs.Scalars.{ordinal, index_of}
 use Rattle.itanium_syntax.specs.declared.numerals.Radix.TheVariants.{Base36}
@@ -14,8 +17,42 @@ use Rattle.itanium_syntax.specs.Specials.{special_text, special_close}
 use Rattle.itanium_syntax.specs.Encodings.{return_case, signature_case, entity_case}
 use Rattle.itanium_syntax.specs.Args.{attached_case, args_case}
 use Rattle.itanium_syntax.specs.Types.{params_case, types_case, elaborated_text, with_reference, past_reference}
-use Rattle.itanium_grammar.specs.Tree.{Tree, worded, temporary_of, construction_of, thunk_of, Operand, operand, literal_of, address_of, pre_of, unary_of, post_of, binary_of, greater_of, conditional_of, local_in, default_argument_of, function_encoding, name_printing, shape_of, tagged_with, lambda_of, conversion_to, pack_of, unnamed_text, literal_operator_text, expanded, plain_text, abbreviation, with_args, nested_of, pointer_to, cv_of, array_of, member_of, function_to, elaborated, trees, in_parent, printing, list_printing}
-use Rattle.itanium_grammar.specs.Grammar.{Position, Cost, SpecialAs, Thunk, special_encoding, type_special, name_special, temporary_special, construction_special, thunk_special, thunk, special_symbol, Expression, ExpressionAs, OperandOf, LiteralAs, expression_argument, literal_argument, external_name, value_literal, expression, operand_of, pre_expression, address_expression, unary_expression, post_expression, binary_expression, greater_expression, conditional_expression, parameter_expression, literal_expression, with_rest, skip, counted, saving, save, add_argument, past_initializer, both, SubstitutionAs, Substitution, ParameterAs, Parameter, TaggedAs, UnqualifiedAs, Unqualified, FirstAs, Name, NameAs, Local, EntityAs, Encoding, EncodingAs, ReturnAs, SignatureAs, UnscopedAs, AttachedAs, Nested, Segments, SegmentsAs, Args, Arguments, ArgumentsAs, ArgumentAs, TypeOf, TypeAs, CvAs, Function, ParamsAs, TypesAs, TypeAttachedAs, SymbolAs, Symbol, abbreviation_substitution, component_substitution, substitution, auto_parameter, scope_parameter, parameter, no_tag, next_tag, source_free, unnamed_type_free, lambda_free, conversion_free, literal_operator_free, operator_free, FreeAs, free_unqualified, nothing, constructor_unqualified, destructor_unqualified, unqualified, parameter_first, std_first, substitution_first, name_first, name, nested_name, local_name, local, string_literal_entity, default_argument_entity, name_entity, encoding, name_encoding, no_return_type, some_return_type, no_signature, some_signature, unscoped_name, std_name, substitution_name, global_name, none_attached, args_attached, nested, segments, end_of_segments, args_segment, name_segment, args, arguments, end_of_arguments, one_more_argument, pack_argument, type_argument, Pack, PackedAs, pack, end_of_pack, one_more_packed, expansion_type, type, builtin_type, vendor_type, array_type, function_type, member_type, pointer_type, cv_type, elaborated_type, parameter_type, substitution_type, name_type, cv_function, cv_other, function, no_params, some_params, end_of_types, one_more_type, none_attached_to_type, args_attached_to_type, name_symbol, symbol}
+use Rattle.itanium_grammar.specs.Tree.{Tree, worded, temporary_of, construction_of, thunk_of, Operand, operand}
+use Rattle.itanium_grammar.specs.Tree.{literal_of, address_of, pre_of, unary_of, post_of, binary_of, greater_of}
+use Rattle.itanium_grammar.specs.Tree.{conditional_of, local_in, default_argument_of, function_encoding, name_printing}
+use Rattle.itanium_grammar.specs.Tree.{shape_of, tagged_with, lambda_of, conversion_to, pack_of, unnamed_text}
+use Rattle.itanium_grammar.specs.Tree.{literal_operator_text, expanded, plain_text, abbreviation, with_args, nested_of}
+use Rattle.itanium_grammar.specs.Tree.{pointer_to, cv_of, array_of, member_of, function_to, elaborated, trees}
+use Rattle.itanium_grammar.specs.Tree.{in_parent, printing, list_printing}
+use Rattle.itanium_grammar.specs.Grammar.{Position, Cost, SpecialAs, Thunk, special_encoding, type_special}
+use Rattle.itanium_grammar.specs.Grammar.{name_special, temporary_special, construction_special, thunk_special, thunk}
+use Rattle.itanium_grammar.specs.Grammar.{special_symbol, Expression, ExpressionAs, OperandOf, LiteralAs}
+use Rattle.itanium_grammar.specs.Grammar.{expression_argument, literal_argument, external_name, value_literal}
+use Rattle.itanium_grammar.specs.Grammar.{expression, operand_of, pre_expression, address_expression, unary_expression}
+use Rattle.itanium_grammar.specs.Grammar.{post_expression, binary_expression, greater_expression}
+use Rattle.itanium_grammar.specs.Grammar.{conditional_expression, parameter_expression, literal_expression, with_rest}
+use Rattle.itanium_grammar.specs.Grammar.{skip, counted, saving, save, add_argument, past_initializer, both}
+use Rattle.itanium_grammar.specs.Grammar.{SubstitutionAs, Substitution, ParameterAs, Parameter, TaggedAs, UnqualifiedAs}
+use Rattle.itanium_grammar.specs.Grammar.{Unqualified, FirstAs, Name, NameAs, Local, EntityAs, Encoding, EncodingAs}
+use Rattle.itanium_grammar.specs.Grammar.{ReturnAs, SignatureAs, UnscopedAs, AttachedAs, Nested, Segments, SegmentsAs}
+use Rattle.itanium_grammar.specs.Grammar.{Args, ArgumentsAs, ArgumentAs, TypeOf, TypeAs, CvAs, Function, ParamsAs}
+use Rattle.itanium_grammar.specs.Grammar.{TypesAs, TypeAttachedAs, SymbolAs, Symbol, abbreviation_substitution}
+use Rattle.itanium_grammar.specs.Grammar.{component_substitution, substitution, auto_parameter, scope_parameter}
+use Rattle.itanium_grammar.specs.Grammar.{parameter, no_tag, next_tag, source_free, unnamed_type_free, lambda_free}
+use Rattle.itanium_grammar.specs.Grammar.{conversion_free, literal_operator_free, operator_free, FreeAs}
+use Rattle.itanium_grammar.specs.Grammar.{free_unqualified, nothing, constructor_unqualified, destructor_unqualified}
+use Rattle.itanium_grammar.specs.Grammar.{unqualified, parameter_first, std_first, substitution_first, name_first, name}
+use Rattle.itanium_grammar.specs.Grammar.{nested_name, local_name, local, string_literal_entity}
+use Rattle.itanium_grammar.specs.Grammar.{default_argument_entity, name_entity, encoding, name_encoding, no_return_type}
+use Rattle.itanium_grammar.specs.Grammar.{some_return_type, no_signature, some_signature, unscoped_name, std_name}
+use Rattle.itanium_grammar.specs.Grammar.{substitution_name, global_name, none_attached, args_attached, nested}
+use Rattle.itanium_grammar.specs.Grammar.{segments, end_of_segments, args_segment, name_segment, args, end_of_arguments}
+use Rattle.itanium_grammar.specs.Grammar.{one_more_argument, pack_argument, type_argument, Pack, PackedAs, pack}
+use Rattle.itanium_grammar.specs.Grammar.{end_of_pack, one_more_packed, expansion_type, type, builtin_type, vendor_type}
+use Rattle.itanium_grammar.specs.Grammar.{array_type, function_type, member_type, pointer_type, cv_type}
+use Rattle.itanium_grammar.specs.Grammar.{elaborated_type, parameter_type, substitution_type, name_type, cv_function}
+use Rattle.itanium_grammar.specs.Grammar.{cv_other, function, no_params, some_params, end_of_types, one_more_type}
+use Rattle.itanium_grammar.specs.Grammar.{none_attached_to_type, args_attached_to_type, name_symbol, symbol}
 
 -- two readings have the same tree, the same position after them and the same cost
 pub record Same {T : Type 0} (t u : T) (q r : Position) (c d : Cost) : Type 0 where
@@ -248,16 +285,12 @@ mutual
       let same = one_arguments a b in
       record { tree = same.tree; next = same.next; cost = ap₂ counted (ap (λ ts. length (list_printing ts)) same.tree) same.cost }
 
-  one_arguments : {x : Context} {o : Bool} {k : ℕ} {p q r : Position} {ts us : List Tree} {c d : Cost}
-      → Arguments x o k p ts q c → Arguments x o k p us r d → Same ts us q r c d
-  one_arguments (arguments a) (arguments b) = one_arguments_as a b
-
-  one_arguments_as : {case : ArgsCase} {x : Context} {o : Bool} {k : ℕ} {p q r : Position} {ts us : List Tree} {c d : Cost}
+  one_arguments : {case : ArgsCase} {x : Context} {o : Bool} {k : ℕ} {p q r : Position} {ts us : List Tree} {c d : Cost}
       → ArgumentsAs case x o k p ts q c → ArgumentsAs case x o k p us r d → Same ts us q r c d
-  one_arguments_as end_of_arguments end_of_arguments = record { tree = refl; next = refl; cost = refl }
-  one_arguments_as (one_more_argument {x = x} {opens = o} {n = k} a b) (one_more_argument {r = r} {ts = us} {d = d} g h) =
+  one_arguments end_of_arguments end_of_arguments = record { tree = refl; next = refl; cost = refl }
+  one_arguments (one_more_argument {x = x} {opens = o} {n = k} a b) (one_more_argument {r = r} {ts = us} {d = d} g h) =
       let first = one_argument a g in
-      let same = one_arguments b (subst (λ v. Arguments x o k v us r d) (ap₂ (add_argument o k) (sym first.tree) (sym first.next)) h) in
+      let same = one_arguments b (subst (λ v. ArgumentsAs (args_case v.rest) x o k v us r d) (ap₂ (add_argument o k) (sym first.tree) (sym first.next)) h) in
       record { tree = ap₂ (λ t ts. t ∷ ts) first.tree same.tree; next = same.next; cost = ap₂ both first.cost same.cost }
 
   pub one_argument : {case : ArgumentCase} {x : Context} {p q r : Position} {t u : Tree} {c d : Cost}

@@ -13,7 +13,9 @@ use Rattle.itanium_syntax.specs.Scalars.{numeral, next_number, past_underscore, 
 use Rattle.itanium_syntax.specs.Specials.{begins_t_and, special_text, special_close}
 use Rattle.itanium_grammar.specs.Answer.{max_text, after_prefix, suffix, IsReading, IsWithin, HasAnswer, IsAnswer, HasLength}
 use Rattle.itanium_grammar.specs.Tree.{Tree, shape_as, printing, worded, temporary_of, construction_of}
-use Rattle.itanium_grammar.specs.Grammar.{Position, Cost, Name, TypeOf, Thunk, SpecialAs, SymbolAs, Symbol, name, type, thunk, type_special, name_special, temporary_special, construction_special, thunk_special, special_symbol, name_symbol, symbol}
+use Rattle.itanium_grammar.specs.Grammar.{Position, Cost, Name, TypeOf, Thunk, SpecialAs, SymbolAs, Symbol, name, type}
+use Rattle.itanium_grammar.specs.Grammar.{thunk, type_special, name_special, temporary_special, construction_special}
+use Rattle.itanium_grammar.specs.Grammar.{thunk_special, special_symbol, name_symbol, symbol}
 use Rattle.itanium_grammar.specs.Cases.{SpecialCase, SymbolCase}
 use Rattle.itanium_grammar.proofs.Progress.{symbol_takes}
 use Rattle.itanium_grammar.proofs.Agreement.{one_reading}
@@ -50,7 +52,8 @@ four_len a b c d = omega (arith, length-append a (b ++ (c ++ (d ++ []))), three_
 
 words_len : (bytes : List ℕ) → length (special_text bytes) ≤ 25
 words_len bytes =
-    go (begins (codes "TV") bytes) (begins (codes "TT") bytes) (begins (codes "TI") bytes) (begins (codes "TS") bytes) (begins (codes "TF") bytes) (begins (codes "TH") bytes) (begins (codes "TW") bytes)
+    go (begins (codes "TV") bytes) (begins (codes "TT") bytes) (begins (codes "TI") bytes) (begins (codes "TS") bytes)
+    (begins (codes "TF") bytes) (begins (codes "TH") bytes) (begins (codes "TW") bytes)
   where
     go : (a b c d e f g : Bool)
         → length (if a then codes "{vtable(" else

@@ -1,6 +1,8 @@
 -- The grammar: which front of the bytes is which tree (Itanium C++ ABI 5.1). A reading is indexed by the context, the
 -- position where it begins, the tree, the position after it, and the cost. A case without a constructor isn't read.
-use Rattle.std.specs.Prelude.{◌≡◌, ℕ, ◌+◌, ◌-◌, max, Bool, true, false, if◌then◌else◌, slice_get, slice_set, slice_index_or, List, [], ◌∷◌, ◌++◌, Option, Some, None, is_some, take, drop, length, codes}
+use Rattle.std.specs.Prelude.{◌≡◌, ℕ, ◌+◌, ◌-◌, max, Bool, true, false, if◌then◌else◌, slice_get, slice_set}
+use Rattle.std.specs.Prelude.{slice_index_or, List, [], ◌∷◌, ◌++◌, Option, Some, None, is_some, take, drop, length}
+use Rattle.std.specs.Prelude.{codes}
 use Rattle.demangle_text.specs.Shape.{is_plain}
 use Rattle.demangle_quals.specs.declared.quals.Pointer.{Pointer}
 use Rattle.demangle_quals.specs.declared.quals.Quals.{Quals}
@@ -10,12 +12,32 @@ use Rattle.demangle_edit.specs.Expressions.{has_literal}
 use Rattle.itanium_syntax.specs.declared.abbreviations.Abbreviation.{Abbreviation}
 use Rattle.itanium_syntax.specs.declared.context.Context.{Context}
 use Rattle.itanium_syntax.specs.declared.numerals.Radix.TheVariants.{Decimal, Base36}
-use Rattle.itanium_grammar.specs.Cases.{SymbolCase, SpecialSymbol, NameSymbol, SpecialCase, TypeSpecial, NameSpecial, TemporarySpecial, ConstructionSpecial, ThunkSpecial, NameCase, NestedName, LocalName, UnscopedName, ReturnCase, NoReturnType, SomeReturnType, SignatureCase, NoSignature, SomeSignature, EntityCase, StringLiteralEntity, DefaultArgumentEntity, NameEntity, UnscopedCase, StdName, SubstitutionName, PlainName, AttachedCase, NoneAttached, ArgsAttached, FirstCase, ParameterFirst, StdFirst, SubstitutionFirst, NameFirst, SegmentCase, EndOfSegments, ArgsSegment, NameSegment, UnqualifiedCase, ConstructorName, DestructorName, FreeName, FreeCase, SourceName, UnnamedTypeName, LambdaName, ConversionName, LiteralOperatorName, OperatorName, TagCase, NoTag, NextTag, SubstitutionCase, AbbreviationSubstitution, ComponentSubstitution, ArgsCase, EndOfArguments, NextArgument, ArgumentCase, ExpressionArgument, PackArgument, LiteralArgument, TypeArgument, LiteralCase, ExternalName, ValueLiteral, ExpressionCase, PreExpression, AddressExpression, UnaryExpression, PostExpression, BinaryExpression, GreaterExpression, ConditionalExpression, ParameterExpression, LiteralExpression, TypeCase, BuiltinType, ExpansionType, VendorType, ArrayType, FunctionType, MemberType, PointerType, CvType, ElaboratedType, ParameterType, SubstitutionType, NameType, CvCase, CvFunction, CvOther, PlainFunction, ParamsCase, NoParams, SomeParams, TypesCase, EndOfTypes, NextType}
+use Rattle.itanium_grammar.specs.Cases.{SymbolCase, SpecialSymbol, NameSymbol, SpecialCase, TypeSpecial, NameSpecial}
+use Rattle.itanium_grammar.specs.Cases.{TemporarySpecial, ConstructionSpecial, ThunkSpecial, NameCase, NestedName}
+use Rattle.itanium_grammar.specs.Cases.{LocalName, UnscopedName, ReturnCase, NoReturnType, SomeReturnType}
+use Rattle.itanium_grammar.specs.Cases.{SignatureCase, NoSignature, SomeSignature, EntityCase, StringLiteralEntity}
+use Rattle.itanium_grammar.specs.Cases.{DefaultArgumentEntity, NameEntity, UnscopedCase, StdName, SubstitutionName}
+use Rattle.itanium_grammar.specs.Cases.{PlainName, AttachedCase, NoneAttached, ArgsAttached, FirstCase, ParameterFirst}
+use Rattle.itanium_grammar.specs.Cases.{StdFirst, SubstitutionFirst, NameFirst, SegmentCase, EndOfSegments, ArgsSegment}
+use Rattle.itanium_grammar.specs.Cases.{NameSegment, UnqualifiedCase, ConstructorName, DestructorName, FreeName}
+use Rattle.itanium_grammar.specs.Cases.{FreeCase, SourceName, UnnamedTypeName, LambdaName, ConversionName}
+use Rattle.itanium_grammar.specs.Cases.{LiteralOperatorName, OperatorName, TagCase, NoTag, NextTag, SubstitutionCase}
+use Rattle.itanium_grammar.specs.Cases.{AbbreviationSubstitution, ComponentSubstitution, ArgsCase, EndOfArguments}
+use Rattle.itanium_grammar.specs.Cases.{NextArgument, ArgumentCase, ExpressionArgument, PackArgument, LiteralArgument}
+use Rattle.itanium_grammar.specs.Cases.{TypeArgument, LiteralCase, ExternalName, ValueLiteral, ExpressionCase}
+use Rattle.itanium_grammar.specs.Cases.{PreExpression, AddressExpression, UnaryExpression, PostExpression}
+use Rattle.itanium_grammar.specs.Cases.{BinaryExpression, GreaterExpression, ConditionalExpression, ParameterExpression}
+use Rattle.itanium_grammar.specs.Cases.{LiteralExpression, TypeCase, BuiltinType, ExpansionType, VendorType, ArrayType}
+use Rattle.itanium_grammar.specs.Cases.{FunctionType, MemberType, PointerType, CvType, ElaboratedType, ParameterType}
+use Rattle.itanium_grammar.specs.Cases.{SubstitutionType, NameType, CvCase, CvFunction, CvOther, PlainFunction}
+use Rattle.itanium_grammar.specs.Cases.{ParamsCase, NoParams, SomeParams, TypesCase, EndOfTypes, NextType}
 use Rattle.itanium_syntax.specs.Scalars.{source_name, index_of, ordinal, optional_number}
 use Rattle.itanium_syntax.specs.Operators.{operator_here}
 use Rattle.itanium_syntax.specs.Abbreviations.{abbreviation_of}
 use Rattle.itanium_syntax.specs.Context.{opens_scope, inside_type, inside_pack, inside_lambda, inside_local, inside_encoding}
-use Rattle.itanium_syntax.specs.Names.{symbol_case, name_case, unscoped_case, first_case, segment_case, unqualified_case, free_case, tag_case, past_internal, past_initializer_letter, source_text, name_quals, past_name_quals, saves_first, substitution_case}
+use Rattle.itanium_syntax.specs.Names.{symbol_case, name_case, unscoped_case, first_case, segment_case}
+use Rattle.itanium_syntax.specs.Names.{unqualified_case, free_case, tag_case, past_internal, past_initializer_letter}
+use Rattle.itanium_syntax.specs.Names.{source_text, name_quals, past_name_quals, saves_first, substitution_case}
 use Rattle.itanium_syntax.specs.Bytes.{begins}
 use Rattle.itanium_syntax.specs.Expressions.{is_external, literal_case, literal_value, expression_text, expression_case}
 use Rattle.itanium_syntax.specs.declared.offsets.ThunkOffsets.{ThunkOffsets}
@@ -24,7 +46,13 @@ use Rattle.itanium_syntax.specs.Specials.{special_case, special_text, special_cl
 use Rattle.itanium_syntax.specs.Encodings.{return_case, signature_case, entity_case}
 use Rattle.itanium_syntax.specs.Args.{attached_case, args_case, argument_case}
 use Rattle.itanium_syntax.specs.Types.{type_case, builtin_text, past_builtin, cv_quals, past_cv, with_reference, past_reference, cv_case, function_case, params_case, types_case, elaborated_text}
-use Rattle.itanium_grammar.specs.Tree.{Tree, worded, temporary_of, construction_of, thunk_of, Operand, operand, literal_of, address_of, pre_of, unary_of, post_of, binary_of, greater_of, conditional_of, local_in, string_literal_of, default_argument_of, encoding_of, function_encoding, name_printing, plain_text, abbreviation, ctor_dtor_of, tagged_with, with_args, lambda_of, conversion_to, nested_of, pointer_to, cv_of, array_of, member_of, function_to, elaborated, pack_of, trees, in_parent, unnamed_text, literal_operator_text, expanded, shape_of, printing, list_printing}
+use Rattle.itanium_grammar.specs.Tree.{Tree, worded, temporary_of, construction_of, thunk_of, Operand, operand}
+use Rattle.itanium_grammar.specs.Tree.{literal_of, address_of, pre_of, unary_of, post_of, binary_of, greater_of}
+use Rattle.itanium_grammar.specs.Tree.{conditional_of, local_in, string_literal_of, default_argument_of, encoding_of}
+use Rattle.itanium_grammar.specs.Tree.{function_encoding, name_printing, plain_text, abbreviation, ctor_dtor_of}
+use Rattle.itanium_grammar.specs.Tree.{tagged_with, with_args, lambda_of, conversion_to, nested_of, pointer_to, cv_of}
+use Rattle.itanium_grammar.specs.Tree.{array_of, member_of, function_to, elaborated, pack_of, trees, in_parent}
+use Rattle.itanium_grammar.specs.Tree.{unnamed_text, literal_operator_text, expanded, shape_of, printing, list_printing}
 
 -- where a reading stands: the bytes that are left, the trees saved so far, and the scopes with their arguments
 pub record Position : Type 0 where
@@ -463,18 +491,12 @@ mutual
   pub data Args : Context → Bool → Position → List Tree → Position → Cost → Type 0 where
     args :
         {x : Context} {of_name : Bool} {p q : Position} {list : List Tree} {c : Cost}
-        → Arguments x (opens_scope of_name x) (scopes_in (opens_scope of_name x) p)
+        → ArgumentsAs (args_case (drop 1 p.rest)) x (opens_scope of_name x) (scopes_in (opens_scope of_name x) p)
         (begin_list (opens_scope of_name x) (skip 1 p)) list q c
         → Args x of_name p list q (counted (length (list_printing list)) c)
 
-  -- arguments up to the E; the scopes that each opened are dropped, and it goes into the list's own
-  pub data Arguments : Context → Bool → ℕ → Position → List Tree → Position → Cost → Type 0 where
-    arguments :
-        {x : Context} {opens : Bool} {n : ℕ} {p q : Position} {list : List Tree} {c : Cost}
-        → ArgumentsAs (args_case p.rest) x opens n p list q c
-        → Arguments x opens n p list q c
-
-  -- one more <template-arg>, or the E after them
+  -- one more <template-arg>, or the E after them; the scopes that each opened are dropped, and it goes into the list's
+  -- own
   pub data ArgumentsAs : ArgsCase → Context → Bool → ℕ → Position → List Tree → Position → Cost → Type 0 where
     -- E
     end_of_arguments :
@@ -484,7 +506,7 @@ mutual
     one_more_argument :
         {x : Context} {opens : Bool} {n : ℕ} {p q r : Position} {t : Tree} {ts : List Tree} {c d : Cost}
         → ArgumentAs (argument_case p.rest) x p t q c
-        → Arguments x opens n (add_argument opens n t q) ts r d
+        → ArgumentsAs (args_case q.rest) x opens n (add_argument opens n t q) ts r d
         → ArgumentsAs NextArgument x opens n p (t ∷ ts) r (both c d)
 
   -- <template-arg> ::= J <template-arg>* E: counted, with the context of a pack inside

@@ -36,7 +36,8 @@ loop_more {turn = turn} {so_far = so_far} {s = s} sofar there shorter = record {
 }
 
 -- `LoopSoFar` of a loop whose answer gets an end, or none: the whole is what the loop gives, with its end.
-pub record ListSoFar {L A B : Type 0} (whole : Option (B × ParserState)) (turn : L → Parses (Turn L A)) (finish : A × ParserState → Option (B × ParserState)) (so_far : L) (s : ParserState) : Type 0 where
+pub record ListSoFar {L A B : Type 0} (whole : Option (B × ParserState)) (turn : L → Parses (Turn L A))
+    (finish : A × ParserState → Option (B × ParserState)) (so_far : L) (s : ParserState) : Type 0 where
   pub inner : Option (A × ParserState)
   pub loop : LoopSoFar inner turn so_far s
   pub is : whole ≡ (inner >>= finish)
@@ -45,7 +46,8 @@ pub list_start : {L A B : Type 0} {whole : Option (B × ParserState)} {turn : L 
     → whole ≡ (parse_loop turn so_far s >>= finish) → ListSoFar whole turn finish so_far s
 list_start whole = record { inner = _; loop = loop_start refl; is = whole }
 
-pub list_end : {L A B : Type 0} {whole : Option (B × ParserState)} {turn : L → Parses (Turn L A)} {finish : A × ParserState → Option (B × ParserState)} {so_far : L} {s after : ParserState} {answer : A}
+pub list_end : {L A B : Type 0} {whole : Option (B × ParserState)} {turn : L → Parses (Turn L A)}
+    {finish : A × ParserState → Option (B × ParserState)} {so_far : L} {s after : ParserState} {answer : A}
     → ListSoFar whole turn finish so_far s → turn so_far s ≡ Some (ends answer, after) → whole ≡ finish (answer, after)
 list_end {finish = finish} sofar there = sofar.is ∙ rw (loop_end sofar.loop there) refl
 

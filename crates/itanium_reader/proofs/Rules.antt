@@ -1,7 +1,12 @@
 -- What the check may use for the readers: the laws of the buffer, and what unfolds each.
 use Rattle.demangle_text.proofs.Laws.{laws, runs}
 use Rattle.itanium_syntax.proofs.Fronts.{cases, names_some, entities_some, expressions_some, arguments_some, specials_some}
-use Rattle.itanium_reader.proofs.Unfold.{builtin_fits, bare_name_opens, no_bare_name, name_opens, encoding_opens, local_opens, expression_opens, no_expression, primary_opens, argument_opens, thunk_opens, no_thunk, special_opens, no_attached, pack_opens, no_pack, type_opens, no_type, substitution_opens, parameter_opens, unqualified_opens, symbol_opens, nested_opens, kept_parent, some_parent, source_opens, no_tags, nothing_in_front, words_joined}
+use Rattle.itanium_reader.proofs.Unfold.{builtin_fits, bare_name_opens, no_bare_name, name_opens, encoding_opens}
+use Rattle.itanium_reader.proofs.Unfold.{local_opens, expression_opens, no_expression, primary_opens, argument_opens}
+use Rattle.itanium_reader.proofs.Unfold.{thunk_opens, no_thunk, special_opens, no_attached, pack_opens, no_pack}
+use Rattle.itanium_reader.proofs.Unfold.{type_opens, no_type, substitution_opens, parameter_opens, unqualified_opens}
+use Rattle.itanium_reader.proofs.Unfold.{symbol_opens, nested_opens, kept_parent, some_parent, source_opens, no_tags}
+use Rattle.itanium_reader.proofs.Unfold.{nothing_in_front, words_joined}
 use Rattle.itanium_reader.proofs.Loops.{loop_start}
 
 pub ruleset buffers = (laws, runs)

@@ -1,5 +1,7 @@
 -- One level of the parser's functions, and the turns of its loops.
-use Rattle.std.proofs.Common.{◌≡◌, ◌<◌, ◌≤◌, ℕ, zero, suc, ◌+◌, ◌-◌, max, Bool, true, false, List, [], ◌∷◌, ◌++◌, length, drop, refl, sym, ◌∙◌, ap, append_assoc, arith, Option, Some, None, Result, Ok, Err}
+use Rattle.std.proofs.Common.{◌≡◌, ◌<◌, ◌≤◌, ℕ, zero, suc, ◌+◌, ◌-◌, max, Bool, true, false, List, [], ◌∷◌, ◌++◌}
+use Rattle.std.proofs.Common.{length, drop, refl, sym, ◌∙◌, ap, append_assoc, arith, Option, Some, None, Result, Ok}
+use Rattle.std.proofs.Common.{Err}
 use Rattle.std.specs.Prelude.{IfSome, option_map, is_some, nat_le, nat_lt, ◌&&◌, ◌==◌, if◌then◌else◌}
 use Rattle.std.proofs.lemmas.Bool.Decides.{nat_tests}
 use Rattle.std.proofs.lemmas.Option.{same_Some}
@@ -17,7 +19,9 @@ use Rattle.itanium_syntax.specs.declared.context.Context.{Context}
 use Rattle.itanium_syntax.specs.declared.numerals.Radix.TheVariants.{Decimal}
 use Rattle.itanium_syntax.specs.Scalars.{index_of, source_name}
 use Rattle.itanium_syntax.specs.Context.{opens_scope, inside_type, inside_pack, inside_lambda, inside_local, inside_encoding}
-use Rattle.itanium_syntax.specs.Names.{symbol_case, name_case, segment_case, unqualified_case, tag_case, source_text, past_initializer_letter, free_case, begins_source, first_case, substitution_case, past_internal, past_name_quals, name_quals, saves_first}
+use Rattle.itanium_syntax.specs.Names.{symbol_case, name_case, segment_case, unqualified_case, tag_case, source_text}
+use Rattle.itanium_syntax.specs.Names.{past_initializer_letter, free_case, begins_source, first_case, substitution_case}
+use Rattle.itanium_syntax.specs.Names.{past_internal, past_name_quals, name_quals, saves_first}
 use Rattle.itanium_syntax.specs.Expressions.{expression_case}
 use Rattle.itanium_syntax.specs.Encodings.{entity_case}
 use Rattle.itanium_syntax.specs.Args.{args_case}
@@ -27,9 +31,22 @@ use Rattle.itanium_reader.specs.declared.stop.Stop.{Stop}
 use Rattle.itanium_reader.specs.declared.stop.Stop.TheVariants.{Unread, Memory}
 use Rattle.itanium_reader.specs.Outcome.{Gives, SavedBounds}
 use Rattle.itanium_reader.proofs.Loops.{LoopSoFar, loop_start, loop_end, loop_more, loop_fail, ListSoFar, list_start, list_end, list_more, list_fail}
-use Rattle.itanium_reader.specs.Cases.{FreeName, ConstructorName, DestructorName, SourceName, NoTag, NextTag, EndOfSegments, ArgsSegment, NameSegment, EndOfArguments, NextArgument, EndOfTypes, NextType}
+use Rattle.itanium_reader.specs.Cases.{FreeName, ConstructorName, DestructorName, SourceName, NoTag, NextTag}
+use Rattle.itanium_reader.specs.Cases.{EndOfSegments, ArgsSegment, NameSegment, EndOfArguments, NextArgument}
+use Rattle.itanium_reader.specs.Cases.{EndOfTypes, NextType}
 use Rattle.itanium_grammar.specs.Answer.{max_text}
-use Rattle.itanium_reader.specs.Parser.{ParserState, Parses, ParsesName, ParsesBareName, ◌>>=◌, is_wide, fitting, fitting_bare, enter, with_rest, save, skip, begin_list, add_argument, add_nowhere, taken_back, past_initializer, substitution_as, parse_substitution, parameter_as, parse_parameter, tag_turn, unqualified_as, parse_unqualified, parse_free, in_parent, parse_tags, parse_source_in, parse_first_source, parse_next_source, end_segment, next_segment, goes_on, first_as, attached_by, segment_turn, parse_segments, parse_after_quals, with_quals, parse_nested, name_as, qualified_by, parse_bare_name, parse_name, encoding_as, parse_encoding, entity_as, parse_local, primary_by, parse_primary, special_by, parse_special, thunk_by, parse_thunk, expression_as, parse_expression, parse_argument, argument_by, list_turn, typed_turn, parse_list, parse_packed, parse_args, parse_pack, type_as, parse_type, symbol_as, parse_symbol}
+use Rattle.itanium_reader.specs.Parser.{ParserState, Parses, ParsesName, ParsesBareName, ◌>>=◌, is_wide, fitting}
+use Rattle.itanium_reader.specs.Parser.{fitting_bare, enter, with_rest, save, skip, begin_list, add_argument}
+use Rattle.itanium_reader.specs.Parser.{add_nowhere, taken_back, past_initializer, substitution_as, parse_substitution}
+use Rattle.itanium_reader.specs.Parser.{parameter_as, parse_parameter, tag_turn, unqualified_as, parse_unqualified}
+use Rattle.itanium_reader.specs.Parser.{parse_free, in_parent, parse_tags, parse_source_in, parse_first_source}
+use Rattle.itanium_reader.specs.Parser.{parse_next_source, end_segment, next_segment, goes_on, first_as, attached_by}
+use Rattle.itanium_reader.specs.Parser.{segment_turn, parse_segments, parse_after_quals, with_quals, parse_nested}
+use Rattle.itanium_reader.specs.Parser.{name_as, qualified_by, parse_bare_name, parse_name, encoding_as, parse_encoding}
+use Rattle.itanium_reader.specs.Parser.{entity_as, parse_local, primary_by, parse_primary, special_by, parse_special}
+use Rattle.itanium_reader.specs.Parser.{thunk_by, parse_thunk, expression_as, parse_expression, parse_argument}
+use Rattle.itanium_reader.specs.Parser.{argument_by, list_turn, typed_turn, parse_list, parse_packed, parse_args}
+use Rattle.itanium_reader.specs.Parser.{parse_pack, type_as, parse_type, symbol_as, parse_symbol}
 
 pub bare_name_opens : (d : ℕ) (x : Context) (s : ParserState) → 0 < d → parse_bare_name d x s
     ≡ (name_as (name_case s.rest) (parse_unqualified (parse_type (d - 1) x) (parse_type (d - 1) (inside_lambda x))) (parse_args (d - 1) x true)
@@ -158,7 +175,8 @@ source_opens type param parent s h =
     rw (case.0, case.1, case.2) refl
 
 -- a name that asks for no parent is found, and put into its parent
-pub free_found : (type param : Parses Shape) (parent : Option Shape) (s : ParserState) {name found : Shape} {mid after : ParserState} → unqualified_case (is_some parent) (past_internal s.rest) ≡ FreeName
+pub free_found : (type param : Parses Shape) (parent : Option Shape) (s : ParserState) {name found : Shape}
+    {mid after : ParserState} → unqualified_case (is_some parent) (past_internal s.rest) ≡ FreeName
     → parse_free type param (with_rest (past_internal s.rest) s) ≡ Some (name, mid) → found ≡ in_parent parent name → after ≡ mid → parse_unqualified type param parent s ≡ Some (found, after)
 unfolding parse_unqualified
 free_found type param parent s case read built same = rw (case, read, built, same) refl
@@ -304,7 +322,8 @@ module _ {whole : Option (Shape × ParserState)} (unqualified : ParsesName) (arg
   unfolding segment_turn
   segments_no_args case none = loop_fail so_far (rw (case, none) refl)
 
-  pub segments_name : {next : Shape} {mid after : ParserState} → segment_case s.rest ≡ NameSegment → unqualified (Some name) s ≡ Some (next, mid) → is_wide next ≡ false → length mid.rest < length s.rest
+  pub segments_name : {next : Shape} {mid after : ParserState} → segment_case s.rest ≡ NameSegment
+      → unqualified (Some name) s ≡ Some (next, mid) → is_wide next ≡ false → length mid.rest < length s.rest
       → after ≡ past_initializer (save next mid) → length after.rest ≤ length mid.rest → LoopSoFar whole (segment_turn unqualified args) (true, next) after
   unfolding segment_turn
   segments_name case found fits shorter left short = loop_more so_far (rw (case, found, fits, left) refl) (omega arith)
@@ -346,7 +365,13 @@ module _ {whole : Option (Shape × ParserState)} {name : Shape} {s : ParserState
       → length rest < length s.rest → LoopSoFar whole tag_turn next after
   unfolding tag_turn
   tags_more {text} {rest} {next} {after} case found built left lists opened count most shorter =
-      let same : record { rest = after.rest; saved = after.saved; scopes = after.scopes; entered = after.entered; most_saved = after.most_saved } ≡ with_rest rest s = rw (left, lists, opened, count, most) refl in
+      let same : record {
+        rest = after.rest;
+        saved = after.saved;
+        scopes = after.scopes;
+        entered = after.entered;
+        most_saved = after.most_saved;
+      } ≡ with_rest rest s = rw (left, lists, opened, count, most) refl in
       loop_more so_far (rw (case, found, built, sym same) refl) (rw left shorter)
 
 -- no tag follows
@@ -362,7 +387,14 @@ source_found parent s {text} {rest} read case built same = rw (read, no_tags (pl
 saved_there : (s : ParserState) (rest : List ℕ) (found : Shape) (after : ParserState) → after.rest ≡ rest → after.saved ≡ s.saved ++ found ∷ [] → after.scopes ≡ s.scopes
     → after.entered ≡ s.entered → after.most_saved ≡ max s.most_saved (length after.saved) → after ≡ save found (with_rest rest s)
 saved_there s rest found after left list opened count most =
-    let same : record { rest = after.rest; saved = after.saved; scopes = after.scopes; entered = after.entered; most_saved = after.most_saved } ≡ save found (with_rest rest s) = rw (left, opened, count, most, list, length-append s.saved (found ∷ [])) refl in
+    let same : record {
+      rest = after.rest;
+      saved = after.saved;
+      scopes = after.scopes;
+      entered = after.entered;
+      most_saved = after.most_saved;
+    } ≡ save found (with_rest rest s) =
+    rw (left, opened, count, most, list, length-append s.saved (found ∷ [])) refl in
     same
 
 -- the same as the first segment of a nested name, and as the next
@@ -408,7 +440,9 @@ pub pack_start : (d : ℕ) (x : Context) (s : ParserState) {inside : Context} {l
 pack_start d x s deep within built left = rw (left, within, built) (list_start (pack_opens d x s deep ∙ ended_then _ whole_shape fitting))
 
 -- the turns of a list up to its E
-module _ {whole : Option (Shape × ParserState)} (add_argument : Shape → ParserState → ParserState) (item : Parses Shape) (finish : Shape × ParserState → Option (Shape × ParserState)) {first : Bool} {list : Shape} {s : ParserState}
+module _ {whole : Option (Shape × ParserState)} (add_argument : Shape → ParserState → ParserState)
+    (item : Parses Shape) (finish : Shape × ParserState → Option (Shape × ParserState)) {first : Bool} {list : Shape}
+    {s : ParserState}
     (so_far : ListSoFar whole (list_turn add_argument item) finish (first, list) s) where
   pub items_end : {after : ParserState} → args_case s.rest ≡ EndOfArguments → after ≡ skip 1 s → whole ≡ finish (list, after)
   unfolding list_turn
@@ -432,13 +466,15 @@ module _ {whole : Option (Shape × ParserState)} (add_argument : Shape → Parse
   items_fail case none = list_fail so_far (rw (case, none) refl)
 
 -- a pack ends
-pub pack_ends : {whole : Option (Shape × ParserState)} (item : Parses Shape) {first : Bool} {list found : Shape} {s after : ParserState} → ListSoFar whole (list_turn add_nowhere item) pack_end (first, list) s
+pub pack_ends : {whole : Option (Shape × ParserState)} (item : Parses Shape) {first : Bool} {list found : Shape}
+    {s after : ParserState} → ListSoFar whole (list_turn add_nowhere item) pack_end (first, list) s
     → args_case s.rest ≡ EndOfArguments → found ≡ whole_shape list → is_wide found ≡ false → after ≡ skip 1 s → whole ≡ Some (found, after)
 pack_ends item {list = list} {found = found} so_far case built fits left =
     let narrow : is_wide (whole_shape list) ≡ false = ap is_wide (sym built) ∙ fits in
     items_end add_nowhere item pack_end so_far case left ∙ rw (narrow, sym built) refl
 
-pub pack_wide : {whole : Option (Shape × ParserState)} (item : Parses Shape) {first : Bool} {list found : Shape} {s : ParserState} → ListSoFar whole (list_turn add_nowhere item) pack_end (first, list) s
+pub pack_wide : {whole : Option (Shape × ParserState)} (item : Parses Shape) {first : Bool} {list found : Shape}
+    {s : ParserState} → ListSoFar whole (list_turn add_nowhere item) pack_end (first, list) s
     → args_case s.rest ≡ EndOfArguments → found ≡ whole_shape list → is_wide found ≡ true → whole ≡ None
 pack_wide item {list = list} {found = found} so_far case built wide =
     let long : is_wide (whole_shape list) ≡ true = ap is_wide (sym built) ∙ wide in
@@ -453,7 +489,8 @@ abbrev pub attached_to : Shape → Shape × ParserState → Option (Shape × Par
 attached_to name r = fitting (whole_shape (arguments_closed r.0), r.1) >>= λ list. Some (attached name list.0, list.1)
 
 -- A list after a name has come this far: what is found stands for the name's text and the list's.
-pub record AttachedSoFar (whole : Option (Shape × ParserState)) (add_argument : Shape → ParserState → ParserState) (item : Parses Shape) (name : Shape) (first : Bool) (found : Shape) (s : ParserState) : Type 0 where
+pub record AttachedSoFar (whole : Option (Shape × ParserState)) (add_argument : Shape → ParserState → ParserState)
+    (item : Parses Shape) (name : Shape) (first : Bool) (found : Shape) (s : ParserState) : Type 0 where
   pub list : List ℕ
   pub own : ℕ × ℕ
   pub templ : Bool
@@ -535,7 +572,9 @@ module _ {whole : Option (Shape × ParserState)} (add_argument : Shape → Parse
       omega (arith, ap text_len is, long, length-append (text name) (gap ++ (60 ∷ list)), length-append gap (60 ∷ list))
 
   pub attached_more : {next more : Shape} {mid after : ParserState} → args_case s.rest ≡ NextArgument → item s ≡ Some (next, mid) → length mid.rest < length s.rest
-      → more ≡ joined (separated first found) [] next → text_len more - front_len name ≤ max_text → after ≡ add_argument next mid → after.rest ≡ mid.rest → AttachedSoFar whole add_argument item name false more after
+      → more ≡ joined (separated first found) [] next → text_len more - front_len name ≤ max_text
+      → after ≡ add_argument next mid → after.rest ≡ mid.rest → AttachedSoFar whole add_argument item name false more
+      after
   attached_more {next} {more} {mid} {after} case read shorter built short left same =
       let longer = listed_more first list_so_far next in
       let fits : is_wide longer ≡ false = not_wide longer (omega (arith, short, more_len next more built)) in record {

@@ -1,6 +1,8 @@
 -- A bridge between the readers and the grammar, and no definition: what the readers do, as functions over shapes. The
 -- grammar is what is promised; theorems over it say that these functions read what it reads, and nothing else.
-use Rattle.std.specs.Prelude.{ℕ, zero, suc, ◌+◌, ◌-◌, max, Bool, true, false, not, if◌then◌else◌, nat_lt, is_some, slice_get, List, [], ◌∷◌, ◌++◌, Option, Some, None, option_and_then, take, drop, length, codes}
+use Rattle.std.specs.Prelude.{ℕ, zero, suc, ◌+◌, ◌-◌, max, Bool, true, false, not, if◌then◌else◌, nat_lt, is_some}
+use Rattle.std.specs.Prelude.{slice_get, List, [], ◌∷◌, ◌++◌, Option, Some, None, option_and_then, take, drop, length}
+use Rattle.std.specs.Prelude.{codes}
 use Rattle.demangle_text.specs.Shape.{Shape, text_len, plain_shape, whole_shape, appended}
 use Rattle.demangle_text.specs.State.{last_args, with_arg}
 use Rattle.demangle_quals.specs.declared.quals.Quals.{Quals}
@@ -18,7 +20,9 @@ use Rattle.itanium_syntax.specs.Scalars.{source_name, index_of, ordinal, optiona
 use Rattle.itanium_syntax.specs.Operators.{operator_here}
 use Rattle.itanium_syntax.specs.Abbreviations.{abbreviation_of}
 use Rattle.itanium_syntax.specs.Context.{opens_scope, inside_type, inside_pack, inside_lambda, inside_local, inside_encoding}
-use Rattle.itanium_syntax.specs.Names.{symbol_case, name_case, unscoped_case, first_case, segment_case, unqualified_case, free_case, tag_case, past_internal, past_initializer_letter, source_text, name_quals, past_name_quals, saves_first, substitution_case}
+use Rattle.itanium_syntax.specs.Names.{symbol_case, name_case, unscoped_case, first_case, segment_case}
+use Rattle.itanium_syntax.specs.Names.{unqualified_case, free_case, tag_case, past_internal, past_initializer_letter}
+use Rattle.itanium_syntax.specs.Names.{source_text, name_quals, past_name_quals, saves_first, substitution_case}
 use Rattle.itanium_syntax.specs.Bytes.{begins}
 use Rattle.itanium_syntax.specs.Expressions.{is_external, literal_case, literal_value, expression_text, expression_case}
 use Rattle.itanium_syntax.specs.Offsets.{thunk_offsets, past_base_offset}
@@ -27,8 +31,30 @@ use Rattle.itanium_syntax.specs.Encodings.{return_case, signature_case, entity_c
 use Rattle.itanium_syntax.specs.Args.{attached_case, args_case, argument_case}
 use Rattle.itanium_syntax.specs.Types.{type_case, builtin_text, past_builtin, cv_quals, past_cv, with_reference, past_reference, cv_case, function_case, params_case, types_case, elaborated_text}
 use Rattle.itanium_grammar.specs.Answer.{max_text}
-use Rattle.itanium_grammar.specs.Tree.{worded_shape, temporary_shape, construction_shape, thunk_shape, pre_shape, post_shape, binary_shape, greater_shape, conditional_shape, abbreviation_shape, conversion_shape, elaborated_shape, unnamed_text, literal_operator_text}
-use Rattle.itanium_reader.specs.Cases.{SymbolCase, SpecialSymbol, NameSymbol, SpecialCase, TypeSpecial, NameSpecial, TemporarySpecial, ConstructionSpecial, ThunkSpecial, NoSpecial, NameCase, NestedName, LocalName, UnscopedName, ReturnCase, NoReturnType, SomeReturnType, SignatureCase, NoSignature, SomeSignature, EntityCase, StringLiteralEntity, DefaultArgumentEntity, NameEntity, NoEntity, UnscopedCase, StdName, SubstitutionName, PlainName, AttachedCase, NoneAttached, ArgsAttached, FirstCase, ParameterFirst, StdFirst, SubstitutionFirst, NameFirst, SegmentCase, EndOfSegments, ArgsSegment, NameSegment, UnqualifiedCase, ConstructorName, DestructorName, FreeName, FreeCase, SourceName, UnnamedTypeName, LambdaName, ConversionName, LiteralOperatorName, OperatorName, NoName, TagCase, NoTag, NextTag, SubstitutionCase, AbbreviationSubstitution, ComponentSubstitution, ArgsCase, EndOfArguments, NextArgument, LiteralCase, ExternalName, ValueLiteral, NoLiteral, ExpressionCase, PreExpression, AddressExpression, UnaryExpression, PostExpression, BinaryExpression, GreaterExpression, ConditionalExpression, ParameterExpression, LiteralExpression, NoExpression, ArgumentCase, ExpressionArgument, PackArgument, LiteralArgument, ConstraintArgument, TypeArgument, TypeCase, BuiltinType, ExpansionType, VendorType, ArrayType, FunctionType, MemberType, PointerType, CvType, ElaboratedType, ParameterType, SubstitutionType, UnreadType, NameType, CvCase, CvFunction, CvOther, FunctionCase, ExternFunction, PlainFunction, ParamsCase, NoParams, SomeParams, TypesCase, EndOfTypes, NextType}
+use Rattle.itanium_grammar.specs.Tree.{worded_shape, temporary_shape, construction_shape, thunk_shape, pre_shape}
+use Rattle.itanium_grammar.specs.Tree.{post_shape, binary_shape, greater_shape, conditional_shape, abbreviation_shape}
+use Rattle.itanium_grammar.specs.Tree.{conversion_shape, elaborated_shape, unnamed_text, literal_operator_text}
+use Rattle.itanium_reader.specs.Cases.{SymbolCase, SpecialSymbol, NameSymbol, SpecialCase, TypeSpecial, NameSpecial}
+use Rattle.itanium_reader.specs.Cases.{TemporarySpecial, ConstructionSpecial, ThunkSpecial, NoSpecial, NameCase}
+use Rattle.itanium_reader.specs.Cases.{NestedName, LocalName, UnscopedName, ReturnCase, NoReturnType, SomeReturnType}
+use Rattle.itanium_reader.specs.Cases.{SignatureCase, NoSignature, SomeSignature, EntityCase, StringLiteralEntity}
+use Rattle.itanium_reader.specs.Cases.{DefaultArgumentEntity, NameEntity, NoEntity, UnscopedCase, StdName}
+use Rattle.itanium_reader.specs.Cases.{SubstitutionName, PlainName, AttachedCase, NoneAttached, ArgsAttached, FirstCase}
+use Rattle.itanium_reader.specs.Cases.{ParameterFirst, StdFirst, SubstitutionFirst, NameFirst, SegmentCase}
+use Rattle.itanium_reader.specs.Cases.{EndOfSegments, ArgsSegment, NameSegment, UnqualifiedCase, ConstructorName}
+use Rattle.itanium_reader.specs.Cases.{DestructorName, FreeName, FreeCase, SourceName, UnnamedTypeName, LambdaName}
+use Rattle.itanium_reader.specs.Cases.{ConversionName, LiteralOperatorName, OperatorName, NoName, TagCase, NoTag}
+use Rattle.itanium_reader.specs.Cases.{NextTag, SubstitutionCase, AbbreviationSubstitution, ComponentSubstitution}
+use Rattle.itanium_reader.specs.Cases.{ArgsCase, EndOfArguments, NextArgument, LiteralCase, ExternalName, ValueLiteral}
+use Rattle.itanium_reader.specs.Cases.{NoLiteral, ExpressionCase, PreExpression, AddressExpression, UnaryExpression}
+use Rattle.itanium_reader.specs.Cases.{PostExpression, BinaryExpression, GreaterExpression, ConditionalExpression}
+use Rattle.itanium_reader.specs.Cases.{ParameterExpression, LiteralExpression, NoExpression, ArgumentCase}
+use Rattle.itanium_reader.specs.Cases.{ExpressionArgument, PackArgument, LiteralArgument, ConstraintArgument}
+use Rattle.itanium_reader.specs.Cases.{TypeArgument, TypeCase, BuiltinType, ExpansionType, VendorType, ArrayType}
+use Rattle.itanium_reader.specs.Cases.{FunctionType, MemberType, PointerType, CvType, ElaboratedType, ParameterType}
+use Rattle.itanium_reader.specs.Cases.{SubstitutionType, UnreadType, NameType, CvCase, CvFunction, CvOther}
+use Rattle.itanium_reader.specs.Cases.{FunctionCase, ExternFunction, PlainFunction, ParamsCase, NoParams, SomeParams}
+use Rattle.itanium_reader.specs.Cases.{TypesCase, EndOfTypes, NextType}
 
 infixl 10 ◌>>=◌
 abbrev pub ◌>>=◌ : {A B : Type 0} → Option A → (A → Option B) → Option B

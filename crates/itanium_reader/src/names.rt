@@ -334,18 +334,6 @@ impl<'a> Reader<'a> {
             self.found = self.buffer.plain(self.found);
             return Ok(());
         }
-        self.print_set_quals(quals, shown)
-    }
-
-    /// `print_quals` where something is printed: words that are shown, or a reference.
-    #[inline(never)]
-    fn print_set_quals(&mut self, quals: Quals, shown: bool) -> Result<(), AllocError>
-        requires living { IsLiving self.old.buffer.value self.old.found }
-        ensures shape { OnOk result (Lives self.new.buffer.value self.new.found
-            (with_name_qualifiers (shape self.old.buffer.value self.old.found) quals shown)) }
-        ensures state { OnOk result (state self.new ≡ state self.old) }
-        ensures run { OnOk result (IsRun self.old.buffer.value self.new.buffer.value) }
-    {
         self.found = apply_name_qualifiers(&mut self.buffer, self.found, quals, shown)?;
         Ok(())
     }

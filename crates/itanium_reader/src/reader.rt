@@ -4,7 +4,6 @@ ghost use Rattle.demangle_text.specs.Shape.{plain_shape};
 ghost use Rattle.demangle_text.specs.State.{IsLiving, Lives, shape, IsRun, SameFrame, saved, scopes, main_bytes, frame, outermost};
 ghost use Rattle.demangle_edit.specs.Built.{separated};
 ghost use Rattle.itanium_syntax.specs.Types.{builtin_text, past_builtin};
-ghost use Rattle.itanium_grammar.specs.Tree.{abbreviation_shape};
 ghost use Rattle.itanium_grammar.specs.Answer.{max_text};
 ghost use Rattle.itanium_reader.specs.Parser as spec;
 ghost use Rattle.itanium_reader.specs.Outcome.{state, Gives, Bounds, SavedBounds};
@@ -12,9 +11,7 @@ ghost use Rattle.itanium_reader.specs.Outcome.{state, Gives, Bounds, SavedBounds
 use crate::stop::Stop;
 use demangle_edit::separate;
 use demangle_text::{Buffer, Piece};
-use itanium_syntax::abbreviations::{
-    Abbreviation, abbreviation_of, abbreviation_own_len, abbreviation_text,
-};
+use itanium_syntax::abbreviations::{abbreviation_of, abbreviation_own_len, abbreviation_text};
 use itanium_syntax::context::Context;
 use itanium_syntax::names::{SubstitutionCase, source_text, substitution_case};
 use itanium_syntax::numerals::{Radix, index_of};
@@ -175,19 +172,6 @@ impl<'a> Reader<'a> {
         Ok(())
     }
 
-    /// The name of std that a `<substitution>` stands for.
-    #[inline(never)]
-    fn push_abbreviation(&mut self, abbreviation: Abbreviation) -> Result<(), AllocError>
-        ensures shape { OnOk result (Lives self.new.buffer.value self.new.found (abbreviation_shape abbreviation)) }
-        ensures state { OnOk result (state self.new ≡ state self.old) }
-        ensures kept { OnOk result (SameFrame self.old.buffer.value self.new.buffer.value) }
-    {
-        let piece = self.buffer.push(abbreviation_text(abbreviation))?;
-        let end = 5 + abbreviation_own_len(abbreviation);
-        self.found = self.buffer.own_at(piece, 5, end);
-        Ok(())
-    }
-
     /// `<substitution> ::= S [<seq-id>] _ | Sa | Sb | Ss | Si | So | Sd`
     #[tactic(auto, using(crate::proofs::Rules::substitutions))]
     pub fn read_substitution(&mut self) -> Result<(), Stop>
@@ -203,7 +187,9 @@ impl<'a> Reader<'a> {
                     return Err(Stop::Unread);
                 };
                 self.skip(1);
-                self.push_abbreviation(abbreviation)?;
+                let piece = self.buffer.push(abbreviation_text(abbreviation))?;
+                let end = 5 + abbreviation_own_len(abbreviation);
+                self.found = self.buffer.own_at(piece, 5, end);
                 Ok(())
             }
             SubstitutionCase::ComponentSubstitution => {

@@ -1,5 +1,7 @@
 -- Fronts of the bytes: what each scalar and each case takes.
-use Rattle.std.proofs.Common.{◌≡◌, ◌<◌, ◌≤◌, ℕ, suc, ◌+◌, ◌^◌, Bool, true, false, List, [], ◌∷◌, length, drop, refl, sym, ap, ◌∙◌, arith, Option, Some, None, length-drop, if◌then◌else◌, nat_lt, nat_le, ◌&&◌, codes}
+use Rattle.std.proofs.Common.{◌≡◌, ◌<◌, ◌≤◌, ℕ, suc, ◌+◌, ◌^◌, Bool, true, false, List, [], ◌∷◌, length, drop, refl}
+use Rattle.std.proofs.Common.{sym, ap, ◌∙◌, arith, Option, Some, None, length-drop, if◌then◌else◌, nat_lt, nat_le, ◌&&◌}
+use Rattle.std.proofs.Common.{codes}
 use Rattle.std.specs.Prelude.{◌==◌, ◌||◌, option_map}
 use Rattle.std.proofs.lemmas.List.{drop-drop}
 use Rattle.std.proofs.lemmas.Grind.{common_steps}
@@ -10,7 +12,15 @@ use Rattle.itanium_syntax.specs.declared.numerals.Radix.{Radix}
 use Rattle.itanium_syntax.specs.declared.numerals.Radix.TheVariants.{Decimal}
 use Rattle.itanium_syntax.specs.Abbreviations.{abbreviation_of}
 use Rattle.itanium_syntax.specs.Bytes.{begins, begins_one_of, past_letter}
-use Rattle.itanium_syntax.specs.Cases.{TypeSpecial, NameSpecial, TemporarySpecial, ConstructionSpecial, ThunkSpecial, PreExpression, AddressExpression, UnaryExpression, PostExpression, BinaryExpression, GreaterExpression, ConditionalExpression, LiteralExpression, ExpressionArgument, LiteralArgument, StringLiteralEntity, DefaultArgumentEntity, NameEntity, ExpansionType, LambdaName, ConversionName, UnnamedTypeName, LiteralOperatorName, OperatorName, PackArgument, StdFirst, EndOfSegments, ArgsSegment, ConstructorName, DestructorName, ArgsAttached, EndOfArguments, BuiltinType, ArrayType, FunctionType, MemberType, PointerType, CvFunction, NoParams, EndOfTypes}
+use Rattle.itanium_syntax.specs.Cases.{TypeSpecial, NameSpecial, TemporarySpecial, ConstructionSpecial, ThunkSpecial}
+use Rattle.itanium_syntax.specs.Cases.{PreExpression, AddressExpression, UnaryExpression, PostExpression}
+use Rattle.itanium_syntax.specs.Cases.{BinaryExpression, GreaterExpression, ConditionalExpression, LiteralExpression}
+use Rattle.itanium_syntax.specs.Cases.{ExpressionArgument, LiteralArgument, StringLiteralEntity, DefaultArgumentEntity}
+use Rattle.itanium_syntax.specs.Cases.{NameEntity, ExpansionType, LambdaName, ConversionName, UnnamedTypeName}
+use Rattle.itanium_syntax.specs.Cases.{LiteralOperatorName, OperatorName, PackArgument, StdFirst, EndOfSegments}
+use Rattle.itanium_syntax.specs.Cases.{ArgsSegment, ConstructorName, DestructorName, ArgsAttached, EndOfArguments}
+use Rattle.itanium_syntax.specs.Cases.{BuiltinType, ArrayType, FunctionType, MemberType, PointerType, CvFunction}
+use Rattle.itanium_syntax.specs.Cases.{NoParams, EndOfTypes}
 use Rattle.itanium_syntax.specs.Names.{first_case, segment_case, unqualified_case, free_case, past_internal, past_initializer_letter, past_name_quals}
 use Rattle.std.specs.Str.{is_utf8}
 use Rattle.std.specs.Prelude.{take}
@@ -26,7 +36,9 @@ use Rattle.itanium_syntax.specs.Encodings.{entity_case}
 use Rattle.itanium_syntax.specs.Args.{attached_case, args_case, argument_case}
 use Rattle.itanium_syntax.specs.Types.{type_case, types_case, cv_case, params_case, past_builtin, past_cv, past_reference}
 use Rattle.itanium_syntax.specs.Operators.{operator_here}
-use Rattle.itanium_syntax.specs.Scalars.{front_digits, digit_then, digit_of, weighted, base, numeral, number, source_name, past_underscore, next_number, index_by, index_of, ordinal, optional_number_by, optional_number}
+use Rattle.itanium_syntax.specs.Scalars.{front_digits, digit_then, digit_of, weighted, base, numeral, number}
+use Rattle.itanium_syntax.specs.Scalars.{source_name, past_underscore, next_number, index_by, index_of, ordinal}
+use Rattle.itanium_syntax.specs.Scalars.{optional_number_by, optional_number}
 
 -- the rest lies after a front of the bytes
 pub record IsAfter (rest bytes : List ℕ) : Type 0 where
@@ -329,7 +341,23 @@ pub ruleset specials_some = (type_special_some, name_special_some, temporary_som
 
 pub ruleset names_some = (lambda_some, conversion_some, unnamed_type_some, literal_operator_some, operator_some)
 
-pub ruleset cases = (types_end_some, pack_some, expansion_some, array_some, member_some, function_some, pointer_some, cv_function_some, no_params_some, std_shorter, segments_end_shorter, arguments_end_shorter, attached_some, segment_args_some, builtin_shorter)
+pub ruleset cases = (
+  types_end_some,
+  pack_some,
+  expansion_some,
+  array_some,
+  member_some,
+  function_some,
+  pointer_some,
+  cv_function_some,
+  no_params_some,
+  std_shorter,
+  segments_end_shorter,
+  arguments_end_shorter,
+  attached_some,
+  segment_args_some,
+  builtin_shorter,
+)
 
 take_none : (b : ℕ) (bytes : List ℕ) (found : List ℕ) → past_underscore (b ∷ bytes) ≡ Some found → found ≡ bytes
 take_none b bytes found e = sym ((cond_some (b == 95) bytes found e).1)

@@ -6,7 +6,8 @@ use Rattle.std.proofs.lemmas.List.{length-drop, take_all}
 use Rattle.std.proofs.lemmas.Grind.{common_steps}
 use Rattle.itanium_syntax.specs.Expressions.{value_len, literal_value}
 
-pub value_read : (bytes : List ℕ) (n : ℕ) {value rest : List ℕ} → n ≡ value_len bytes → n < length bytes → IsUtf8 value → value ≡ take n bytes → rest ≡ take (length bytes - (n + 1)) (drop (n + 1) bytes)
+pub value_read : (bytes : List ℕ) (n : ℕ) {value rest : List ℕ} → n ≡ value_len bytes → n < length bytes
+    → IsUtf8 value → value ≡ take n bytes → rest ≡ take (length bytes - (n + 1)) (drop (n + 1) bytes)
     → Some (value, rest) ≡ literal_value bytes
 unfolding literal_value
 value_read bytes n {value} {rest} len within utf8 value_is rest_is =

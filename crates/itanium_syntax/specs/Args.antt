@@ -1,7 +1,9 @@
 -- The cases of template arguments (Itanium C++ ABI 5.1.5). Of several cases the first one that fits holds.
 use Rattle.std.specs.Prelude.{ℕ, List, codes, if◌then◌else◌}
 use Rattle.itanium_syntax.specs.Bytes.{begins}
-use Rattle.itanium_syntax.specs.Cases.{AttachedCase, NoneAttached, ArgsAttached, ArgsCase, EndOfArguments, NextArgument, ArgumentCase, ExpressionArgument, PackArgument, LiteralArgument, ConstraintArgument, TypeArgument}
+use Rattle.itanium_syntax.specs.Cases.{AttachedCase, NoneAttached, ArgsAttached, ArgsCase, EndOfArguments, NextArgument}
+use Rattle.itanium_syntax.specs.Cases.{ArgumentCase, ExpressionArgument, PackArgument, LiteralArgument}
+use Rattle.itanium_syntax.specs.Cases.{ConstraintArgument, TypeArgument}
 
 -- <template-args> or none
 abbrev pub attached_case : List ℕ → AttachedCase

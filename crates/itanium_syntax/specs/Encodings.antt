@@ -1,7 +1,9 @@
 -- The cases of encodings and of local names. Of several cases the first one that fits holds.
 use Rattle.std.specs.Prelude.{ℕ, List, Bool, true, not, ◌&&◌, ◌||◌, drop, codes, if◌then◌else◌}
 use Rattle.itanium_syntax.specs.Bytes.{begins, begins_digit}
-use Rattle.itanium_syntax.specs.Cases.{NameCase, LocalName, ReturnCase, NoReturnType, SomeReturnType, SignatureCase, NoSignature, SomeSignature, EntityCase, StringLiteralEntity, DefaultArgumentEntity, NameEntity, NoEntity}
+use Rattle.itanium_syntax.specs.Cases.{NameCase, LocalName, ReturnCase, NoReturnType, SomeReturnType, SignatureCase}
+use Rattle.itanium_syntax.specs.Cases.{NoSignature, SomeSignature, EntityCase, StringLiteralEntity}
+use Rattle.itanium_syntax.specs.Cases.{DefaultArgumentEntity, NameEntity, NoEntity}
 
 -- the return type in an encoding, or none: a template has one, unless it is a constructor or a conversion, or its name
 -- is all of the encoding

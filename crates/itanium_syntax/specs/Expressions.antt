@@ -4,7 +4,10 @@ use Rattle.std.specs.Prelude.{ℕ, ◌+◌, List, [], ◌∷◌, length, take, d
 use Rattle.std.specs.List.{prefix_len}
 use Rattle.std.specs.Str.{is_utf8}
 use Rattle.itanium_syntax.specs.Bytes.{is, begins, begins_one_of}
-use Rattle.itanium_syntax.specs.Cases.{LiteralCase, ExternalName, ValueLiteral, NoLiteral, ExpressionCase, PreExpression, AddressExpression, UnaryExpression, PostExpression, BinaryExpression, GreaterExpression, ConditionalExpression, ParameterExpression, LiteralExpression, NoExpression}
+use Rattle.itanium_syntax.specs.Cases.{LiteralCase, ExternalName, ValueLiteral, NoLiteral, ExpressionCase}
+use Rattle.itanium_syntax.specs.Cases.{PreExpression, AddressExpression, UnaryExpression, PostExpression}
+use Rattle.itanium_syntax.specs.Cases.{BinaryExpression, GreaterExpression, ConditionalExpression, ParameterExpression}
+use Rattle.itanium_syntax.specs.Cases.{LiteralExpression, NoExpression}
 use Rattle.itanium_syntax.specs.Operators.{is_code, operator_here, operator_arity}
 
 -- an external name, in place of a literal

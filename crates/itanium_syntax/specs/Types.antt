@@ -6,7 +6,10 @@ use Rattle.demangle_quals.specs.declared.quals.Pointer.TheVariants as Pointer
 use Rattle.demangle_quals.specs.declared.quals.Reference.{Reference}
 use Rattle.demangle_quals.specs.declared.quals.Reference.TheVariants.{Left, Right}
 use Rattle.itanium_syntax.specs.Bytes.{letter, is, begins, begins_one_of, past_letter}
-use Rattle.itanium_syntax.specs.Cases.{TypeCase, BuiltinType, ExpansionType, VendorType, ArrayType, FunctionType, MemberType, PointerType, CvType, ElaboratedType, ParameterType, SubstitutionType, UnreadType, NameType, CvCase, CvFunction, CvOther, FunctionCase, ExternFunction, PlainFunction, ParamsCase, NoParams, SomeParams, TypesCase, EndOfTypes, NextType}
+use Rattle.itanium_syntax.specs.Cases.{TypeCase, BuiltinType, ExpansionType, VendorType, ArrayType, FunctionType}
+use Rattle.itanium_syntax.specs.Cases.{MemberType, PointerType, CvType, ElaboratedType, ParameterType, SubstitutionType}
+use Rattle.itanium_syntax.specs.Cases.{UnreadType, NameType, CvCase, CvFunction, CvOther, FunctionCase, ExternFunction}
+use Rattle.itanium_syntax.specs.Cases.{PlainFunction, ParamsCase, NoParams, SomeParams, TypesCase, EndOfTypes, NextType}
 
 -- each <builtin-type> of one letter, and what it prints
 abbrev pub letter_texts : List (String × String)

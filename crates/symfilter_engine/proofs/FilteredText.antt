@@ -1,5 +1,7 @@
 -- Filtered text, line by line and piece by piece.
-use Rattle.std.proofs.Common.{◌≡◌, ◌≢◌, ℕ, ◌+◌, ◌-◌, length, get_or, arith, Result, Ok, Err, OnErr, List, [], ◌∷◌, ◌++◌, Option, take, drop, refl, sym, ap, subst, ◌∙◌, append_assoc, append-nil, Bool, true, false, inl, inr, ◌⊎◌, Some, None}
+use Rattle.std.proofs.Common.{◌≡◌, ◌≢◌, ℕ, ◌+◌, ◌-◌, length, get_or, arith, Result, Ok, Err, OnErr, List, [], ◌∷◌, ◌++◌}
+use Rattle.std.proofs.Common.{Option, take, drop, refl, sym, ap, subst, ◌∙◌, append_assoc, append-nil, Bool, true}
+use Rattle.std.proofs.Common.{false, inl, inr, ◌⊎◌, Some, None}
 use Rattle.std.proofs.lemmas.List.{take-append-drop, length-append, get_or-append_right, get_or_append_left}
 use Rattle.std.proofs.lemmas.List.Elements.{All-nil, All-push}
 use Rattle.std.specs.Str.{is_utf8}
@@ -12,7 +14,10 @@ use Rattle.std.specs.Io.KnownBytes.{Appends, Keeps}
 use Rattle.symfilter_engine.specs.declared.symbols.Symbols.{Symbols}
 use Rattle.symfilter_engine.specs.declared.symbols.Symbols.TheVariants.{Lines, Words}
 use Rattle.symfilter_engine.specs.Replaced.{no_byte}
-use Rattle.symfilter_engine.specs.Filtered.{line_feed, HasNoLineFeed, EndsInLineFeed, AreLinesAnswered, no_line, one_more, IsAnswered, ended, unended, AreLinesFiltered, IsFiltered, IsFront, IsBeginning, IsLineAnswer, answered, unanswered, not_utf8, WritesFiltered, WritesBeginning}
+use Rattle.symfilter_engine.specs.Filtered.{line_feed, HasNoLineFeed, EndsInLineFeed, AreLinesAnswered, no_line}
+use Rattle.symfilter_engine.specs.Filtered.{one_more, IsAnswered, ended, unended, AreLinesFiltered, IsFiltered, IsFront}
+use Rattle.symfilter_engine.specs.Filtered.{IsBeginning, IsLineAnswer, answered, unanswered, not_utf8, WritesFiltered}
+use Rattle.symfilter_engine.specs.Filtered.{WritesBeginning}
 use Rattle.symfilter_engine.specs.Progress.{AppendsReplaced, WritesFront, WritesLines, WritesLinesFront, HasFiltered}
 use Rattle.symfilter_engine.proofs.ReplacedText.{IsReplaced-append, ended_parted, replaced_of}
 

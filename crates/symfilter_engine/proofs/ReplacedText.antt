@@ -1,5 +1,7 @@
 -- Replaced text, word by word and piece by piece.
-use Rattle.std.proofs.Common.{◌≡◌, ◌≢◌, ℕ, zero, suc, ◌+◌, ◌-◌, ◌<◌, ◌≤◌, List, [], ◌∷◌, ◌++◌, Bool, true, false, ◌&&◌, ◌||◌, ◌==◌, Option, Some, None, ◌⊎◌, inl, inr, if◌then◌else◌, codes, length, take, drop, get_or, refl, sym, ap, subst, ◌∙◌, arith, append_assoc, append-nil}
+use Rattle.std.proofs.Common.{◌≡◌, ◌≢◌, ℕ, zero, suc, ◌+◌, ◌-◌, ◌<◌, ◌≤◌, List, [], ◌∷◌, ◌++◌, Bool, true, false, ◌&&◌}
+use Rattle.std.proofs.Common.{◌||◌, ◌==◌, Option, Some, None, ◌⊎◌, inl, inr, if◌then◌else◌, codes, length, take, drop}
+use Rattle.std.proofs.Common.{get_or, refl, sym, ap, subst, ◌∙◌, arith, append_assoc, append-nil}
 use Rattle.std.proofs.lemmas.List.{length-take-le, get_or-take, get_or-drop, get_or_append_left, get_or_past}
 use Rattle.std.proofs.lemmas.List.Elements.{All-nil, All-cons, All-head, All-tail, All-push, All-same}
 use Rattle.std.proofs.lemmas.Bool.{false≢true, and_parts, eqb-true, cases_lt}
@@ -9,7 +11,9 @@ use Rattle.itanium_syntax.specs.Bytes.{is, begins}
 use Rattle.itanium_grammar.specs.Answer.{IsAnswer}
 use Rattle.itanium_demangle.proofs.Answered.{each_answered}
 use Rattle.symfilter_engine.specs.Filtered.{EndsInLineFeed}
-use Rattle.symfilter_engine.specs.Replaced.{is_word_byte, IsWordByte, begins_word, IsDot, ends_in_dot, sign_of, past_sign, symbol_at, symbol_in, IsWordAnswer, answered, unanswered, no_symbol, IsReplaced, no_byte, other, one_word}
+use Rattle.symfilter_engine.specs.Replaced.{is_word_byte, IsWordByte, begins_word, IsDot, ends_in_dot, sign_of}
+use Rattle.symfilter_engine.specs.Replaced.{past_sign, symbol_at, symbol_in, IsWordAnswer, answered, unanswered}
+use Rattle.symfilter_engine.specs.Replaced.{no_symbol, IsReplaced, no_byte, other, one_word}
 use Rattle.symfilter_engine.specs.Progress.{underscore, capital_z, HasNoPrefix, IsBoundary}
 
 -- the last byte is one of words

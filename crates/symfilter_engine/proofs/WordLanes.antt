@@ -29,8 +29,10 @@ module _ (f : ℕ → ℕ) (text : List ℕ) (at run : ℕ) (room : at + 16 ≤ 
 
   pub run_words : AreWordBytes text at (at + run)
   run_words k low high =
-      not-false _ (sym (agree_below_at (λ x. top 7 (f x)) (λ x. not (is_word_byte x)) 256 (get_or text k 0) stops (fits k).fits) ∙ run_in_chunk_fails (λ x. top 7 (f x)) text at 16 run 0 room count k low high)
+      not-false _ (sym (agree_below_at (λ x. top 7 (f x)) (λ x. not (is_word_byte x)) 256 (get_or text k 0) stops
+      (fits k).fits) ∙ run_in_chunk_fails (λ x. top 7 (f x)) text at 16 run 0 room count k low high)
 
   pub run_ends : run < 16 → is_word_byte (get_or text (at + run) 0) ≡ false
   run_ends short =
-      not-true _ (sym (agree_below_at (λ x. top 7 (f x)) (λ x. not (is_word_byte x)) 256 (get_or text (at + run) 0) stops (fits (at + run)).fits) ∙ run_in_chunk_stops (λ x. top 7 (f x)) text at 16 run 0 room count short)
+      not-true _ (sym (agree_below_at (λ x. top 7 (f x)) (λ x. not (is_word_byte x)) 256 (get_or text (at + run) 0)
+      stops (fits (at + run)).fits) ∙ run_in_chunk_stops (λ x. top 7 (f x)) text at 16 run 0 room count short)

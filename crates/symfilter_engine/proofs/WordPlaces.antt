@@ -1,5 +1,7 @@
 -- Where prefixes and words stand.
-use Rattle.std.proofs.Common.{◌≡◌, ◌≢◌, ℕ, suc, ◌+◌, ◌-◌, ◌<◌, ◌≤◌, List, [], ◌∷◌, ◌++◌, Bool, true, false, ◌&&◌, ◌||◌, ◌==◌, Some, None, Result, Ok, Err, OnOk, ◌⊎◌, inl, inr, if◌then◌else◌, nat_le, codes, length, take, drop, get_or, refl, sym, ap, subst, ◌∙◌, arith, append_assoc, append-nil}
+use Rattle.std.proofs.Common.{◌≡◌, ◌≢◌, ℕ, suc, ◌+◌, ◌-◌, ◌<◌, ◌≤◌, List, [], ◌∷◌, ◌++◌, Bool, true, false, ◌&&◌, ◌||◌}
+use Rattle.std.proofs.Common.{◌==◌, Some, None, Result, Ok, Err, OnOk, ◌⊎◌, inl, inr, if◌then◌else◌, nat_le, codes}
+use Rattle.std.proofs.Common.{length, take, drop, get_or, refl, sym, ap, subst, ◌∙◌, arith, append_assoc, append-nil}
 use Rattle.std.proofs.lemmas.List.{length-drop, length-take-le, get_or-take, get_or-drop, get_or_past, take-append-drop, take-take, take_all, take_rest, drop-take}
 use Rattle.std.proofs.lemmas.List.Elements.{All-get_or, All-from_get_or, All-drop, All-same}
 use Rattle.std.proofs.lemmas.Bool.{false≢true, and_parts, or_cases, eqb-true, leb-true, cases_lt, cases_Bool}

@@ -10,7 +10,14 @@ use Rattle.itanium_syntax.specs.Encodings.{entity_case}
 use Rattle.itanium_reader.specs.Cases.{DefaultArgumentEntity}
 use Rattle.itanium_reader.specs.Outcome.{state}
 use Rattle.itanium_reader.specs.Parser as spec
-use Rattle.itanium_reader.proofs.Unfold.{source_opens, saved_first, free_found, kept_parent, some_parent, stops, attached_start, attached_end, attached_more, attached_fail, attached_plain, attached_front, pack_start, segments_end, segments_args, segments_no_args, segments_name, segments_no_name, segments_source, segments_no_source, items_more, items_fail, typed_end, typed_more, typed_fail, begun_front, attached_wide, attached_more_wide, segments_wide_args, segments_wide_source, segments_wide_name, pack_ends, pack_wide, typed_wide, attached_room, items_wide}
+use Rattle.itanium_reader.proofs.Unfold.{source_opens, saved_first, free_found, kept_parent, some_parent, stops}
+use Rattle.itanium_reader.proofs.Unfold.{attached_start, attached_end, attached_more, attached_fail, attached_plain}
+use Rattle.itanium_reader.proofs.Unfold.{attached_front, pack_start, segments_end, segments_args, segments_no_args}
+use Rattle.itanium_reader.proofs.Unfold.{segments_name, segments_no_name, segments_source, segments_no_source}
+use Rattle.itanium_reader.proofs.Unfold.{items_more, items_fail, typed_end, typed_more, typed_fail, begun_front}
+use Rattle.itanium_reader.proofs.Unfold.{attached_wide, attached_more_wide, segments_wide_args, segments_wide_source}
+use Rattle.itanium_reader.proofs.Unfold.{segments_wide_name, pack_ends, pack_wide, typed_wide, attached_room}
+use Rattle.itanium_reader.proofs.Unfold.{items_wide}
 use Rattle.itanium_productions.proofs.+reader.Goals as goal
 
 pub args::read_attached-loop-reader-init : goal.args::read_attached-loop-reader-init
@@ -56,7 +63,9 @@ pub args::read_attached-returns-then-len-front-2-clause-reads : goal.args::read_
 args::read_attached-returns-then-len-front-2-clause-reads t c =
     let more = shape c.join.new.self c.in_ok-list-in-NextArgument-2.list in
     let long : c.len-in-NextArgument.result ≡ text_len more = search rules in
-    attached_more_wide _ _ _ c.loop-reader.invariant.reads {next = shape c.framed_argument.new.reader.buffer.value c.framed_argument.new.reader.found} {more = more} {mid = state c.framed_argument.new.reader}
+    attached_more_wide _ _ _ c.loop-reader.invariant.reads
+    {next = shape c.framed_argument.new.reader.buffer.value c.framed_argument.new.reader.found} {more = more}
+    {mid = state c.framed_argument.new.reader}
     (sym c.in-NextArgument.ensures.case) (search rules) (search rules)
     (omega (arith, c.if-len-front-2.true, c.text_limit-in-NextArgument.ensures.value, long, c.loop-reader.invariant.front))
 
@@ -127,7 +136,8 @@ names::read_segments-returns-then-is_wide-3-clause-reads t c =
 
 pub names::read_segments-loop-reader-preserved-then-begins_source : goal.names::read_segments-loop-reader-preserved-then-begins_source
 names::read_segments-loop-reader-preserved-then-begins_source t c = record {
-  reads = segments_source _ _ c.loop-reader.invariant.reads (sym c.in-NameSegment.ensures.case) (source_opens _ _ _ (state c.loop-reader.reader) (search rules)) (search rules) (search rules) (search rules);
+  reads = segments_source _ _ c.loop-reader.invariant.reads (sym c.in-NameSegment.ensures.case)
+      (source_opens _ _ _ (state c.loop-reader.reader) (search rules)) (search rules) (search rules) (search rules);
   living = search rules;
   run = search rules;
   some_saved = search rules;
@@ -140,7 +150,8 @@ names::read_segments-loop-reader-preserved-then-begins_source t c = record {
 
 pub names::read_segments-loop-reader-preserved : goal.names::read_segments-loop-reader-preserved
 names::read_segments-loop-reader-preserved t c = record {
-  reads = segments_name _ _ c.loop-reader.invariant.reads {mid = state c.read_other_segment.new.reader} (sym c.in-NameSegment.ensures.case) (search rules) (search rules) (search rules) (search rules) (search rules);
+  reads = segments_name _ _ c.loop-reader.invariant.reads {mid = state c.read_other_segment.new.reader}
+      (sym c.in-NameSegment.ensures.case) (search rules) (search rules) (search rules) (search rules) (search rules);
   living = search rules;
   run = search rules;
   some_saved = search rules;
@@ -153,7 +164,8 @@ names::read_segments-loop-reader-preserved t c = record {
 
 pub names::read_segments-loop-reader-preserved-in-ArgsSegment : goal.names::read_segments-loop-reader-preserved-in-ArgsSegment
 names::read_segments-loop-reader-preserved-in-ArgsSegment t c = record {
-  reads = segments_args _ _ c.loop-reader.invariant.reads {mid = state c.read_attached.new.reader} (sym c.in-ArgsSegment.ensures.case) (search rules) (search rules) (search rules) (search rules) (search rules);
+  reads = segments_args _ _ c.loop-reader.invariant.reads {mid = state c.read_attached.new.reader}
+      (sym c.in-ArgsSegment.ensures.case) (search rules) (search rules) (search rules) (search rules) (search rules);
   living = search rules;
   run = search rules;
   some_saved = search rules;
@@ -227,7 +239,9 @@ types::read_typed-returns-then-is_wide-clause-reads t c =
 
 pub types::read_typed-loop-list-preserved : goal.types::read_typed-loop-list-preserved
 types::read_typed-loop-list-preserved t c = record {
-  reads = typed_more _ _ c.loop-list.invariant.reads {next = shape c.framed_type.new.reader.buffer.value c.framed_type.new.reader.found} (sym c.in-NextType.ensures.case) (search rules) (search rules) (search rules) (search rules);
+  reads = typed_more _ _ c.loop-list.invariant.reads
+      {next = shape c.framed_type.new.reader.buffer.value c.framed_type.new.reader.found}
+      (sym c.in-NextType.ensures.case) (search rules) (search rules) (search rules) (search rules);
   living = search rules;
   run = search rules;
   scopes_stand = search rules;
@@ -267,6 +281,8 @@ pub encodings::read_entity-returns-in_ok-reader-in-DefaultArgumentEntity-clause-
 encodings::read_entity-returns-in_ok-reader-in-DefaultArgumentEntity-clause-reads t c =
     let entity = c.framed_bare_name.new.reader in (
       search rules,
-      default_argument_found (spec.parse_bare_name c.args.depth c.args.context) (shape c.args.reader.now.buffer.value c.args.encoding) (state c.args.reader.now) {number = c.in-Some.number} {rest = c.in-Some.rest.now} {entity = shape entity.buffer.value entity.found} {mid = state entity}
+      default_argument_found (spec.parse_bare_name c.args.depth c.args.context)
+          (shape c.args.reader.now.buffer.value c.args.encoding) (state c.args.reader.now) {number = c.in-Some.number}
+          {rest = c.in-Some.rest.now} {entity = shape entity.buffer.value entity.found} {mid = state entity}
           (search rules) (search rules) (search rules) (search rules) (search rules),
     )

@@ -6,5 +6,7 @@ pub returns-clause-in_place : goal.returns-clause-in_place
 returns-clause-in_place c =
     let at_closed = StaysInPlace-edit _ _ _ _ _ c.in_ok-closed.ensures.edit_of in
     let at_numbered = StaysInPlace-trans _ _ _ _ _ _ c.in_ok-closed.ensures.edit at_closed c.in_ok-numbered.ensures.in_place in
-    let at_lambda = StaysInPlace-trans _ _ _ _ _ _ (IsEdit-trans _ _ _ c.in_ok-closed.ensures.edit c.in_ok-numbered.ensures.edit) at_numbered (StaysInPlace-edit _ _ _ _ _ c.in_ok-lambda.ensures.edit_of) in
+    let at_lambda = StaysInPlace-trans _ _ _ _ _ _
+    (IsEdit-trans _ _ _ c.in_ok-closed.ensures.edit c.in_ok-numbered.ensures.edit) at_numbered
+    (StaysInPlace-edit _ _ _ _ _ c.in_ok-lambda.ensures.edit_of) in
     StaysInPlace-named _ _ _ _ c.whole.result at_lambda c.whole.ensures.stands

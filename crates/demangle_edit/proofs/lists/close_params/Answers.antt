@@ -24,4 +24,6 @@ pub returns-clause-in_place : goal.returns-clause-in_place
 returns-clause-in_place c =
     let at_closed = StaysInPlace-edit _ _ _ _ _ c.in_ok-closed.ensures.edit_of in
     let at_worded = StaysInPlace-trans _ _ _ _ _ _ c.in_ok-closed.ensures.edit at_closed (StaysInPlace-edit _ _ _ _ _ c.in_ok-worded.ensures.edit_of) in
-    IfOk-weaker c.append-3.result _ _ (λ p k. StaysInPlace-trans _ _ _ _ _ _ (IsEdit-trans _ _ _ c.in_ok-closed.ensures.edit c.in_ok-worded.ensures.edit) at_worded (StaysInPlace-edit _ _ _ _ _ k)) c.append-3.ensures.edit_of
+    IfOk-weaker c.append-3.result _ _ (λ p k. StaysInPlace-trans _ _ _ _ _ _
+    (IsEdit-trans _ _ _ c.in_ok-closed.ensures.edit c.in_ok-worded.ensures.edit) at_worded
+    (StaysInPlace-edit _ _ _ _ _ k)) c.append-3.ensures.edit_of

@@ -21,4 +21,6 @@ pub returns-clause-in_place : goal.returns-clause-in_place
 returns-clause-in_place c =
     let at_opened = StaysInPlace-of _ _ c.args.parent c.plain-plain.result _ c.plain-plain.ensures.stands (StaysInPlace-edit _ _ _ _ _ c.in_ok-opened.ensures.edit_of) in
     let at_numbered = StaysInPlace-trans _ _ _ _ _ _ c.in_ok-opened.ensures.edit at_opened c.in_ok-numbered.ensures.in_place in
-    IfOk-weaker c.append-2.result _ _ (λ p k. StaysInPlace-trans _ _ _ _ _ _ (IsEdit-trans _ _ _ c.in_ok-opened.ensures.edit c.in_ok-numbered.ensures.edit) at_numbered (StaysInPlace-edit _ _ _ _ _ k)) c.append-2.ensures.edit_of
+    IfOk-weaker c.append-2.result _ _ (λ p k. StaysInPlace-trans _ _ _ _ _ _
+    (IsEdit-trans _ _ _ c.in_ok-opened.ensures.edit c.in_ok-numbered.ensures.edit) at_numbered
+    (StaysInPlace-edit _ _ _ _ _ k)) c.append-2.ensures.edit_of

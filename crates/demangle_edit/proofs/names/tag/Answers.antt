@@ -7,4 +7,6 @@ pub returns-clause-in_place : goal.returns-clause-in_place
 returns-clause-in_place c =
     let at_opened = StaysInPlace-of _ _ c.args.name c.plain-plain.result _ c.plain-plain.ensures.stands (StaysInPlace-edit _ _ _ _ _ c.in_ok-opened.ensures.edit_of) in
     let at_filled = StaysInPlace-trans _ _ _ _ _ _ c.in_ok-opened.ensures.edit at_opened (StaysInPlace-edit _ _ _ _ _ c.in_ok-filled.ensures.edit_of) in
-    IfOk-weaker c.append-3.result _ _ (λ p k. StaysInPlace-trans _ _ _ _ _ _ (IsEdit-trans _ _ _ c.in_ok-opened.ensures.edit c.in_ok-filled.ensures.edit) at_filled (StaysInPlace-edit _ _ _ _ _ k)) c.append-3.ensures.edit_of
+    IfOk-weaker c.append-3.result _ _ (λ p k. StaysInPlace-trans _ _ _ _ _ _
+    (IsEdit-trans _ _ _ c.in_ok-opened.ensures.edit c.in_ok-filled.ensures.edit) at_filled
+    (StaysInPlace-edit _ _ _ _ _ k)) c.append-3.ensures.edit_of

@@ -26,6 +26,8 @@ returns-clause-shape c =
 -- the piece stays where it stands
 pub returns-clause-in_place : goal.returns-clause-in_place
 returns-clause-in_place c =
-    let at_longer = StaysInPlace-of _ _ c.args.elem c.plain-flat.result _ c.plain-flat.ensures.stands (StaysInPlace-of _ _ c.plain-flat.result c.declare-cut.result _ c.declare-cut.ensures.stands c.in_ok-longer.ensures.in_place) in
+    let at_longer = StaysInPlace-of _ _ c.args.elem c.plain-flat.result _ c.plain-flat.ensures.stands
+    (StaysInPlace-of _ _ c.plain-flat.result c.declare-cut.result _ c.declare-cut.ensures.stands
+    c.in_ok-longer.ensures.in_place) in
     let at_whole = StaysInPlace-named _ _ _ _ c.plain-whole.result at_longer c.plain-whole.ensures.stands in
     StaysInPlace-named _ _ _ _ c.declare.result at_whole c.declare.ensures.stands

@@ -17,8 +17,8 @@ loop-i-init c =
       long = refl;
     }
 
-pub carry_one-piece-requires-clause-ordered : goal.carry_one-piece-requires-clause-ordered
-carry_one-piece-requires-clause-ordered c =
+pub carry_alone-piece-requires-clause-ordered : goal.carry_alone-piece-requires-clause-ordered
+carry_alone-piece-requires-clause-ordered c =
     let xs = pieces_of c.args.kept.now.items in
     let ks = c.loop-i.kept.items in
     let k = c.index.result.now in
@@ -33,8 +33,8 @@ carry_one-piece-requires-clause-ordered c =
     let all : i < length (take c.args.count xs) = omega (arith, lt, r.within, r.room, length-take-le c.args.count xs) in
     subst (λ q. q.from_byte ≤ q.to_byte) (sym was) (c.requires.ordered i k.piece all)
 
-pub carry_one-piece-requires-clause-apart : goal.carry_one-piece-requires-clause-apart
-carry_one-piece-requires-clause-apart c =
+pub carry_alone-piece-requires-clause-apart : goal.carry_alone-piece-requires-clause-apart
+carry_alone-piece-requires-clause-apart c =
     let xs = pieces_of c.args.kept.now.items in
     let ks = c.loop-i.kept.items in
     let k = c.index.result.now in
@@ -62,9 +62,9 @@ loop-i-preserved c =
     let here : i < length ks = omega (arith, there, c.loop-i.invariant.long, length-map c.args.kept.now.items (λ (k : Kept). k.piece)) in
     let within : i < length ys = omega (arith, here, length-map ks (λ (k : Kept). k.piece)) in
     let is : k.piece ≡ get_or ys i k.piece = ap (λ (k : Kept). k.piece) c.index.ensures ∙ sym (get_or-map (λ (k : Kept). k.piece) ks i k k.piece here) in
-    let q = c.carry_one-piece.result in
+    let q = c.carry_alone-piece.result in
     record {
-      value = c.set_kept.ensures.value ∙ rw c.carry_one-piece.ensures.value (
+      value = c.set_kept.ensures.value ∙ rw c.carry_alone-piece.ensures.value (
           map_over_more (carried c.args.by.block.low c.args.by.block.from c.args.by.dest) xs ys i _ there c.loop-i.invariant.value is);
       reached = c.set_kept.ensures.reached;
       ends = rw c.set_kept.ensures.value (AllWithin-more_set ys i q within (EndsBy c.reached-reach.result)

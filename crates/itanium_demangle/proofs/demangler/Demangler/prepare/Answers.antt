@@ -67,7 +67,9 @@ returns-clause-components c =
     let stands : StandsFor reader (start inside) = stands_at_start reader inside starts in
     let kept = c.keep-2.ensures in
     let ended = c.in_ok-answered.ensures {u = tt} in
-    rw (kept.text, kept.components) (kept_components c.args.symbol.now inside _ _ _ (state c.read_mangled_name.new.reader) c.end_answer.new.reader.buffer c.in_ok-answered.answered prefix ((c.in-Ok.ensures {u = tt}).reading.1 (start inside) stands) ended.saved)
+    rw (kept.text, kept.components) (kept_components c.args.symbol.now inside _ _ _
+    (state c.read_mangled_name.new.reader) c.end_answer.new.reader.buffer c.in_ok-answered.answered prefix
+    ((c.in-Ok.ensures {u = tt}).reading.1 (start inside) stands) ended.saved)
 
 -- and their shapes
 pub returns-clause-saved : goal.returns-clause-saved
@@ -79,7 +81,9 @@ returns-clause-saved c =
     let stands : StandsFor reader (start inside) = stands_at_start reader inside starts in
     let kept = c.keep-2.ensures in
     let ended = c.in_ok-answered.ensures {u = tt} in
-    rw (kept.text, kept.saved) (kept_shapes c.args.symbol.now inside _ _ _ (state c.read_mangled_name.new.reader) c.end_answer.new.reader.buffer c.in_ok-answered.answered prefix ((c.in-Ok.ensures {u = tt}).reading.1 (start inside) stands) ended.saved)
+    rw (kept.text, kept.saved) (kept_shapes c.args.symbol.now inside _ _ _ (state c.read_mangled_name.new.reader)
+    c.end_answer.new.reader.buffer c.in_ok-answered.answered prefix
+    ((c.in-Ok.ensures {u = tt}).reading.1 (start inside) stands) ended.saved)
 
 pub returns-clause-bounds : goal.returns-clause-bounds
 returns-clause-bounds c =
@@ -90,4 +94,6 @@ returns-clause-bounds c =
     let read = c.in-Ok.ensures {u = tt} in
     let kept = c.keep-2.ensures in
     let ended = c.in_ok-answered.ensures {u = tt} in
-    rw (kept.entered, kept.most_saved, ended.entered, ended.most_saved) (read_within c.args.symbol.now inside (state reader) (state c.read_mangled_name.new.reader) _ prefix starts read.bounds read.saved)
+    rw (kept.entered, kept.most_saved, ended.entered, ended.most_saved)
+    (read_within c.args.symbol.now inside (state reader) (state c.read_mangled_name.new.reader) _ prefix starts
+    read.bounds read.saved)

@@ -10,6 +10,9 @@ pub returns-in_ok-save-in-NoTag-clause-reads : goal.returns-in_ok-save-in-NoTag-
 returns-in_ok-save-in-NoTag-clause-reads c =
     let left = take_rest c.args.self.now.rest.now c.in-Some.to in (
       search (rules, laws, runs),
-      first_source_found (state c.args.self.now) {text = slice_range c.args.self.now.rest.now c.in-Some.from c.in-Some.to} {rest = drop c.in-Some.to c.args.self.now.rest.now} (search rules) (rw left at (sym c.in-NoTag.ensures.case)) (search (rules, laws, runs))
+      first_source_found (state c.args.self.now)
+          {text = slice_range c.args.self.now.rest.now c.in-Some.from c.in-Some.to}
+          {rest = drop c.in-Some.to c.args.self.now.rest.now} (search rules)
+          (rw left at (sym c.in-NoTag.ensures.case)) (search (rules, laws, runs))
           left (search (rules, laws, runs)) (search (rules, laws, runs)) refl (search (rules, laws, runs)),
     )

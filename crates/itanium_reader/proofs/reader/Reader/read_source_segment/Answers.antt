@@ -14,5 +14,6 @@ returns-in_ok-self-in-NoTag-clause-reads c =
     let to = c.in-Some.to in
     let all : take (length bytes - to) (drop to bytes) ≡ drop to bytes = rw (sym (length-drop to bytes)) (take-length (drop to bytes)) in (
       search rules,
-      source_found (Some (shape old.buffer.value old.found)) (state old) {text = slice_range bytes c.in-Some.from to} {rest = drop to bytes} (search rules) (search rules) (search rules) (search rules),
+      source_found (Some (shape old.buffer.value old.found)) (state old) {text = slice_range bytes c.in-Some.from to}
+          {rest = drop to bytes} (search rules) (search rules) (search rules) (search rules),
     )

@@ -17,7 +17,9 @@ loop-name-preserved c =
     let to = c.in-Some.to in
     let all : take (length bytes - to) (drop to bytes) ≡ drop to bytes = rw (sym (length-drop to bytes)) (take-length (drop to bytes)) in
     record {
-      reads = tags_more c.loop-name.invariant.reads {text = slice_range bytes c.in-Some.from to} {rest = drop to bytes} (sym c.in-NextTag.ensures.case) (search rules) (search rules) all (search rules) (search rules) (search rules) (search rules) (search rules);
+      reads = tags_more c.loop-name.invariant.reads {text = slice_range bytes c.in-Some.from to}
+          {rest = drop to bytes} (sym c.in-NextTag.ensures.case) (search rules) (search rules) all (search rules)
+          (search rules) (search rules) (search rules) (search rules);
       living = search rules;
       run = search rules;
       taken = search rules;

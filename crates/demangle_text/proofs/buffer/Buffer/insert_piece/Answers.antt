@@ -8,7 +8,7 @@ use Rattle.demangle_text.specs.Gaps.{IsGap}
 use Rattle.growing_text.proofs.Rooms.{both-put}
 use Rattle.demangle_text.proofs.Tails.{length-text}
 use Rattle.demangle_text.proofs.Gaps.{IsGap-same, IsStore-filled, IsEdit-filled, length-gap, text-kept, within-kept}
-use Rattle.demangle_text.proofs.buffer.Buffer.join_within.Goals as goal
+use Rattle.demangle_text.proofs.buffer.Buffer.insert_piece.Goals as goal
 
 pub put_text-middle-requires : goal.put_text-middle-requires
 unfolding IsLiving

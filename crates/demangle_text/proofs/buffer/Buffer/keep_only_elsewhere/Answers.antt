@@ -2,7 +2,7 @@
 use Rattle.std.proofs.Common.{◌≡◌, ◌≤◌, List, ℕ, OnOk, length, ap, ◌∙◌, subst, arith}
 use Rattle.demangle_text.specs.Pieces.{Store}
 use Rattle.demangle_text.proofs.Tails.{kept_only-copy}
-use Rattle.demangle_text.proofs.buffer.Buffer.move_down.Goals as goal
+use Rattle.demangle_text.proofs.buffer.Buffer.keep_only_elsewhere.Goals as goal
 
 pub keep_block-requires-clause-before : goal.keep_block-requires-clause-before
 keep_block-requires-clause-before c = omega (arith, c.requires.mark, c.copy_text.ensures.inner, c.in_ok-from.ensures.from)

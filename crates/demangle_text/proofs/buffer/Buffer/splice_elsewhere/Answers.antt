@@ -1,6 +1,6 @@
 use Rattle.demangle_text.specs.View.{store_of}
 use Rattle.demangle_text.proofs.States.{KeepsAll-longer, IsStore-longer}
-use Rattle.demangle_text.proofs.buffer.Buffer.splice_copy.Goals as goal
+use Rattle.demangle_text.proofs.buffer.Buffer.splice_elsewhere.Goals as goal
 
 pub invariant_of-self-2 : goal.invariant_of-self-2
 invariant_of-self-2 c = rw c.in_ok-add_spliced.ensures.ok (IsStore-longer (store_of c.self.inside) _ c.self.invariant)
