@@ -306,6 +306,22 @@ fn argument_of_the_outer_scope(rt: HostRuntime) {
 
 #[test]
 #[tactic(auto, using(demangle_text::proofs::Laws::laws, demangle_text::proofs::Laws::runs))]
+fn second_text_goes_after_a_first_one_at_the_end(rt: HostRuntime) {
+    let mut buf = Buffer::new(rt.alloc());
+    let class = buf.push(b"C").expect(&rt, "no memory");
+    buf.save(class).expect(&rt, "no memory");
+    let member = buf.push(b"int").expect(&rt, "no memory");
+    buf.save(member).expect(&rt, "no memory");
+    let joined = buf.join(member, b" ", class).expect(&rt, "no memory");
+    assert_text(&rt, &buf, joined, b"int C");
+    assert_main(&rt, &buf, b"Cint C");
+    assert_saved(&rt, &buf, 0, b"C");
+    assert_saved(&rt, &buf, 1, b"int");
+    drop(buf);
+}
+
+#[test]
+#[tactic(auto, using(demangle_text::proofs::Laws::laws, demangle_text::proofs::Laws::runs))]
 fn second_text_is_joined_where_it_stands(rt: HostRuntime) {
     let mut buf = Buffer::new(rt.alloc());
     let parent = buf.push(b"A").expect(&rt, "no memory");

@@ -76,4 +76,7 @@ IsJoint-alone s t q p bytes r o from one two apart i =
       in_front = λ tail before _.
           let stays = i.in_front (IsTail-of s r o two tail) (EndsBy-of q p r o one two before) (λ k. apart (IsAdjacent-alone s q p r o one two k)) in
           (stays.0 ∙ two.begins, stays.1 ∙ ap (λ (v : List ℕ). length s.main_text + (length v + length bytes)) a);
+      after = λ tail.
+          let stays = i.after (IsTail-of s q p one tail) in
+          (stays.0 ∙ one.begins, stays.1 ∙ ap (λ (v : List ℕ). length s.main_text + (length bytes + length v)) b);
     }

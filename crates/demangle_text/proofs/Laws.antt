@@ -184,6 +184,11 @@ JoinsInPlace-join old new p q r n j = record {
       let len = length (main_bytes new) in
       let same = Stands-begins r j.ends.from len from len j.ends.stands stands in
       (stands, subst (λ (k : ℕ). take k (main_bytes new) ≡ take k (main_bytes old)) same j.ends.front);
+  after = λ from inner first.
+      let stands = (j.after from inner first).0 in
+      let len = length (main_bytes new) in
+      let same = Stands-begins r j.ends.from len from len j.ends.stands stands in
+      (stands, subst (λ (k : ℕ). take k (main_bytes new) ≡ take k (main_bytes old)) same j.ends.front);
 }
 
 -- and what is answered with no edit after it
@@ -193,6 +198,9 @@ JoinsInPlace-named old new p q r s a as_piece = record {
   stays = λ from middle inner first second.
       let one = a.stays from middle inner first second in
       (as_piece from (length (main_bytes new)) one.0, one.1);
+  after = λ from inner first.
+      let one = a.after from inner first in
+      (as_piece from (length (main_bytes new)) one.0, one.1);
 }
 
 -- and an edit after it
@@ -201,6 +209,10 @@ JoinsInPlace-trans old mid new p q r s e a b = record {
   ends = EndsMain-edit old mid new r s e a.ends b;
   stays = λ from middle inner first second.
       let one = a.stays from middle inner first second in
+      let two = b.stays from (subst (λ (f : Frame). frame_start f ≤ from) (sym e.frame_same) inner) one.0 in
+      (two.0, two.1 ∙ one.1);
+  after = λ from inner first.
+      let one = a.after from inner first in
       let two = b.stays from (subst (λ (f : Frame). frame_start f ≤ from) (sym e.frame_same) inner) one.0 in
       (two.0, two.1 ∙ one.1);
 }

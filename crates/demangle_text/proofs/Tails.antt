@@ -150,13 +150,16 @@ IsJoint-inserted s t first bytes second h ordered after is =
       front = ap (take first.from_byte) is ∙ front_inserted main bytes first.from_byte second.from_byte (omega (arith, h.meets)) (omega (arith, split));
       in_place = λ _. (refl, n);
       in_front = λ _ _ apart. absurd (apart h);
+      -- (the second text is empty then)
+      after = λ tail. (refl, n ∙ omega (arith, tail.ends, h.meets, ap length texts.1, length-drop k (drop first.from_byte main), length-drop first.from_byte main));
     }
 
--- a copy of both, where they don't meet at the end, and the second isn't there with the first before it
+-- a copy of both, where they don't meet at the end, the second isn't there with the first before it, nor the first
 pub IsJoint-copied : (s t : Store) (first : Piece) (bytes : List ℕ) (second : Piece) (from : ℕ) → (IsAdjacent s first second → ⊥) → (IsTail s second → EndsBy second.from_byte first → ⊥)
+    → (IsTail s first → ⊥)
     → s.frame_main ≤ length s.main_text → from ≡ length s.main_text
     → t.main_text ≡ s.main_text ++ (piece_text s.main_text s.side_text first ++ bytes ++ piece_text s.main_text s.side_text second) → IsJoint s t first bytes second from
-IsJoint-copied s t first bytes second from apart later inner starts is =
+IsJoint-copied s t first bytes second from apart later elsewhere inner starts is =
     let more = piece_text s.main_text s.side_text first ++ bytes ++ piece_text s.main_text s.side_text second in
     record {
       within = omega (arith, ap length is ∙ length-append s.main_text more);
@@ -165,13 +168,43 @@ IsJoint-copied s t first bytes second from apart later inner starts is =
       front = ap (take from) is ∙ front_longer s.main_text more from (omega (arith, starts));
       in_place = λ h. absurd (apart h);
       in_front = λ tail before _. absurd (later tail before);
+      after = λ tail. absurd (elsewhere tail);
+    }
+
+-- a first piece and a second one that is there with the first before it meet
+tails-meet : (s : Store) (first second : Piece) → second.from_byte ≤ second.to_byte → IsTail s second → EndsBy second.from_byte first → IsTail s first → IsAdjacent s first second
+tails-meet s first second ordered two before one =
+    let by = before one.in_main in
+    record { first_in_main = one.in_main; second_in_main = two.in_main; inner = one.inner; meets = omega (arith, by, ordered, one.ends, two.ends); ends = two.ends }
+
+-- the bytes and the second text after a first piece that ends the main text
+pub IsJoint-after : (s t : Store) (first : Piece) (bytes : List ℕ) (second : Piece) → (IsAdjacent s first second → ⊥) → IsTail s first
+    → first.from_byte ≤ first.to_byte → second.from_byte ≤ second.to_byte
+    → t.main_text ≡ s.main_text ++ (bytes ++ piece_text s.main_text s.side_text second) → IsJoint s t first bytes second first.from_byte
+IsJoint-after s t first bytes second apart h first_ordered ordered is =
+    let main = s.main_text in
+    let after = piece_text main s.side_text second in
+    let more = bytes ++ after in
+    let at = first.from_byte in
+    let there : at ≤ length main = omega (arith, first_ordered, h.ends) in
+    let longer = ap length is ∙ length-append main more in
+    record {
+      within = omega (arith, longer, there);
+      text = ap (drop at) is ∙ drop-append-le at main more there ∙ ap (λ (v : List ℕ). v ++ more) (sym (tail_text s first h))
+          ∙ sym (append_assoc (piece_text main s.side_text first) bytes after);
+      inner = h.inner;
+      front = ap (take at) is ∙ front_longer main more at there;
+      in_place = λ k. absurd (apart k);
+      in_front = λ tail before _. absurd (apart (tails-meet s first second ordered tail before h));
+      after = λ _. (refl, longer ∙ ap (λ (k : ℕ). length main + k) (length-append bytes after));
     }
 
 -- the first text and the bytes in front of a second one that ends the main text
-pub IsJoint-moved : (s t : Store) (first : Piece) (bytes : List ℕ) (second : Piece) → (IsAdjacent s first second → ⊥) → IsTail s second → second.from_byte ≤ second.to_byte
+pub IsJoint-moved : (s t : Store) (first : Piece) (bytes : List ℕ) (second : Piece) → (IsAdjacent s first second → ⊥) → IsTail s second → EndsBy second.from_byte first
+    → second.from_byte ≤ second.to_byte
     → t.main_text ≡ take second.from_byte s.main_text ++ ((piece_text s.main_text s.side_text first ++ bytes) ++ drop second.from_byte s.main_text)
     → IsJoint s t first bytes second second.from_byte
-IsJoint-moved s t first bytes second apart h ordered is =
+IsJoint-moved s t first bytes second apart h before ordered is =
     let main = s.main_text in
     let more = piece_text main s.side_text first ++ bytes in
     let at = second.from_byte in
@@ -184,13 +217,15 @@ IsJoint-moved s t first bytes second apart h ordered is =
       front = ap (take at) is ∙ front_inserted main more at at (omega arith) there;
       in_place = λ k. absurd (apart k);
       in_front = λ _ _ _. (refl, ap length is ∙ length-inserted main more at ∙ ap (λ (k : ℕ). length main + k) (length-append (piece_text main s.side_text first) bytes));
+      after = λ tail. absurd (apart (tails-meet s first second ordered h before tail));
     }
 
 -- a join of two texts
-pub IsJoinOf-joint : (b n : Store) (first second q : Piece) (bytes : List ℕ) (from : ℕ) → IsLiving b first → IsJoint b n first bytes second from → IsAt q from (length n.main_text)
+pub IsJoinOf-joint : (b n : Store) (first second q : Piece) (bytes : List ℕ) (from : ℕ) → IsLiving b first → IsLiving b second → IsJoint b n first bytes second from
+    → IsAt q from (length n.main_text)
     → IsJoinOf b n first second q (length bytes)
 unfolding main_bytes frame frame_start Frame Stands
-IsJoinOf-joint b n first second q bytes from lies s stands = record {
+IsJoinOf-joint b n first second q bytes from lies two_lies s stands = record {
   front = front_below b.main_text n.main_text b.frame_main from s.inner s.front;
   ends = record { from = from; inner = s.inner; front = s.front; stands = stands };
   in_place = λ i middle inner one two.
@@ -208,6 +243,12 @@ IsJoinOf-joint b n first second q bytes from lies s stands = record {
       let long : length (piece_text b.main_text b.side_text first) ≡ text_len (shape b first) = ap length (sym (text_is b first lies)) in (
         subst (λ (k : ℕ). IsAt q k (length n.main_text)) (stays.0 ∙ two.begins) stands,
         stays.1 ∙ ap (λ (k : ℕ). length b.main_text + (k + length bytes)) long,
+      );
+  after = λ at inner one.
+      let stays = s.after (record { in_main = one.in_main; inner = omega (arith, inner, one.begins); ends = one.ends }) in
+      let long : length (piece_text b.main_text b.side_text second) ≡ text_len (shape b second) = ap length (sym (text_is b second two_lies)) in (
+        subst (λ (k : ℕ). IsAt q k (length n.main_text)) (stays.0 ∙ one.begins) stands,
+        stays.1 ∙ ap (λ (k : ℕ). length b.main_text + (length bytes + k)) long,
       );
 }
 

@@ -248,7 +248,7 @@ pub record IsSplice (old new : Store) (p : Piece) (at : ℕ) (bytes : List ℕ) 
   pub in_place : IsTail old p → (from ≡ p.from_byte) × (length new.main_text ≡ length old.main_text + length bytes)
 
 -- the main text ends in both texts with bytes between them, from a byte on: adjacent pieces at the end stayed, and so
--- did a second one at the end with the first before it
+-- did a second one at the end with the first before it, and a first one at the end
 pub record IsJoint (old new : Store) (first : Piece) (bytes : List ℕ) (second : Piece) (from : ℕ) : Type 0 where
   pub within : from ≤ length new.main_text
   pub text : drop from new.main_text
@@ -260,3 +260,5 @@ pub record IsJoint (old new : Store) (first : Piece) (bytes : List ℕ) (second 
   pub in_front : IsTail old second → EndsBy second.from_byte first → (IsAdjacent old first second → ⊥)
       → (from ≡ second.from_byte) × (length new.main_text
       ≡ length old.main_text + (length (piece_text old.main_text old.side_text first) + length bytes))
+  pub after : IsTail old first → (from ≡ first.from_byte) × (length new.main_text
+      ≡ length old.main_text + (length bytes + length (piece_text old.main_text old.side_text second)))

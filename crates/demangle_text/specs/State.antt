@@ -175,7 +175,8 @@ StandsBefore b p at = (from to : ℕ) → Stands p from to → (to ≤ at) × (f
 -- begins at the end of the first and stands up to that end, and the first stands from the innermost mark or later, the
 -- start of the first stays, and the main text grows by n bytes. Where the second stands up to that end, from the
 -- innermost mark or later, and the first stands before it or nowhere in the main text, the start of the second stays,
--- and the main text grows by the first text and n bytes
+-- and the main text grows by the first text and n bytes. Where the first stands up to that end, from the innermost mark
+-- or later, its start stays, and the main text grows by n bytes and the second text
 pub record IsJoinOf (old new : Store) (first second answer : Piece) (n : ℕ) : Type 0 where
   pub front : KeepsFront old new
   pub ends : EndsMain old new answer
@@ -185,6 +186,9 @@ pub record IsJoinOf (old new : Store) (first second answer : Piece) (n : ℕ) : 
   pub in_front : (at : ℕ) → frame_start (frame old) ≤ at → Stands second at (length (main_bytes old))
       → StandsBefore old first at → Stands answer at (length (main_bytes new))
       × (length (main_bytes new) ≡ length (main_bytes old) + (text_len (shape old first) + n))
+  pub after : (at : ℕ) → frame_start (frame old) ≤ at → Stands first at (length (main_bytes old))
+      → Stands answer at (length (main_bytes new))
+      × (length (main_bytes new) ≡ length (main_bytes old) + (n + text_len (shape old second)))
 
 -- what is answered for a piece stands where the piece does
 abbrev pub StandsAs : Piece → Piece → Type 0
@@ -209,12 +213,14 @@ pub data IsLeftOrStays (old new : Store) (piece answer : Piece) : Type 0 where
   edited : StaysInPlace old new piece answer → IsLeftOrStays old new piece answer
 
 -- the answer stands up to the end of the main text, from the innermost mark or later, and no byte before it changes;
--- where the first piece stood from the innermost mark or later, and the second from its end up to the end of the main
--- text, the answer stands from the start of the first
+-- where the first piece stood from the innermost mark or later, and up to the end of the main text or to where the
+-- second began, which stood up to that end, the answer stands from the start of the first
 pub record JoinsInPlace (old new : Store) (first second answer : Piece) : Type 0 where
   pub ends : EndsMain old new answer
   pub stays : (from middle : ℕ) → frame_start (frame old) ≤ from → Stands first from middle
       → Stands second middle (length (main_bytes old))
+      → Stands answer from (length (main_bytes new)) × (take from (main_bytes new) ≡ take from (main_bytes old))
+  pub after : (from : ℕ) → frame_start (frame old) ≤ from → Stands first from (length (main_bytes old))
       → Stands answer from (length (main_bytes new)) × (take from (main_bytes new) ≡ take from (main_bytes old))
 
 -- the main text becomes all that it was and then the text of the answer, which stands at the innermost mark or later

@@ -167,6 +167,24 @@ pub(crate) fn add_joined(
     taken_back(main, len, added)
 }
 
+// Bytes and the text of a piece after them. After an error the main text is as it was.
+pub(crate) fn add_before_text(
+    main: &mut Text,
+    side: &Text,
+    bytes: &[u8],
+    piece: Piece,
+) -> Result<(), AllocError>
+    requires ordered { piece.from_byte ≤ piece.to_byte }
+    requires within { piece.to_byte ≤ length (home_bytes main.old side.now (lies_aside piece.flags)) }
+    ensures ok { OnOk result (main.new ≡ main.old ++ (bytes.now ++ piece_text main.old side.now piece)) }
+    ensures err { OnErr result (main.new ≡ main.old) }
+{
+    let len = main.len();
+    main.add(bytes)?;
+    let added = add_part(main, side, piece.is_aside(), piece.from_byte, piece.to_byte);
+    taken_back(main, len, added)
+}
+
 // The text of a piece at a place of the main text, by which it ends if it lies there, over the bytes that stood there:
 // where it ends.
 #[inline(always)]

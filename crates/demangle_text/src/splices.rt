@@ -2,7 +2,9 @@
 ghost use Rattle.std.specs.Prelude.{◌≡◌, ◌-◌, ◌≤◌, ◌++◌, length, take, drop, IfOk, OnOk, OnErr, true, slice_range};
 
 use crate::buffer::Buffer;
-use crate::parts::{Three, add_extended, add_joined, add_part, add_spliced, put_text};
+use crate::parts::{
+    Three, add_before_text, add_extended, add_joined, add_part, add_spliced, put_text,
+};
 use crate::ranges::Block;
 use crate::shape::Piece;
 use std::alloc::AllocError;
@@ -461,6 +463,10 @@ impl Buffer {
         if self.is_tail(second) && first.ends_by(second.from_byte) {
             self.insert_piece(second.from_byte, first, bytes)?;
             return Ok(second.from_byte);
+        }
+        if self.is_tail(first) {
+            add_before_text(&mut self.main, &self.lists.side, bytes, second)?;
+            return Ok(first.from_byte);
         }
         let from = self.main.len();
         add_joined(&mut self.main, &self.lists.side, first, bytes, second)?;

@@ -137,9 +137,9 @@ binary_shape t op u = glued (text t ∷ op ∷ text u ∷ [])
 abbrev pub greater_shape : Shape → Shape → Shape
 greater_shape t u = glued (codes "((" ∷ text t ∷ codes ")>(" ∷ text u ∷ codes "))" ∷ [])
 
--- ? and : between three texts
+-- ? between a condition and two texts with : between them
 abbrev pub conditional_shape : Shape → Shape → Shape → Shape
-conditional_shape t u v = glued (text t ∷ codes "?" ∷ text u ∷ codes " : " ∷ text v ∷ [])
+conditional_shape t u v = binary_shape t (codes "?") (binary_shape u (codes " : ") v)
 
 -- the sign of an offset
 abbrev pub offset_sign : Signed → List ℕ

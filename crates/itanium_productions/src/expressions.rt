@@ -234,10 +234,13 @@ pub(crate) fn read_alternatives(
     ensures bounds { Bounds 1 result (state reader.old) (state reader.new) }
     ensures saved { SavedBounds 1 result (state reader.old) (state reader.new) }
 {
+    let mark = reader.buffer.open();
     framed_operand(reader, depth, context)?;
     let then = reader.found;
     framed_operand(reader, depth, context)?;
-    reader.print_conditional(condition, then)?;
+    reader.print_binary(then, " : ")?;
+    reader.buffer.close_in_place(mark, &mut reader.found)?;
+    reader.print_binary(condition, "?")?;
     Ok(())
 }
 

@@ -2,7 +2,7 @@
 ghost use Rattle.std.specs.Prelude.{◌≡◌, ◌<◌, codes, OnOk};
 ghost use Rattle.demangle_text.specs.Shape.{plain_shape, text};
 ghost use Rattle.demangle_text.specs.State.{IsLiving, Lives, shape, IsRun, SameFrame};
-ghost use Rattle.itanium_grammar.specs.Tree.{pre_shape, post_shape, binary_shape, greater_shape, conditional_shape};
+ghost use Rattle.itanium_grammar.specs.Tree.{pre_shape, post_shape, binary_shape, greater_shape};
 ghost use Rattle.itanium_reader.specs.Cases.{BuiltinType};
 ghost use Rattle.itanium_syntax.specs.Types.{type_case, builtin_text, past_builtin};
 ghost use Rattle.itanium_reader.specs.Parser as spec;
@@ -153,28 +153,6 @@ impl<'a> Reader<'a> {
         let opened = self.buffer.insert(both, Place::Start, b"((")?;
         let closed = self.buffer.append(opened, b"))")?;
         self.found = self.buffer.whole(closed);
-        Ok(())
-    }
-
-    /// `?` and `:` between a condition and two operands, of which the last was found.
-    pub fn print_conditional(&mut self, condition: Piece, then: Piece) -> Result<(), AllocError>
-        requires condition { IsLiving self.old.buffer.value condition }
-        requires then { IsLiving self.old.buffer.value then }
-        requires living { IsLiving self.old.buffer.value self.old.found }
-        ensures shape { OnOk result (Lives self.new.buffer.value self.new.found (conditional_shape
-            (shape self.old.buffer.value condition) (shape self.old.buffer.value then)
-            (shape self.old.buffer.value self.old.found))) }
-        ensures state { OnOk result (state self.new ≡ state self.old) }
-        ensures run { OnOk result (IsRun self.old.buffer.value self.new.buffer.value) }
-    {
-        let parts = [
-            Glue::Piece(condition),
-            Glue::Text(b"?"),
-            Glue::Piece(then),
-            Glue::Text(b" : "),
-            Glue::Piece(self.found),
-        ];
-        self.found = glue(&mut self.buffer, &parts)?;
         Ok(())
     }
 }

@@ -16,5 +16,5 @@ pub returns-clause-join_of : goal.returns-clause-join_of
 returns-clause-join_of c =
     let from = c.in_ok-from.from in
     let k = c.len.ensures.value ∙ ap (λ b. length b.main_text) c.self.view_is in
-    IsJoinOf-joint c.args.self.now c.join_texts.new.self c.args.first c.args.second c.whole_at.result c.args.bytes.now from c.requires.first_living c.in_ok-from.ensures.joint
+    IsJoinOf-joint c.args.self.now c.join_texts.new.self c.args.first c.args.second c.whole_at.result c.args.bytes.now from c.requires.first_living c.requires.second_living c.in_ok-from.ensures.joint
     (subst (IsAt c.whole_at.result from) k c.whole_at.ensures.stands)
