@@ -48,7 +48,7 @@ static void great(void) {
     memset(symbol, 'a', GREAT);
     memcpy(symbol, "_Z4999990", 9);
     holds(cosvigle_demangle((uint8_t *)symbol, GREAT, answer, GREAT, &needed) == COSVIGLE_NO_ANSWER, "a long name");
-    memcpy(symbol, "_Z3foo.", 7);
+    memcpy(symbol, "_Z3foo.aa", 9);
     holds(cosvigle_demangle((uint8_t *)symbol, GREAT, answer, GREAT, &needed) == COSVIGLE_WRITTEN, "a long rest");
     holds(needed == GREAT - 3 && memcmp(answer, "foo.aaa", 7) == 0 && answer[needed - 1] == 'a', "all of the rest");
     free(symbol);
