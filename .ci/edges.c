@@ -1,5 +1,6 @@
 /* What cosvigle.h promises at the edges. Prints each promise that doesn't hold, then 'N passed, M failed'. Where the
- * environment names a call of malloc that is refused (refuse.c), one symbol is asked, and its status printed. */
+ * environment names a request for memory that is refused (refuse.c), each call is made, and again where memory was
+ * refused to it. The status is then 2 if that was so, 0 if it wasn't, and 1 if a promise doesn't hold. */
 #include <cosvigle.h>
 #include <stdio.h>
 #include <stdlib.h>
@@ -8,17 +9,25 @@
 enum { ROOM = 64, GREAT = 5000000 };
 static int passed, failed;
 
+/* How many blocks of memory aren't freed, where refuse.c counts them. */
+extern long refuse_live(void) __attribute__((weak));
+
 static void holds(int is, const char *what) {
     if (is) passed++;
     else failed++, printf("edges: not so: %s\n", what);
 }
 
+/* One for all symbols, each of which is asked of it and of cosvigle_demangle. */
+static cosvigle_handle handle = COSVIGLE_NONE;
+
 /* Asks for a symbol with so much room, before bytes that must stay. */
-static void ask(const char *symbol, size_t len, size_t room, int status, const char *answer) {
+static void ask_by(int by_handle, const char *symbol, size_t len, size_t room, int status, const char *answer) {
     uint8_t text[ROOM];
+    const uint8_t *bytes = (const uint8_t *)symbol;
     size_t needed = 99, length = answer == NULL ? 0 : strlen(answer), written;
     memset(text, '#', sizeof text);
-    int got = cosvigle_demangle((const uint8_t *)symbol, len, text, room, &needed);
+    int got = by_handle ? cosvigle_ask(&handle, bytes, len, text, room, &needed)
+                        : cosvigle_demangle(bytes, len, text, room, &needed);
     written = status == COSVIGLE_WRITTEN ? length : 0;
     holds(got == status, symbol);
     holds(needed == length, "the length that is told");
@@ -27,6 +36,11 @@ static void ask(const char *symbol, size_t len, size_t room, int status, const c
         if (text[written] != '#') break;
     }
     holds(written == sizeof text, "the bytes that stay");
+}
+
+static void ask(const char *symbol, size_t len, size_t room, int status, const char *answer) {
+    ask_by(0, symbol, len, room, status, answer);
+    ask_by(1, symbol, len, room, status, answer);
 }
 
 static void filter(const char *lines, size_t len, size_t room, int status, const char *wanted) {
@@ -48,23 +62,76 @@ static void great(void) {
     memset(symbol, 'a', GREAT);
     memcpy(symbol, "_Z4999990", 9);
     holds(cosvigle_demangle((uint8_t *)symbol, GREAT, answer, GREAT, &needed) == COSVIGLE_NO_ANSWER, "a long name");
-    memcpy(symbol, "_Z3foo.", 7);
+    memcpy(symbol, "_Z3foo.aa", 9);
     holds(cosvigle_demangle((uint8_t *)symbol, GREAT, answer, GREAT, &needed) == COSVIGLE_WRITTEN, "a long rest");
     holds(needed == GREAT - 3 && memcmp(answer, "foo.aaa", 7) == 0 && answer[needed - 1] == 'a', "all of the rest");
+    holds(cosvigle_ask(&handle, (uint8_t *)symbol, GREAT, answer, 9, &needed) == COSVIGLE_NO_ROOM, "a long answer");
+    holds(cosvigle_ask(&handle, (uint8_t *)symbol, GREAT, answer, GREAT, &needed) == COSVIGLE_WRITTEN, "it again");
     free(symbol);
     free(answer);
+}
+
+/* A handle is made, freed, and made again by a symbol; what it had before is freed. */
+static void handles(void) {
+    ask_by(1, "_Z1\xff", 4, ROOM, COSVIGLE_NOT_UTF8, NULL);
+    holds(handle.at == NULL, "none for what isn't UTF-8");
+    cosvigle_free(&handle);
+    holds(handle.at == NULL, "none after none");
+    holds(cosvigle_new(&handle) == COSVIGLE_WRITTEN && handle.at != NULL, "a new one");
+    holds(cosvigle_new(&handle) == COSVIGLE_WRITTEN && handle.at != NULL, "another for it");
+    ask_by(1, "_Z3foo", 6, ROOM, COSVIGLE_WRITTEN, "foo");
+    cosvigle_free(&handle);
+    holds(handle.at == NULL, "none after it was freed");
+    ask_by(1, "_Z3bar", 6, ROOM, COSVIGLE_WRITTEN, "bar");
+    holds(handle.at != NULL, "one for a symbol");
+}
+
+static const char symbol[] = "_ZNSt6vectorIS_IiEE4sizeEv", answer[] = "std::vector<std::vector<int> >::size";
+static const char lines[] = "_Z3foov\nx\n_Z3bar", text_of_lines[] = "foo\nx\nbar";
+
+/* Makes the call of this number; its status, or -1 where what it writes or tells isn't right. */
+static int call(int number) {
+    uint8_t text[ROOM];
+    size_t needed = 0;
+    const uint8_t *bytes = (const uint8_t *)symbol;
+    const char *right = number == 3 ? text_of_lines : answer;
+    int status;
+    memset(text, '#', sizeof text);
+    if (number == 0) status = cosvigle_demangle(bytes, sizeof symbol - 1, text, ROOM, &needed);
+    else if (number == 1) {
+        status = cosvigle_new(&handle);
+        return (handle.at != NULL) == (status == COSVIGLE_WRITTEN) ? status : -1;
+    } else if (number == 2) status = cosvigle_ask(&handle, bytes, sizeof symbol - 1, text, ROOM, &needed);
+    else status = cosvigle_filter((const uint8_t *)lines, sizeof lines - 1, text, ROOM, &needed);
+    if (status == COSVIGLE_NO_MEMORY) return needed == 0 && text[0] == '#' ? status : -1;
+    return needed == strlen(right) && memcmp(text, right, needed) == 0 && text[needed] == '#' ? status : -1;
+}
+
+/* Each call, and again where it had no memory: only one request is refused. The symbol is asked of a handle that has
+ * answered, of a new one, and of one without a demangler. */
+static int refused(void) {
+    static const int calls[] = {0, 1, 2, 2, 1, 2, 3};
+    int had_none = 0;
+    for (size_t at = 0; at < sizeof calls / sizeof *calls; at++) {
+        int status = call(calls[at]);
+        if (status == COSVIGLE_NO_MEMORY) {
+            if (had_none++) return 1;
+            status = call(calls[at]);
+        }
+        if (status != COSVIGLE_WRITTEN) return 1;
+    }
+    cosvigle_free(&handle);
+    if (call(2) == COSVIGLE_NO_MEMORY && (had_none++ || call(2) != COSVIGLE_WRITTEN)) return 1;
+    cosvigle_free(&handle);
+    if (refuse_live != NULL && refuse_live() != 0) return 1;
+    return had_none ? 2 : 0;
 }
 
 int main(void) {
     uint8_t byte = 0;
     size_t needed = 99;
-    if (getenv("REFUSE") != NULL) {
-        uint8_t text[ROOM];
-        memset(text, '#', sizeof text);
-        int status = cosvigle_demangle((const uint8_t *)"_ZNSt6vectorIS_IiEE4sizeEv", 26, text, ROOM, &needed);
-        int stays = text[0] == '#' && needed == 0;
-        return status == COSVIGLE_WRITTEN ? 0 : status == COSVIGLE_NO_MEMORY && stays ? 2 : 1;
-    }
+    if (getenv("REFUSE") != NULL) return refused();
+    handles();
     ask("_ZN3Foo3barEv", 13, ROOM, COSVIGLE_WRITTEN, "Foo::bar");
     ask("_ZN3Foo3barEv", 13, 8, COSVIGLE_WRITTEN, "Foo::bar");
     ask("_ZN3Foo3barEv", 13, 7, COSVIGLE_NO_ROOM, "Foo::bar");
@@ -82,6 +149,7 @@ int main(void) {
     filter("", 0, ROOM, COSVIGLE_WRITTEN, "");
     holds(cosvigle_filter(&byte, 0, &byte, 0, &needed) == COSVIGLE_WRITTEN && needed == 0, "no line and no room");
     great();
+    cosvigle_free(&handle);
     printf("%d passed, %d failed\n", passed, failed);
     return failed != 0;
 }

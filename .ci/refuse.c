@@ -1,6 +1,7 @@
 /* Stands before the requests for memory of the C library, where LD_PRELOAD names it: malloc, calloc and realloc. The
    request whose number REFUSE has, counted from 1 at the start of main, is refused, and one line is written to
-   descriptor 3. All others go on to the C library. Nothing of the product links this. */
+   descriptor 3. All others go on to the C library. `refuse_live` counts the blocks that aren't freed. Nothing of the
+   product links this. */
 #include <errno.h>
 #include <stdlib.h>
 #include <unistd.h>
@@ -8,6 +9,7 @@
 extern void *__libc_malloc(size_t size);
 extern void *__libc_calloc(size_t count, size_t size);
 extern void *__libc_realloc(void *old, size_t size);
+extern void __libc_free(void *old);
 
 /* How many requests are left up to the refused one; 0 before main, and after it. */
 static long left;
@@ -25,8 +27,29 @@ static int is_refused(void) {
     return 1;
 }
 
-void *malloc(size_t size) { return is_refused() ? 0 : __libc_malloc(size); }
+/* How many blocks aren't freed. */
+static long live;
 
-void *calloc(size_t count, size_t size) { return is_refused() ? 0 : __libc_calloc(count, size); }
+long refuse_live(void) { return live; }
 
-void *realloc(void *old, size_t size) { return is_refused() ? 0 : __libc_realloc(old, size); }
+static void *counted(void *made) {
+    if (made != 0) live++;
+    return made;
+}
+
+void *malloc(size_t size) { return is_refused() ? 0 : counted(__libc_malloc(size)); }
+
+void *calloc(size_t count, size_t size) { return is_refused() ? 0 : counted(__libc_calloc(count, size)); }
+
+void *realloc(void *old, size_t size) {
+    void *made;
+    if (is_refused()) return 0;
+    made = __libc_realloc(old, size);
+    if (old == 0 && made != 0) live++;
+    return made;
+}
+
+void free(void *old) {
+    if (old != 0) live--;
+    __libc_free(old);
+}

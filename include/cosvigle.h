@@ -2,10 +2,12 @@
  *
  * What a caller owes, and nothing checks:
  * - Each pointer is valid for the bytes that its length says, also where that is 0, and none is NULL.
- * - What a call writes to (answer or text, and needed) doesn't overlap anything else that it is given.
+ * - What a call writes to (answer or text, needed, a handle) doesn't overlap anything else that it is given.
  * - malloc, realloc and free are of one allocator.
  * - No call is made from a signal handler, nor from the forked child of a process with threads.
- * Calls share nothing: threads may make them at the same time. */
+ * - A handle begins as COSVIGLE_NONE, and only the calls read it or write to it. It is given to one call at a time, and
+ *   stays on one thread. Of two copies one is used and freed.
+ * Calls share nothing but a handle: threads may make them at the same time. */
 #ifndef COSVIGLE_H
 #define COSVIGLE_H
 
@@ -36,6 +38,27 @@ int cosvigle_demangle(const uint8_t *symbol, size_t len, uint8_t *answer, size_t
  * bytes after it stay. COSVIGLE_WRITTEN, or COSVIGLE_NO_MEMORY or COSVIGLE_NO_ROOM, with which nothing is written; with
  * COSVIGLE_NO_MEMORY *needed is 0. */
 int cosvigle_filter(const uint8_t *lines, size_t len, uint8_t *text, size_t room, size_t *needed);
+
+/* A demangler that keeps its memory from one symbol to the next, or none. */
+typedef struct {
+    void *at; /* of no concern to a caller */
+} cosvigle_handle;
+
+/* A handle without a demangler: cosvigle_handle handle = COSVIGLE_NONE; */
+#define COSVIGLE_NONE {NULL}
+
+/* Gives the handle a new demangler. COSVIGLE_WRITTEN, or COSVIGLE_NO_MEMORY, and then it has none. What it had is
+ * freed. It needn't be called: cosvigle_ask does the same for a handle without a demangler. */
+int cosvigle_new(cosvigle_handle *handle);
+
+/* Writes the answer of a symbol as cosvigle_demangle does, with the same statuses. The memory that it took stays with
+ * the handle: so a next symbol that needs no more costs no call of malloc. After COSVIGLE_NO_MEMORY too the handle
+ * serves on. */
+int cosvigle_ask(cosvigle_handle *handle, const uint8_t *symbol, size_t len, uint8_t *answer, size_t room,
+                 size_t *needed);
+
+/* Frees what the handle has: it is without a demangler then, and may be asked again. Without one nothing is done. */
+void cosvigle_free(cosvigle_handle *handle);
 
 #ifdef __cplusplus
 }

@@ -23,21 +23,23 @@ static int read_line(unsigned char **line, size_t *room, size_t *len) {
 int main(void) {
     size_t line_room = 256, room = 256, len, needed;
     unsigned char *line = malloc(line_room), *answer = malloc(room);
+    cosvigle_handle handle = COSVIGLE_NONE;
     if (line == NULL || answer == NULL) return 2;
     while (read_line(&line, &line_room, &len)) {
-        int status = cosvigle_demangle(line, len, answer, room, &needed);
+        int status = cosvigle_ask(&handle, line, len, answer, room, &needed);
         if (status == COSVIGLE_NO_ROOM) {
             free(answer);
             room = needed;
             answer = malloc(room);
             if (answer == NULL) return 2;
-            status = cosvigle_demangle(line, len, answer, room, &needed);
+            status = cosvigle_ask(&handle, line, len, answer, room, &needed);
         }
         if (status == COSVIGLE_NO_MEMORY) return 2;
         if (status == COSVIGLE_WRITTEN) fwrite(answer, 1, needed, stdout);
         else fwrite(line, 1, len, stdout);
         putchar('\n');
     }
+    cosvigle_free(&handle);
     free(line);
     free(answer);
     return 0;

@@ -3,7 +3,8 @@
 #include <iostream>
 
 int main() {
+    cosvigle::demangler demangler;
     for (std::string line; std::getline(std::cin, line);) {
-        std::cout << cosvigle::demangle(line).value_or(line) << '\n';
+        std::cout << demangler.demangle(line).value_or(line) << '\n';
     }
 }

@@ -6,11 +6,12 @@ mod cosvigle;
 use std::io::{self, BufRead, Write};
 
 fn main() -> io::Result<()> {
+    let mut demangler = cosvigle::Demangler::new();
     let mut output = io::BufWriter::new(io::stdout().lock());
     for line in io::stdin().lock().split(b'\n') {
         let line = line?;
         let answer = match std::str::from_utf8(&line) {
-            Ok(name) => cosvigle::demangle(name).map_err(|_| io::ErrorKind::OutOfMemory)?,
+            Ok(name) => demangler.demangle(name).map_err(|_| io::ErrorKind::OutOfMemory)?,
             Err(_) => None,
         };
         match answer {

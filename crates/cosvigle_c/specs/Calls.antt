@@ -1,4 +1,4 @@
--- What the two calls from C write.
+-- What the calls from C write.
 use Rattle.std.specs.Prelude.{ℕ, List, Some}
 use Rattle.itanium_grammar.specs.Answer.{IsAnswer}
 use Rattle.symfilter_engine.specs.Filtered.{IsAnswered}

@@ -8,12 +8,18 @@
 ghost use Rattle.std.specs.Prelude.{◌≡◌, ◌≢◌, ◌↔◌, pos, Some, None, IfOk};
 ghost use Rattle.std.specs.Str.{IsUtf8};
 ghost use Rattle.itanium_grammar.specs.Answer.{IsAnswer};
+ghost use Rattle.itanium_demangle.specs.LastRun.{no_run};
 ghost use Rattle.symfilter_engine.specs.Filtered.{IsAnswered};
 ghost use Rattle.cosvigle_c.specs.Room.{Fills, IsShort};
 ghost use Rattle.cosvigle_c.specs.Calls.{WritesAnswer, LacksRoom, WritesLines, LacksLines};
 
+mod handle;
+mod loose;
+
+use handle::Handle;
 use itanium_demangle::Demangler;
 use std::alloc::Global;
+use std::mem::replace;
 use std::str::from_utf8;
 use symfilter_engine::{Failed, FilterFault, Sink, Tally, filter};
 
@@ -46,6 +52,48 @@ fn hand_out(text: &[u8], room: &mut [u8], needed: &mut usize) -> i32
 /// stay. 1 where the symbol has no answer, 2 where memory is refused, 3 where the answer is longer than the room, with
 /// its length in `needed`, 4 where the symbol isn't UTF-8. With these nothing is written, and but for 3 `needed` is 0.
 /// The answer is that of `Demangler::demangle` (Itanium C++ ABI 5.1.2).
+///
+/// It is asked of the handle's demangler, which keeps its memory for the next symbol, and of a new one where the handle
+/// has none. It has one afterwards, but where it had none and the status is 2 or 4.
+#[unsafe(no_mangle)]
+pub extern "C" fn cosvigle_ask(
+    alloc: Global,
+    handle: &mut Handle,
+    symbol: &[u8],
+    answer: &mut [u8],
+    needed: &mut usize,
+) -> i32
+    ensures status { result ≢ pos 0 → result ≢ pos 1 → result ≢ pos 2 → result ≢ pos 3 → result ≡ pos 4 }
+    ensures written { result ≡ pos 0 → WritesAnswer symbol.now answer.old answer.new needed.new }
+    ensures no_answer { result ≡ pos 1 → IsAnswer symbol.now None }
+    ensures no_room { result ≡ pos 3 → LacksRoom symbol.now answer.old answer.new needed.new }
+    ensures not_utf8 { result ≡ pos 4 ↔ (IsUtf8 symbol.now → ⊥) }
+    ensures stays { result ≢ pos 0 → answer.new ≡ answer.old }
+    ensures nothing { result ≢ pos 0 → result ≢ pos 3 → needed.new ≡ 0 }
+    ensures made { result ≢ pos 2 → result ≢ pos 4 → handle.new.kept ≢ None }
+    ensures keeps { handle.old.kept ≢ None → handle.new.kept ≢ None }
+{
+    *needed = 0;
+    let Ok(text) = from_utf8(symbol) else {
+        return NOT_UTF8;
+    };
+    let mut demangler = match replace(handle, Handle::none(alloc)).into_box() {
+        Some(kept) => kept,
+        None => match Box::new(alloc, Demangler::new()) {
+            Ok(made) => made,
+            Err(_) => return NO_MEMORY,
+        },
+    };
+    let status = match demangler.demangle(alloc, text) {
+        Ok(Some(found)) => hand_out(found.as_bytes(), answer, needed),
+        Ok(None) => NO_ANSWER,
+        Err(_) => NO_MEMORY,
+    };
+    *handle = Handle::of(demangler);
+    status
+}
+
+/// `cosvigle_ask` of a handle of its own.
 #[unsafe(no_mangle)]
 pub extern "C" fn cosvigle_demangle(
     alloc: Global,
@@ -61,16 +109,32 @@ pub extern "C" fn cosvigle_demangle(
     ensures stays { result ≢ pos 0 → answer.new ≡ answer.old }
     ensures nothing { result ≢ pos 0 → result ≢ pos 3 → needed.new ≡ 0 }
 {
-    *needed = 0;
-    let Ok(text) = from_utf8(symbol) else {
-        return NOT_UTF8;
-    };
-    let mut demangler = Demangler::new();
-    match demangler.demangle(alloc, text) {
-        Ok(Some(found)) => hand_out(found.as_bytes(), answer, needed),
-        Ok(None) => NO_ANSWER,
+    cosvigle_ask(alloc, &mut Handle::none(alloc), symbol, answer, needed)
+}
+
+/// Gives the handle a new demangler: 0, or 2 where memory is refused, and then it has none. What it had is freed.
+#[unsafe(no_mangle)]
+pub extern "C" fn cosvigle_new(alloc: Global, handle: &mut Handle) -> i32
+    ensures status { result ≢ pos 0 → result ≡ pos 2 }
+    ensures made { result ≡ pos 0 → handle.new.kept ≡ Some no_run }
+    ensures none { result ≡ pos 2 → handle.new.kept ≡ None }
+{
+    cosvigle_free(alloc, handle);
+    match Box::new(alloc, Demangler::new()) {
+        Ok(made) => {
+            *handle = Handle::of(made);
+            WRITTEN
+        }
         Err(_) => NO_MEMORY,
     }
+}
+
+/// Frees the handle's demangler: it has none afterwards. Where it had none, nothing is done.
+#[unsafe(no_mangle)]
+pub extern "C" fn cosvigle_free(alloc: Global, handle: &mut Handle)
+    ensures none { handle.new.kept ≡ None }
+{
+    *handle = Handle::none(alloc);
 }
 
 /// A sink in memory, which fails where memory is refused.

@@ -1,0 +1,84 @@
+//! A demangler that C holds, between calls.
+ghost use Rattle.std.specs.Prelude.{◌≡◌, Option, Some, None, option_map};
+ghost use Rattle.std.specs.contracts.impls.GlobalAllocator.TheImpl.{ghosts};
+ghost use Rattle.itanium_demangle.specs.LastRun.{LastRun};
+ghost use Rattle.itanium_demangle.specs.contracts.demangler.Demangler.{the_row};
+ghost use Rattle.cosvigle_c.specs.Handle.{holds};
+
+use crate::loose::Loose;
+use itanium_demangle::Demangler;
+use std::alloc::Global;
+use std::marker::Model;
+use std::ptr::null_mut;
+
+/// A demangler in a box, or none. To C it is a struct of one pointer, which is null where there is none: a `Global`
+/// takes no bytes. The pointer is one to bytes, since no export takes one to a type that holds a `Vec`.
+#[repr(C)]
+pub struct Handle {
+    at: *mut u8,
+    alloc: Global,
+    /// What the demangler keeps of the last symbol.
+    pub ghost kept: { Option LastRun },
+}
+
+impl Model for Handle {
+    ghost also_owns = { λ handle. holds (ghosts.dealloc_token handle.alloc) the_row handle.at handle.kept };
+}
+
+impl Handle {
+    /// No demangler.
+    pub fn none(alloc: Global) -> Handle
+        ensures kept { result.kept ≡ None }
+    {
+        Handle {
+            at: null_mut(),
+            alloc,
+        }
+    }
+
+    fn of_loose(loose: Loose<Demangler, Global>) -> Handle
+        ensures kept { result.kept ≡ Some loose.value }
+    {
+        let Loose { at, alloc } = loose;
+        Handle {
+            at: at as *mut u8,
+            alloc,
+        }
+    }
+
+    fn into_loose(self) -> Option<Loose<Demangler, Global>>
+        ensures kept { option_map (λ loose. loose.value) result ≡ self.kept }
+    {
+        let Handle { at, alloc } = self;
+        if at.is_null() {
+            return None;
+        }
+        Some(Loose {
+            at: at as *mut Demangler,
+            alloc,
+        })
+    }
+
+    /// Holds the demangler of a box.
+    pub fn of(boxed: Box<Demangler>) -> Handle
+        ensures kept { result.kept ≡ Some boxed.value }
+    {
+        Handle::of_loose(Loose::of(boxed))
+    }
+
+    /// The box of the demangler, where there is one.
+    pub fn into_box(self) -> Option<Box<Demangler>>
+        ensures kept { option_map (λ boxed. boxed.value) result ≡ self.kept }
+    {
+        match self.into_loose() {
+            Some(loose) => Some(loose.into_box()),
+            None => None,
+        }
+    }
+}
+
+impl Drop for Handle {
+    fn drop(self) {
+        self.into_box();
+    }
+}
