@@ -293,7 +293,9 @@ fn append_next(
     ensures err { OnErr result (output.new ≡ output.old) }
 {
     let ordinary = ordinary_len(symbols, lines);
-    append_front(alloc, demangler, symbols, lines, ordinary, known_utf8, output)
+    append_front(
+        alloc, demangler, symbols, lines, ordinary, known_utf8, output,
+    )
 }
 
 /// Appends what is written for more of these lines, until the output is long or memory is refused, and answers how many
@@ -358,7 +360,9 @@ fn write_next<W: Sink>(
     }
     output.clear();
     output.reserve(OUTPUT_ROOM)?;
-    let first = append_front(alloc, demangler, symbols, lines, ordinary, known_utf8, output)?;
+    let first = append_front(
+        alloc, demangler, symbols, lines, ordinary, known_utf8, output,
+    )?;
     let len = gather_lines(alloc, demangler, symbols, lines, known_utf8, first, output);
     write_all(sink, output.as_slice())?;
     Ok(len)
