@@ -1,5 +1,5 @@
 # Builds and installs the programs, the library for C, its headers and the manual page. The builds are proved ones, by
-# the Rattle toolchain; `make install` builds nothing.
+# the Rattle toolchain; `make install` builds what is missing too.
 #
 #     make                                     builds what is missing: an hour where nothing is proved yet
 #     make install PREFIX=/usr DESTDIR=/tmp/x  PREFIX: /usr/local unless given; DESTDIR: put in front, for packages;
@@ -38,7 +38,7 @@ $(BUILD)/cosvigle.pc: Makefile
 	printf 'Name: cosvigle\nDescription: Demangles C++ symbols; each answer is proved\n' >>$@
 	printf 'Version: $(VERSION)\nLibs: -L$${libdir} -lcosvigle\nCflags: -I$${includedir}\n' >>$@
 
-install: $(BUILD)/libcosvigle.a $(BUILD)/cosvigle.pc
+install: all $(BUILD)/libcosvigle.a $(BUILD)/cosvigle.pc
 	install -d $(root)/bin $(root)/lib/pkgconfig $(root)/include $(root)/share/man/man1
 	install $(symfilter) $(cosvigle) $(root)/bin
 	install -m 644 docs/cosvigle.1 $(root)/share/man/man1

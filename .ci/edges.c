@@ -9,8 +9,9 @@
 enum { ROOM = 64, GREAT = 5000000 };
 static int passed, failed;
 
-/* How many blocks of memory aren't freed, where refuse.c counts them. */
+/* How many blocks of memory aren't freed, and how many requests were made, where refuse.c counts them. */
 extern long refuse_live(void) __attribute__((weak));
+extern long refuse_made(void) __attribute__((weak));
 
 static void holds(int is, const char *what) {
     if (is) passed++;
@@ -71,6 +72,23 @@ static void great(void) {
     free(answer);
 }
 
+/* A block of lines that is longer than what the filter reads at once. */
+static void many(void) {
+    enum { LINES = 50000, LINE = 8, NAME = 4 };
+    char *block = malloc(LINES * LINE);
+    uint8_t *text = malloc(LINES * NAME);
+    size_t needed = 0;
+    int right = 1;
+    if (block == NULL || text == NULL) exit(2);
+    for (size_t at = 0; at < LINES; at++) memcpy(block + at * LINE, "_Z3foov\n", LINE);
+    holds(cosvigle_filter((uint8_t *)block, LINES * LINE, text, LINES * NAME, &needed) == COSVIGLE_WRITTEN, "many lines");
+    holds(needed == LINES * NAME, "the length of their text");
+    for (size_t at = 0; at < LINES; at++) right &= memcmp(text + at * NAME, "foo\n", NAME) == 0;
+    holds(right, "the text of many lines");
+    free(block);
+    free(text);
+}
+
 /* A handle is made, freed, and made again by a symbol; what it had before is freed. */
 static void handles(void) {
     ask_by(1, "_Z1\xff", 4, ROOM, COSVIGLE_NOT_UTF8, NULL);
@@ -92,7 +110,7 @@ static const char lines[] = "_Z3foov\nx\n_Z3bar", text_of_lines[] = "foo\nx\nbar
 /* Makes the call of this number; its status, or -1 where what it writes or tells isn't right. */
 static int call(int number) {
     uint8_t text[ROOM];
-    size_t needed = 0;
+    size_t needed = 99;
     const uint8_t *bytes = (const uint8_t *)symbol;
     const char *right = number == 3 ? text_of_lines : answer;
     int status;
@@ -112,6 +130,8 @@ static int call(int number) {
 static int refused(void) {
     static const int calls[] = {0, 1, 2, 2, 1, 2, 3};
     int had_none = 0;
+    long made;
+    if (refuse_live == NULL || refuse_made == NULL) return 1;
     for (size_t at = 0; at < sizeof calls / sizeof *calls; at++) {
         int status = call(calls[at]);
         if (status == COSVIGLE_NO_MEMORY) {
@@ -120,10 +140,13 @@ static int refused(void) {
         }
         if (status != COSVIGLE_WRITTEN) return 1;
     }
+    /* A symbol that needs no more memory than the handle has makes no request. */
+    made = refuse_made();
+    if (call(2) != COSVIGLE_WRITTEN || refuse_made() != made) return 1;
     cosvigle_free(&handle);
     if (call(2) == COSVIGLE_NO_MEMORY && (had_none++ || call(2) != COSVIGLE_WRITTEN)) return 1;
     cosvigle_free(&handle);
-    if (refuse_live != NULL && refuse_live() != 0) return 1;
+    if (refuse_live() != 0) return 1;
     return had_none ? 2 : 0;
 }
 
@@ -149,6 +172,7 @@ int main(void) {
     filter("", 0, ROOM, COSVIGLE_WRITTEN, "");
     holds(cosvigle_filter(&byte, 0, &byte, 0, &needed) == COSVIGLE_WRITTEN && needed == 0, "no line and no room");
     great();
+    many();
     cosvigle_free(&handle);
     printf("%d passed, %d failed\n", passed, failed);
     return failed != 0;

@@ -1,7 +1,7 @@
 /* Stands before the requests for memory of the C library, where LD_PRELOAD names it: malloc, calloc and realloc. The
    request whose number REFUSE has, counted from 1 at the start of main, is refused, and one line is written to
-   descriptor 3. All others go on to the C library. `refuse_live` counts the blocks that aren't freed. Nothing of the
-   product links this. */
+   descriptor 3. All others go on to the C library. `refuse_live` counts the blocks that aren't freed, `refuse_made` the
+   requests. Nothing of the product links this. */
 #include <errno.h>
 #include <stdlib.h>
 #include <unistd.h>
@@ -19,8 +19,14 @@ __attribute__((constructor)) static void begin(void) {
     left = number ? atol(number) : 0;
 }
 
+/* How many requests were made. */
+static long requests;
+
+long refuse_made(void) { return requests; }
+
 static int is_refused(void) {
     static const char line[] = "refused\n";
+    requests++;
     if (left == 0 || --left > 0) return 0;
     if (write(3, line, sizeof line - 1) < 0) abort();
     errno = ENOMEM;

@@ -1,12 +1,14 @@
 /* Cosvigle: mangled C++ symbols (Itanium C++ ABI) and their answers. Each answer is proved: see README.md.
  *
  * What a caller owes, and nothing checks:
- * - Each pointer is valid for the bytes that its length says, also where that is 0, and none is NULL.
- * - What a call writes to (answer or text, needed, a handle) doesn't overlap anything else that it is given.
- * - malloc, realloc and free are of one allocator.
+ * - Each pointer is valid, aligned for its type, and not NULL: one with a length for so many bytes, also where that is 0.
+ * - What a call writes to (answer or text, needed, a handle) doesn't overlap anything else that it is given. Nothing
+ *   else touches what it is given until it returns.
+ * - malloc, realloc and free are of one allocator, which aligns a block to each power of two up to 16 that divides its
+ *   size.
  * - No call is made from a signal handler, nor from the forked child of a process with threads.
- * - A handle begins as COSVIGLE_NONE, and only the calls read it or write to it. It is given to one call at a time, and
- *   stays on one thread. Of two copies one is used and freed.
+ * - A handle begins as COSVIGLE_NONE, and only the calls change it. It is given to one call at a time, by one thread,
+ *   and to one copy of the library. Where it is copied only one of the two is used from then on, and freed.
  * Calls share nothing but a handle: threads may make them at the same time. */
 #ifndef COSVIGLE_H
 #define COSVIGLE_H
@@ -20,10 +22,10 @@ extern "C" {
 
 /* What a call answers. */
 enum {
-    COSVIGLE_WRITTEN = 0,   /* the text is written, and its length in bytes told in *needed */
+    COSVIGLE_WRITTEN = 0,   /* done: the text is written, and its length in bytes told in *needed */
     COSVIGLE_NO_ANSWER = 1, /* the symbol has no answer */
     COSVIGLE_NO_MEMORY = 2, /* memory was refused */
-    COSVIGLE_NO_ROOM = 3,   /* there is too little room: *needed says how many bytes are */
+    COSVIGLE_NO_ROOM = 3,   /* there is too little room: *needed says how many bytes it takes */
     COSVIGLE_NOT_UTF8 = 4   /* the symbol isn't UTF-8 */
 };
 
@@ -33,8 +35,8 @@ enum {
  * follows from a dot right after what was read ends the answer. An answer is UTF-8. */
 int cosvigle_demangle(const uint8_t *symbol, size_t len, uint8_t *answer, size_t room, size_t *needed);
 
-/* Writes the filtered text of a block of lines, of len bytes, to text, which has room bytes: each line that is a symbol
- * as its answer, each other line as it is. A line goes up to the next line feed, which is written too, or the end. The
+/* Writes the filtered text of a block of lines, of len bytes, to text, which has room bytes: each line that has an answer
+ * as that, each other line as it is. A line goes up to the next line feed, which is written too, or the end. The
  * bytes after it stay. COSVIGLE_WRITTEN, or COSVIGLE_NO_MEMORY or COSVIGLE_NO_ROOM, with which nothing is written; with
  * COSVIGLE_NO_MEMORY *needed is 0. */
 int cosvigle_filter(const uint8_t *lines, size_t len, uint8_t *text, size_t room, size_t *needed);

@@ -25,8 +25,8 @@ class demangler {
     }
     ~demangler() { cosvigle_free(&handle); }
 
-    // The answer of a symbol, lent until the next call, or none where it has none or isn't UTF-8. Throws std::bad_alloc
-    // where memory is refused, and serves on.
+    // The answer of a symbol, lent until the next call, or none where it has none or isn't UTF-8. The symbol may not be
+    // an answer that this value lends. Throws std::bad_alloc where memory is refused, and serves on.
     std::optional<std::string_view> demangle(std::string_view symbol) {
         const auto *bytes = reinterpret_cast<const std::uint8_t *>(symbol.empty() ? "" : symbol.data());
         if (answer.empty()) answer.resize(256);

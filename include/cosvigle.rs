@@ -1,4 +1,5 @@
-//! Cosvigle for Rust: a value and a safe function over the library for C, whose header says what a caller owes.
+//! Cosvigle for Rust, from 1.82 on: a value and a safe function over the library for C. A program is linked with it by
+//! `-L FOLDER -l static=cosvigle`. What its header says of the allocator and of forked children the program still owes.
 
 use std::ffi::c_void;
 use std::ptr::null_mut;
@@ -84,5 +85,12 @@ impl Drop for Demangler {
 /// The same for one symbol, as a text of its own.
 #[allow(dead_code)]
 pub fn demangle(symbol: &str) -> Result<Option<String>, NoMemory> {
-    Ok(Demangler::new().demangle(symbol)?.map(String::from))
+    let mut once = Demangler::new();
+    let Some(answer) = once.demangle(symbol)? else {
+        return Ok(None);
+    };
+    let mut text = String::new();
+    text.try_reserve_exact(answer.len()).map_err(|_| NoMemory)?;
+    text.push_str(answer);
+    Ok(Some(text))
 }

@@ -3,8 +3,7 @@
 #include <iostream>
 
 int main() {
-    cosvigle::demangler demangler;
     for (std::string line; std::getline(std::cin, line);) {
-        std::cout << demangler.demangle(line).value_or(line) << '\n';
+        std::cout << cosvigle::demangle(line).value_or(line) << '\n';
     }
 }

@@ -1,8 +1,8 @@
 //! What C, C++ and Rust call: the demangler and the filter, over memory that the caller gives. `cosvigle.h` declares
 //! it.
 //!
-//! Each call answers a status: 0 where the text is written, 1 where there is no answer, 2 where memory was refused, 3
-//! where there is too little room, 4 where the symbol isn't UTF-8.
+//! Each call but the one that frees answers a status: 0 where all is done, 1 where there is no answer, 2 where memory
+//! was refused, 3 where there is too little room, 4 where the symbol isn't UTF-8.
 #![tactic(auto)]
 
 ghost use Rattle.std.specs.Prelude.{◌≡◌, ◌≢◌, ◌↔◌, pos, Some, None, IfOk};
@@ -53,8 +53,8 @@ fn hand_out(text: &[u8], room: &mut [u8], needed: &mut usize) -> i32
 /// its length in `needed`, 4 where the symbol isn't UTF-8. With these nothing is written, and but for 3 `needed` is 0.
 /// The answer is that of `Demangler::demangle` (Itanium C++ ABI 5.1.2).
 ///
-/// It is asked of the handle's demangler, which keeps its memory for the next symbol, and of a new one where the handle
-/// has none. It has one afterwards, but where it had none and the status is 2 or 4.
+/// The handle's demangler is asked, which keeps its memory for the next symbol, or a new one where the handle has none.
+/// The handle has one afterwards; with 2 or 4 one that had none may have none.
 #[unsafe(no_mangle)]
 pub extern "C" fn cosvigle_ask(
     alloc: Global,
@@ -93,7 +93,8 @@ pub extern "C" fn cosvigle_ask(
     status
 }
 
-/// `cosvigle_ask` of a handle of its own.
+/// Writes the answer of a symbol at the front of `answer`, as `cosvigle_ask` does, with the same statuses and its
+/// length in bytes in `needed`. No memory is kept (Itanium C++ ABI 5.1.2).
 #[unsafe(no_mangle)]
 pub extern "C" fn cosvigle_demangle(
     alloc: Global,

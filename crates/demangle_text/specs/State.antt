@@ -173,7 +173,7 @@ StandsBefore b p at = (from to : ℕ) → Stands p from to → (to ≤ at) × (f
 
 -- both pieces in one, with n bytes between them: the answer stands up to the end of the main text. Where the second
 -- begins at the end of the first and stands up to that end, and the first stands from the innermost mark or later, the
--- start of the first stays, and the main text grows by n bytes. Where the second stands up to that end, from the
+-- start of the first stays, and the main text grows by n bytes. Else, where the second stands up to that end, from the
 -- innermost mark or later, and the first stands before it or nowhere in the main text, the start of the second stays,
 -- and the main text grows by the first text and n bytes. Where the first stands up to that end, from the innermost mark
 -- or later, its start stays, and the main text grows by n bytes and the second text

@@ -331,12 +331,12 @@ impl Buffer {
 
     /// A plain piece: the text of the first piece, the bytes, and the text of the second. Its last
     /// own name is the whole text, and both flags are off. Where the first ends where the second
-    /// begins, and both stand up to the end of the main text, from the innermost mark or later,
-    /// they stay there. Else, where the second stands up to that end, from the innermost mark or
-    /// later, and the first lies elsewhere, the text of the first and the bytes go in front of it;
-    /// and where the first stands up to that end, from the innermost mark or later, the bytes and the
-    /// text of the second go after it. Else both are copied to the end. Ends pieces, and keeps all
-    /// after `AllocError`, as `append` does.
+    /// begins, and the second stands up to the end of the main text, both from the innermost mark or
+    /// later, they stay there. Else, where the second stands up to that end, from the innermost mark
+    /// or later, and the first lies before it or in the side text, the text of the first and the bytes
+    /// go in front of it; and where the first stands up to that end, from the innermost mark or later,
+    /// the bytes and the text of the second go after it. Else both are copied to the end. Ends pieces,
+    /// and keeps all after `AllocError`, as `append` does.
     #[inline(always)]
     pub fn join(&mut self, first: Piece, bytes: &[u8], second: Piece) -> Result<Piece, AllocError>
         requires first_living { IsLiving self.old first }
