@@ -366,7 +366,7 @@ fn kept_texts_around_a_join(rt: HostRuntime) {
 
 #[test]
 #[tactic(auto, using(demangle_text::proofs::Laws::laws, demangle_text::proofs::Laws::runs))]
-fn first_text_that_holds_the_second_is_copied(rt: HostRuntime) {
+fn second_text_inside_the_first_goes_after_it(rt: HostRuntime) {
     let mut buf = Buffer::new(rt.alloc());
     let text = buf.push(b"A::B").expect(&rt, "no memory");
     buf.save(text).expect(&rt, "no memory");
@@ -374,7 +374,7 @@ fn first_text_that_holds_the_second_is_copied(rt: HostRuntime) {
     let leaf = buf.own(back);
     let joined = buf.join(text, b"/", leaf).expect(&rt, "no memory");
     assert_text(&rt, &buf, joined, b"A::B/B");
-    assert_main(&rt, &buf, b"A::BA::B/B");
+    assert_main(&rt, &buf, b"A::B/B");
     assert_saved(&rt, &buf, 0, b"A::B");
     drop(buf);
 }

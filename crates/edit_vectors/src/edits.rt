@@ -202,12 +202,12 @@ fn a_class_grows_on_its_member_in_the_main_text(rt: HostRuntime) {
 
 #[test]
 #[tactic(auto, using(demangle_text::proofs::Laws::laws))]
-fn a_member_goes_after_its_class_in_the_main_text(rt: HostRuntime) {
+fn a_member_stays_after_its_class_in_the_main_text(rt: HostRuntime) {
     let mut buf = Buffer::new(rt.alloc());
     let class = push(&rt, &mut buf, b"A");
     let member = push(&rt, &mut buf, b"int");
     made(&rt, wrap_member_pointer(&mut buf, class, member));
-    assert_eq!(&rt; buf.main_bytes(), b"Aintint A::*".as_slice());
+    assert_eq!(&rt; buf.main_bytes(), b"Aint A::*".as_slice());
     drop(buf);
 }
 
