@@ -35,7 +35,7 @@ pub fn qualify(buf: &mut Buffer, parent: Piece, leaf: Piece) -> Result<Piece, Al
 }
 
 /// A text in a parent, `parent::text`, as a plain piece whose last own name is the text, with no flag
-/// set.
+/// set. It is offered to others: the readers here change the piece where it is kept.
 #[inline(always)]
 #[tactic(auto, using(demangle_text::proofs::Laws::laws))]
 pub fn qualify_text(buf: &mut Buffer, parent: Piece, text: &[u8]) -> Result<Piece, AllocError>
@@ -45,12 +45,27 @@ pub fn qualify_text(buf: &mut Buffer, parent: Piece, text: &[u8]) -> Result<Piec
     ensures edit { OnOk result (IsEdit buf.old buf.new) }
     ensures in_place { IfOk result (λ p. StaysInPlace buf.old buf.new parent p) }
 {
-    let before = buf.len(parent);
-    let plain = buf.plain(parent);
-    let whole = buf.append_pair(plain, b"::", text)?;
-    let end = buf.len(whole);
-    let named = buf.own_at(whole, before + 2, end);
-    Ok(buf.with_flags(named, false, false))
+    let mut name = parent;
+    qualify_text_in_place(buf, &mut name, text)?;
+    Ok(name)
+}
+
+/// As `qualify_text`, of a parent that is changed where it is kept.
+#[inline(always)]
+#[tactic(auto, using(demangle_text::proofs::Laws::laws))]
+pub fn qualify_text_in_place(
+    buf: &mut Buffer,
+    name: &mut Piece,
+    text: &[u8],
+) -> Result<(), AllocError>
+    requires parent { IsLiving buf.old name.old }
+    ensures shape { OnOk result (Lives buf.new name.new
+        (qualified (shape buf.old name.old) (plain_shape text.now))) }
+    ensures edit { OnOk result (IsEdit buf.old buf.new) }
+    ensures in_place { OnOk result (StaysInPlace buf.old buf.new name.old name.new) }
+{
+    buf.append_name_in_place(name, b"::", text)?;
+    Ok(())
 }
 
 /// What stands in front of an entity in a default argument of a parent, `parent::{default arg#k}::` with k for its

@@ -7,9 +7,9 @@ use Rattle.std.proofs.lemmas.List.{take-take}
 use Rattle.std.proofs.lemmas.List.Edits.{length-between}
 use Rattle.demangle_text.specs.declared.shape.Piece.{Piece}
 use Rattle.demangle_text.specs.Pieces.{Store, IsTail, IsAdjacent, IsSplice, IsJoint, EndsBy, piece_text, own_text, home_bytes}
-use Rattle.demangle_text.specs.Shape.{text, text_len, plain_shape, inserted, own_shape, opened_group, moved}
+use Rattle.demangle_text.specs.Shape.{Shape, text, text_len, plain_shape, inserted, named, own_shape, opened_group, moved}
 use Rattle.demangle_text.specs.Calls.{joined, CanInsert, IsDeclared}
-use Rattle.demangle_text.specs.Pieces.{Layout, Flat, Cut, IsLayout, IsAt, IsOutlined, outline_of, whole_outline, shape_of, place_at, layout_with, layout_opened, layout_end, own_at}
+use Rattle.demangle_text.specs.Pieces.{Layout, Flat, Cut, Outline, IsLayout, IsAt, IsOutlined, outline_of, whole_outline, shape_of, place_at, layout_with, layout_opened, layout_end, own_at}
 use Rattle.demangle_text.specs.State.{IsLiving, shape, Lives, IsEditOf, IsJoinOf, main_bytes, frame, frame_start, Frame, Stands}
 use Rattle.demangle_text.specs.declared.shape.Place.{Place}
 use Rattle.demangle_text.specs.declared.shape.Place.TheVariants.{Suffix}
@@ -310,6 +310,34 @@ module _ (b n : Store) (p : Piece) (at : ℕ) (bytes : List ℕ) (from : ℕ) (l
           ctor = ctor;
         } in
         rw (← shape-inserted place bytes t u m w lies.outlined can k) (at_end (IsOutlined-inserted place bytes t u m w lies.outlined can k))
+
+    -- bytes and a name at the end, which is the last own name then
+    pub Lives-named : (between name : List ℕ) → bytes ≡ between ++ name → at ≡ p.to_byte - p.from_byte → (outline_of q).layout ≡ Flat
+        → (outline_of q).own ≡ (length n.main_text - from - length name, length n.main_text - from)
+        → templ_by q.flags ≡ false → ctor_by q.flags ≡ false → Lives n q (named between name (shape b p))
+    unfolding IsLiving shape
+    Lives-named between name is at_is layout own templ ctor =
+        let before = t ++ between in
+        let all : List ℕ = before ++ name in
+        let n_all = length-append before name in
+        let n_before = length-append t between in
+        let n_t = length-text b p lies in
+        let n_bytes = ap length is ∙ length-append between name in
+        let front : take at t ≡ t = take_all at t (omega (arith, n_t, at_is)) in
+        let none : drop at t ≡ [] = drop_all at t (omega (arith, n_t, at_is)) in
+        let whole : u ≡ all = i.text ∙ ap (λ (v : List ℕ). v ++ (bytes ++ drop at t)) front ∙ ap (λ (v : List ℕ). t ++ (bytes ++ v)) none
+            ∙ ap (λ (v : List ℕ). t ++ v) (append-nil bytes ∙ is) ∙ sym (append_assoc t between name) in
+        let m : Outline = record { layout = Flat; own = (length before, length all); templ = false; ctor = false } in
+        let starts : length n.main_text - from - length name ≡ length before = omega (arith, splice-long, n_before, n_t, n_bytes) in
+        let ends : length n.main_text - from ≡ length all = omega (arith, splice-long, n_all, n_before, n_t, n_bytes) in
+        let own_is : (outline_of q).own ≡ (length before, length all) = own ∙ (λ j. (starts j, ends j)) in
+        let outline : outline_of q ≡ m = λ j. record { layout = layout j; own = own_is j; templ = templ j; ctor = ctor j } in
+        let outlined : IsOutlined all m = record { layout = tt; own_ordered = omega (arith, n_all); own_within = omega arith; own_whole = tt } in
+        let lives = at_end (subst (λ (v : List ℕ). IsOutlined v (outline_of q)) (sym whole) (subst (IsOutlined all) (sym outline) outlined)) in
+        let shape_is : shape_of u (outline_of q) ≡ named between name (shape b p) =
+        (λ j. shape_of (whole j) (outline j)) ∙ ap (λ (v : List ℕ). shape_of ((v ++ between) ++ name) (record {
+              layout = Flat; own = (length (v ++ between), length ((v ++ between) ++ name)); templ = false; ctor = false })) (sym (text_is b p lies)) in
+        subst (λ (s : Shape). Lives n q s) shape_is lives
 
     -- a group before `after`, where the bytes are the gap and the group in its parentheses
     pub Lives-opened : (group : List ℕ) → IsDeclared (shape b p).form → at ≡ place_at Suffix (outline_of p).layout (p.to_byte - p.from_byte) → bytes ≡ group_text group (take at t)

@@ -3,7 +3,7 @@ ghost use Rattle.std.specs.Prelude.{◌≡◌, ℕ, ◌+◌, ◌-◌, ◌<◌, �
 ghost use Rattle.std.specs.Prelude.{OnOk, OnErr, slice_range, slice_index, is_some, codes};
 ghost use Rattle.demangle_text.specs.Shape.{gap_after};
 
-use crate::flags::{flagged, is_ctor, is_grouped, is_templ, plain_flags};
+use crate::flags::{alone_in_main, flagged, is_ctor, is_grouped, is_templ, plain_flags};
 use crate::moves::Lists;
 use crate::parts::Three;
 use crate::ranges::Ranges;
@@ -57,7 +57,7 @@ impl Buffer {
     ghost use Rattle.demangle_text.specs.State.{StandsAs, StandsShortened, frame_start, Frame, IsOlder, KeepsFront};
     ghost use Rattle.demangle_text.specs.State.{IsEditOf, IsJoinOf};
     ghost use Rattle.demangle_text.specs.Shape.{text, text_len, plain_shape, inserted, appended, opened_group};
-    ghost use Rattle.demangle_text.specs.Shape.{shortened, flagged, with_own, flattened, whole_shape, own_shape};
+    ghost use Rattle.demangle_text.specs.Shape.{shortened, flagged, with_own, flattened, named, whole_shape, own_shape};
     ghost use Rattle.demangle_text.specs.Shape.{declared_at};
     ghost use Rattle.demangle_text.specs.Calls.{joined, CanInsert, IsPlain, IsDeclared, IsNotFunction, kind_of};
     ghost use Rattle.demangle_text.specs.Calls.{group_of, after_of, declared_group};
@@ -230,10 +230,38 @@ impl Buffer {
             (length first.now + length second.now)) }
         ensures main_err { OnErr result (main_bytes self.new ≡ main_bytes self.old) }
     {
-        let from = self.splice_pair(piece, first, second)?;
+        let from = self.splice_pair(&piece, first, second)?;
         let n = first.len() + second.len();
         let at = piece.place(Place::End);
         Ok(piece.with_bytes(Place::End, at, n, from, self.main.len()))
+    }
+
+    /// The piece, which is changed where it is kept, as a plain one with both texts at the end of its text, one after
+    /// the other: the second is its last own name, and both flags are off. Ends pieces, copies a text, and keeps all
+    /// after `AllocError`, as `append` does.
+    #[inline(always)]
+    pub fn append_name_in_place(
+        &mut self,
+        piece: &mut Piece,
+        between: &[u8],
+        name: &[u8],
+    ) -> Result<(), AllocError>
+        requires living { IsLiving self.old piece.old }
+        ensures shape { OnOk result (Lives self.new piece.new (named between.now name.now (shape self.old piece.old))) }
+        ensures edit { OnOk result (IsEdit self.old self.new) }
+        ensures err { OnErr result (KeepsAll self.old self.new) }
+        ensures piece_err { OnErr result (piece.new ≡ piece.old) }
+        ensures edit_of { OnOk result (IsEditOf self.old self.new piece.old piece.new
+            (length between.now + length name.now)) }
+        ensures main_err { OnErr result (main_bytes self.new ≡ main_bytes self.old) }
+    {
+        let from = self.splice_pair(piece, between, name)?;
+        piece.from_byte = from;
+        piece.to_byte = self.main.len();
+        piece.own_end = piece.text_len();
+        piece.own_start = piece.own_end - name.len();
+        piece.flags = alone_in_main();
+        Ok(())
     }
 
     /// The piece with the bytes and then its own last own name at the end of its text. Ends pieces,

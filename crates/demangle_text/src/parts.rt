@@ -103,18 +103,21 @@ pub(crate) fn add_spliced(
 pub(crate) fn add_extended(
     main: &mut Text,
     side: &Text,
-    piece: Piece,
+    piece: &Piece,
     first: &[u8],
     second: &[u8],
 ) -> Result<(), AllocError>
-    requires ordered { piece.from_byte ≤ piece.to_byte }
-    requires within { piece.to_byte ≤ length (home_bytes main.old side.now (lies_aside piece.flags)) }
+    requires ordered { piece.now.from_byte ≤ piece.now.to_byte }
+    requires within { piece.now.to_byte ≤ length (home_bytes main.old side.now (lies_aside piece.now.flags)) }
     ensures ok { OnOk result (main.new ≡ main.old
-        ++ (piece_text main.old side.now piece ++ (first.now ++ second.now))) }
+        ++ (piece_text main.old side.now piece.now ++ (first.now ++ second.now))) }
     ensures err { OnErr result (main.new ≡ main.old) }
 {
+    if !piece.is_aside() {
+        return main.repeat_with_pair(piece.from_byte, piece.to_byte, first, second);
+    }
     let len = main.len();
-    add_part(main, side, piece.is_aside(), piece.from_byte, piece.to_byte)?;
+    main.add(side.part(piece.from_byte, piece.to_byte))?;
     let added = main.add_pair(first, second);
     taken_back(main, len, added)
 }

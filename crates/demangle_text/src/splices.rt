@@ -237,7 +237,7 @@ impl Buffer {
         ensures kept { KeepsAll self.old self.new }
         ensures main_err { OnErr result (self.new.main_text ≡ self.old.main_text) }
     {
-        self.extend_elsewhere(piece.alone(), first, second)
+        self.extend_elsewhere(&piece.alone(), first, second)
     }
 
     // `splice_elsewhere` of the piece's text alone, inlined as well.
@@ -263,13 +263,13 @@ impl Buffer {
     #[inline(never)]
     fn extend_elsewhere(
         &mut self,
-        piece: Piece,
+        piece: &Piece,
         first: &[u8],
         second: &[u8],
     ) -> Result<usize, AllocError>
-        requires living { IsLiving self.old piece }
-        requires apart { IsTail self.old piece → ⊥ }
-        ensures splice { IfOk result (IsSplice self.old self.new piece (piece.to_byte - piece.from_byte)
+        requires living { IsLiving self.old piece.now }
+        requires apart { IsTail self.old piece.now → ⊥ }
+        ensures splice { IfOk result (IsSplice self.old self.new piece.now (piece.now.to_byte - piece.now.from_byte)
             (first.now ++ second.now)) }
         ensures kept { KeepsAll self.old self.new }
         ensures main_err { OnErr result (self.new.main_text ≡ self.old.main_text) }
@@ -304,22 +304,22 @@ impl Buffer {
     #[inline(always)]
     pub(crate) fn splice_pair(
         &mut self,
-        piece: Piece,
+        piece: &Piece,
         first: &[u8],
         second: &[u8],
     ) -> Result<usize, AllocError>
-        requires living { IsLiving self.old piece }
-        ensures splice { IfOk result (IsSplice self.old self.new piece (piece.to_byte - piece.from_byte)
+        requires living { IsLiving self.old piece.now }
+        ensures splice { IfOk result (IsSplice self.old self.new piece.now (piece.now.to_byte - piece.now.from_byte)
             (first.now ++ second.now)) }
         ensures edit { OnOk result (IsEdit self.old self.new) }
         ensures err { OnErr result (KeepsAll self.old self.new) }
         ensures main_err { OnErr result (self.new.main_text ≡ self.old.main_text) }
     {
-        if self.is_tail(piece) {
+        if self.is_tail(*piece) {
             self.add_pair(first, second)?;
             return Ok(piece.from_byte);
         }
-        self.extend_alone(piece, first, second)
+        self.extend_elsewhere(piece, first, second)
     }
 
     // Two texts at the end of the main text.

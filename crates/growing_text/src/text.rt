@@ -206,6 +206,31 @@ impl Text {
         Ok(())
     }
 
+    /// Puts a part of the text once more at the end, and two texts after it.
+    #[inline(always)]
+    pub fn repeat_with_pair(
+        &mut self,
+        from: usize,
+        to: usize,
+        first: &[u8],
+        second: &[u8],
+    ) -> Result<(), AllocError>
+        requires ordered { from ≤ to }
+        requires within { to ≤ length self.old }
+        ensures ok { OnOk result (self.new ≡ self.old ++ (slice_range self.old from to ++ (first.now ++ second.now))) }
+        ensures err { OnErr result (self.new ≡ self.old) }
+    {
+        let Some(n) = (first.len() + second.len()).checked_add(to - from) else {
+            return Err(AllocError);
+        };
+        let end = self.len();
+        self.add_room(n)?;
+        let front = self.put_part(end, from, to);
+        let middle = self.put(front, first);
+        self.put(middle, second);
+        Ok(())
+    }
+
     /// Puts bytes at a place: what lies after it moves on.
     pub fn insert(&mut self, at: usize, bytes: &[u8]) -> Result<(), AllocError>
         requires within { at ≤ length self.old }

@@ -10,8 +10,8 @@ ghost use Rattle.itanium_reader.specs.Outcome.{state, Gives, Bounds, OptionalBou
 use crate::reader::Reader;
 use crate::stop::Stop;
 use demangle_edit::{
-    Quals, append_number, apply_name_qualifiers, close_lambda, qualify, qualify_ctor, qualify_text,
-    tag,
+    Quals, append_number, apply_name_qualifiers, close_lambda, qualify, qualify_ctor,
+    qualify_text_in_place, tag,
 };
 use demangle_text::{Piece, Place};
 use itanium_syntax::names::{TagCase, past_initializer_letter, source_text, tag_case};
@@ -120,7 +120,7 @@ impl<'a> Reader<'a> {
         match tag_case(rest) {
             TagCase::NoTag => {
                 let text = source_text(&self.rest[from..to]);
-                self.found = qualify_text(&mut self.buffer, self.found, text)?;
+                qualify_text_in_place(&mut self.buffer, &mut self.found, text)?;
                 self.rest = rest;
                 Ok(())
             }
@@ -183,10 +183,9 @@ impl<'a> Reader<'a> {
             TagCase::NoTag => {
                 let text = source_text(&self.rest[from..to]);
                 let buffer = &mut *self.buffer;
-                let whole = qualify_text(buffer, self.found, text)?;
-                buffer.save(whole)?;
+                qualify_text_in_place(buffer, &mut self.found, text)?;
+                buffer.save_in_place(&self.found)?;
                 self.most_saved = self.most_saved.max(buffer.saved_len());
-                self.found = whole;
                 self.rest = past_initializer_letter(rest);
                 Ok(())
             }

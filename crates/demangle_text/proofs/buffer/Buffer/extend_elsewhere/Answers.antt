@@ -16,7 +16,7 @@ returns-clause-kept c = rw (← c.self.view_is, c.in_ok-add_extended.ensures.ok)
 pub returns-clause-splice : goal.returns-clause-splice
 returns-clause-splice c =
     let s = store_of c.self.inside in
-    let p = c.args.piece in
+    let p = c.args.piece.now in
     let one = c.args.first.now in
     let two = c.args.second.now in
     let t = piece_text s.main_text s.side_text p in
