@@ -7,8 +7,8 @@ use Rattle.itanium_reader.specs.Outcome.{state}
 use Rattle.itanium_reader.proofs.Unfold.{next_source_found}
 use Rattle.itanium_reader.proofs.reader.Reader.read_next_source.Goals as goal
 
-pub returns-in_ok-save-in-NoTag-clause-reads : goal.returns-in_ok-save-in-NoTag-clause-reads
-returns-in_ok-save-in-NoTag-clause-reads c =
+pub returns-in_ok-save_in_place-in-NoTag-clause-reads : goal.returns-in_ok-save_in_place-in-NoTag-clause-reads
+returns-in_ok-save_in_place-in-NoTag-clause-reads c =
     let left = take_rest c.args.self.now.rest.now c.in-Some.to in (
       search (rules, laws, runs),
       next_source_found (shape c.args.self.now.buffer.value c.args.self.now.found) (state c.args.self.now)

@@ -7,8 +7,8 @@ use Rattle.itanium_reader.specs.Outcome.{state}
 use Rattle.itanium_reader.proofs.Unfold.{source_found}
 use Rattle.itanium_reader.proofs.reader.Reader.read_source_segment.Goals as goal
 
-pub returns-in_ok-self-in-NoTag-clause-reads : goal.returns-in_ok-self-in-NoTag-clause-reads
-returns-in_ok-self-in-NoTag-clause-reads c =
+pub returns-in_ok-qualify_text_in_place-in-NoTag-clause-reads : goal.returns-in_ok-qualify_text_in_place-in-NoTag-clause-reads
+returns-in_ok-qualify_text_in_place-in-NoTag-clause-reads c =
     let old = c.args.self.now in
     let bytes = old.rest.now in
     let to = c.in-Some.to in
