@@ -35,9 +35,9 @@ pub reads_as : (result : Result (Unit {0}) Stop) (x : Context) (d : ℕ) (before
 reads_as (Ok u) x d before after gives = (
   gives.0,
   λ p stands.
-      (symbols d x).reads p before.entered before.most_saved (shape after.buffer.value after.found) (state after) (rw stands at gives.1),
+      (symbols d x).reads p before.entered (state before).most_saved (shape after.buffer.value after.found) (state after) (rw stands at gives.1),
 )
-reads_as (Err Unread) x d before after none = λ p stands. (symbols d x).none p before.entered before.most_saved (rw stands at none)
+reads_as (Err Unread) x d before after none = λ p stands. (symbols d x).none p before.entered (state before).most_saved (rw stands at none)
 reads_as (Err Memory) x d before after gives = tt
 
 -- a reader at the front of a symbol

@@ -48,14 +48,14 @@ HasNoReading {T} R depth =
 
 -- the position of trees that the reader stands for
 abbrev pub StandsFor : Reader → Position → Type 0
-StandsFor r p = state r ≡ state_at p r.entered r.most_saved
+StandsFor r p = state r ≡ state_at p r.entered (state r).most_saved
 
 -- what a reader of symbols says of trees
 abbrev pub ReadsAs : Result (Unit {0}) Stop → Context → ℕ → Reader → Reader → Type 0
 ReadsAs (Ok u) x depth before after =
     IsLiving after.buffer.value after.found
     × ((p : Position) → StandsFor before p
-    → HasReading (Symbol x p) shape_of depth before.entered before.most_saved
+    → HasReading (Symbol x p) shape_of depth before.entered (state before).most_saved
     (shape after.buffer.value after.found) (state after))
 ReadsAs (Err Unread) x depth before after = (p : Position) → StandsFor before p → HasNoReading (Symbol x p) depth
 ReadsAs (Err Memory) x depth before after = Unit {0}

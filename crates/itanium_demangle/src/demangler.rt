@@ -74,7 +74,7 @@ fn end_answer(reader: &mut Reader, mark: Mark) -> Result<bool, AllocError>
     ensures saved { OnOk result (saved reader.new.buffer.value ≡ saved reader.old.buffer.value) }
     ensures ended { IfOk result (λ answered. IsEnded answered (Some reader.new.buffer)) }
     ensures entered { reader.new.entered ≡ reader.old.entered }
-    ensures most_saved { reader.new.most_saved ≡ reader.old.most_saved }
+    ensures most_saved { OnOk result ((state reader.new).most_saved ≡ (state reader.old).most_saved) }
 {
     if !is_utf8(reader.buffer.bytes(reader.found)) {
         return Ok(false);
@@ -114,13 +114,13 @@ impl Demangler {
         requires ended { IsEnded answered (Some reader.buffer) }
         ensures text { self.new.text ≡ answer_text answered (Some reader.entry.buffer) }
         ensures entered { self.new.entered ≡ reader.entry.entered }
-        ensures most_saved { self.new.most_saved ≡ reader.entry.most_saved }
+        ensures most_saved { self.new.most_saved ≡ (state reader.entry).most_saved }
         ensures components { self.new.components ≡ component_texts answered (Some reader.entry.buffer) }
         ensures saved { self.new.saved ≡ component_shapes answered (Some reader.entry.buffer) }
     {
         self.answered = answered;
         self.entered = reader.entered;
-        self.most_saved = reader.most_saved;
+        self.most_saved = reader.most_saved();
         self.buffer = Some(reader.buffer);
     }
 

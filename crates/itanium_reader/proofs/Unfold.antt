@@ -385,8 +385,10 @@ source_found parent s {text} {rest} read case built same = rw (read, no_tags (pl
 
 -- the state after a shape was saved
 saved_there : (s : ParserState) (rest : List ℕ) (found : Shape) (after : ParserState) → after.rest ≡ rest → after.saved ≡ s.saved ++ found ∷ [] → after.scopes ≡ s.scopes
-    → after.entered ≡ s.entered → after.most_saved ≡ max s.most_saved (length after.saved) → after ≡ save found (with_rest rest s)
-saved_there s rest found after left list opened count most =
+    → after.entered ≡ s.entered → (m : ℕ) → s.most_saved ≡ max m (length s.saved) → after.most_saved ≡ max m (length after.saved) → after ≡ save found (with_rest rest s)
+saved_there s rest found after left list opened count m before now =
+    let longer = ap length list ∙ length-append s.saved (found ∷ []) in
+    let most : after.most_saved ≡ max s.most_saved (length after.saved) = omega (arith, longer, before, now) in
     let same : record {
       rest = after.rest;
       saved = after.saved;
@@ -400,17 +402,17 @@ saved_there s rest found after left list opened count most =
 -- the same as the first segment of a nested name, and as the next
 pub first_source_found : (s : ParserState) {text rest : List ℕ} {found : Shape} {after : ParserState} → source_name s.rest ≡ Some (text, rest) → tag_case rest ≡ NoTag
     → found ≡ plain_shape (source_text text) → after.rest ≡ rest → after.saved ≡ s.saved ++ found ∷ [] → after.scopes ≡ s.scopes
-    → after.entered ≡ s.entered → after.most_saved ≡ max s.most_saved (length after.saved) → parse_first_source s ≡ Some (found, after)
-first_source_found s {text} {rest} {found} {after} read case built left list opened count most =
+    → after.entered ≡ s.entered → (m : ℕ) → s.most_saved ≡ max m (length s.saved) → after.most_saved ≡ max m (length after.saved) → parse_first_source s ≡ Some (found, after)
+first_source_found s {text} {rest} {found} {after} read case built left list opened count m before now =
     let parsed : parse_source_in None s ≡ Some (found, with_rest rest s) = source_found None s read case built refl in
-    rw parsed (ap (λ (t : ParserState). Some (found, t)) (sym (saved_there s rest found after left list opened count most)))
+    rw parsed (ap (λ (t : ParserState). Some (found, t)) (sym (saved_there s rest found after left list opened count m before now)))
 
 pub next_source_found : (parent : Shape) (s : ParserState) {text rest : List ℕ} {found : Shape} {after : ParserState} → source_name s.rest ≡ Some (text, rest) → tag_case rest ≡ NoTag
     → found ≡ qualified parent (plain_shape (source_text text)) → after.rest ≡ past_initializer_letter rest → after.saved ≡ s.saved ++ found ∷ [] → after.scopes ≡ s.scopes
-    → after.entered ≡ s.entered → after.most_saved ≡ max s.most_saved (length after.saved) → parse_next_source (Some parent) s ≡ Some (found, after)
-next_source_found parent s {text} {rest} {found} {after} read case built left list opened count most =
+    → after.entered ≡ s.entered → (m : ℕ) → s.most_saved ≡ max m (length s.saved) → after.most_saved ≡ max m (length after.saved) → parse_next_source (Some parent) s ≡ Some (found, after)
+next_source_found parent s {text} {rest} {found} {after} read case built left list opened count m before now =
     let parsed : parse_source_in (Some parent) s ≡ Some (found, with_rest rest s) = source_found (Some parent) s read case built refl in
-    rw parsed (ap (λ (t : ParserState). Some (found, t)) (sym (saved_there s (past_initializer_letter rest) found after left list opened count most)))
+    rw parsed (ap (λ (t : ParserState). Some (found, t)) (sym (saved_there s (past_initializer_letter rest) found after left list opened count m before now)))
 
 -- a range stays where nothing is put
 nothing_moved : (at : ℕ) (own : ℕ × ℕ) → moved at 0 own ≡ own

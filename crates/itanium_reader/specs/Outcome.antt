@@ -8,14 +8,15 @@ use Rattle.itanium_reader.specs.declared.reader.Reader.{Reader}
 use Rattle.itanium_reader.specs.declared.stop.Stop.{Stop}
 use Rattle.itanium_reader.specs.declared.stop.Stop.TheVariants.{Unread, Memory}
 
--- the parser's state that a reader stands for
+-- the parser's state that a reader stands for: the most that were saved at a moment are kept where one is taken back, and
+-- since then no more were saved than now
 abbrev pub state : Reader → ParserState
 state r = record {
   rest = r.rest.now;
   saved = saved r.buffer.value;
   scopes = scopes r.buffer.value;
   entered = r.entered;
-  most_saved = r.most_saved;
+  most_saved = max r.most_saved (length (saved r.buffer.value));
 }
 
 -- the call gives what the parser gives: the piece that it found lives, with that shape; nothing is said where memory

@@ -149,7 +149,6 @@ impl<'a> Reader<'a> {
                 let buffer = &mut *self.buffer;
                 let whole = buffer.push(text)?;
                 buffer.save(whole)?;
-                self.most_saved = self.most_saved.max(buffer.saved_len());
                 self.found = whole;
                 self.rest = rest;
                 Ok(())
@@ -185,7 +184,6 @@ impl<'a> Reader<'a> {
                 let buffer = &mut *self.buffer;
                 qualify_text_in_place(buffer, &mut self.found, text)?;
                 buffer.save_in_place(&self.found)?;
-                self.most_saved = self.most_saved.max(buffer.saved_len());
                 self.rest = past_initializer_letter(rest);
                 Ok(())
             }

@@ -105,12 +105,11 @@ impl<'a> Reader<'a> {
         ensures state { OnOk result (state self.new ≡ spec.save
             (shape self.old.buffer.value self.old.found) (state self.old)) }
         ensures longer { OnOk result (length (saved self.new.buffer.value) ≡ length (saved self.old.buffer.value) + 1) }
-        ensures most { OnOk result (self.new.most_saved
-            ≡ max self.old.most_saved (length (saved self.old.buffer.value) + 1)) }
+        ensures most { OnOk result ((state self.new).most_saved
+            ≡ max (state self.old).most_saved (length (saved self.old.buffer.value) + 1)) }
         ensures kept { OnOk result (SameFrame self.old.buffer.value self.new.buffer.value) }
     {
         self.buffer.save_in_place(&self.found)?;
-        self.most_saved = self.most_saved.max(self.buffer.saved_len());
         Ok(())
     }
 
@@ -125,8 +124,8 @@ impl<'a> Reader<'a> {
             (shape self.old.buffer.value self.old.found) (state self.old))) }
         ensures within { OnOk result (length self.new.rest.now ≤ length self.old.rest.now) }
         ensures longer { OnOk result (length (saved self.new.buffer.value) ≡ length (saved self.old.buffer.value) + 1) }
-        ensures most { OnOk result (self.new.most_saved
-            ≡ max self.old.most_saved (length (saved self.old.buffer.value) + 1)) }
+        ensures most { OnOk result ((state self.new).most_saved
+            ≡ max (state self.old).most_saved (length (saved self.old.buffer.value) + 1)) }
         ensures kept { OnOk result (SameFrame self.old.buffer.value self.new.buffer.value) }
     {
         self.save_found()?;
@@ -143,6 +142,14 @@ impl<'a> Reader<'a> {
         self.buffer.len(piece) > text_limit()
     }
 
+    /// The most components that were saved at one moment.
+    #[inline(always)]
+    pub fn most_saved(&self) -> usize
+        ensures value { result ≡ (state self.now).most_saved }
+    {
+        self.most_saved.max(self.buffer.saved_len())
+    }
+
     /// Takes the last saved component back, where it is to be.
     pub fn take_back(&mut self, takes: bool)
         requires saved { takes ≡ true → 0 < length (saved self.old.buffer.value) }
@@ -152,6 +159,7 @@ impl<'a> Reader<'a> {
         ensures kept { SameFrame self.old.buffer.value self.new.buffer.value }
     {
         if takes {
+            self.most_saved = self.most_saved();
             self.buffer.unsave();
         }
     }

@@ -77,7 +77,7 @@ invariant-names::read_segments-loop-reader l = record {
   counted : l.reader.entered + 2 * length l.reader.rest.now ≤ l.fn.reader.entered + 2 * length l.fn.reader.rest.now;
   scopes_stand : length (scopes l.fn.reader.buffer.value) ≤ length (scopes l.reader.buffer.value);
   list : length (saved l.reader.buffer.value) + length l.reader.rest.now ≤ length (saved l.fn.reader.buffer.value) + length l.fn.reader.rest.now;
-  most : l.reader.most_saved ≤ max l.fn.reader.most_saved (length (saved l.fn.reader.buffer.value) + length l.fn.reader.rest.now);
+  most : (state l.reader).most_saved ≤ max (state l.fn.reader).most_saved (length (saved l.fn.reader.buffer.value) + length l.fn.reader.rest.now);
 }
 
 abbrev pub decreases-names::read_segments-loop-reader : goal.decreases-names::read_segments-loop-reader
@@ -98,7 +98,7 @@ invariant-args::read_attached-loop-reader l = record {
   taken : length l.reader.rest.now < length l.fn.reader.rest.now;
   counted : l.reader.entered + 2 * length l.reader.rest.now + 1 ≤ l.fn.reader.entered + 2 * length l.fn.reader.rest.now;
   list : length (saved l.reader.buffer.value) + length l.reader.rest.now + 1 ≤ length (saved l.fn.reader.buffer.value) + length l.fn.reader.rest.now;
-  most : l.reader.most_saved + 1 ≤ max (l.fn.reader.most_saved + 1) (length (saved l.fn.reader.buffer.value) + length l.fn.reader.rest.now);
+  most : (state l.reader).most_saved + 1 ≤ max ((state l.fn.reader).most_saved + 1) (length (saved l.fn.reader.buffer.value) + length l.fn.reader.rest.now);
 }
 
 abbrev pub decreases-args::read_attached-loop-reader : goal.decreases-args::read_attached-loop-reader
@@ -194,7 +194,7 @@ invariant-args::read_pack-loop-reader l = record {
   taken : length l.reader.rest.now < length l.fn.reader.rest.now;
   counted : l.reader.entered + 2 * length l.reader.rest.now + 1 ≤ l.fn.reader.entered + 2 * length l.fn.reader.rest.now;
   list : length (saved l.reader.buffer.value) + length l.reader.rest.now + 1 ≤ length (saved l.fn.reader.buffer.value) + length l.fn.reader.rest.now;
-  most : l.reader.most_saved ≤ max l.fn.reader.most_saved (length (saved l.fn.reader.buffer.value) + length l.fn.reader.rest.now);
+  most : (state l.reader).most_saved ≤ max (state l.fn.reader).most_saved (length (saved l.fn.reader.buffer.value) + length l.fn.reader.rest.now);
 }
 
 abbrev pub decreases-args::read_pack-loop-reader : goal.decreases-args::read_pack-loop-reader
@@ -210,7 +210,7 @@ invariant-types::read_typed-loop-list l = record {
   taken : length l.reader.rest.now ≤ length l.fn.reader.rest.now;
   counted : l.reader.entered + 2 * length l.reader.rest.now ≤ l.fn.reader.entered + 2 * length l.fn.reader.rest.now;
   list : length (saved l.reader.buffer.value) + length l.reader.rest.now ≤ length (saved l.fn.reader.buffer.value) + length l.fn.reader.rest.now;
-  most : l.reader.most_saved ≤ max l.fn.reader.most_saved (length (saved l.fn.reader.buffer.value) + length l.fn.reader.rest.now);
+  most : (state l.reader).most_saved ≤ max (state l.fn.reader).most_saved (length (saved l.fn.reader.buffer.value) + length l.fn.reader.rest.now);
 }
 
 abbrev pub decreases-types::read_typed-loop-list : goal.decreases-types::read_typed-loop-list

@@ -14,7 +14,7 @@ invariant-loop-name l = record {
   lists : saved l.self.buffer.value ≡ saved l.fn.self.buffer.value;
   scopes_same : scopes l.self.buffer.value ≡ scopes l.fn.self.buffer.value;
   entered : l.self.entered ≡ l.fn.self.entered;
-  most : l.self.most_saved ≡ l.fn.self.most_saved;
+  most : (state l.self).most_saved ≡ (state l.fn.self).most_saved;
 }
 
 abbrev pub decreases-loop-name : goal.decreases-loop-name
