@@ -40,7 +40,7 @@ fn half_has_non_ascii(bytes: &[u8], at: usize) -> bool
 }
 
 /// Whether all bytes are known to be ASCII: of fewer than 16 it isn't known. Two windows cover up to 64 bytes: the last
-/// one ends with the bytes, so that the two may overlap.
+/// one ends with the bytes, so that the two may overlap. Both are looked at, and tested at once: `|`, and not `||`.
 #[inline(always)]
 fn is_ascii(bytes: &[u8]) -> bool
     ensures all { result ≡ true → AreAscii bytes.now 0 (length bytes.now) }

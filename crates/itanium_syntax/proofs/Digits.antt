@@ -1,5 +1,6 @@
 -- Digits that are read one after another.
-use Rattle.std.proofs.Common.{◌≡◌, ◌<◌, ◌≤◌, ℕ, zero, suc, ◌+◌, ◌*◌, ◌^◌, List, [], ◌∷◌, length, drop, get_or, refl, ap, sym, ◌∙◌, arith, Option, Some, None, option_map, Bool, if◌then◌else◌, add-one, drop-cons, true, false, nat_lt, ◌&&◌}
+use Rattle.std.proofs.Common.{◌≡◌, ◌<◌, ◌≤◌, ℕ, zero, suc, ◌+◌, ◌*◌, ◌^◌, List, [], ◌∷◌, length, drop, get_or}
+use Rattle.std.proofs.Common.{refl, ap, sym, ◌∙◌, arith, Option, Some, None, option_map, Bool, if◌then◌else◌, add-one, drop-cons, true, false, nat_lt, ◌&&◌}
 use Rattle.std.proofs.Math.Nat.{pow-succ', pow-zero, le-mul_of_pos_right}
 use Rattle.std.proofs.Math.ListN.{drop_of_length-le}
 use Rattle.std.proofs.lemmas.List.{drop-drop, length-drop}
@@ -105,7 +106,10 @@ pub value_has_digits : (bytes : List ℕ) (value : ℕ) → Some value ≡ optio
     → 0 < length (front_digits Decimal bytes)
 value_has_digits bytes value h = go (front_digits Decimal bytes) h
   where
-    go : (ds : List ℕ) → Some value ≡ option_map (λ (found : ℕ × List ℕ). found.0) (if nat_lt 0 (length ds) && nat_lt (weighted 10 ds) (2 ^ 64) then Some (weighted 10 ds, drop (length ds) bytes) else None) → 0 < length ds
+    written : List ℕ → Option (ℕ × List ℕ)
+    written ds = if nat_lt 0 (length ds) && nat_lt (weighted 10 ds) (2 ^ 64) then Some (weighted 10 ds, drop (length ds) bytes) else None
+
+    go : (ds : List ℕ) → Some value ≡ option_map (λ found. found.0) (written ds) → 0 < length ds
     go [] e = cc
     go (d ∷ ds) e = omega arith
 

@@ -91,7 +91,7 @@ pub fn short_numeral(bytes: &[u8]) -> Option<(u64, usize)>
     Some((tens * 10 + ones, 2))
 }
 
-/// `numeral` of decimal digits. Both calls answer in a register, so that no answer goes through memory.
+/// `numeral` of decimal digits. Both calls answer in registers, so that no answer goes through memory.
 #[tactic(auto, using(crate::proofs::Digits::values_of_numerals))]
 #[inline(always)]
 fn long_numeral(bytes: &[u8]) -> Option<(u64, usize)>
