@@ -1,5 +1,5 @@
 -- Bytes that are ASCII, place by place.
-use Rattle.std.proofs.Common.{ℕ, ◌≡◌, ◌+◌, ◌-◌, ◌%◌, ◌^◌, ◌<◌, ◌≤◌, List, length, get_or, map, inl, inr, arith, ap, ◌∙◌, false, ltb, cond, w8}
+use Rattle.std.proofs.Common.{ℕ, ◌≡◌, ◌-◌, ◌%◌, ◌^◌, ◌<◌, ◌≤◌, List, length, get_or, map, inl, inr, arith, ap, ◌∙◌, false, ltb, cond, w8}
 use lib.ListN.{replicate}
 use lib.Lanes.{zip2, mask_l, top}
 use mir.Val.{bits, hbits}

@@ -1,5 +1,5 @@
 //! Whether bytes are UTF-8, which those of most answers are: ASCII bytes are looked at by lanes.
-ghost use Rattle.std.specs.Prelude.{◌≡◌, ◌+◌, ◌≤◌, length, true, false};
+ghost use Rattle.std.specs.Prelude.{◌≡◌, ◌<◌, ◌+◌, ◌≤◌, length, true, false};
 ghost use Rattle.std.specs.Str.{IsUtf8};
 ghost use Rattle.itanium_demangle.specs.Ascii.{AreAscii};
 
@@ -9,7 +9,7 @@ use std::str::from_utf8;
 /// How many bytes are looked at at once.
 const LANES: usize = 32;
 
-/// Half of them: so many of the last bytes are looked at at once.
+/// Half of them: so many are looked at at once where there are at most 32.
 const HALF_LANES: usize = 16;
 
 /// The greatest ASCII byte.
@@ -39,25 +39,40 @@ fn half_has_non_ascii(bytes: &[u8], at: usize) -> bool
     found != 0
 }
 
-/// Whether all bytes are known to be ASCII: of fewer than 16 it isn't known.
+/// Whether all bytes are known to be ASCII: of fewer than 16 it isn't known. Two windows cover up to 64 bytes: the last
+/// one ends with the bytes, so that the two may overlap. Both are looked at, and tested at once: `|`, and not `||`.
 #[inline(always)]
 fn is_ascii(bytes: &[u8]) -> bool
     ensures all { result ≡ true → AreAscii bytes.now 0 (length bytes.now) }
 {
-    if bytes.len() < HALF_LANES {
+    let n = bytes.len();
+    if n < HALF_LANES {
         return false;
     }
+    if n <= LANES {
+        return !(half_has_non_ascii(bytes, 0) | half_has_non_ascii(bytes, n - HALF_LANES));
+    }
+    if n <= 2 * LANES {
+        return !(has_non_ascii(bytes, 0) | has_non_ascii(bytes, n - LANES));
+    }
+    is_long_ascii(bytes)
+}
+
+/// `is_ascii` of more than 64 bytes: two windows at a time. The last two end with the bytes.
+#[inline(always)]
+fn is_long_ascii(bytes: &[u8]) -> bool
+    requires long { 64 < length bytes.now }
+    ensures all { result ≡ true → AreAscii bytes.now 0 (length bytes.now) }
+{
+    let last = bytes.len() - 2 * LANES;
     let mut at = 0;
-    while bytes.len() - at >= LANES {
-        if has_non_ascii(bytes, at) {
+    while at < last {
+        if has_non_ascii(bytes, at) | has_non_ascii(bytes, at + LANES) {
             return false;
         }
-        at += LANES;
+        at += 2 * LANES;
     }
-    if bytes.len() - at > HALF_LANES && half_has_non_ascii(bytes, at) {
-        return false;
-    }
-    !half_has_non_ascii(bytes, bytes.len() - HALF_LANES)
+    !(has_non_ascii(bytes, last) | has_non_ascii(bytes, last + LANES))
 }
 
 /// Whether the bytes are UTF-8.

@@ -3,7 +3,7 @@ use Rattle.std.specs.Prelude.{◌≡◌, ◌≤◌, ℕ, ◌+◌, ◌*◌, ◌^�
 use Rattle.demangle_text.specs.Shape.{Shape}
 use Rattle.demangle_text.specs.State.{IsLiving, shape, saved, scopes}
 use Rattle.demangle_quals.specs.declared.quals.Quals.{Quals}
-use Rattle.itanium_reader.specs.Parser.{ParserState}
+use Rattle.itanium_reader.specs.Parser.{ParserState, with_rest}
 use Rattle.itanium_reader.specs.declared.reader.Reader.{Reader}
 use Rattle.itanium_reader.specs.declared.stop.Stop.{Stop}
 use Rattle.itanium_reader.specs.declared.stop.Stop.TheVariants.{Unread, Memory}
@@ -45,6 +45,12 @@ Leaves (Err Memory) after parsed = Unit {0}
 -- there is room to count what a reading or a failing run can enter
 abbrev pub HasRoom : ℕ → ParserState → Type 0
 HasRoom more s = s.entered + 2 * length s.rest + more < 2 ^ 64
+
+-- a reading takes bytes and leaves the rest of the state; a failing run leaves all of it
+abbrev pub OnlyTakes : Result (Unit {0}) Stop → ParserState → ParserState → Type 0
+OnlyTakes (Ok u) before after = (length after.rest < length before.rest) × (after ≡ with_rest after.rest before)
+OnlyTakes (Err Unread) before after = after ≡ before
+OnlyTakes (Err Memory) before after = Unit {0}
 
 -- a reading takes bytes, enters at most two productions for each, less the slack, and drops no scope that stood before
 abbrev pub Taken : ℕ → ParserState → ParserState → Type 0

@@ -151,12 +151,22 @@ begin_list opens s = record s { scopes = if opens then s.scopes ++ [] ∷ [] els
 abbrev pub add_argument : Bool → ℕ → Shape → ParserState → ParserState
 add_argument opens n t s = record s { scopes = if opens then with_arg t (take n s.scopes) else take n s.scopes }
 
+-- a name of std that a letter abbreviates, after the S
+abbrev pub parse_abbreviation : Parses Shape
+parse_abbreviation s = abbreviation_of s.rest >>= λ found. Some (abbreviation_shape found, skip 1 s)
+
+-- the component that an index names, in front of the bytes after it
+abbrev pub component_at : ℕ → List ℕ → Parses Shape
+component_at i rest s = slice_get s.saved i >>= λ t. Some (t, with_rest rest s)
+
+-- a component that was saved, after the S
+abbrev pub parse_component : Parses Shape
+parse_component s = index_of Base36 s.rest >>= λ found. component_at found.0 found.1 s
+
 -- <substitution> after its S
 abbrev pub substitution_as : SubstitutionCase → Parses Shape
-substitution_as AbbreviationSubstitution s =
-    abbreviation_of s.rest >>= λ found. Some (abbreviation_shape found, skip 1 s)
-substitution_as ComponentSubstitution s =
-    index_of Base36 s.rest >>= λ found. slice_get s.saved found.0 >>= λ t. Some (t, with_rest found.1 s)
+substitution_as AbbreviationSubstitution s = parse_abbreviation s
+substitution_as ComponentSubstitution s = parse_component s
 
 -- <substitution>
 unfoldable pub parse_substitution : Parses Shape

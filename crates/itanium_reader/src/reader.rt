@@ -6,7 +6,7 @@ ghost use Rattle.demangle_edit.specs.Built.{separated};
 ghost use Rattle.itanium_syntax.specs.Types.{builtin_text, past_builtin};
 ghost use Rattle.itanium_grammar.specs.Answer.{max_text};
 ghost use Rattle.itanium_reader.specs.Parser as spec;
-ghost use Rattle.itanium_reader.specs.Outcome.{state, Gives, Bounds, SavedBounds};
+ghost use Rattle.itanium_reader.specs.Outcome.{state, Gives, OnlyTakes, Bounds, SavedBounds};
 
 use crate::stop::Stop;
 use demangle_edit::separate;
@@ -14,7 +14,7 @@ use demangle_text::{Buffer, Piece};
 use itanium_syntax::abbreviations::{abbreviation_of, abbreviation_own_len, abbreviation_text};
 use itanium_syntax::context::Context;
 use itanium_syntax::names::{SubstitutionCase, source_text, substitution_case};
-use itanium_syntax::numerals::{Radix, index_of};
+use itanium_syntax::numerals::{Radix, index_of, short_index};
 use itanium_syntax::scalar::source_name;
 use itanium_syntax::types::{builtin_text, past_builtin};
 use std::alloc::{AllocError, Global};
@@ -190,28 +190,68 @@ impl<'a> Reader<'a> {
     {
         self.skip(1);
         match substitution_case(self.rest) {
-            SubstitutionCase::AbbreviationSubstitution => {
-                let Some(abbreviation) = abbreviation_of(self.rest) else {
-                    return Err(Stop::Unread);
-                };
-                self.skip(1);
-                let piece = self.buffer.push(abbreviation_text(abbreviation))?;
-                let end = 5 + abbreviation_own_len(abbreviation);
-                self.found = self.buffer.own_at(piece, 5, end);
-                Ok(())
-            }
-            SubstitutionCase::ComponentSubstitution => {
-                let Some((index, rest)) = index_of(Radix::Base36, self.rest) else {
-                    return Err(Stop::Unread);
-                };
-                let Some(component) = self.buffer.saved(index) else {
-                    return Err(Stop::Unread);
-                };
-                self.found = component;
-                self.rest = rest;
-                Ok(())
-            }
+            SubstitutionCase::AbbreviationSubstitution => self.read_abbreviation(),
+            SubstitutionCase::ComponentSubstitution => self.read_component(),
         }
+    }
+
+    /// A `<substitution>` for a name of std, after its `S`.
+    #[inline(never)]
+    fn read_abbreviation(&mut self) -> Result<(), Stop>
+        ensures reads { Gives result self.new (spec.parse_abbreviation (state self.old)) }
+        ensures kept { OnOk result (SameFrame self.old.buffer.value self.new.buffer.value) }
+        ensures taken { OnlyTakes result (state self.old) (state self.new) }
+    {
+        let Some(abbreviation) = abbreviation_of(self.rest) else {
+            return Err(Stop::Unread);
+        };
+        self.skip(1);
+        let piece = self.buffer.push(abbreviation_text(abbreviation))?;
+        let end = 5 + abbreviation_own_len(abbreviation);
+        self.found = self.buffer.own_at(piece, 5, end);
+        Ok(())
+    }
+
+    /// A `<substitution>` for a component, after its `S`. Mostly its index has no digit or one.
+    #[inline(always)]
+    fn read_component(&mut self) -> Result<(), Stop>
+        ensures reads { Gives result self.new (spec.parse_component (state self.old)) }
+        ensures kept { OnOk result (SameFrame self.old.buffer.value self.new.buffer.value) }
+        ensures taken { OnlyTakes result (state self.old) (state self.new) }
+    {
+        match short_index(Radix::Base36, self.rest) {
+            Some((index, rest)) => self.take_component(index, rest),
+            None => self.read_long_component(),
+        }
+    }
+
+    /// `read_component` of an index of any number of digits.
+    #[inline(never)]
+    fn read_long_component(&mut self) -> Result<(), Stop>
+        ensures reads { Gives result self.new (spec.parse_component (state self.old)) }
+        ensures kept { OnOk result (SameFrame self.old.buffer.value self.new.buffer.value) }
+        ensures taken { OnlyTakes result (state self.old) (state self.new) }
+    {
+        let Some((index, rest)) = index_of(Radix::Base36, self.rest) else {
+            return Err(Stop::Unread);
+        };
+        self.take_component(index, rest)
+    }
+
+    /// Finds the component with this index, and goes to the bytes after it.
+    #[inline(always)]
+    fn take_component(&mut self, index: usize, rest: &'a [u8]) -> Result<(), Stop>
+        requires shorter { length rest.now < length self.old.rest.now }
+        ensures reads { Gives result self.new (spec.component_at index rest.now (state self.old)) }
+        ensures kept { OnOk result (SameFrame self.old.buffer.value self.new.buffer.value) }
+        ensures taken { OnlyTakes result (state self.old) (state self.new) }
+    {
+        let Some(component) = self.buffer.saved(index) else {
+            return Err(Stop::Unread);
+        };
+        self.found = component;
+        self.rest = rest;
+        Ok(())
     }
 
     /// `<template-param> ::= T [<number>] _`: an argument of the last scope, or `auto` in a lambda's signature.

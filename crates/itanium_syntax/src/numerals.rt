@@ -91,7 +91,8 @@ pub fn short_numeral(bytes: &[u8]) -> Option<(u64, usize)>
     Some((tens * 10 + ones, 2))
 }
 
-/// `numeral` of decimal digits. It is inlined, so that the answer goes through memory on this way alone.
+/// `numeral` of decimal digits. Both calls answer in registers, so that no answer goes through memory.
+#[tactic(auto, using(crate::proofs::Digits::values_of_numerals))]
 #[inline(always)]
 fn long_numeral(bytes: &[u8]) -> Option<(u64, usize)>
     ensures value { option_map (λ found. (found.0, drop found.1 bytes.now)) result
@@ -99,20 +100,61 @@ fn long_numeral(bytes: &[u8]) -> Option<(u64, usize)>
     ensures taken { IfSome result (λ found. 0 < found.1) }
     ensures within { IfSome result (λ found. found.1 ≤ length bytes.now) }
 {
-    match numeral(Radix::Decimal, bytes) {
-        Some((value, count)) => Some((value, count)),
+    match decimal_value(bytes) {
+        Some(value) => Some((value, decimal_len(bytes))),
         None => None,
     }
 }
 
+/// The number that the decimal digits in front write. `None` where none stands there or the number is past 2^64 - 1.
+#[inline(never)]
+fn decimal_value(bytes: &[u8]) -> Option<u64>
+    ensures value { result ≡ option_map (λ found. found.0) (spec.numeral Radix.Decimal bytes.now) }
+{
+    match numeral(Radix::Decimal, bytes) {
+        Some((value, _)) => Some(value),
+        None => None,
+    }
+}
+
+/// How many decimal digits, so bytes, stand in front.
+#[tactic(auto, using(crate::proofs::Digits::counted_digits))]
+#[inline(never)]
+fn decimal_len(bytes: &[u8]) -> usize
+    ensures value { result ≡ length (spec.front_digits Radix.Decimal bytes.now) }
+    ensures within { result ≤ length bytes.now }
+{
+    let mut count: usize = 0;
+    for byte in bytes {
+        let Some(_) = digit(Radix::Decimal, *byte) else {
+            break;
+        };
+        count += 1;
+    }
+    count
+}
+
 /// `[<numeral>] _`: 0 where the numeral is left out, else the number that follows it, and what is after the `_`. `None`
 /// where no `_` ends it or the result is past 2^64 - 1.
-#[tactic(auto, unfolding(
-// The index, and the digits that write it.
-crate::specs::Scalars::index_of, crate::specs::Scalars::front_digits, crate::specs::Scalars::weighted))]
 pub fn index_of(radix: Radix, bytes: &[u8]) -> Option<(usize, &[u8])>
     ensures value { option_map (λ found. (found.0, found.1.now)) result ≡ spec.index_of radix bytes.now }
     ensures shorter { IfSome result (λ found. length found.1.now < length bytes.now) }
+{
+    match short_index(radix, bytes) {
+        Some((index, rest)) => Some((index, rest)),
+        None => wide_index(radix, bytes),
+    }
+}
+
+/// `index_of` where the numeral is left out or has one digit. `None` also where it has more.
+#[tactic(auto, unfolding(
+// The index, and the digits that write it.
+crate::specs::Scalars::index_of, crate::specs::Scalars::front_digits, crate::specs::Scalars::weighted))]
+#[inline(always)]
+pub fn short_index(radix: Radix, bytes: &[u8]) -> Option<(usize, &[u8])>
+    ensures value { IfSome result (λ found. spec.index_of radix bytes.now ≡ Some (found.0, found.1.now)) }
+    ensures shorter { IfSome result (λ found. length found.1.now < length bytes.now) }
+    ensures written { result ≡ None → begins (codes "_") bytes.now ≡ false }
 {
     match bytes {
         [b'_', rest @ ..] => Some((0, rest)),
@@ -120,7 +162,7 @@ pub fn index_of(radix: Radix, bytes: &[u8]) -> Option<(usize, &[u8])>
             Some(worth) => Some((worth as usize + 1, rest)),
             None => None,
         },
-        _ => wide_index(radix, bytes),
+        _ => None,
     }
 }
 
