@@ -1,5 +1,5 @@
 //! The list of saved shapes, and the list of scopes.
-ghost use Rattle.std.specs.Prelude.{◌≡◌, ◌-◌, ◌<◌, ◌≤◌, [], ◌∷◌, ◌++◌, length, take, OnOk, OnErr, IfSome, option_map};
+ghost use Rattle.std.specs.Prelude.{◌≡◌, ◌+◌, ◌-◌, ◌^◌, ◌<◌, ◌≤◌, [], ◌∷◌, ◌++◌, length, take, OnOk, OnErr, IfSome, option_map};
 ghost use Rattle.std.specs.Prelude.{slice_get};
 
 use crate::buffer::Buffer;
@@ -77,6 +77,7 @@ impl Buffer {
     #[inline(always)]
     pub fn saved_len(&self) -> usize
         ensures value { result ≡ length (saved self.now) }
+        ensures fits { result + 1 < 2 ^ 64 }
     {
         self.lists.saved.len()
     }

@@ -65,6 +65,7 @@ impl Ranges {
     #[inline(always)]
     pub(crate) fn len(&self) -> usize
         ensures value { result ≡ length self.now }
+        ensures fits { result + 1 < 2 ^ 64 }
     {
         self.count
     }

@@ -1,7 +1,7 @@
 //! Names (Itanium C++ ABI 5.1.2).
 ghost use Rattle.std.specs.Prelude.{◌≡◌, ◌<◌, length, option_map, None, Some, IfSome, OnOk, true, false};
 ghost use Rattle.demangle_text.specs.State.{IsLiving, shape, IsRun, SameFrame, saved};
-ghost use Rattle.itanium_syntax.specs.Names.{free_case, first_case, unscoped_case, saves_first};
+ghost use Rattle.itanium_syntax.specs.Names.{free_case, first_case, segment_case, unscoped_case, saves_first};
 ghost use Rattle.itanium_syntax.specs.Context.{inside_lambda};
 ghost use Rattle.itanium_syntax.specs.Args.{attached_case};
 ghost use Rattle.itanium_reader.specs.Cases.{NameFirst};
@@ -300,6 +300,33 @@ pub(crate) fn read_after_quals(
     read_segments(reader, depth, context, takes)
 }
 
+/// A later segment of a `<nested-name>`, after what was found: `<template-args>`, or an `<unqualified-name>` in it.
+#[tactic(auto, using(itanium_reader::proofs::Rules::segments))]
+#[cycle(reader)]
+#[inline(always)]
+pub(crate) fn read_later_segment(
+    reader: &mut Reader,
+    depth: usize,
+    context: Context,
+) -> Result<(), Stop>
+    requires room { HasRoom 1 (state reader.old) }
+    requires living { IsLiving reader.old.buffer.value reader.old.found }
+    ensures reads { Gives result reader.new (spec.later_segment (segment_case reader.old.rest.now)
+        (spec.parse_unqualified (spec.parse_type depth context)
+        (spec.parse_type depth (inside_lambda context)))
+        (spec.parse_args depth context true)
+        (shape reader.old.buffer.value reader.old.found) (state reader.old)) }
+    ensures run { OnOk result (IsRun reader.old.buffer.value reader.new.buffer.value) }
+    ensures bounds { Bounds 1 result (state reader.old) (state reader.new) }
+    ensures saved { SavedBounds 1 result (state reader.old) (state reader.new) }
+{
+    match segment_case(reader.rest) {
+        SegmentCase::EndOfSegments => Err(Stop::Unread),
+        SegmentCase::ArgsSegment => read_attached(reader, depth, context, true),
+        SegmentCase::NameSegment => read_segment(reader, depth, context),
+    }
+}
+
 /// The later segments of a `<nested-name>` after what was found, up to its `E`.
 #[tactic(auto, using(itanium_reader::proofs::Rules::segments))]
 #[cycle(reader)]
@@ -324,38 +351,18 @@ pub(crate) fn read_segments(
 {
     let mut takes = takes;
     loop {
-        match segment_case(reader.rest) {
-            SegmentCase::EndOfSegments => {
-                reader.skip(1);
-                reader.take_back(takes);
-                return Ok(());
-            }
-            SegmentCase::ArgsSegment => {
-                read_attached(reader, depth, context, true)?;
-                if reader.is_wide(reader.found) {
-                    return Err(Stop::Unread);
-                }
-                reader.end_segment()?;
-                takes = true;
-            }
-            SegmentCase::NameSegment => {
-                // The two ways don't meet before the next segment.
-                if begins_source(reader.rest) {
-                    reader.read_next_source()?;
-                    if reader.is_wide(reader.found) {
-                        return Err(Stop::Unread);
-                    }
-                    takes = true;
-                    continue;
-                }
-                read_other_segment(reader, depth, context)?;
-                if reader.is_wide(reader.found) {
-                    return Err(Stop::Unread);
-                }
-                reader.end_segment()?;
-                takes = true;
-            }
+        if reader.end_nested(takes) {
+            return Ok(());
         }
+        read_later_segment(reader, depth, context)?;
+        if reader.is_wide(reader.found) {
+            return Err(Stop::Unread);
+        }
+        if reader.end_nested_unsaved() {
+            return Ok(());
+        }
+        reader.end_segment()?;
+        takes = true;
     }
 }
 

@@ -1,11 +1,12 @@
 -- One level of the parser's functions, and the turns of its loops.
 use Rattle.std.proofs.Common.{◌≡◌, ◌<◌, ◌≤◌, ℕ, zero, suc, ◌+◌, ◌-◌, max, Bool, true, false, List, [], ◌∷◌, ◌++◌}
-use Rattle.std.proofs.Common.{length, drop, refl, sym, ◌∙◌, ap, append_assoc, arith, Option, Some, None, Result, Ok}
+use Rattle.std.proofs.Common.{length, take, drop, refl, sym, ◌∙◌, ap, append_assoc, arith, Option, Some, None, Result, Ok}
 use Rattle.std.proofs.Common.{Err}
 use Rattle.std.specs.Prelude.{IfSome, option_map, is_some, nat_le, nat_lt, ◌&&◌, ◌==◌, if◌then◌else◌}
 use Rattle.std.proofs.lemmas.Bool.Decides.{nat_tests}
+use Rattle.std.proofs.lemmas.Grind.{common_steps}
 use Rattle.std.proofs.lemmas.Option.{same_Some}
-use Rattle.std.proofs.lemmas.List.{append-nil, length-append}
+use Rattle.std.proofs.lemmas.List.{append-nil, length-append, take_at}
 use Rattle.demangle_text.specs.declared.shape.Piece.{Piece}
 use Rattle.demangle_text.specs.declared.buffer.Buffer.{Buffer}
 use Rattle.demangle_text.specs.State.{IsLiving, shape, SameFrame}
@@ -32,7 +33,7 @@ use Rattle.itanium_reader.specs.declared.stop.Stop.TheVariants.{Unread, Memory}
 use Rattle.itanium_reader.specs.Outcome.{Gives, SavedBounds}
 use Rattle.itanium_reader.proofs.Loops.{LoopSoFar, loop_start, loop_end, loop_more, loop_fail, ListSoFar, list_start, list_end, list_more, list_fail}
 use Rattle.itanium_reader.specs.Cases.{FreeName, ConstructorName, DestructorName, SourceName, NoTag, NextTag}
-use Rattle.itanium_reader.specs.Cases.{EndOfSegments, ArgsSegment, NameSegment, EndOfArguments, NextArgument}
+use Rattle.itanium_reader.specs.Cases.{SegmentCase, EndOfSegments, ArgsSegment, NameSegment, EndOfArguments, NextArgument}
 use Rattle.itanium_reader.specs.Cases.{EndOfTypes, NextType}
 use Rattle.itanium_grammar.specs.Answer.{max_text}
 use Rattle.itanium_reader.specs.Parser.{ParserState, Parses, ParsesName, ParsesBareName, ◌>>=◌, is_wide, fitting}
@@ -40,7 +41,7 @@ use Rattle.itanium_reader.specs.Parser.{fitting_bare, enter, with_rest, save, sk
 use Rattle.itanium_reader.specs.Parser.{add_nowhere, taken_back, past_initializer, substitution_as, parse_substitution}
 use Rattle.itanium_reader.specs.Parser.{parameter_as, parse_parameter, tag_turn, unqualified_as, parse_unqualified}
 use Rattle.itanium_reader.specs.Parser.{parse_free, in_parent, parse_tags, parse_source_in, parse_first_source}
-use Rattle.itanium_reader.specs.Parser.{parse_next_source, end_segment, next_segment, goes_on, first_as, attached_by}
+use Rattle.itanium_reader.specs.Parser.{later_segment, segment_as, saved_once, goes_on, first_as, attached_by}
 use Rattle.itanium_reader.specs.Parser.{segment_turn, parse_segments, parse_after_quals, with_quals, parse_nested}
 use Rattle.itanium_reader.specs.Parser.{name_as, qualified_by, parse_bare_name, parse_name, encoding_as, parse_encoding}
 use Rattle.itanium_reader.specs.Parser.{entity_as, parse_local, primary_by, parse_primary, special_by, parse_special}
@@ -280,27 +281,39 @@ saved_first (Ok u) before mid after bounds longer same some most = (omega (arith
 saved_first (Err Unread) before mid after bounds longer same some most = omega (arith, bounds)
 saved_first (Err Memory) before mid after bounds longer same some most = tt
 
--- a segment that is ended and isn't too long is what a turn goes on with
-ended_goes_on : (read : Option (Shape × ParserState)) {next : Shape} {after : ParserState} → (read >>= end_segment) ≡ Some (next, after) → is_wide next ≡ false
-    → (read >>= fitting >>= next_segment) ≡ Some (goes_on (true, next), after)
-ended_goes_on None ended fits = cc
-ended_goes_on (Some found) {next} {after} ended fits =
-    let is = same_Some _ _ ended in
-    let name : found.0 ≡ next = ap (λ (y : Shape × ParserState). y.0) is in
-    let left : past_initializer (save found.0 found.1) ≡ after = ap (λ (y : Shape × ParserState). y.1) is in
-    rw (name, fits) (ap (λ (s : ParserState). Some (goes_on (true, next), s)) (rw (sym name) left))
+-- a later segment is read, isn't too long, and is saved
+turn_read : (case : SegmentCase) (unqualified : ParsesName) (args : Parses Shape) (takes : Bool) (name : Shape) (s : ParserState) {next : Shape} {mid : ParserState} → (case ≡ EndOfSegments → ⊥)
+    → later_segment case unqualified args name s ≡ Some (next, mid) → is_wide next ≡ false
+    → segment_as case unqualified args (takes, name) s ≡ Some (goes_on (true, next), past_initializer (save next mid))
+turn_read EndOfSegments unqualified args takes name s later read fits = absurd (later refl)
+turn_read ArgsSegment unqualified args takes name s later read fits = rw (read, fits) refl
+turn_read NameSegment unqualified args takes name s later read fits = rw (read, fits) refl
 
--- one that is too long ends the loop
-ended_wide : (read : Option (Shape × ParserState)) {next : Shape} {after : ParserState} → (read >>= end_segment) ≡ Some (next, after) → is_wide next ≡ true
-    → (read >>= fitting >>= next_segment) ≡ None
-ended_wide None ended wide = cc
-ended_wide (Some found) {next} {after} ended wide =
-    let name : found.0 ≡ next = ap (λ (y : Shape × ParserState). y.0) (same_Some _ _ ended) in rw (name, wide) refl
+-- one that is too long
+turn_wide : (case : SegmentCase) (unqualified : ParsesName) (args : Parses Shape) (takes : Bool) (name : Shape) (s : ParserState) {next : Shape} {mid : ParserState} → (case ≡ EndOfSegments → ⊥)
+    → later_segment case unqualified args name s ≡ Some (next, mid) → is_wide next ≡ true → segment_as case unqualified args (takes, name) s ≡ None
+turn_wide EndOfSegments unqualified args takes name s later read wide = absurd (later refl)
+turn_wide ArgsSegment unqualified args takes name s later read wide = rw (read, wide) refl
+turn_wide NameSegment unqualified args takes name s later read wide = rw (read, wide) refl
 
--- where no segment is read there is none
-ended_none : (read : Option (Shape × ParserState)) → (read >>= end_segment) ≡ None → (read >>= fitting >>= next_segment) ≡ None
-ended_none None none = refl
-ended_none (Some found) none = cc
+-- none is read
+turn_none : (case : SegmentCase) (unqualified : ParsesName) (args : Parses Shape) (takes : Bool) (name : Shape) (s : ParserState) → (case ≡ EndOfSegments → ⊥)
+    → later_segment case unqualified args name s ≡ None → segment_as case unqualified args (takes, name) s ≡ None
+turn_none EndOfSegments unqualified args takes name s later none = absurd (later refl)
+turn_none ArgsSegment unqualified args takes name s later none = rw none refl
+turn_none NameSegment unqualified args takes name s later none = rw none refl
+
+-- where the E is next no M is
+end_no_initializer : (bytes : List ℕ) → segment_case bytes ≡ EndOfSegments → past_initializer_letter bytes ≡ bytes
+end_no_initializer [] case = refl
+end_no_initializer (first ∷ bytes) case = grind (arith, common_steps)
+
+-- what is saved right in front of the E is taken back
+end_taken_back : (next : Shape) (s : ParserState) → segment_case s.rest ≡ EndOfSegments → taken_back true (skip 1 (past_initializer (save next s))) ≡ skip 1 (saved_once s)
+end_taken_back next s case =
+    let long = length-append s.saved (next ∷ []) in
+    let back : take (length (s.saved ++ next ∷ []) - 1) (s.saved ++ next ∷ []) ≡ s.saved = take_at s.saved (next ∷ []) (length (s.saved ++ next ∷ []) - 1) (omega (arith, long)) in
+    rw (end_no_initializer s.rest case, back) refl
 
 -- the turns of the segments of a nested name
 module _ {whole : Option (Shape × ParserState)} (unqualified : ParsesName) (args : Parses Shape) {takes : Bool} {name : Shape} {s : ParserState}
@@ -309,46 +322,32 @@ module _ {whole : Option (Shape × ParserState)} (unqualified : ParsesName) (arg
   unfolding segment_turn
   segments_end case same left = loop_end so_far (rw (case, same, left) refl)
 
-  pub segments_args : {next : Shape} {mid after : ParserState} → segment_case s.rest ≡ ArgsSegment → attached_by args name s ≡ Some (next, mid) → is_wide next ≡ false → length mid.rest < length s.rest
-      → after ≡ past_initializer (save next mid) → length after.rest ≤ length mid.rest → LoopSoFar whole (segment_turn unqualified args) (true, next) after
+  pub segments_read : {next : Shape} {mid after : ParserState} → (segment_case s.rest ≡ EndOfSegments → ⊥) → later_segment (segment_case s.rest) unqualified args name s ≡ Some (next, mid)
+      → is_wide next ≡ false → length mid.rest < length s.rest → after ≡ past_initializer (save next mid) → length after.rest ≤ length mid.rest
+      → LoopSoFar whole (segment_turn unqualified args) (true, next) after
   unfolding segment_turn
-  segments_args case found fits shorter left short = loop_more so_far (rw (case, found, fits, left) refl) (omega arith)
+  segments_read {next} later found fits shorter left short = loop_more so_far (rw left (turn_read (segment_case s.rest) unqualified args takes name s later found fits)) (omega arith)
 
-  pub segments_wide_args : {next : Shape} {mid : ParserState} → segment_case s.rest ≡ ArgsSegment → attached_by args name s ≡ Some (next, mid) → is_wide next ≡ true → whole ≡ None
+  pub segments_wide : {next : Shape} {mid : ParserState} → (segment_case s.rest ≡ EndOfSegments → ⊥) → later_segment (segment_case s.rest) unqualified args name s ≡ Some (next, mid)
+      → is_wide next ≡ true → whole ≡ None
   unfolding segment_turn
-  segments_wide_args case found wide = loop_fail so_far (rw (case, found, wide) refl)
+  segments_wide later found wide = loop_fail so_far (turn_wide (segment_case s.rest) unqualified args takes name s later found wide)
 
-  pub segments_no_args : segment_case s.rest ≡ ArgsSegment → attached_by args name s ≡ None → whole ≡ None
+  pub segments_none : (segment_case s.rest ≡ EndOfSegments → ⊥) → later_segment (segment_case s.rest) unqualified args name s ≡ None → whole ≡ None
   unfolding segment_turn
-  segments_no_args case none = loop_fail so_far (rw (case, none) refl)
+  segments_none later none = loop_fail so_far (turn_none (segment_case s.rest) unqualified args takes name s later none)
 
-  pub segments_name : {next : Shape} {mid after : ParserState} → segment_case s.rest ≡ NameSegment
-      → unqualified (Some name) s ≡ Some (next, mid) → is_wide next ≡ false → length mid.rest < length s.rest
-      → after ≡ past_initializer (save next mid) → length after.rest ≤ length mid.rest → LoopSoFar whole (segment_turn unqualified args) (true, next) after
-  unfolding segment_turn
-  segments_name case found fits shorter left short = loop_more so_far (rw (case, found, fits, left) refl) (omega arith)
-
-  pub segments_wide_name : {next : Shape} {mid : ParserState} → segment_case s.rest ≡ NameSegment → unqualified (Some name) s ≡ Some (next, mid) → is_wide next ≡ true → whole ≡ None
-  unfolding segment_turn
-  segments_wide_name case found wide = loop_fail so_far (rw (case, found, wide) refl)
-
-  pub segments_source : {next : Shape} {after : ParserState} → segment_case s.rest ≡ NameSegment → unqualified (Some name) s ≡ parse_source_in (Some name) s
-      → parse_next_source (Some name) s ≡ Some (next, after) → is_wide next ≡ false → length after.rest < length s.rest → LoopSoFar whole (segment_turn unqualified args) (true, next) after
-  unfolding segment_turn
-  segments_source case source read fits shorter = loop_more so_far (rw (case, source) (ended_goes_on (parse_source_in (Some name) s) read fits)) shorter
-
-  pub segments_wide_source : {next : Shape} {after : ParserState} → segment_case s.rest ≡ NameSegment → unqualified (Some name) s ≡ parse_source_in (Some name) s
-      → parse_next_source (Some name) s ≡ Some (next, after) → is_wide next ≡ true → whole ≡ None
-  unfolding segment_turn
-  segments_wide_source case source read wide = loop_fail so_far (rw (case, source) (ended_wide (parse_source_in (Some name) s) read wide))
-
-  pub segments_no_source : segment_case s.rest ≡ NameSegment → unqualified (Some name) s ≡ parse_source_in (Some name) s → parse_next_source (Some name) s ≡ None → whole ≡ None
-  unfolding segment_turn
-  segments_no_source case source none = loop_fail so_far (rw (case, source) (ended_none (parse_source_in (Some name) s) none))
-
-  pub segments_no_name : segment_case s.rest ≡ NameSegment → unqualified (Some name) s ≡ None → whole ≡ None
-  unfolding segment_turn
-  segments_no_name case none = loop_fail so_far (rw (case, none) refl)
+-- the last segment of a nested name, which is saved and taken back
+pub segments_last : {whole : Option (Shape × ParserState)} (unqualified : ParsesName) (args : Parses Shape) {takes : Bool} {name : Shape} {s : ParserState}
+    → LoopSoFar whole (segment_turn unqualified args) (takes, name) s → {next found : Shape} {mid after : ParserState} → (segment_case s.rest ≡ EndOfSegments → ⊥)
+    → later_segment (segment_case s.rest) unqualified args name s ≡ Some (next, mid) → is_wide next ≡ false → length mid.rest < length s.rest → segment_case mid.rest ≡ EndOfSegments
+    → found ≡ next → after ≡ skip 1 (saved_once mid) → whole ≡ Some (found, after)
+segments_last unqualified args {takes} {name} {s} so_far {next} {found} {mid} {after} later read fits shorter case same left =
+    let no_letter = end_no_initializer mid.rest case in
+    let short : length (past_initializer_letter mid.rest) ≤ length mid.rest = rw no_letter (omega arith) in
+    let more = segments_read unqualified args so_far {next = next} {mid = mid} {after = past_initializer (save next mid)} later read fits shorter refl short in
+    let ended : segment_case (past_initializer_letter mid.rest) ≡ EndOfSegments = rw no_letter case in
+    segments_end unqualified args more {found = found} {after = after} ended same (left ∙ sym (end_taken_back next mid case))
 
 -- the turns of the tags of a name
 module _ {whole : Option (Shape × ParserState)} {name : Shape} {s : ParserState} (so_far : LoopSoFar whole tag_turn name s) where
@@ -399,20 +398,13 @@ saved_there s rest found after left list opened count m before now =
     rw (left, opened, count, most, list, length-append s.saved (found ∷ [])) refl in
     same
 
--- the same as the first segment of a nested name, and as the next
+-- the same as the first segment of a nested name
 pub first_source_found : (s : ParserState) {text rest : List ℕ} {found : Shape} {after : ParserState} → source_name s.rest ≡ Some (text, rest) → tag_case rest ≡ NoTag
     → found ≡ plain_shape (source_text text) → after.rest ≡ rest → after.saved ≡ s.saved ++ found ∷ [] → after.scopes ≡ s.scopes
     → after.entered ≡ s.entered → (m : ℕ) → s.most_saved ≡ max m (length s.saved) → after.most_saved ≡ max m (length after.saved) → parse_first_source s ≡ Some (found, after)
 first_source_found s {text} {rest} {found} {after} read case built left list opened count m before now =
     let parsed : parse_source_in None s ≡ Some (found, with_rest rest s) = source_found None s read case built refl in
     rw parsed (ap (λ (t : ParserState). Some (found, t)) (sym (saved_there s rest found after left list opened count m before now)))
-
-pub next_source_found : (parent : Shape) (s : ParserState) {text rest : List ℕ} {found : Shape} {after : ParserState} → source_name s.rest ≡ Some (text, rest) → tag_case rest ≡ NoTag
-    → found ≡ qualified parent (plain_shape (source_text text)) → after.rest ≡ past_initializer_letter rest → after.saved ≡ s.saved ++ found ∷ [] → after.scopes ≡ s.scopes
-    → after.entered ≡ s.entered → (m : ℕ) → s.most_saved ≡ max m (length s.saved) → after.most_saved ≡ max m (length after.saved) → parse_next_source (Some parent) s ≡ Some (found, after)
-next_source_found parent s {text} {rest} {found} {after} read case built left list opened count m before now =
-    let parsed : parse_source_in (Some parent) s ≡ Some (found, with_rest rest s) = source_found (Some parent) s read case built refl in
-    rw parsed (ap (λ (t : ParserState). Some (found, t)) (sym (saved_there s (past_initializer_letter rest) found after left list opened count m before now)))
 
 -- a range stays where nothing is put
 nothing_moved : (at : ℕ) (own : ℕ × ℕ) → moved at 0 own ≡ own

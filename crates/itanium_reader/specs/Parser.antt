@@ -97,6 +97,10 @@ enter s = record s { entered = s.entered + 1 }
 abbrev pub taken_back : Bool → ParserState → ParserState
 taken_back takes s = record s { saved = if takes then take (length s.saved - 1) s.saved else s.saved }
 
+-- a shape was saved and taken back
+abbrev pub saved_once : ParserState → ParserState
+saved_once s = record s { most_saved = max s.most_saved (length s.saved + 1) }
+
 -- the text of the shape is longer than the limit
 abbrev pub is_wide : Shape → Bool
 is_wide t = nat_lt max_text (text_len t)
@@ -352,20 +356,20 @@ parse_first_source s = parse_source_in None s >>= λ name. Some (name.0, save na
 abbrev pub next_segment : Shape × ParserState → Option (Turn (Bool × Shape) Shape × ParserState)
 next_segment next = Some (goes_on (true, next.0), past_initializer (save next.0 next.1))
 
--- a segment that was read is saved, and the M of a data member's initializer is passed over
-abbrev pub end_segment : Shape × ParserState → Option (Shape × ParserState)
-end_segment next = Some (next.0, past_initializer (save next.0 next.1))
-
--- a source name, in the parent that stands in front of it, as the next segment of a <nested-name>
-abbrev pub parse_next_source : Option Shape → Parses Shape
-parse_next_source parent s = parse_source_in parent s >>= end_segment
+-- a later segment of a <nested-name>, after what stands of it so far: template arguments, or a name
+abbrev pub later_segment : SegmentCase → ParsesName → Parses Shape → Shape → Parses Shape
+later_segment EndOfSegments unqualified args name s = None
+later_segment ArgsSegment unqualified args name s = attached_by args name s
+later_segment NameSegment unqualified args name s = unqualified (Some name) s
 
 -- one more segment of a <nested-name>, or its E
 abbrev pub segment_as : SegmentCase → ParsesName → Parses Shape → Bool × Shape
     → Parses (Turn (Bool × Shape) Shape)
 segment_as EndOfSegments unqualified args so_far s = Some (ends so_far.1, taken_back so_far.0 (skip 1 s))
-segment_as ArgsSegment unqualified args so_far s = attached_by args so_far.1 s >>= fitting >>= next_segment
-segment_as NameSegment unqualified args so_far s = unqualified (Some so_far.1) s >>= fitting >>= next_segment
+segment_as ArgsSegment unqualified args so_far s =
+    later_segment ArgsSegment unqualified args so_far.1 s >>= fitting >>= next_segment
+segment_as NameSegment unqualified args so_far s =
+    later_segment NameSegment unqualified args so_far.1 s >>= fitting >>= next_segment
 
 -- its parser, by what comes next
 unfoldable pub segment_turn : ParsesName → Parses Shape → Bool × Shape → Parses (Turn (Bool × Shape) Shape)

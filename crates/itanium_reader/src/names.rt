@@ -14,7 +14,7 @@ use demangle_edit::{
     qualify_text_in_place, tag,
 };
 use demangle_text::{Piece, Place};
-use itanium_syntax::names::{TagCase, past_initializer_letter, source_text, tag_case};
+use itanium_syntax::names::{TagCase, source_text, tag_case};
 use itanium_syntax::numerals::ordinal;
 use itanium_syntax::operators::operator_here;
 use itanium_syntax::scalar::source_name;
@@ -156,40 +156,6 @@ impl<'a> Reader<'a> {
             TagCase::NextTag => {
                 self.framed_tagged_source()?;
                 self.save_found()?;
-                Ok(())
-            }
-        }
-    }
-
-    /// A `<source-name>` in the parent that was found, and `<abi-tags>` after it, as the next segment of a
-    /// `<nested-name>`: it is saved, and the `M` of a data member's initializer is passed over.
-    #[tactic(auto, using(crate::proofs::Rules::source_names))]
-    #[inline(always)]
-    pub fn read_next_source(&mut self) -> Result<(), Stop>
-        requires living { IsLiving self.old.buffer.value self.old.found }
-        ensures reads { Gives result self.new
-            (spec.parse_next_source (Some (shape self.old.buffer.value self.old.found)) (state self.old)) }
-        ensures some { OnOk result (0 < length (saved self.new.buffer.value)) }
-        ensures run { OnOk result (IsRun self.old.buffer.value self.new.buffer.value) }
-        ensures bounds { Bounds 2 result (state self.old) (state self.new) }
-        ensures saved { SavedBounds 0 result (state self.old) (state self.new) }
-    {
-        let Some((from, to)) = source_name(self.rest, 0) else {
-            return Err(Stop::Unread);
-        };
-        let rest = &self.rest[to..];
-        match tag_case(rest) {
-            TagCase::NoTag => {
-                let text = source_text(&self.rest[from..to]);
-                let buffer = &mut *self.buffer;
-                qualify_text_in_place(buffer, &mut self.found, text)?;
-                buffer.save_in_place(&self.found)?;
-                self.rest = past_initializer_letter(rest);
-                Ok(())
-            }
-            TagCase::NextTag => {
-                self.read_tagged_segment()?;
-                self.end_segment()?;
                 Ok(())
             }
         }

@@ -1,10 +1,12 @@
 //! What the readers share: the bytes that are left, the buffer with what was saved, and the piece that was found.
-ghost use Rattle.std.specs.Prelude.{◌≡◌, ◌<◌, ◌≤◌, ◌+◌, IfOk, OnOk, [], length, max, true};
+ghost use Rattle.std.specs.Prelude.{◌≡◌, ◌<◌, ◌≤◌, ◌+◌, IfOk, OnOk, [], length, max, true, false};
 ghost use Rattle.demangle_text.specs.Shape.{plain_shape};
 ghost use Rattle.demangle_text.specs.State.{IsLiving, Lives, shape, IsRun, SameFrame, saved, scopes, main_bytes, frame, outermost};
 ghost use Rattle.demangle_edit.specs.Built.{separated};
+ghost use Rattle.itanium_syntax.specs.Names.{segment_case};
 ghost use Rattle.itanium_syntax.specs.Types.{builtin_text, past_builtin};
 ghost use Rattle.itanium_grammar.specs.Answer.{max_text};
+ghost use Rattle.itanium_reader.specs.Cases.{EndOfSegments};
 ghost use Rattle.itanium_reader.specs.Parser as spec;
 ghost use Rattle.itanium_reader.specs.Outcome.{state, Gives, OnlyTakes, Bounds, SavedBounds};
 
@@ -133,6 +135,45 @@ impl<'a> Reader<'a> {
         Ok(())
     }
 
+    /// Ends a `<nested-name>` where its `E` is next: the last saved component is taken back, where it is to be. Whether
+    /// it ended.
+    #[inline(always)]
+    pub fn end_nested(&mut self, takes: bool) -> bool
+        requires saved { takes ≡ true → 0 < length (saved self.old.buffer.value) }
+        ensures ended { result ≡ true → (segment_case self.old.rest.now ≡ EndOfSegments)
+            × (state self.new ≡ spec.taken_back takes (spec.skip 1 (state self.old)))
+            × (length self.new.rest.now < length self.old.rest.now) }
+        ensures goes_on { result ≡ false → (segment_case self.old.rest.now ≡ EndOfSegments → ⊥)
+            × (self.new ≡ self.old) }
+        ensures found { self.new.found ≡ self.old.found }
+        ensures kept { SameFrame self.old.buffer.value self.new.buffer.value }
+    {
+        let [b'E', rest @ ..] = self.rest else {
+            return false;
+        };
+        self.rest = rest;
+        self.take_back(takes);
+        true
+    }
+
+    /// `end_nested` right after a segment that isn't saved yet: it would be saved and taken back.
+    #[inline(always)]
+    pub fn end_nested_unsaved(&mut self) -> bool
+        ensures ended { result ≡ true → (segment_case self.old.rest.now ≡ EndOfSegments)
+            × (state self.new ≡ spec.skip 1 (spec.saved_once (state self.old)))
+            × (length self.new.rest.now < length self.old.rest.now) }
+        ensures goes_on { result ≡ false → self.new ≡ self.old }
+        ensures found { self.new.found ≡ self.old.found }
+        ensures buffer { self.new.buffer.value ≡ self.old.buffer.value }
+    {
+        let [b'E', rest @ ..] = self.rest else {
+            return false;
+        };
+        self.rest = rest;
+        self.most_saved = self.most_saved.max(self.buffer.saved_len() + 1);
+        true
+    }
+
     /// Whether the piece is longer than `MAX_TEXT`.
     #[inline(always)]
     pub fn is_wide(&self, piece: Piece) -> bool
@@ -151,7 +192,7 @@ impl<'a> Reader<'a> {
     }
 
     /// Takes the last saved component back, where it is to be.
-    pub fn take_back(&mut self, takes: bool)
+    fn take_back(&mut self, takes: bool)
         requires saved { takes ≡ true → 0 < length (saved self.old.buffer.value) }
         ensures state { state self.new ≡ spec.taken_back takes (state self.old) }
         ensures fewer { length (saved self.new.buffer.value) ≤ length (saved self.old.buffer.value) }
