@@ -12,11 +12,10 @@ use Rattle.itanium_reader.specs.Outcome.{state}
 use Rattle.itanium_reader.specs.Parser as spec
 use Rattle.itanium_reader.proofs.Unfold.{source_opens, saved_first, free_found, kept_parent, some_parent, stops}
 use Rattle.itanium_reader.proofs.Unfold.{attached_start, attached_end, attached_more, attached_fail, attached_plain}
-use Rattle.itanium_reader.proofs.Unfold.{attached_front, pack_start, segments_end, segments_args, segments_no_args}
-use Rattle.itanium_reader.proofs.Unfold.{segments_name, segments_no_name, segments_source, segments_no_source}
+use Rattle.itanium_reader.proofs.Unfold.{attached_front, pack_start, segments_end, segments_read, segments_none}
 use Rattle.itanium_reader.proofs.Unfold.{items_more, items_fail, typed_end, typed_more, typed_fail, begun_front}
-use Rattle.itanium_reader.proofs.Unfold.{attached_wide, attached_more_wide, segments_wide_args, segments_wide_source}
-use Rattle.itanium_reader.proofs.Unfold.{segments_wide_name, pack_ends, pack_wide, typed_wide, attached_room}
+use Rattle.itanium_reader.proofs.Unfold.{attached_wide, attached_more_wide, segments_wide, segments_last}
+use Rattle.itanium_reader.proofs.Unfold.{pack_ends, pack_wide, typed_wide, attached_room}
 use Rattle.itanium_reader.proofs.Unfold.{items_wide}
 use Rattle.itanium_productions.proofs.+reader.Goals as goal
 
@@ -94,78 +93,33 @@ args::read_attached-loop-reader-preserved t c = record {
   most = search rules;
 }
 
-pub names::read_segments-returns-in-EndOfSegments-clause-reads : goal.names::read_segments-returns-in-EndOfSegments-clause-reads
-names::read_segments-returns-in-EndOfSegments-clause-reads t c =
-    (search rules, segments_end _ _ c.loop-reader.invariant.reads (sym c.in-EndOfSegments.ensures.case) (search rules) (search rules))
+pub names::read_segments-returns-then-end_nested-clause-reads : goal.names::read_segments-returns-then-end_nested-clause-reads
+names::read_segments-returns-then-end_nested-clause-reads t c =
+    let ended = c.end_nested.ensures.ended (search rules) in
+    (search rules, segments_end _ _ c.loop-context.invariant.reads ended.0 (search rules) ended.1)
 
-pub names::read_segments-returns-in_err-read_attached-in-ArgsSegment-clause-reads : goal.names::read_segments-returns-in_err-read_attached-in-ArgsSegment-clause-reads
-names::read_segments-returns-in_err-read_attached-in-ArgsSegment-clause-reads t c =
+pub names::read_segments-returns-in_err-read_later_segment-clause-reads : goal.names::read_segments-returns-in_err-read_later_segment-clause-reads
+names::read_segments-returns-in_err-read_later_segment-clause-reads t c =
     let e = err_from_is_err_and c.from_residual.result c.from_residual.ensures.1 in
-    rw (e.1, e.2) (stops _ _ (c.in_err-read_attached-in-ArgsSegment.ensures {u = tt}).reads
-    (segments_no_args _ _ c.loop-reader.invariant.reads (sym c.in-ArgsSegment.ensures.case)))
-
-pub names::read_segments-returns-in_err-read_other_segment-in-NameSegment-clause-reads : goal.names::read_segments-returns-in_err-read_other_segment-in-NameSegment-clause-reads
-names::read_segments-returns-in_err-read_other_segment-in-NameSegment-clause-reads t c =
-    let r = c.from_residual-in_err-read_other_segment-in-NameSegment in
-    let e = err_from_is_err_and r.result r.ensures.1 in
-    rw (e.1, e.2) (stops _ _ (c.in_err-read_other_segment-in-NameSegment.ensures {u = tt}).reads
-    (segments_no_name _ _ c.loop-reader.invariant.reads (sym c.in-NameSegment.ensures.case)))
-
-pub names::read_segments-returns-in_err-read_next_source-in-NameSegment-clause-reads : goal.names::read_segments-returns-in_err-read_next_source-in-NameSegment-clause-reads
-names::read_segments-returns-in_err-read_next_source-in-NameSegment-clause-reads t c =
-    let r = c.from_residual-in_err-read_next_source-in-NameSegment in
-    let e = err_from_is_err_and r.result r.ensures.1 in
-    rw (e.1, e.2) (stops _ _ (c.in_err-read_next_source-in-NameSegment.ensures {u = tt}).reads
-    (segments_no_source _ _ c.loop-reader.invariant.reads (sym c.in-NameSegment.ensures.case) (source_opens _ _ _ (state c.loop-reader.reader) (search rules))))
+    let goes_on = c.end_nested.ensures.goes_on (search rules) in
+    rw (e.1, e.2) (stops _ _ (c.in_err-read_later_segment.ensures {u = tt}).reads
+    (λ none. segments_none _ _ c.loop-context.invariant.reads goes_on.0 (rw goes_on.1 at none)))
 
 pub names::read_segments-returns-then-is_wide-clause-reads : goal.names::read_segments-returns-then-is_wide-clause-reads
 names::read_segments-returns-then-is_wide-clause-reads t c =
-    segments_wide_args _ _ c.loop-reader.invariant.reads {next = shape c.read_attached.new.reader.buffer.value c.read_attached.new.reader.found} {mid = state c.read_attached.new.reader}
-    (sym c.in-ArgsSegment.ensures.case) (search rules) (search rules)
+    segments_wide _ _ c.loop-context.invariant.reads {next = shape c.read_later_segment.new.reader.buffer.value c.read_later_segment.new.reader.found} {mid = state c.read_later_segment.new.reader}
+    (search rules) (search rules) (search rules)
 
-pub names::read_segments-returns-then-is_wide-2-clause-reads : goal.names::read_segments-returns-then-is_wide-2-clause-reads
-names::read_segments-returns-then-is_wide-2-clause-reads t c =
-    let after = c.read_next_source.new.self in
-    segments_wide_source _ _ c.loop-reader.invariant.reads {next = shape after.buffer.value after.found} {after = state after}
-    (sym c.in-NameSegment.ensures.case) (source_opens _ _ _ (state c.loop-reader.reader) (search rules)) (search rules) (search rules)
+pub names::read_segments-returns-then-end_nested_unsaved-clause-reads : goal.names::read_segments-returns-then-end_nested_unsaved-clause-reads
+names::read_segments-returns-then-end_nested_unsaved-clause-reads t c =
+    let mid = c.read_later_segment.new.reader in
+    (search rules, segments_last _ _ c.loop-context.invariant.reads {next = shape mid.buffer.value mid.found} {mid = state mid}
+    (search rules) (search rules) (search rules) (search rules) (search rules) (search rules) (search rules))
 
-pub names::read_segments-returns-then-is_wide-3-clause-reads : goal.names::read_segments-returns-then-is_wide-3-clause-reads
-names::read_segments-returns-then-is_wide-3-clause-reads t c =
-    segments_wide_name _ _ c.loop-reader.invariant.reads {next = shape c.read_other_segment.new.reader.buffer.value c.read_other_segment.new.reader.found} {mid = state c.read_other_segment.new.reader}
-    (sym c.in-NameSegment.ensures.case) (search rules) (search rules)
-
-pub names::read_segments-loop-reader-preserved-then-begins_source : goal.names::read_segments-loop-reader-preserved-then-begins_source
-names::read_segments-loop-reader-preserved-then-begins_source t c = record {
-  reads = segments_source _ _ c.loop-reader.invariant.reads (sym c.in-NameSegment.ensures.case)
-      (source_opens _ _ _ (state c.loop-reader.reader) (search rules)) (search rules) (search rules) (search rules);
-  living = search rules;
-  run = search rules;
-  some_saved = search rules;
-  taken = search rules;
-  counted = search rules;
-  list = search rules;
-  most = search rules;
-  scopes_stand = search rules;
-}
-
-pub names::read_segments-loop-reader-preserved : goal.names::read_segments-loop-reader-preserved
-names::read_segments-loop-reader-preserved t c = record {
-  reads = segments_name _ _ c.loop-reader.invariant.reads {mid = state c.read_other_segment.new.reader}
-      (sym c.in-NameSegment.ensures.case) (search rules) (search rules) (search rules) (search rules) (search rules);
-  living = search rules;
-  run = search rules;
-  some_saved = search rules;
-  taken = search rules;
-  counted = search rules;
-  list = search rules;
-  most = search rules;
-  scopes_stand = search rules;
-}
-
-pub names::read_segments-loop-reader-preserved-in-ArgsSegment : goal.names::read_segments-loop-reader-preserved-in-ArgsSegment
-names::read_segments-loop-reader-preserved-in-ArgsSegment t c = record {
-  reads = segments_args _ _ c.loop-reader.invariant.reads {mid = state c.read_attached.new.reader}
-      (sym c.in-ArgsSegment.ensures.case) (search rules) (search rules) (search rules) (search rules) (search rules);
+pub names::read_segments-loop-context-preserved : goal.names::read_segments-loop-context-preserved
+names::read_segments-loop-context-preserved t c = record {
+  reads = segments_read _ _ c.loop-context.invariant.reads {mid = state c.read_later_segment.new.reader}
+      (search rules) (search rules) (search rules) (search rules) (search rules) (search rules);
   living = search rules;
   run = search rules;
   some_saved = search rules;

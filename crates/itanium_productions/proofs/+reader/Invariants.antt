@@ -53,19 +53,19 @@ abbrev pub decreases-types::read_type_attached : goal.decreases-types::read_type
 decreases-types::read_type_attached l = 16 * l.depth + 3
 
 abbrev pub decreases-names::read_segments : goal.decreases-names::read_segments
-decreases-names::read_segments l = 16 * l.depth + 10
+decreases-names::read_segments l = 16 * l.depth + 11
 
 abbrev pub decreases-names::read_unscoped : goal.decreases-names::read_unscoped
 decreases-names::read_unscoped l = 16 * l.depth + 10
 
 abbrev pub decreases-names::read_nested : goal.decreases-names::read_nested
-decreases-names::read_nested l = 16 * l.depth + 12
+decreases-names::read_nested l = 16 * l.depth + 13
 
 abbrev pub decreases-names::read_after_quals : goal.decreases-names::read_after_quals
-decreases-names::read_after_quals l = 16 * l.depth + 11
+decreases-names::read_after_quals l = 16 * l.depth + 12
 
-abbrev pub invariant-names::read_segments-loop-reader : goal.invariant-names::read_segments-loop-reader
-invariant-names::read_segments-loop-reader l = record {
+abbrev pub invariant-names::read_segments-loop-context : goal.invariant-names::read_segments-loop-context
+invariant-names::read_segments-loop-context l = record {
   reads : LoopSoFar (spec.parse_segments (spec.parse_unqualified (spec.parse_type l.depth l.context) (spec.parse_type l.depth (inside_lambda l.context)))
       (spec.parse_args l.depth l.context true) l.fn.takes (shape l.fn.reader.buffer.value l.fn.reader.found) (state l.fn.reader))
       (spec.segment_turn (spec.parse_unqualified (spec.parse_type l.depth l.context) (spec.parse_type l.depth (inside_lambda l.context))) (spec.parse_args l.depth l.context true))
@@ -80,8 +80,8 @@ invariant-names::read_segments-loop-reader l = record {
   most : (state l.reader).most_saved ≤ max (state l.fn.reader).most_saved (length (saved l.fn.reader.buffer.value) + length l.fn.reader.rest.now);
 }
 
-abbrev pub decreases-names::read_segments-loop-reader : goal.decreases-names::read_segments-loop-reader
-decreases-names::read_segments-loop-reader l = length l.reader.rest.now
+abbrev pub decreases-names::read_segments-loop-context : goal.decreases-names::read_segments-loop-context
+decreases-names::read_segments-loop-context l = length l.reader.rest.now
 
 abbrev pub invariant-args::read_attached-loop-reader : goal.invariant-args::read_attached-loop-reader
 invariant-args::read_attached-loop-reader l = record {
@@ -166,6 +166,9 @@ decreases-names::read_other_first l = 16 * l.depth + 8
 
 abbrev pub decreases-names::read_outer_name : goal.decreases-names::read_outer_name
 decreases-names::read_outer_name l = 16 * l.depth + 8
+
+abbrev pub decreases-names::read_later_segment : goal.decreases-names::read_later_segment
+decreases-names::read_later_segment l = 16 * l.depth + 10
 
 abbrev pub decreases-names::read_segment : goal.decreases-names::read_segment
 decreases-names::read_segment l = 16 * l.depth + 9
