@@ -1,11 +1,9 @@
 -- Digits that are read one after another.
-use Rattle.std.proofs.Common.{◌≡◌, ◌<◌, ◌≤◌, ℕ, zero, suc, ◌+◌, ◌*◌, ◌^◌, List, [], ◌∷◌, length, drop, get_or}
-use Rattle.std.proofs.Common.{refl, ap, sym, ◌∙◌, arith, Option, Some, None, option_map, Bool, if◌then◌else◌, add-one, drop-cons, true, false, nat_lt, ◌&&◌}
+use Rattle.std.proofs.Common.{◌≡◌, ◌<◌, ◌≤◌, ℕ, zero, suc, ◌+◌, ◌*◌, ◌^◌, List, [], ◌∷◌, length, drop, get_or, refl, ap, ◌∙◌, arith, Option, Some, None, add-one, drop-cons, true, false, nat_lt, ◌&&◌}
 use Rattle.std.proofs.Math.Nat.{pow-succ', pow-zero, le-mul_of_pos_right}
 use Rattle.std.proofs.Math.ListN.{drop_of_length-le}
 use Rattle.std.proofs.lemmas.List.{drop-drop, length-drop}
 use Rattle.std.proofs.lemmas.Grind.{common_steps}
-use Rattle.std.proofs.lemmas.Option.{same_Some}
 use Rattle.itanium_syntax.specs.declared.numerals.Radix.{Radix}
 use Rattle.itanium_syntax.specs.declared.numerals.Radix.TheVariants.{Decimal, Base36}
 use Rattle.itanium_syntax.specs.Scalars.{base, digit_of, front_digits, weighted, numeral}
@@ -81,48 +79,5 @@ numeral_end {r} {bytes} {i} {count} {value} sofar none some =
 pub numeral_empty : {r : Radix} {bytes : List ℕ} {i count value : ℕ} → NumeralSoFar r bytes i count value → front_digits r (drop i bytes) ≡ [] → count ≡ 0 → None ≡ numeral r bytes
 numeral_empty {r} {bytes} sofar none empty =
     let len : length (front_digits r bytes) ≡ 0 = omega (arith, rw none at sofar.digits) in rw len refl
-
--- the value of a numeral, and the count of its digits, make the whole
-pub numeral_of_value : (bytes : List ℕ) (value : ℕ) → Some value ≡ option_map (λ found. found.0) (numeral Decimal bytes)
-    → numeral Decimal bytes ≡ Some (value, drop (length (front_digits Decimal bytes)) bytes)
-numeral_of_value bytes value h = go (numeral Decimal bytes) refl h
-  where
-    count : ℕ
-    count = length (front_digits Decimal bytes)
-
-    rest_is : (b : Bool) (n : ℕ) (rest : List ℕ) (found : ℕ × List ℕ) → ◌≡◌ {A = Option (ℕ × List ℕ)} (if b then Some (n, rest) else None) (Some found) → found.1 ≡ rest
-    rest_is true n rest found e = ap (λ (f : ℕ × List ℕ). f.1) (sym (same_Some _ _ e))
-    rest_is false n rest found e = cc
-
-    go : (o : Option (ℕ × List ℕ)) → numeral Decimal bytes ≡ o → Some value ≡ option_map (λ found. found.0) o → o ≡ Some (value, drop count bytes)
-    go None f e = cc
-    go (Some found) f e =
-        let one : value ≡ found.0 = same_Some _ _ e in
-        let two : found.1 ≡ drop count bytes = rest_is _ _ _ found f in
-        rw (one, ← two) refl
-
--- it has a digit
-pub value_has_digits : (bytes : List ℕ) (value : ℕ) → Some value ≡ option_map (λ found. found.0) (numeral Decimal bytes)
-    → 0 < length (front_digits Decimal bytes)
-value_has_digits bytes value h = go (front_digits Decimal bytes) h
-  where
-    written : List ℕ → Option (ℕ × List ℕ)
-    written ds = if nat_lt 0 (length ds) && nat_lt (weighted 10 ds) (2 ^ 64) then Some (weighted 10 ds, drop (length ds) bytes) else None
-
-    go : (ds : List ℕ) → Some value ≡ option_map (λ found. found.0) (written ds) → 0 < length ds
-    go [] e = cc
-    go (d ∷ ds) e = omega arith
-
-pub ruleset values_of_numerals = (numeral_of_value, value_has_digits)
-
--- one more digit is counted
-pub counted_more : (bytes : List ℕ) (i count d : ℕ) → i < length bytes → digit_of Decimal (get_or bytes i 0) ≡ Some d
-    → count + length (front_digits Decimal (drop i bytes)) ≡ length (front_digits Decimal bytes)
-    → count + 1 + length (front_digits Decimal (drop (i + 1) bytes)) ≡ length (front_digits Decimal bytes)
-counted_more bytes i count d h some counted =
-    let e = one_digit Decimal bytes i d h some in
-    omega (arith, rw e at counted)
-
-pub ruleset counted_digits = (no_bytes, no_digit)
 
 pub ruleset dropped = (drop-drop, length-drop)

@@ -91,8 +91,7 @@ pub fn short_numeral(bytes: &[u8]) -> Option<(u64, usize)>
     Some((tens * 10 + ones, 2))
 }
 
-/// `numeral` of decimal digits. Both calls answer in registers, so that no answer goes through memory.
-#[tactic(auto, using(crate::proofs::Digits::values_of_numerals))]
+/// `numeral` of decimal digits. It is inlined, so that the answer goes through memory on this way alone.
 #[inline(always)]
 fn long_numeral(bytes: &[u8]) -> Option<(u64, usize)>
     ensures value { option_map (λ found. (found.0, drop found.1 bytes.now)) result
@@ -100,38 +99,10 @@ fn long_numeral(bytes: &[u8]) -> Option<(u64, usize)>
     ensures taken { IfSome result (λ found. 0 < found.1) }
     ensures within { IfSome result (λ found. found.1 ≤ length bytes.now) }
 {
-    match decimal_value(bytes) {
-        Some(value) => Some((value, decimal_len(bytes))),
-        None => None,
-    }
-}
-
-/// The number that the decimal digits in front write. `None` where none stands there or the number is past 2^64 - 1.
-#[inline(never)]
-fn decimal_value(bytes: &[u8]) -> Option<u64>
-    ensures value { result ≡ option_map (λ found. found.0) (spec.numeral Radix.Decimal bytes.now) }
-{
     match numeral(Radix::Decimal, bytes) {
-        Some((value, _)) => Some(value),
+        Some((value, count)) => Some((value, count)),
         None => None,
     }
-}
-
-/// How many decimal digits, so bytes, stand in front.
-#[tactic(auto, using(crate::proofs::Digits::counted_digits))]
-#[inline(never)]
-fn decimal_len(bytes: &[u8]) -> usize
-    ensures value { result ≡ length (spec.front_digits Radix.Decimal bytes.now) }
-    ensures within { result ≤ length bytes.now }
-{
-    let mut count: usize = 0;
-    for byte in bytes {
-        let Some(_) = digit(Radix::Decimal, *byte) else {
-            break;
-        };
-        count += 1;
-    }
-    count
 }
 
 /// `[<numeral>] _`: 0 where the numeral is left out, else the number that follows it, and what is after the `_`. `None`
