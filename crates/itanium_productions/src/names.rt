@@ -1,10 +1,11 @@
 //! Names (Itanium C++ ABI 5.1.2).
-ghost use Rattle.std.specs.Prelude.{◌≡◌, ◌<◌, length, option_map, None, Some, IfSome, OnOk, true, false};
+ghost use Rattle.std.specs.Prelude.{◌≡◌, ◌<◌, drop, length, option_map, None, Some, IfSome, OnOk, true, false};
 ghost use Rattle.demangle_text.specs.State.{IsLiving, shape, IsRun, SameFrame, saved};
-ghost use Rattle.itanium_syntax.specs.Names.{free_case, first_case, segment_case, unscoped_case, saves_first};
+ghost use Rattle.itanium_syntax.specs.Names.{begins_quals, free_case, first_case, name_case, segment_case};
+ghost use Rattle.itanium_syntax.specs.Names.{unscoped_case, saves_first};
 ghost use Rattle.itanium_syntax.specs.Context.{inside_lambda};
 ghost use Rattle.itanium_syntax.specs.Args.{attached_case};
-ghost use Rattle.itanium_reader.specs.Cases.{NameFirst};
+ghost use Rattle.itanium_reader.specs.Cases.{NameFirst, NestedName};
 ghost use Rattle.itanium_reader.specs.Parser as spec;
 ghost use Rattle.itanium_reader.specs.Outcome.{state, Gives, GivesBareName, HasRoom, Bounds, OptionalBounds, SavedBounds};
 
@@ -471,7 +472,7 @@ pub(crate) fn read_bare_name(
 }
 
 /// `<name>` with its own qualifiers, within `depth` open productions.
-#[tactic(auto, using(itanium_reader::proofs::Rules::names))]
+#[tactic(auto, using(itanium_reader::proofs::Rules::buffers))]
 #[cycle(reader)]
 #[inline(always)]
 pub(crate) fn read_name(reader: &mut Reader, depth: usize, context: Context) -> Result<(), Stop>
@@ -479,6 +480,120 @@ pub(crate) fn read_name(reader: &mut Reader, depth: usize, context: Context) -> 
     ensures reads { Gives result reader.new (spec.parse_name depth context (state reader.old)) }
     ensures fits { OnOk result (spec.is_wide (shape reader.new.buffer.value reader.new.found) ≡ false) }
     ensures run { OnOk result (IsRun reader.old.buffer.value reader.new.buffer.value) }
+    ensures refused { depth ≡ 0 → reader.new.entered ≡ reader.old.entered }
+    ensures bounds { Bounds 1 result (state reader.old) (state reader.new) }
+    ensures saved { SavedBounds 1 result (state reader.old) (state reader.new) }
+{
+    if let [b'N', rest @ ..] = reader.rest {
+        if begins_quals(rest) {
+            return read_qualified_nested(reader, depth, context);
+        }
+        return read_plain_nested(reader, depth, context);
+    }
+    read_other_name(reader, depth, context)
+}
+
+/// `<name> ::= <nested-name>` without own qualifiers: it is measured once.
+#[tactic(auto, using(crate::proofs::NestedNames::plain_nested_names))]
+#[cycle(reader)]
+#[inline(always)]
+pub(crate) fn read_plain_nested(
+    reader: &mut Reader,
+    depth: usize,
+    context: Context,
+) -> Result<(), Stop>
+    requires room { HasRoom 1 (state reader.old) }
+    requires nested { name_case reader.old.rest.now ≡ NestedName }
+    requires plain { begins_quals (drop 1 reader.old.rest.now) ≡ false }
+    ensures reads { Gives result reader.new (spec.parse_name depth context (state reader.old)) }
+    ensures fits { OnOk result (spec.is_wide (shape reader.new.buffer.value reader.new.found) ≡ false) }
+    ensures run { OnOk result (IsRun reader.old.buffer.value reader.new.buffer.value) }
+    ensures refused { depth ≡ 0 → reader.new.entered ≡ reader.old.entered }
+    ensures bounds { Bounds 1 result (state reader.old) (state reader.new) }
+    ensures saved { SavedBounds 1 result (state reader.old) (state reader.new) }
+{
+    if depth == 0 {
+        return Err(Stop::Unread);
+    }
+    reader.entered += 1;
+    reader.skip(1);
+    read_after_quals(reader, depth - 1, context)?;
+    if reader.is_wide(reader.found) {
+        return Err(Stop::Unread);
+    }
+    Ok(())
+}
+
+/// `<name> ::= <nested-name>` without its own qualifiers: they are answered.
+#[tactic(auto, using(itanium_reader::proofs::Rules::bare_names))]
+#[cycle(reader)]
+#[inline(always)]
+pub(crate) fn read_bare_nested(
+    reader: &mut Reader,
+    depth: usize,
+    context: Context,
+) -> Result<Quals, Stop>
+    requires room { HasRoom 1 (state reader.old) }
+    requires nested { name_case reader.old.rest.now ≡ NestedName }
+    ensures reads { GivesBareName result reader.new (spec.parse_bare_name depth context (state reader.old)) }
+    ensures fits { OnOk result (spec.is_wide (shape reader.new.buffer.value reader.new.found) ≡ false) }
+    ensures run { OnOk result (IsRun reader.old.buffer.value reader.new.buffer.value) }
+    ensures refused { depth ≡ 0 → reader.new.entered ≡ reader.old.entered }
+    ensures bounds { Bounds 1 result (state reader.old) (state reader.new) }
+    ensures saved { SavedBounds 1 result (state reader.old) (state reader.new) }
+{
+    if depth == 0 {
+        return Err(Stop::Unread);
+    }
+    reader.entered += 1;
+    reader.skip(1);
+    let quals = read_nested(reader, depth - 1, context)?;
+    if reader.is_wide(reader.found) {
+        return Err(Stop::Unread);
+    }
+    Ok(quals)
+}
+
+/// `<name> ::= <nested-name>` and its own qualifiers after it: it is measured without them and with them.
+#[tactic(auto, using(crate::proofs::NestedNames::names_measured_twice))]
+#[cycle(reader)]
+#[inline(never)]
+pub(crate) fn read_qualified_nested(
+    reader: &mut Reader,
+    depth: usize,
+    context: Context,
+) -> Result<(), Stop>
+    requires room { HasRoom 1 (state reader.old) }
+    requires nested { name_case reader.old.rest.now ≡ NestedName }
+    ensures reads { Gives result reader.new (spec.parse_name depth context (state reader.old)) }
+    ensures fits { OnOk result (spec.is_wide (shape reader.new.buffer.value reader.new.found) ≡ false) }
+    ensures run { OnOk result (IsRun reader.old.buffer.value reader.new.buffer.value) }
+    ensures refused { depth ≡ 0 → reader.new.entered ≡ reader.old.entered }
+    ensures bounds { Bounds 1 result (state reader.old) (state reader.new) }
+    ensures saved { SavedBounds 1 result (state reader.old) (state reader.new) }
+{
+    let quals = read_bare_nested(reader, depth, context)?;
+    reader.print_quals(quals, context.shown)?;
+    if reader.is_wide(reader.found) {
+        return Err(Stop::Unread);
+    }
+    Ok(())
+}
+
+/// Any `<name>` with its own qualifiers, which its reader answers.
+#[tactic(auto, using(crate::proofs::NestedNames::names_measured_twice))]
+#[cycle(reader)]
+#[inline(never)]
+pub(crate) fn read_other_name(
+    reader: &mut Reader,
+    depth: usize,
+    context: Context,
+) -> Result<(), Stop>
+    requires room { HasRoom 1 (state reader.old) }
+    ensures reads { Gives result reader.new (spec.parse_name depth context (state reader.old)) }
+    ensures fits { OnOk result (spec.is_wide (shape reader.new.buffer.value reader.new.found) ≡ false) }
+    ensures run { OnOk result (IsRun reader.old.buffer.value reader.new.buffer.value) }
+    ensures refused { depth ≡ 0 → reader.new.entered ≡ reader.old.entered }
     ensures bounds { Bounds 1 result (state reader.old) (state reader.new) }
     ensures saved { SavedBounds 1 result (state reader.old) (state reader.new) }
 {

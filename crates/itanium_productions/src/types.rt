@@ -1,9 +1,10 @@
 //! Types (Itanium C++ ABI 5.1.5).
-ghost use Rattle.std.specs.Prelude.{◌≡◌, ◌<◌, OnOk, length, false};
+ghost use Rattle.std.specs.Prelude.{◌≡◌, ◌<◌, OnOk, length, option_and_then, true, false};
 ghost use Rattle.demangle_text.specs.State.{IsLiving, shape, IsRun, SameFrame};
 ghost use Rattle.demangle_quals.specs.Quals.{no_quals};
 ghost use Rattle.itanium_syntax.specs.Args.{attached_case};
-ghost use Rattle.itanium_syntax.specs.Types.{params_case, past_cv};
+ghost use Rattle.itanium_syntax.specs.Types.{params_case, past_cv, type_case};
+ghost use Rattle.itanium_reader.specs.Cases.{NameType, SubstitutionType};
 ghost use Rattle.itanium_reader.specs.Parser as spec;
 ghost use Rattle.itanium_reader.specs.Outcome.{state, Gives, HasRoom, Bounds, OptionalBounds, ListBounds, SavedBounds};
 
@@ -46,8 +47,32 @@ pub(crate) fn read_type_attached(
     }
 }
 
-/// `<type>`, within `depth` open productions.
-#[tactic(auto, using(itanium_reader::proofs::Rules::builtin_literals))]
+/// Whether `N`, a digit or `St` stands there: then a `<type>` is a `<name>`. Others of these begin otherwise.
+#[inline(always)]
+fn begins_name_type(bytes: &[u8]) -> bool
+    ensures case { result ≡ true → type_case bytes.now ≡ NameType }
+{
+    match bytes {
+        [b'N' | b'1'..=b'9', ..] => true,
+        [b'S', b't', ..] => true,
+        _ => false,
+    }
+}
+
+/// Whether `S` stands there and no `t` after it: then a `<type>` is a `<substitution>`.
+#[inline(always)]
+fn begins_substitution_type(bytes: &[u8]) -> bool
+    ensures case { result ≡ true → type_case bytes.now ≡ SubstitutionType }
+{
+    match bytes {
+        [b'S', b't', ..] => false,
+        [b'S', ..] => true,
+        _ => false,
+    }
+}
+
+/// `<type>`, within `depth` open productions: a name or a substitution goes straight to its reader.
+#[tactic(auto, using(itanium_reader::proofs::Rules::types))]
 #[cycle(reader)]
 pub(crate) fn read_type(reader: &mut Reader, depth: usize, context: Context) -> Result<(), Stop>
     requires room { HasRoom 2 (state reader.old) }
@@ -62,24 +87,51 @@ pub(crate) fn read_type(reader: &mut Reader, depth: usize, context: Context) -> 
     }
     reader.entered += 1;
     let inside = context.inside_type();
-    // A builtin type is short, and a name is measured by its own reader.
+    if begins_name_type(reader.rest) {
+        return read_name_type(reader, depth - 1, inside);
+    }
+    if begins_substitution_type(reader.rest) {
+        return read_substitution_type(reader, depth - 1, inside);
+    }
+    read_other_type(reader, depth - 1, inside)
+}
+
+/// Any `<type>`, which is counted already.
+#[tactic(auto, using(itanium_reader::proofs::Rules::builtin_literals))]
+#[cycle(reader)]
+#[inline(never)]
+pub(crate) fn read_other_type(
+    reader: &mut Reader,
+    depth: usize,
+    context: Context,
+) -> Result<(), Stop>
+    requires room { HasRoom 1 (state reader.old) }
+    ensures reads { Gives result reader.new
+        (option_and_then spec.fitting (spec.type_as (type_case reader.old.rest.now)
+        (spec.parse_type depth context) (spec.parse_name depth context)
+        (spec.parse_args depth context false) context (state reader.old))) }
+    ensures run { OnOk result (IsRun reader.old.buffer.value reader.new.buffer.value) }
+    ensures bounds { Bounds 1 result (state reader.old) (state reader.new) }
+    ensures saved { SavedBounds 0 result (state reader.old) (state reader.new) }
+{
+    // A builtin type is short, and a name or a substitution is measured by its own reader.
     match type_case(reader.rest) {
         TypeCase::BuiltinType => {
             reader.read_builtin()?;
             return Ok(());
         }
-        TypeCase::NameType => return read_name_type(reader, depth - 1, inside),
+        TypeCase::NameType => return read_name_type(reader, depth, context),
+        TypeCase::SubstitutionType => return read_substitution_type(reader, depth, context),
         TypeCase::UnreadType => return Err(Stop::Unread),
-        TypeCase::ExpansionType => read_expansion(reader, depth - 1, inside)?,
+        TypeCase::ExpansionType => read_expansion(reader, depth, context)?,
         TypeCase::VendorType => reader.read_vendor()?,
-        TypeCase::ArrayType => read_array(reader, depth - 1, inside)?,
-        TypeCase::FunctionType => read_function_type(reader, depth - 1, inside)?,
-        TypeCase::MemberType => read_member(reader, depth - 1, inside)?,
-        TypeCase::PointerType(kind) => read_pointer(reader, depth - 1, inside, kind)?,
-        TypeCase::CvType => read_cv_type(reader, depth - 1, inside)?,
-        TypeCase::ElaboratedType => read_elaborated(reader, depth - 1, inside)?,
-        TypeCase::ParameterType => read_parameter_type(reader, depth - 1, inside)?,
-        TypeCase::SubstitutionType => read_substitution_type(reader, depth - 1, inside)?,
+        TypeCase::ArrayType => read_array(reader, depth, context)?,
+        TypeCase::FunctionType => read_function_type(reader, depth, context)?,
+        TypeCase::MemberType => read_member(reader, depth, context)?,
+        TypeCase::PointerType(kind) => read_pointer(reader, depth, context, kind)?,
+        TypeCase::CvType => read_cv_type(reader, depth, context)?,
+        TypeCase::ElaboratedType => read_elaborated(reader, depth, context)?,
+        TypeCase::ParameterType => read_parameter_type(reader, depth, context)?,
     }
     if reader.is_wide(reader.found) {
         return Err(Stop::Unread);
@@ -230,9 +282,10 @@ pub(crate) fn read_parameter_type(
     read_type_attached(reader, depth, context)
 }
 
-/// `<substitution> [<template-args>]`: saved with its arguments alone.
+/// `<substitution> [<template-args>]`: saved with its arguments alone, and measured.
 #[tactic(auto, using(itanium_reader::proofs::Rules::buffers))]
 #[cycle(reader)]
+#[inline(never)]
 pub(crate) fn read_substitution_type(
     reader: &mut Reader,
     depth: usize,
@@ -240,18 +293,24 @@ pub(crate) fn read_substitution_type(
 ) -> Result<(), Stop>
     requires room { HasRoom 1 (state reader.old) }
     ensures reads { Gives result reader.new
-        (spec.substitution_type (spec.parse_args depth context false) (state reader.old)) }
+        (option_and_then spec.fitting (spec.substitution_type (spec.parse_args depth context false)
+        (state reader.old))) }
     ensures run { OnOk result (IsRun reader.old.buffer.value reader.new.buffer.value) }
     ensures bounds { Bounds 1 result (state reader.old) (state reader.new) }
     ensures saved { SavedBounds 0 result (state reader.old) (state reader.new) }
 {
     reader.read_substitution()?;
-    read_type_attached(reader, depth, context)
+    read_type_attached(reader, depth, context)?;
+    if reader.is_wide(reader.found) {
+        return Err(Stop::Unread);
+    }
+    Ok(())
 }
 
 /// `<class-enum-type> ::= <name>`, which is saved.
 #[tactic(auto, using(itanium_reader::proofs::Rules::buffers))]
 #[cycle(reader)]
+#[inline(never)]
 pub(crate) fn read_name_type(
     reader: &mut Reader,
     depth: usize,

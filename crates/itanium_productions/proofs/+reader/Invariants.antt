@@ -10,8 +10,20 @@ use Rattle.itanium_productions.proofs.+reader.Given as goal
 abbrev pub decreases-names::read_bare_name : goal.decreases-names::read_bare_name
 decreases-names::read_bare_name l = 16 * l.depth
 
+abbrev pub decreases-names::read_plain_nested : goal.decreases-names::read_plain_nested
+decreases-names::read_plain_nested l = 16 * l.depth
+
+abbrev pub decreases-names::read_bare_nested : goal.decreases-names::read_bare_nested
+decreases-names::read_bare_nested l = 16 * l.depth
+
+abbrev pub decreases-names::read_qualified_nested : goal.decreases-names::read_qualified_nested
+decreases-names::read_qualified_nested l = 16 * l.depth + 1
+
+abbrev pub decreases-names::read_other_name : goal.decreases-names::read_other_name
+decreases-names::read_other_name l = 16 * l.depth + 1
+
 abbrev pub decreases-names::read_name : goal.decreases-names::read_name
-decreases-names::read_name l = 16 * l.depth + 1
+decreases-names::read_name l = 16 * l.depth + 2
 
 abbrev pub decreases-encodings::framed_bare_name : goal.decreases-encodings::framed_bare_name
 decreases-encodings::framed_bare_name l = 16 * l.depth + 1
@@ -36,6 +48,9 @@ decreases-encodings::read_local l = 16 * l.depth + 7
 
 abbrev pub decreases-types::read_type : goal.decreases-types::read_type
 decreases-types::read_type l = 16 * l.depth
+
+abbrev pub decreases-types::read_other_type : goal.decreases-types::read_other_type
+decreases-types::read_other_type l = 16 * l.depth + 7
 
 abbrev pub decreases-args::read_argument : goal.decreases-args::read_argument
 decreases-args::read_argument l = 16 * l.depth + 8
@@ -129,7 +144,7 @@ abbrev pub decreases-types::read_cv_type : goal.decreases-types::read_cv_type
 decreases-types::read_cv_type l = 16 * l.depth + 6
 
 abbrev pub decreases-types::read_elaborated : goal.decreases-types::read_elaborated
-decreases-types::read_elaborated l = 16 * l.depth + 2
+decreases-types::read_elaborated l = 16 * l.depth + 3
 
 abbrev pub decreases-types::read_parameter_type : goal.decreases-types::read_parameter_type
 decreases-types::read_parameter_type l = 16 * l.depth + 4
@@ -138,7 +153,7 @@ abbrev pub decreases-types::read_substitution_type : goal.decreases-types::read_
 decreases-types::read_substitution_type l = 16 * l.depth + 4
 
 abbrev pub decreases-types::read_name_type : goal.decreases-types::read_name_type
-decreases-types::read_name_type l = 16 * l.depth + 2
+decreases-types::read_name_type l = 16 * l.depth + 3
 
 abbrev pub decreases-types::read_typed : goal.decreases-types::read_typed
 decreases-types::read_typed l = 16 * l.depth + 2
@@ -177,7 +192,7 @@ abbrev pub decreases-names::read_other_segment : goal.decreases-names::read_othe
 decreases-names::read_other_segment l = 16 * l.depth + 8
 
 abbrev pub decreases-names::framed_name : goal.decreases-names::framed_name
-decreases-names::framed_name l = 16 * l.depth + 2
+decreases-names::framed_name l = 16 * l.depth + 3
 
 abbrev pub decreases-types::read_expansion : goal.decreases-types::read_expansion
 decreases-types::read_expansion l = 16 * l.depth + 1
@@ -271,10 +286,10 @@ abbrev pub decreases-specials::read_type_special : goal.decreases-specials::read
 decreases-specials::read_type_special l = 16 * l.depth + 2
 
 abbrev pub decreases-specials::read_name_special : goal.decreases-specials::read_name_special
-decreases-specials::read_name_special l = 16 * l.depth + 3
+decreases-specials::read_name_special l = 16 * l.depth + 4
 
 abbrev pub decreases-specials::read_temporary : goal.decreases-specials::read_temporary
-decreases-specials::read_temporary l = 16 * l.depth + 2
+decreases-specials::read_temporary l = 16 * l.depth + 3
 
 abbrev pub decreases-specials::read_construction : goal.decreases-specials::read_construction
 decreases-specials::read_construction l = 16 * l.depth + 2
@@ -283,7 +298,7 @@ abbrev pub decreases-specials::read_thunk : goal.decreases-specials::read_thunk
 decreases-specials::read_thunk l = 16 * l.depth
 
 abbrev pub decreases-specials::read_special : goal.decreases-specials::read_special
-decreases-specials::read_special l = 16 * l.depth + 4
+decreases-specials::read_special l = 16 * l.depth + 5
 
 abbrev pub decreases-specials::read_symbol : goal.decreases-specials::read_symbol
-decreases-specials::read_symbol l = 16 * l.depth + 5
+decreases-specials::read_symbol l = 16 * l.depth + 6
