@@ -211,7 +211,11 @@ kept_text printing after buffer true printed good = subst IsUtf8 (sym printed.1)
 
 -- a mark that is opened leaves the parser's state
 pub opened_state : (r : Reader) (new : Buffer) (m : Mark) → Opens r.buffer.value new m → state (record r { buffer = record r.buffer { value = new } }) ≡ state r
-opened_state r new m o = λ j. record (state r) { saved = o.lists.saved_same j; scopes = o.lists.scopes_same j }
+opened_state r new m o = λ j. record (state r) {
+  saved = o.lists.saved_same j;
+  scopes = o.lists.scopes_same j;
+  most_saved = max r.most_saved (length (o.lists.saved_same j));
+}
 
 -- what is entered and saved over what follows the prefix is within the bounds of the symbol
 pub within_bounds : (symbol inside : List ℕ) (before after : ParserState) → after_prefix symbol ≡ Some inside → before ≡ begun inside
