@@ -222,17 +222,6 @@ pub fn past_internal(bytes: &[u8]) -> &[u8]
     }
 }
 
-/// Past the `M` of a data member's initializer, where one stands.
-pub fn past_initializer_letter(bytes: &[u8]) -> &[u8]
-    ensures rest { result.now ≡ spec.past_initializer_letter bytes.now }
-    ensures within { length result.now ≤ length bytes.now }
-{
-    match bytes {
-        [b'M', rest @ ..] => rest,
-        _ => bytes,
-    }
-}
-
 /// The text of a source name: an unnamed namespace has a text of its own.
 pub fn source_text(name: &[u8]) -> &[u8]
     ensures text { result.now ≡ spec.source_text name.now }
