@@ -460,6 +460,37 @@ fn two_texts_after_a_text_before_a_mark(rt: HostRuntime) {
 
 #[test]
 #[tactic(auto, using(demangle_text::proofs::Laws::laws, demangle_text::proofs::Laws::runs))]
+fn name_after_its_parent(rt: HostRuntime) {
+    let mut buf = Buffer::new(rt.alloc());
+    let mut name = buf.push(b"A").expect(&rt, "no memory");
+    buf.save(name).expect(&rt, "no memory");
+    buf.append_name_in_place(&mut name, b"::", b"value")
+        .expect(&rt, "no memory");
+    assert_text(&rt, &buf, name, b"A::value");
+    assert_own(&rt, &buf, name, 3, 8);
+    assert_main(&rt, &buf, b"A::value");
+    assert_saved(&rt, &buf, 0, b"A");
+    drop(buf);
+}
+
+#[test]
+#[tactic(auto, using(demangle_text::proofs::Laws::laws, demangle_text::proofs::Laws::runs))]
+fn name_after_a_parent_before_a_mark(rt: HostRuntime) {
+    let mut buf = Buffer::new(rt.alloc());
+    let older = buf.push(b"A").expect(&rt, "no memory");
+    let mark = buf.open();
+    let mut name = older;
+    buf.append_name_in_place(&mut name, b"::", b"B")
+        .expect(&rt, "no memory");
+    assert_main(&rt, &buf, b"AA::B");
+    let answer = buf.close(mark, name).expect(&rt, "no memory");
+    assert_text(&rt, &buf, answer, b"A::B");
+    assert_text(&rt, &buf, older, b"A");
+    drop(buf);
+}
+
+#[test]
+#[tactic(auto, using(demangle_text::proofs::Laws::laws, demangle_text::proofs::Laws::runs))]
 fn own_name_after_its_text(rt: HostRuntime) {
     let mut buf = Buffer::new(rt.alloc());
     let text = buf
