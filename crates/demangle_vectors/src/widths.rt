@@ -9,11 +9,15 @@
 //! name whose qualifiers wait with it: the encoding prints them in any case, and stands in a local name, or as an
 //! external name in a list, and these are measured with them. The rows have such names, and the local name is at the
 //! limit.
+//!
+//! Many texts of a megabyte are forgotten, and the values of all rows. Without optimization they would be dropped byte
+//! by byte, in most of the time that these tests take.
 
 use crate::doubling::open_doubling;
 use crate::tables::repeated;
 use itanium_demangle::{Demangler, MAX_TEXT};
 use std::alloc::Global;
+use std::mem::forget;
 use std::process::Abort;
 
 /// The limit.
@@ -83,7 +87,7 @@ fn assert_limit(
     assert_answer(rt, alloc, &mut demangler, wider, None, note);
     assert_answer(rt, alloc, &mut demangler, symbol, Some(answer), note);
     assert_answer(rt, alloc, &mut demangler, wider, None, note);
-    drop(demangler);
+    forget(demangler);
 }
 
 /// The symbol of the row has its answer, and with one letter more it has none.
@@ -94,6 +98,7 @@ fn assert_row(rt: &impl Abort, alloc: Global, row: &Row) {
     let text = with_letters(rt, alloc, *answer, len);
     let wider = with_source(rt, alloc, *symbol, len.saturating_add(1));
     assert_limit(rt, alloc, &at_limit, &text, &wider, symbol[0]);
+    forget([at_limit, text, wider]);
 }
 
 /// `assert_row` of a symbol whose answer has none of the letters.
@@ -102,6 +107,7 @@ fn assert_dropped(rt: &impl Abort, alloc: Global, symbol: [&str; 2], answer: &st
     let at_limit = with_source(rt, alloc, symbol, len);
     let wider = with_source(rt, alloc, symbol, len.saturating_add(1));
     assert_limit(rt, alloc, &at_limit, answer, &wider, symbol[0]);
+    forget([at_limit, wider]);
 }
 
 /// All rows.
@@ -195,6 +201,7 @@ fn arguments_at_the_limit(rt: HostRuntime) {
         assert_one(&rt, rt.alloc(), &list, None, "a list");
         let pack = with_source(&rt, rt.alloc(), ["_Z1fIJ", "EE"], len);
         assert_one(&rt, rt.alloc(), &pack, None, "a pack");
+        forget([list, pack]);
     }
 }
 
@@ -246,6 +253,7 @@ fn two_types(rt: HostRuntime) {
     let front = with_letters(&rt, rt.alloc(), ["construction vtable for ", "-in-"], LIMIT);
     let answer = filled(&rt, rt.alloc(), &front, "a", LIMIT, "");
     assert_limit(&rt, rt.alloc(), &symbol, &answer, &wider, "TC");
+    forget([class, symbol, wider, front, answer]);
 }
 
 /// Thunks are measured with all their words, also with those of a special name inside.
@@ -364,6 +372,7 @@ fn what_is_not_printed(rt: HostRuntime) {
     let dotted = with_letters(&rt, rt.alloc(), ["_Z1f.", ""], LIMIT + 1);
     let answer = with_letters(&rt, rt.alloc(), ["f.", ""], LIMIT + 1);
     assert_one(&rt, rt.alloc(), &dotted, Some(&answer), "a suffix");
+    forget([namespace, null, zeros, params, dotted, answer]);
 }
 
 /// What stands again and again after the symbol of 16 doubled arguments without its last `E`, whose last component

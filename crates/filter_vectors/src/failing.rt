@@ -6,24 +6,22 @@ use std::alloc::Global;
 use std::process::Abort;
 use symfilter_engine::FilterFault;
 
-/// Lines, each with what is written for it by both. The last one has no line feed.
+/// Lines, each with what is written for it by both, which is shorter, the same or longer. The last one has no line
+/// feed. They are short, since each call fails in a run of its own.
 const LINES: [(&[u8], &[u8]); 6] = [
     (b"_Z3foov\n", b"foo\n"),
     (b"x\n", b"x\n"),
     (b"\n", b"\n"),
-    (
-        b"_ZNSt6vectorIS_IiEE4sizeEv\n",
-        b"std::vector<std::vector<int> >::size\n",
-    ),
+    (b"_ZTV1A\n", b"{vtable(A)}\n"),
     (b"_Z1\xff\n", b"_Z1\xff\n"),
     (b"_Z3bar", b"bar"),
 ];
 
 /// All lines, as they are given.
-const GIVEN: &[u8] = b"_Z3foov\nx\n\n_ZNSt6vectorIS_IiEE4sizeEv\n_Z1\xff\n_Z3bar";
+const GIVEN: &[u8] = b"_Z3foov\nx\n\n_ZTV1A\n_Z1\xff\n_Z3bar";
 
 /// What is written for them.
-const WRITTEN: &[u8] = b"foo\nx\n\nstd::vector<std::vector<int> >::size\n_Z1\xff\nbar";
+const WRITTEN: &[u8] = b"foo\nx\n\n{vtable(A)}\n_Z1\xff\nbar";
 
 /// No call has this number.
 const NEVER: usize = 0;

@@ -108,10 +108,12 @@ fn assert_replaced_by_chunks(rt: &impl Abort, alloc: Global, text: &[u8], expect
 
 #[test]
 fn words_at_the_end_of_a_chunk(rt: HostRuntime) {
+    let mut lines = Vec::new(rt.alloc());
+    append(&rt, &mut lines, b"x\n", (CHUNK_LEN - 12) / 2);
     // The chunk ends at each place in the word.
     for left in 0..12 {
         let mut text = Vec::new(rt.alloc());
-        append(&rt, &mut text, b"x\n", (CHUNK_LEN - 12) / 2);
+        append(&rt, &mut text, &lines, 1);
         append(&rt, &mut text, b" ", left);
         let mut expected = Vec::new(rt.alloc());
         append(&rt, &mut expected, &text, 1);
@@ -131,11 +133,11 @@ fn a_word_of_three_chunks(rt: HostRuntime) {
     append(&rt, &mut expected, b"._Z", 130000);
     append(&rt, &mut text, b" _Z3barv\n", 1);
     append(&rt, &mut expected, b" bar\n", 1);
-    // Then long lines without a symbol, and many words in one line.
-    append(&rt, &mut text, b"a malloc of some bytes\n", 9000);
-    append(&rt, &mut expected, b"a malloc of some bytes\n", 9000);
-    append(&rt, &mut text, b"_Z3foov ", 30000);
-    append(&rt, &mut expected, b"foo ", 30000);
+    // Then lines without a symbol, and many words in one line: each longer than a chunk.
+    append(&rt, &mut text, b"a malloc of some bytes\n", 6000);
+    append(&rt, &mut expected, b"a malloc of some bytes\n", 6000);
+    append(&rt, &mut text, b"_Z3foov ", 17000);
+    append(&rt, &mut expected, b"foo ", 17000);
     assert_replaced_by_chunks(&rt, rt.alloc(), &text, &expected);
 }
 
