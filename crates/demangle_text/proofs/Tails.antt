@@ -326,7 +326,7 @@ module _ (b n : Store) (p : Piece) (at : ℕ) (bytes : List ℕ) (from : ℕ) (l
         let front : take at t ≡ t = take_all at t (omega (arith, n_t, at_is)) in
         let none : drop at t ≡ [] = drop_all at t (omega (arith, n_t, at_is)) in
         let whole : u ≡ all = i.text ∙ ap (λ (v : List ℕ). v ++ (bytes ++ drop at t)) front ∙ ap (λ (v : List ℕ). t ++ (bytes ++ v)) none
-            ∙ ap (λ (v : List ℕ). t ++ v) (append-nil bytes ∙ is) ∙ sym (append_assoc t between name) in
+        ∙ ap (λ (v : List ℕ). t ++ v) (append-nil bytes ∙ is) ∙ sym (append_assoc t between name) in
         let m : Outline = record { layout = Flat; own = (length before, length all); templ = false; ctor = false } in
         let starts : length n.main_text - from - length name ≡ length before = omega (arith, splice-long, n_before, n_t, n_bytes) in
         let ends : length n.main_text - from ≡ length all = omega (arith, splice-long, n_all, n_before, n_t, n_bytes) in
@@ -336,7 +336,11 @@ module _ (b n : Store) (p : Piece) (at : ℕ) (bytes : List ℕ) (from : ℕ) (l
         let lives = at_end (subst (λ (v : List ℕ). IsOutlined v (outline_of q)) (sym whole) (subst (IsOutlined all) (sym outline) outlined)) in
         let shape_is : shape_of u (outline_of q) ≡ named between name (shape b p) =
         (λ j. shape_of (whole j) (outline j)) ∙ ap (λ (v : List ℕ). shape_of ((v ++ between) ++ name) (record {
-              layout = Flat; own = (length (v ++ between), length ((v ++ between) ++ name)); templ = false; ctor = false })) (sym (text_is b p lies)) in
+          layout = Flat;
+          own = (length (v ++ between), length ((v ++ between) ++ name));
+          templ = false;
+          ctor = false;
+        })) (sym (text_is b p lies)) in
         subst (λ (s : Shape). Lives n q s) shape_is lives
 
     -- a group before `after`, where the bytes are the gap and the group in its parentheses

@@ -11,7 +11,7 @@ use Rattle.itanium_syntax.specs.declared.numerals.Radix.{Radix}
 use Rattle.itanium_syntax.specs.Bytes.{begins}
 use Rattle.itanium_syntax.specs.Scalars.{numeral, next_number, past_underscore, index_by, index_of}
 use Rattle.itanium_syntax.specs.Specials.{begins_t_and, special_text, special_close}
-use Rattle.itanium_grammar.specs.Answer.{max_text, after_prefix, suffix, IsReading, IsWithin, HasAnswer, IsAnswer, HasLength}
+use Rattle.itanium_grammar.specs.Answer.{max_text, after_prefix, suffix, HasAnswer, IsAnswer, HasLength}
 use Rattle.itanium_grammar.specs.Tree.{Tree, shape_as, printing, worded, temporary_of, construction_of}
 use Rattle.itanium_grammar.specs.Grammar.{Position, Cost, Name, TypeOf, Thunk, SpecialAs, SymbolAs, Symbol, name, type}
 use Rattle.itanium_grammar.specs.Grammar.{thunk, type_special, name_special, temporary_special, construction_special}

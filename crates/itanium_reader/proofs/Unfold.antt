@@ -5,14 +5,13 @@ use Rattle.std.proofs.Common.{Err}
 use Rattle.std.specs.Prelude.{IfSome, option_map, is_some, nat_le, nat_lt, ◌&&◌, ◌==◌, if◌then◌else◌}
 use Rattle.std.proofs.lemmas.Bool.Decides.{nat_tests}
 use Rattle.std.proofs.lemmas.Grind.{common_steps}
-use Rattle.std.proofs.lemmas.Option.{same_Some}
 use Rattle.std.proofs.lemmas.List.{append-nil, length-append, take_at}
 use Rattle.demangle_text.specs.declared.shape.Piece.{Piece}
 use Rattle.demangle_text.specs.declared.buffer.Buffer.{Buffer}
 use Rattle.demangle_text.specs.State.{IsLiving, shape, SameFrame}
 use Rattle.demangle_text.specs.Shape.{Shape, Plain, plain_shape, whole_shape, text, text_len, flattened, moved}
 use Rattle.demangle_text.specs.Calls.{joined}
-use Rattle.demangle_edit.specs.Names.{angle_gap, attached, qualified, tagged}
+use Rattle.demangle_edit.specs.Names.{angle_gap, attached, tagged}
 use Rattle.demangle_edit.specs.Built.{separator, separated, listed_more, arguments_begun, arguments_ended}
 use Rattle.demangle_edit.specs.Lists.{arguments_closed}
 use Rattle.demangle_edit.proofs.Built.{begun_list, begun_more, ended_attached}

@@ -10,7 +10,7 @@ use Rattle.itanium_syntax.specs.Encodings.{entity_case}
 use Rattle.itanium_reader.specs.Cases.{DefaultArgumentEntity}
 use Rattle.itanium_reader.specs.Outcome.{state}
 use Rattle.itanium_reader.specs.Parser as spec
-use Rattle.itanium_reader.proofs.Unfold.{source_opens, saved_first, free_found, kept_parent, some_parent, stops}
+use Rattle.itanium_reader.proofs.Unfold.{saved_first, free_found, kept_parent, some_parent, stops}
 use Rattle.itanium_reader.proofs.Unfold.{attached_start, attached_end, attached_more, attached_fail, attached_plain}
 use Rattle.itanium_reader.proofs.Unfold.{attached_front, pack_start, segments_end, segments_read, segments_none}
 use Rattle.itanium_reader.proofs.Unfold.{items_more, items_fail, typed_end, typed_more, typed_fail, begun_front}
@@ -112,9 +112,11 @@ names::read_segments-returns-then-is_wide-clause-reads t c =
 
 pub names::read_segments-returns-then-end_nested_unsaved-clause-reads : goal.names::read_segments-returns-then-end_nested_unsaved-clause-reads
 names::read_segments-returns-then-end_nested_unsaved-clause-reads t c =
-    let mid = c.read_later_segment.new.reader in
-    (search rules, segments_last _ _ c.loop-context.invariant.reads {next = shape mid.buffer.value mid.found} {mid = state mid}
-    (search rules) (search rules) (search rules) (search rules) (search rules) (search rules) (search rules))
+    let mid = c.read_later_segment.new.reader in (
+      search rules,
+      segments_last _ _ c.loop-context.invariant.reads {next = shape mid.buffer.value mid.found} {mid = state mid}
+          (search rules) (search rules) (search rules) (search rules) (search rules) (search rules) (search rules),
+    )
 
 pub names::read_segments-loop-context-preserved : goal.names::read_segments-loop-context-preserved
 names::read_segments-loop-context-preserved t c = record {

@@ -1,8 +1,8 @@
 -- The part and both texts fill the room for them.
-use Rattle.std.proofs.Common.{◌≡◌, ◌+◌, ◌-◌, ◌++◌, List, [], ℕ, length, take, drop, slice_range, refl, arith, sym, ap, ◌∙◌}
+use Rattle.std.proofs.Common.{◌≡◌, ◌-◌, ◌++◌, List, [], ℕ, length, slice_range, arith, ap, ◌∙◌}
 use Rattle.std.proofs.lemmas.List.{append-nil}
 use Rattle.std.proofs.lemmas.List.Edits.{length-between}
-use Rattle.growing_text.proofs.Rooms.{length-HasRoom, part-room, fits-first, fits-second, three-put}
+use Rattle.growing_text.proofs.Rooms.{part-room, three-put}
 use Rattle.growing_text.proofs.text.Text.repeat_with_pair.Goals as goal
 
 pub returns-clause-ok : goal.returns-clause-ok
