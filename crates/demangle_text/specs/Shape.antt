@@ -106,7 +106,8 @@ whole_shape s = record s { own = (0, text_len s) }
 abbrev pub named : List ℕ → List ℕ → Shape → Shape
 named between name s =
     let before = text s ++ between in
-    record { form = Plain (before ++ name); own = (length before, length (before ++ name)); templ = false; ctor = false }
+    let own : ℕ × ℕ = (length before, length (before ++ name)) in
+    record { form = Plain (before ++ name); own = own; templ = false; ctor = false }
 
 -- its last own name as a plain shape
 abbrev pub own_shape : Shape → Shape

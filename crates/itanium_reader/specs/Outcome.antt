@@ -8,8 +8,8 @@ use Rattle.itanium_reader.specs.declared.reader.Reader.{Reader}
 use Rattle.itanium_reader.specs.declared.stop.Stop.{Stop}
 use Rattle.itanium_reader.specs.declared.stop.Stop.TheVariants.{Unread, Memory}
 
--- the parser's state that a reader stands for: the most that were saved at a moment are kept where one is taken back, and
--- since then no more were saved than now
+-- the parser's state that a reader stands for: it notes the most that were saved at a moment where one is taken back,
+-- and since then no more were saved than now
 abbrev pub state : Reader → ParserState
 state r = record {
   rest = r.rest.now;
