@@ -1,5 +1,5 @@
 //! Edits that make a name out of names (Itanium C++ ABI 5.1.2).
-ghost use Rattle.std.specs.Prelude.{◌≡◌, All, map, IfOk, OnOk};
+ghost use Rattle.std.specs.Prelude.{◌≡◌, All, map, IfOk, OnOk, OnErr};
 ghost use Rattle.demangle_text.specs.Shape.{plain_shape};
 ghost use Rattle.demangle_text.specs.State.{IsLiving, shape, Lives, IsEdit};
 ghost use Rattle.demangle_text.specs.State.{StaysInPlace, IsLeftOrStays, JoinsInPlace, Appends};
@@ -35,7 +35,7 @@ pub fn qualify(buf: &mut Buffer, parent: Piece, leaf: Piece) -> Result<Piece, Al
 }
 
 /// A text in a parent, `parent::text`, as a plain piece whose last own name is the text, with no flag
-/// set. It is offered to others: the readers here change the piece where it is kept.
+/// set. It is offered to others: the readers use `qualify_text_in_place`.
 #[inline(always)]
 #[tactic(auto, using(demangle_text::proofs::Laws::laws))]
 pub fn qualify_text(buf: &mut Buffer, parent: Piece, text: &[u8]) -> Result<Piece, AllocError>
@@ -63,6 +63,7 @@ pub fn qualify_text_in_place(
         (qualified (shape buf.old name.old) (plain_shape text.now))) }
     ensures edit { OnOk result (IsEdit buf.old buf.new) }
     ensures in_place { OnOk result (StaysInPlace buf.old buf.new name.old name.new) }
+    ensures piece_err { OnErr result (name.new ≡ name.old) }
 {
     buf.append_name_in_place(name, b"::", text)?;
     Ok(())

@@ -7,8 +7,8 @@ use Rattle.std.proofs.lemmas.List.{take-take}
 use Rattle.std.proofs.lemmas.List.Edits.{length-between}
 use Rattle.demangle_text.specs.declared.shape.Piece.{Piece}
 use Rattle.demangle_text.specs.Pieces.{Store, IsTail, IsAdjacent, IsSplice, IsJoint, EndsBy, piece_text, own_text, home_bytes}
-use Rattle.demangle_text.specs.Shape.{Shape, text, text_len, plain_shape, inserted, named, own_shape, opened_group, moved}
-use Rattle.demangle_text.specs.Calls.{joined, CanInsert, IsDeclared}
+use Rattle.demangle_text.specs.Shape.{Shape, text, text_len, plain_shape, inserted, own_shape, opened_group, moved}
+use Rattle.demangle_text.specs.Calls.{joined, named, CanInsert, IsDeclared}
 use Rattle.demangle_text.specs.Pieces.{Layout, Flat, Cut, Outline, IsLayout, IsAt, IsOutlined, outline_of, whole_outline, shape_of, place_at, layout_with, layout_opened, layout_end, own_at}
 use Rattle.demangle_text.specs.State.{IsLiving, shape, Lives, IsEditOf, IsJoinOf, main_bytes, frame, frame_start, Frame, Stands}
 use Rattle.demangle_text.specs.declared.shape.Place.{Place}

@@ -1,6 +1,6 @@
 -- What calls of the buffer ask of a shape, answer of it and make of it, where no tree asks for that.
 use Rattle.std.specs.Prelude.{ℕ, ◌+◌, ◌-◌, List, ◌++◌, length}
-use Rattle.std.specs.Prelude.{take, drop, slice_range, Option, Some, None}
+use Rattle.std.specs.Prelude.{take, drop, slice_range, false, Option, Some, None}
 use Rattle.demangle_text.specs.declared.shape.Kind.{Kind}
 use Rattle.demangle_text.specs.declared.shape.Kind.TheVariants.{Array, Function}
 use Rattle.demangle_text.specs.declared.shape.Place.{Place}
@@ -10,6 +10,13 @@ use Rattle.demangle_text.specs.Shape.{Form, Plain, Declared, Shape, grouped, tex
 -- two texts with bytes between them
 abbrev pub joined : Shape → List ℕ → Shape → Shape
 joined first bytes second = plain_shape (text first ++ bytes ++ text second)
+
+-- its text, bytes and a name after it as a plain shape: the name is its last own name
+abbrev pub named : List ℕ → List ℕ → Shape → Shape
+named between name s =
+    let before = text s ++ between in
+    let own : ℕ × ℕ = (length before, length (before ++ name)) in
+    record { form = Plain (before ++ name); own = own; templ = false; ctor = false }
 
 -- declared, with a group between the `(` at one byte and the `)` right before `after`
 abbrev pub declared_group : Kind → ℕ → ℕ → Shape → Shape

@@ -102,13 +102,6 @@ flattened s = record s { form = Plain (text s) }
 abbrev pub whole_shape : Shape → Shape
 whole_shape s = record s { own = (0, text_len s) }
 
--- its text, bytes and a name after it as a plain shape: the name is its last own name
-abbrev pub named : List ℕ → List ℕ → Shape → Shape
-named between name s =
-    let before = text s ++ between in
-    let own : ℕ × ℕ = (length before, length (before ++ name)) in
-    record { form = Plain (before ++ name); own = own; templ = false; ctor = false }
-
 -- its last own name as a plain shape
 abbrev pub own_shape : Shape → Shape
 own_shape s = plain_shape (slice_range (text s) s.own.0 s.own.1)

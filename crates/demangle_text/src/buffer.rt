@@ -57,9 +57,9 @@ impl Buffer {
     ghost use Rattle.demangle_text.specs.State.{StandsAs, StandsShortened, frame_start, Frame, IsOlder, KeepsFront};
     ghost use Rattle.demangle_text.specs.State.{IsEditOf, IsJoinOf};
     ghost use Rattle.demangle_text.specs.Shape.{text, text_len, plain_shape, inserted, appended, opened_group};
-    ghost use Rattle.demangle_text.specs.Shape.{shortened, flagged, with_own, flattened, named, whole_shape, own_shape};
+    ghost use Rattle.demangle_text.specs.Shape.{shortened, flagged, with_own, flattened, whole_shape, own_shape};
     ghost use Rattle.demangle_text.specs.Shape.{declared_at};
-    ghost use Rattle.demangle_text.specs.Calls.{joined, CanInsert, IsPlain, IsDeclared, IsNotFunction, kind_of};
+    ghost use Rattle.demangle_text.specs.Calls.{joined, named, CanInsert, IsPlain, IsDeclared, IsNotFunction, kind_of};
     ghost use Rattle.demangle_text.specs.Calls.{group_of, after_of, declared_group};
 
     /// An empty buffer, with no mark open. It takes no memory.

@@ -214,7 +214,7 @@ pub opened_state : (r : Reader) (new : Buffer) (m : Mark) → Opens r.buffer.val
 opened_state r new m o = λ j. record (state r) {
   saved = o.lists.saved_same j;
   scopes = o.lists.scopes_same j;
-  most_saved = max r.most_saved (length (o.lists.saved_same j));
+  most_saved = max r.most_noted (length (o.lists.saved_same j));
 }
 
 -- what is entered and saved over what follows the prefix is within the bounds of the symbol

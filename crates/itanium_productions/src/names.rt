@@ -493,7 +493,7 @@ pub(crate) fn read_name(reader: &mut Reader, depth: usize, context: Context) -> 
     read_other_name(reader, depth, context)
 }
 
-/// `<name> ::= <nested-name>` without own qualifiers: it is measured once.
+/// `<name> ::= <nested-name>` that has no own qualifiers: it is measured once.
 #[tactic(auto, using(crate::proofs::NestedNames::plain_nested_names))]
 #[cycle(reader)]
 #[inline(always)]
@@ -580,7 +580,7 @@ pub(crate) fn read_qualified_nested(
     Ok(())
 }
 
-/// Any `<name>` with its own qualifiers, which its reader answers.
+/// `read_name` of any `<name>`: `read_bare_name` answers the own qualifiers.
 #[tactic(auto, using(crate::proofs::NestedNames::names_measured_twice))]
 #[cycle(reader)]
 #[inline(never)]

@@ -47,7 +47,8 @@ pub(crate) fn read_type_attached(
     }
 }
 
-/// Whether `N`, a digit or `St` stands there: then a `<type>` is a `<name>`. Others of these begin otherwise.
+/// Whether `N`, `1` to `9` or `St` stands there: then a `<type>` is a `<name>`. Some names that are types begin
+/// otherwise.
 #[inline(always)]
 fn begins_name_type(bytes: &[u8]) -> bool
     ensures case { result ≡ true → type_case bytes.now ≡ NameType }

@@ -9,14 +9,14 @@ use Rattle.itanium_reader.specs.declared.stop.Stop.{Stop}
 use Rattle.itanium_reader.specs.declared.stop.Stop.TheVariants.{Unread, Memory}
 
 -- the parser's state that a reader stands for: it notes the most that were saved at a moment where one is taken back,
--- and since then no more were saved than now
+-- or would be. Since then none was, so no more were saved than now
 abbrev pub state : Reader → ParserState
 state r = record {
   rest = r.rest.now;
   saved = saved r.buffer.value;
   scopes = scopes r.buffer.value;
   entered = r.entered;
-  most_saved = max r.most_saved (length (saved r.buffer.value));
+  most_saved = max r.most_noted (length (saved r.buffer.value));
 }
 
 -- the call gives what the parser gives: the piece that it found lives, with that shape; nothing is said where memory
@@ -46,7 +46,7 @@ Leaves (Err Memory) after parsed = Unit {0}
 abbrev pub HasRoom : ℕ → ParserState → Type 0
 HasRoom more s = s.entered + 2 * length s.rest + more < 2 ^ 64
 
--- a reading takes bytes and leaves the rest of the state; a failing run leaves all of it
+-- a reading takes bytes, and all else of the state stays; a failing run leaves all of it
 abbrev pub OnlyTakes : Result (Unit {0}) Stop → ParserState → ParserState → Type 0
 OnlyTakes (Ok u) before after = (length after.rest < length before.rest) × (after ≡ with_rest after.rest before)
 OnlyTakes (Err Unread) before after = after ≡ before

@@ -43,7 +43,8 @@ pub struct Reader<'a> {
     pub buffer: Box<Buffer>,
     pub found: Piece,
     pub entered: usize,
-    pub most_saved: usize,
+    /// The most components that were saved when one was last taken back: `most_saved` is the most at any moment.
+    pub most_noted: usize,
     pub alloc: Global,
 }
 
@@ -65,7 +66,7 @@ impl<'a> Reader<'a> {
             buffer,
             found,
             entered: 0,
-            most_saved: 0,
+            most_noted: 0,
             alloc,
         }
     }
@@ -147,6 +148,7 @@ impl<'a> Reader<'a> {
             × (self.new ≡ self.old) }
         ensures found { self.new.found ≡ self.old.found }
         ensures kept { SameFrame self.old.buffer.value self.new.buffer.value }
+        ensures main { main_bytes self.new.buffer.value ≡ main_bytes self.old.buffer.value }
     {
         let [b'E', rest @ ..] = self.rest else {
             return false;
@@ -162,7 +164,8 @@ impl<'a> Reader<'a> {
         ensures ended { result ≡ true → (segment_case self.old.rest.now ≡ EndOfSegments)
             × (state self.new ≡ spec.skip 1 (spec.saved_once (state self.old)))
             × (length self.new.rest.now < length self.old.rest.now) }
-        ensures goes_on { result ≡ false → self.new ≡ self.old }
+        ensures goes_on { result ≡ false → (segment_case self.old.rest.now ≡ EndOfSegments → ⊥)
+            × (self.new ≡ self.old) }
         ensures found { self.new.found ≡ self.old.found }
         ensures buffer { self.new.buffer.value ≡ self.old.buffer.value }
     {
@@ -170,7 +173,7 @@ impl<'a> Reader<'a> {
             return false;
         };
         self.rest = rest;
-        self.most_saved = self.most_saved.max(self.buffer.saved_len() + 1);
+        self.most_noted = self.most_noted.max(self.buffer.saved_len() + 1);
         true
     }
 
@@ -188,7 +191,7 @@ impl<'a> Reader<'a> {
     pub fn most_saved(&self) -> usize
         ensures value { result ≡ (state self.now).most_saved }
     {
-        self.most_saved.max(self.buffer.saved_len())
+        self.most_noted.max(self.buffer.saved_len())
     }
 
     /// Takes the last saved component back, where it is to be.
@@ -198,9 +201,10 @@ impl<'a> Reader<'a> {
         ensures fewer { length (saved self.new.buffer.value) ≤ length (saved self.old.buffer.value) }
         ensures found { self.new.found ≡ self.old.found }
         ensures kept { SameFrame self.old.buffer.value self.new.buffer.value }
+        ensures main { main_bytes self.new.buffer.value ≡ main_bytes self.old.buffer.value }
     {
         if takes {
-            self.most_saved = self.most_saved();
+            self.most_noted = self.most_saved();
             self.buffer.unsave();
         }
     }

@@ -117,7 +117,8 @@ pub fn index_of(radix: Radix, bytes: &[u8]) -> Option<(usize, &[u8])>
     }
 }
 
-/// `index_of` where the numeral is left out or has one digit. `None` also where it has more.
+/// `index_of` where the numeral is left out or has one digit. `None` where it has more, and it may be answered wherever
+/// no `_` is first.
 #[tactic(auto, unfolding(
 // The index, and the digits that write it.
 crate::specs::Scalars::index_of, crate::specs::Scalars::front_digits, crate::specs::Scalars::weighted))]

@@ -14,5 +14,5 @@ returns-in_ok-save-in-NoTag-clause-reads c =
           {text = slice_range c.args.self.now.rest.now c.in-Some.from c.in-Some.to}
           {rest = drop c.in-Some.to c.args.self.now.rest.now} (search rules)
           (rw left at (sym c.in-NoTag.ensures.case)) (search (rules, laws, runs))
-          left (search (rules, laws, runs)) (search (rules, laws, runs)) refl c.args.self.now.most_saved refl refl,
+          left (search (rules, laws, runs)) (search (rules, laws, runs)) refl c.args.self.now.most_noted refl refl,
     )
