@@ -11,9 +11,10 @@
 //! entity is read, and `close_default_arg` joins the two after it. Both give the same shape.
 //!
 //! A list after a name is put together from pieces (`attach_template_args`, `format_params`), or built as it is
-//! read: what opens it, then `separate` before each text but the first, and `list_next` after each (`join` of the
-//! buffer in a list that `begin_arguments` began), then what closes it. Both give the same shape. So it is with a
-//! function type: `function_type`, or `open_function` and `close_function`.
+//! read: what opens it, then `separate` before each text but the first (`separate_last` where the list is known to stand
+//! at the end), and `list_next` after each (`join` of the buffer in a list that `begin_arguments` began), then what
+//! closes it. Both give the same shape. So it is with a function type: `function_type`, or `open_function` and
+//! `close_function`.
 #![tactic(auto)]
 
 mod appends;
@@ -29,7 +30,7 @@ pub use crate::expressions::{
 };
 pub use crate::lists::{
     append_number, begin_arguments, close_lambda, close_params, end_arguments, glue, list_next,
-    open_params, separate,
+    open_params, separate, separate_last,
 };
 pub use crate::names::{
     apply_name_qualifiers, attach_template_args, close_default_arg, default_arg, format_params,

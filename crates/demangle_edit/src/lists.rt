@@ -3,6 +3,7 @@ ghost use Rattle.std.specs.Prelude.{◌≡◌, ◌≤◌, ◌++◌, All, map, de
 ghost use Rattle.demangle_text.specs.Shape.{text, text_len, plain_shape, appended};
 ghost use Rattle.demangle_text.specs.State.{IsLiving, shape, Lives, IsEdit, KeepsAll};
 ghost use Rattle.demangle_text.specs.State.{StaysInPlace, JoinsInPlace, Appends};
+ghost use Rattle.demangle_text.specs.Calls.{IsLast};
 ghost use Rattle.demangle_edit.specs.Lists.{glued, arguments_closed, pack_shape};
 ghost use Rattle.demangle_edit.specs.Calls.{part_text, IsLivingPart};
 ghost use Rattle.demangle_edit.specs.Built.{separator, separated, followed, listed_more};
@@ -113,6 +114,21 @@ pub fn separate(buf: &mut Buffer, list: Piece) -> Result<Piece, AllocError>
 {
     let plain = buf.plain(list);
     buf.append(plain, b", ")
+}
+
+/// As `separate`, of a list that stands up to the end of the main text, from the innermost mark or later: it stays
+/// there.
+#[inline(always)]
+#[tactic(auto, using(demangle_text::proofs::Laws::laws, demangle_text::proofs::Laws::lasts))]
+pub fn separate_last(buf: &mut Buffer, list: Piece) -> Result<Piece, AllocError>
+    requires list { IsLiving buf.old list }
+    requires last { IsLast buf.old list }
+    ensures shape { IfOk result (λ p. Lives buf.new p (separated false (shape buf.old list))) }
+    ensures edit { OnOk result (IsEdit buf.old buf.new) }
+    ensures in_place { IfOk result (λ p. StaysInPlace buf.old buf.new list p) }
+{
+    let plain = buf.plain(list);
+    buf.append_last(plain, b", ")
 }
 
 /// A list that is built as it is read, with the text of the piece at its end. A plain piece with the

@@ -9,6 +9,7 @@ use Rattle.demangle_text.specs.Pieces.{Store}
 use Rattle.demangle_text.specs.State.{Frame, frame, frame_start, inside, main_bytes, IsLiving, IsOlder, IsAsOld, shape}
 use Rattle.demangle_text.specs.State.{Lives, SameLists, SameFrame, KeepsFront, KeepsAll, IsEdit, Opens, Closes, IsRun}
 use Rattle.demangle_text.specs.State.{IsSince}
+use Rattle.demangle_text.specs.Calls.{IsLast, AreAdjacent}
 use Rattle.demangle_text.specs.State.{Stands, StandsAs, StandsBefore, EndsMain, IsEditOf, IsJoinOf, StaysInPlace, JoinsInPlace, Appends}
 use Rattle.demangle_text.proofs.States.{Stands-begins, Stands-ordered, Stands-tail}
 
@@ -286,8 +287,52 @@ module _ (old mid new : Store) (p q r : Piece) (n : ℕ) (lies : IsLiving old p)
     stays = joined_stays;
   }
 
+-- what was edited stands last
+pub IsLast-stays : (old new : Store) (p q : Piece) → IsEdit old new → StaysInPlace old new p q → IsLast new q
+IsLast-stays old new p q e s = record {
+  from = s.ends.from;
+  inner = subst (λ (f : Frame). frame_start f ≤ s.ends.from) (sym e.frame_same) s.ends.inner;
+  stands = s.ends.stands;
+}
+
+-- so does what was pushed
+pub IsLast-push : (old new : Store) (p : Piece) → KeepsAll old new → frame_start (frame old) ≤ length (main_bytes old)
+    → Stands p (length (main_bytes old)) (length (main_bytes new)) → IsLast new p
+IsLast-push old new p u inner stands = record {
+  from = length (main_bytes old);
+  inner = subst (λ (f : Frame). frame_start f ≤ length (main_bytes old)) (sym u.frame_same) inner;
+  stands = stands;
+}
+
+-- and what is answered for a piece that stands last
+pub IsLast-named : (b : Store) (p q : Piece) → IsLast b p → StandsAs p q → IsLast b q
+IsLast-named b p q l as_piece = record { from = l.from; inner = l.inner; stands = as_piece l.from (length (main_bytes b)) l.stands }
+
+-- what stood last, and what was put after it
+pub AreAdjacent-follows : (old new : Store) (p q : Piece) → IsLast old p → SameFrame old new → Stands q (length (main_bytes old)) (length (main_bytes new)) → AreAdjacent new p q
+AreAdjacent-follows old new p q l k stands = record {
+  from = l.from;
+  middle = length (main_bytes old);
+  inner = subst (λ (f : Frame). frame_start f ≤ l.from) (sym k.frame_same) l.inner;
+  first_stands = l.stands;
+  second_stands = stands;
+}
+
+-- they stay adjacent where the main text stays
+pub AreAdjacent-same : (old new : Store) (p q : Piece) → AreAdjacent old p q → SameFrame old new → main_bytes new ≡ main_bytes old → AreAdjacent new p q
+AreAdjacent-same old new p q a k main = record {
+  from = a.from;
+  middle = a.middle;
+  inner = subst (λ (f : Frame). frame_start f ≤ a.from) (sym k.frame_same) a.inner;
+  first_stands = a.first_stands;
+  second_stands = subst (λ (t : List ℕ). Stands q a.middle (length t)) (sym main) a.second_stands;
+}
+
 -- the laws for the readers
 pub ruleset runs = (IsRun-edit, IsRun-same, SameFrame-keeps, SameFrame-trans, IsRun-trans, IsSince-opens, IsSince-run, SameFrame-closed, Lives-same)
+
+-- the laws for what is put after what stands last
+pub ruleset lasts = (IsLast-stays, IsLast-push, IsLast-named, AreAdjacent-follows, AreAdjacent-same)
 
 -- the laws for the callers of a buffer
 pub ruleset laws = (Lives-keeps, IsEdit-keeps, KeepsAll-trans, IsEdit-trans, Opens-edit, Opens-keeps, KeepsAll-closed)

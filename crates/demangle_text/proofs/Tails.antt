@@ -8,7 +8,7 @@ use Rattle.std.proofs.lemmas.List.Edits.{length-between}
 use Rattle.demangle_text.specs.declared.shape.Piece.{Piece}
 use Rattle.demangle_text.specs.Pieces.{Store, IsTail, IsAdjacent, IsSplice, IsJoint, EndsBy, piece_text, own_text, home_bytes}
 use Rattle.demangle_text.specs.Shape.{Shape, text, text_len, plain_shape, inserted, own_shape, opened_group, moved}
-use Rattle.demangle_text.specs.Calls.{joined, named, CanInsert, IsDeclared}
+use Rattle.demangle_text.specs.Calls.{joined, named, CanInsert, IsDeclared, AreAdjacent}
 use Rattle.demangle_text.specs.Pieces.{Layout, Flat, Cut, Outline, IsLayout, IsAt, IsOutlined, outline_of, whole_outline, shape_of, place_at, layout_with, layout_opened, layout_end, own_at}
 use Rattle.demangle_text.specs.State.{IsLiving, shape, Lives, IsEditOf, IsJoinOf, main_bytes, frame, frame_start, Frame, Stands}
 use Rattle.demangle_text.specs.declared.shape.Place.{Place}
@@ -153,6 +153,16 @@ IsJoint-inserted s t first bytes second h ordered after is =
       -- (the second text is empty then)
       after = λ tail. (refl, n ∙ omega (arith, tail.ends, h.meets, ap length texts.1, length-drop k (drop first.from_byte main), length-drop first.from_byte main));
     }
+
+-- pieces that are adjacent at the end are joined already
+pub IsJoint-adjacent : (s : Store) (first second : Piece) → AreAdjacent s first second → first.from_byte ≤ first.to_byte → second.from_byte ≤ second.to_byte → IsJoint s s first [] second first.from_byte
+unfolding main_bytes frame frame_start Frame Stands
+IsJoint-adjacent s first second h ordered after =
+    let one = h.first_stands in
+    let two = h.second_stands in
+    let meet : IsAdjacent s first second =
+    record { first_in_main = one.in_main; second_in_main = two.in_main; inner = omega (arith, h.inner, one.begins); meets = one.ends ∙ sym two.begins; ends = two.ends } in
+    IsJoint-inserted s s first [] second meet ordered after (sym (take-append-drop second.from_byte s.main_text))
 
 -- a copy of both, where they don't meet at the end, the second isn't there with the first before it, nor the first
 pub IsJoint-copied : (s t : Store) (first : Piece) (bytes : List ℕ) (second : Piece) (from : ℕ) → (IsAdjacent s first second → ⊥) → (IsTail s second → EndsBy second.from_byte first → ⊥)

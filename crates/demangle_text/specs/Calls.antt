@@ -1,11 +1,29 @@
 -- What calls of the buffer ask of a shape, answer of it and make of it, where no tree asks for that.
-use Rattle.std.specs.Prelude.{ℕ, ◌+◌, ◌-◌, List, ◌++◌, length}
+use Rattle.std.specs.Prelude.{ℕ, ◌+◌, ◌-◌, ◌≤◌, List, ◌++◌, length}
 use Rattle.std.specs.Prelude.{take, drop, slice_range, false, Option, Some, None}
 use Rattle.demangle_text.specs.declared.shape.Kind.{Kind}
 use Rattle.demangle_text.specs.declared.shape.Kind.TheVariants.{Array, Function}
 use Rattle.demangle_text.specs.declared.shape.Place.{Place}
 use Rattle.demangle_text.specs.declared.shape.Place.TheVariants.{Start, Close, Suffix, End}
+use Rattle.demangle_text.specs.declared.shape.Piece.{Piece}
 use Rattle.demangle_text.specs.Shape.{Form, Plain, Declared, Shape, grouped, text, plain_shape, own_in}
+use Rattle.demangle_text.specs.Pieces.{Store}
+use Rattle.demangle_text.specs.State.{Stands, frame, frame_start, main_bytes}
+
+-- the piece stands up to the end of the main text, from the innermost mark or later
+pub record IsLast (b : Store) (p : Piece) : Type 0 where
+  pub from : ℕ
+  pub inner : frame_start (frame b) ≤ from
+  pub stands : Stands p from (length (main_bytes b))
+
+-- the first piece stands up to where the second begins, and the second up to the end of the main text, both from the
+-- innermost mark or later
+pub record AreAdjacent (b : Store) (first second : Piece) : Type 0 where
+  pub from : ℕ
+  pub middle : ℕ
+  pub inner : frame_start (frame b) ≤ from
+  pub first_stands : Stands first from middle
+  pub second_stands : Stands second middle (length (main_bytes b))
 
 -- two texts with bytes between them
 abbrev pub joined : Shape → List ℕ → Shape → Shape

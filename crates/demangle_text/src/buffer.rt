@@ -60,6 +60,7 @@ impl Buffer {
     ghost use Rattle.demangle_text.specs.Shape.{shortened, flagged, with_own, flattened, whole_shape, own_shape};
     ghost use Rattle.demangle_text.specs.Shape.{declared_at};
     ghost use Rattle.demangle_text.specs.Calls.{joined, named, CanInsert, IsPlain, IsDeclared, IsNotFunction, kind_of};
+    ghost use Rattle.demangle_text.specs.Calls.{IsLast, AreAdjacent};
     ghost use Rattle.demangle_text.specs.Calls.{group_of, after_of, declared_group};
 
     /// An empty buffer, with no mark open. It takes no memory.
@@ -210,6 +211,23 @@ impl Buffer {
         ensures main_err { OnErr result (main_bytes self.new ≡ main_bytes self.old) }
     {
         self.insert(piece, Place::End, bytes)
+    }
+
+    /// As `append`, of a piece that stands up to the end of the main text, from the innermost mark or later: it isn't
+    /// asked whether it does, and it stays there.
+    #[inline(always)]
+    pub fn append_last(&mut self, piece: Piece, bytes: &[u8]) -> Result<Piece, AllocError>
+        requires living { IsLiving self.old piece }
+        requires last { IsLast self.old piece }
+        ensures shape { IfOk result (λ p. Lives self.new p (appended bytes.now (shape self.old piece))) }
+        ensures edit { OnOk result (IsEdit self.old self.new) }
+        ensures err { OnErr result (KeepsAll self.old self.new) }
+        ensures edit_of { IfOk result (λ p. IsEditOf self.old self.new piece p (length bytes.now)) }
+        ensures main_err { OnErr result (main_bytes self.new ≡ main_bytes self.old) }
+    {
+        let at = piece.place(Place::End);
+        let from = self.splice_last(piece, bytes)?;
+        Ok(piece.with_bytes(Place::End, at, bytes.len(), from, self.main.len()))
     }
 
     /// The piece with both texts at the end of its text, one after the other. Ends pieces, copies a
@@ -378,6 +396,20 @@ impl Buffer {
     {
         let from = self.join_texts(first, bytes, second)?;
         Ok(Piece::whole_at(from, self.main.len()))
+    }
+
+    /// As `join` with no bytes between them, where the first ends where the second begins, and the second stands up to
+    /// the end of the main text, both from the innermost mark or later: it isn't asked whether they do. The buffer stays
+    /// as it is.
+    #[inline(always)]
+    pub fn join_adjacent(&self, first: Piece, second: Piece) -> Piece
+        requires first_living { IsLiving self.now first }
+        requires second_living { IsLiving self.now second }
+        requires adjacent { AreAdjacent self.now first second }
+        ensures shape { Lives self.now result (joined (shape self.now first) [] (shape self.now second)) }
+        ensures last { IsLast self.now result }
+    {
+        Piece::whole_at(first.from_byte, self.main.len())
     }
 
     /// The main text.

@@ -222,6 +222,20 @@ impl Buffer {
         self.splice_alone(piece, at, texts)
     }
 
+    // The text of a piece that stands at the end of the main text, with bytes after it: where it begins.
+    #[inline(always)]
+    pub(crate) fn splice_last(&mut self, piece: Piece, bytes: &[u8]) -> Result<usize, AllocError>
+        requires living { IsLiving self.old piece }
+        requires last { IsTail self.old piece }
+        ensures splice { IfOk result (IsSplice self.old self.new piece (piece.to_byte - piece.from_byte) bytes.now) }
+        ensures edit { OnOk result (IsEdit self.old self.new) }
+        ensures err { OnErr result (KeepsAll self.old self.new) }
+        ensures main_err { OnErr result (self.new.main_text ≡ self.old.main_text) }
+    {
+        self.add_bytes(bytes)?;
+        Ok(piece.from_byte)
+    }
+
     // `extend_elsewhere` of the piece's text alone, inlined as well.
     #[inline(always)]
     fn extend_alone(

@@ -10,16 +10,28 @@ pub(crate) fn copy_text(room: &mut [u8], text: &[u8])
     ensures value { room.new ≡ text.now }
 {
     let n = text.len();
-    if 8 <= n && n <= 16 {
+    if n < 8 {
+        copy_short(room, text);
+    } else if n <= 16 {
         by_lanes::<8>(room, text);
-    } else if 4 <= n && n < 8 {
-        by_lanes::<4>(room, text);
-    } else if 16 < n && n <= 32 {
+    } else if n <= 32 {
         by_lanes::<16>(room, text);
-    } else if n < 4 {
-        by_one(room, text);
     } else {
         room.copy_from_slice(text);
+    }
+}
+
+// A text of fewer than 8 bytes.
+#[inline(always)]
+fn copy_short(room: &mut [u8], text: &[u8])
+    requires same { length room.old ≡ length text.now }
+    requires short { length text.now < 8 }
+    ensures value { room.new ≡ text.now }
+{
+    if text.len() < 4 {
+        by_one(room, text);
+    } else {
+        by_lanes::<4>(room, text);
     }
 }
 

@@ -1,6 +1,6 @@
 //! Template arguments (Itanium C++ ABI 5.1.5).
 ghost use Rattle.std.specs.Prelude.{◌≡◌, ◌<◌, OnOk, length};
-ghost use Rattle.demangle_text.specs.State.{IsLiving, shape, IsRun, SameFrame};
+ghost use Rattle.demangle_text.specs.State.{IsLiving, shape, IsRun, SameFrame, Stands, main_bytes};
 ghost use Rattle.itanium_reader.specs.Parser as spec;
 ghost use Rattle.itanium_reader.specs.Outcome.{state, Gives, HasRoom, Bounds, SavedBounds};
 
@@ -13,7 +13,7 @@ use itanium_syntax::context::Context;
 
 /// `<template-args> ::= I <template-arg>* E`, of a name or of a type, after what was found, within `depth` open
 /// productions.
-#[tactic(auto, using(itanium_reader::proofs::Rules::argument_lists))]
+#[tactic(auto, using(itanium_reader::proofs::Rules::argument_lists, itanium_reader::proofs::Rules::lasts))]
 #[cycle(reader)]
 pub(crate) fn read_attached(
     reader: &mut Reader,
@@ -39,7 +39,7 @@ pub(crate) fn read_attached(
     let own = reader.buffer.own_range(reader.found);
     let ctor = reader.buffer.ctor(reader.found);
     reader.entered += 1;
-    reader.skip(1);
+    reader.skip_one();
     let opens = context.opens_scope(of_name);
     reader.begin_list(opens)?;
     let scopes = reader.buffer.scopes();
@@ -58,10 +58,10 @@ pub(crate) fn read_attached(
                 return Ok(());
             }
             ArgsCase::NextArgument => {
-                list = reader.separate_list(list, first)?;
+                list = reader.separate_last(list, first)?;
                 framed_argument(reader, depth - 1, context)?;
                 reader.add_argument(opens, scopes)?;
-                list = reader.buffer.join(list, b"", reader.found)?;
+                list = reader.buffer.join_adjacent(list, reader.found);
                 if reader.buffer.len(list) - front > text_limit() {
                     return Err(Stop::Unread);
                 }
@@ -159,7 +159,7 @@ pub(crate) fn read_argument(reader: &mut Reader, depth: usize, context: Context)
     }
 }
 
-/// A `<template-arg>` in a frame of its own: what lived keeps its shape.
+/// A `<template-arg>` in a frame of its own: what lived keeps its shape. It stands right after all that was there.
 #[tactic(auto, using(itanium_reader::proofs::Rules::buffers))]
 #[cycle(reader)]
 #[inline(always)]
@@ -172,6 +172,8 @@ pub(crate) fn framed_argument(
     ensures reads { Gives result reader.new
         (spec.parse_argument depth context (state reader.old)) }
     ensures kept { OnOk result (SameFrame reader.old.buffer.value reader.new.buffer.value) }
+    ensures stands { OnOk result (Stands reader.new.found (length (main_bytes reader.old.buffer.value))
+        (length (main_bytes reader.new.buffer.value))) }
     ensures bounds { Bounds 0 result (state reader.old) (state reader.new) }
     ensures saved { SavedBounds 0 result (state reader.old) (state reader.new) }
 {

@@ -1,13 +1,15 @@
 //! Names (Itanium C++ ABI 5.1.2).
-ghost use Rattle.std.specs.Prelude.{◌≡◌, ◌<◌, drop, length, option_map, None, Some, IfSome, OnOk, true, false};
-ghost use Rattle.demangle_text.specs.State.{IsLiving, shape, IsRun, SameFrame, saved};
-ghost use Rattle.itanium_syntax.specs.Names.{begins_quals, free_case, first_case, name_case, segment_case};
+ghost use Rattle.std.specs.Prelude.{◌≡◌, ◌<◌, drop, length, Option, option_and_then, None, Some, OnOk, true, false};
+ghost use Rattle.demangle_text.specs.Shape.{Shape};
+ghost use Rattle.demangle_text.specs.State.{IsLiving, shape, IsRun, SameFrame, saved, Stands, main_bytes};
+ghost use Rattle.itanium_syntax.specs.Names.{begins_quals, past_name_quals, free_case, first_case, name_case, segment_case};
 ghost use Rattle.itanium_syntax.specs.Names.{unscoped_case, saves_first};
 ghost use Rattle.itanium_syntax.specs.Context.{inside_lambda};
 ghost use Rattle.itanium_syntax.specs.Args.{attached_case};
-ghost use Rattle.itanium_reader.specs.Cases.{NameFirst, NestedName};
+ghost use Rattle.itanium_reader.specs.Cases.{NameFirst, NestedName, UnscopedName, FreeName};
 ghost use Rattle.itanium_reader.specs.Parser as spec;
-ghost use Rattle.itanium_reader.specs.Outcome.{state, Gives, GivesBareName, HasRoom, Bounds, OptionalBounds, SavedBounds};
+ghost use Rattle.itanium_reader.specs.Parser.{ParserState};
+ghost use Rattle.itanium_reader.specs.Outcome.{state, Gives, GivesBareName, LoopSoFar, HasRoom, Bounds, OptionalBounds, SavedBounds, SavedBoundsWaiting};
 
 use crate::args::read_attached;
 use crate::encodings::read_local;
@@ -96,39 +98,29 @@ pub(crate) fn framed_free_name(
 {
     let mark = reader.buffer.open();
     read_free_name(reader, depth, context)?;
-    reader.read_tags(reader.found)?;
+    reader.read_found_tags()?;
     reader.buffer.close_in_place(mark, &mut reader.found)?;
     Ok(())
 }
 
-/// `<unqualified-name>`, in the parent that stands in front of it, if one does.
-#[tactic(auto, using(itanium_reader::proofs::Rules::unqualified_names))]
+/// `<unqualified-name>` in no parent, of any kind.
+#[tactic(auto, using(itanium_reader::proofs::Rules::outer_names))]
 #[cycle(reader)]
 pub(crate) fn read_unqualified(
     reader: &mut Reader,
     depth: usize,
     context: Context,
-    parent: Option<Piece>,
 ) -> Result<(), Stop>
     requires room { HasRoom 0 (state reader.old) }
-    requires parent { IfSome parent (IsLiving reader.old.buffer.value) }
     ensures reads { Gives result reader.new
         (spec.parse_unqualified (spec.parse_type depth context) (spec.parse_type depth (inside_lambda context))
-        (option_map (shape reader.old.buffer.value) parent) (state reader.old)) }
-    ensures run { OnOk result (IsRun reader.old.buffer.value reader.new.buffer.value) }
+        None (state reader.old)) }
+    ensures kept { OnOk result (SameFrame reader.old.buffer.value reader.new.buffer.value) }
     ensures bounds { Bounds 2 result (state reader.old) (state reader.new) }
     ensures saved { SavedBounds 1 result (state reader.old) (state reader.new) }
 {
     reader.rest = past_internal(reader.rest);
-    match unqualified_case(parent.is_some(), reader.rest) {
-        UnqualifiedCase::ConstructorName => reader.read_ctor_dtor(false, parent),
-        UnqualifiedCase::DestructorName => reader.read_ctor_dtor(true, parent),
-        UnqualifiedCase::FreeName => {
-            framed_free_name(reader, depth, context)?;
-            reader.enclose(parent, reader.found)?;
-            Ok(())
-        }
-    }
+    framed_free_name(reader, depth, context)
 }
 
 /// `<unqualified-name>` in no parent.
@@ -151,7 +143,7 @@ pub(crate) fn read_outer_name(
     if begins_source(reader.rest) {
         return reader.read_source_name();
     }
-    read_unqualified(reader, depth, context, None)
+    read_unqualified(reader, depth, context)
 }
 
 /// `<unqualified-name>` in the parent that was found.
@@ -174,8 +166,8 @@ pub(crate) fn read_segment(reader: &mut Reader, depth: usize, context: Context) 
     read_other_segment(reader, depth, context)
 }
 
-/// `read_segment` where no `<source-name>` is next.
-#[tactic(auto, using(itanium_reader::proofs::Rules::segments))]
+/// `read_segment` of any `<unqualified-name>`.
+#[tactic(auto, using(itanium_reader::proofs::Rules::unqualified_names))]
 #[cycle(reader)]
 pub(crate) fn read_other_segment(
     reader: &mut Reader,
@@ -191,7 +183,36 @@ pub(crate) fn read_other_segment(
     ensures bounds { Bounds 2 result (state reader.old) (state reader.new) }
     ensures saved { SavedBounds 1 result (state reader.old) (state reader.new) }
 {
-    read_unqualified(reader, depth, context, Some(reader.found))
+    reader.rest = past_internal(reader.rest);
+    match unqualified_case(true, reader.rest) {
+        UnqualifiedCase::ConstructorName => reader.read_ctor_dtor(false),
+        UnqualifiedCase::DestructorName => reader.read_ctor_dtor(true),
+        UnqualifiedCase::FreeName => read_free_segment(reader, depth, context),
+    }
+}
+
+/// `<unqualified-name>` that asks for no parent, and its tags, in the parent that was found.
+#[tactic(auto, using(itanium_reader::proofs::Rules::buffers))]
+#[cycle(reader)]
+#[inline(never)]
+pub(crate) fn read_free_segment(
+    reader: &mut Reader,
+    depth: usize,
+    context: Context,
+) -> Result<(), Stop>
+    requires room { HasRoom 0 (state reader.old) }
+    requires living { IsLiving reader.old.buffer.value reader.old.found }
+    ensures reads { Gives result reader.new
+        (spec.unqualified_as FreeName (spec.parse_type depth context) (spec.parse_type depth (inside_lambda context))
+        (Some (shape reader.old.buffer.value reader.old.found)) (state reader.old)) }
+    ensures run { OnOk result (IsRun reader.old.buffer.value reader.new.buffer.value) }
+    ensures bounds { Bounds 2 result (state reader.old) (state reader.new) }
+    ensures saved { SavedBounds 1 result (state reader.old) (state reader.new) }
+{
+    let parent = reader.found;
+    framed_free_name(reader, depth, context)?;
+    reader.enclose(parent)?;
+    Ok(())
 }
 
 /// The first segment of a `<nested-name>`.
@@ -217,16 +238,11 @@ pub(crate) fn read_first(reader: &mut Reader, depth: usize, context: Context) ->
             Ok(())
         }
         FirstCase::SubstitutionFirst => reader.read_substitution(),
-        FirstCase::NameFirst => {
-            if begins_source(reader.rest) {
-                return reader.read_first_source();
-            }
-            read_other_first(reader, depth, context)
-        }
+        FirstCase::NameFirst => read_other_first(reader, depth, context),
     }
 }
 
-/// A name that is the first segment of a `<nested-name>`, where no `<source-name>` is next.
+/// A name that is the first segment of a `<nested-name>`, of any kind.
 #[tactic(auto, using(itanium_reader::proofs::Rules::buffers))]
 #[cycle(reader)]
 #[inline(never)]
@@ -244,7 +260,7 @@ pub(crate) fn read_other_first(
     ensures bounds { Bounds 2 result (state reader.old) (state reader.new) }
     ensures saved { SavedBounds 0 result (state reader.old) (state reader.new) }
 {
-    read_unqualified(reader, depth, context, None)?;
+    read_unqualified(reader, depth, context)?;
     reader.save_found()?;
     Ok(())
 }
@@ -277,8 +293,8 @@ pub(crate) fn read_nested(
     Ok(quals)
 }
 
-/// `<prefix> E`, after the qualifiers of a `<nested-name>`.
-#[tactic(auto, using(itanium_reader::proofs::Rules::buffers))]
+/// `<prefix> E`, after the qualifiers of a `<nested-name>`. Mostly it begins with a `<source-name>`.
+#[tactic(auto, using(itanium_reader::proofs::Rules::segments))]
 #[cycle(reader)]
 #[inline(never)]
 pub(crate) fn read_after_quals(
@@ -295,10 +311,42 @@ pub(crate) fn read_after_quals(
     ensures bounds { Bounds 1 result (state reader.old) (state reader.new) }
     ensures saved { SavedBounds 1 result (state reader.old) (state reader.new) }
 {
+    if begins_source(reader.rest) {
+        reader.read_source_name()?;
+        return read_segments(reader, depth, context);
+    }
+    read_other_prefix(reader, depth, context)
+}
+
+/// `read_after_quals` of any `<prefix>`.
+#[tactic(auto, using(itanium_reader::proofs::Rules::segments))]
+#[cycle(reader)]
+#[inline(always)]
+pub(crate) fn read_other_prefix(
+    reader: &mut Reader,
+    depth: usize,
+    context: Context,
+) -> Result<(), Stop>
+    requires room { HasRoom 2 (state reader.old) }
+    ensures reads { Gives result reader.new (spec.parse_after_quals
+        (spec.parse_unqualified (spec.parse_type depth context)
+        (spec.parse_type depth (inside_lambda context)))
+        (spec.parse_args depth context true) context (state reader.old)) }
+    ensures run { OnOk result (IsRun reader.old.buffer.value reader.new.buffer.value) }
+    ensures bounds { Bounds 1 result (state reader.old) (state reader.new) }
+    ensures saved { SavedBounds 1 result (state reader.old) (state reader.new) }
+{
     let takes = saves_first(first_case(reader.rest));
     read_first(reader, depth, context)?;
     reader.skip_initializer();
-    read_segments(reader, depth, context, takes)
+    if reader.end_nested(takes) {
+        return Ok(());
+    }
+    read_later_segment(reader, depth, context)?;
+    if reader.is_wide(reader.found) {
+        return Err(Stop::Unread);
+    }
+    read_segments(reader, depth, context)
 }
 
 /// A later segment of a `<nested-name>`, after what was found: `<template-args>`, or an `<unqualified-name>` in it.
@@ -328,42 +376,42 @@ pub(crate) fn read_later_segment(
     }
 }
 
-/// The later segments of a `<nested-name>` after what was found, up to its `E`.
+/// The later segments of a `<nested-name>` after what was found, up to its `E`. What was found isn't saved yet: right in
+/// front of the `E` it would be taken back. Mostly they are `<source-name>`s.
 #[tactic(auto, using(itanium_reader::proofs::Rules::segments))]
 #[cycle(reader)]
 #[inline(always)]
-pub(crate) fn read_segments(
-    reader: &mut Reader,
-    depth: usize,
-    context: Context,
-    takes: bool,
-) -> Result<(), Stop>
+pub(crate) fn read_segments(reader: &mut Reader, depth: usize, context: Context) -> Result<(), Stop>
     requires room { HasRoom 1 (state reader.old) }
     requires living { IsLiving reader.old.buffer.value reader.old.found }
-    requires saved { takes ≡ true → 0 < length (saved reader.old.buffer.value) }
-    ensures reads { Gives result reader.new
-        (spec.parse_segments (spec.parse_unqualified (spec.parse_type depth context)
-        (spec.parse_type depth (inside_lambda context)))
-        (spec.parse_args depth context true) takes
-        (shape reader.old.buffer.value reader.old.found) (state reader.old)) }
+    ensures reads { (whole : Option (Shape × ParserState)) → LoopSoFar whole
+        (spec.segment_turn (spec.parse_unqualified (spec.parse_type depth context)
+        (spec.parse_type depth (inside_lambda context))) (spec.parse_args depth context true))
+        (true, shape reader.old.buffer.value reader.old.found)
+        (spec.past_initializer (spec.save (shape reader.old.buffer.value reader.old.found) (state reader.old)))
+        → Gives result reader.new whole }
     ensures run { OnOk result (IsRun reader.old.buffer.value reader.new.buffer.value) }
     ensures bounds { Bounds 1 result (state reader.old) (state reader.new) }
-    ensures saved { SavedBounds 1 result (state reader.old) (state reader.new) }
+    ensures saved { SavedBoundsWaiting result (state reader.old) (state reader.new) }
 {
-    let mut takes = takes;
     loop {
-        if reader.end_nested(takes) {
+        if reader.read_next_source()? {
+            if reader.is_wide(reader.found) {
+                return Err(Stop::Unread);
+            }
+            continue;
+        }
+        if reader.end_nested_unsaved() {
+            return Ok(());
+        }
+        reader.end_segment()?;
+        if reader.end_nested(true) {
             return Ok(());
         }
         read_later_segment(reader, depth, context)?;
         if reader.is_wide(reader.found) {
             return Err(Stop::Unread);
         }
-        if reader.end_nested_unsaved() {
-            return Ok(());
-        }
-        reader.end_segment()?;
-        takes = true;
     }
 }
 
@@ -472,7 +520,7 @@ pub(crate) fn read_bare_name(
 }
 
 /// `<name>` with its own qualifiers, within `depth` open productions.
-#[tactic(auto, using(itanium_reader::proofs::Rules::buffers))]
+#[tactic(auto, using(crate::proofs::NestedNames::any_names))]
 #[cycle(reader)]
 #[inline(always)]
 pub(crate) fn read_name(reader: &mut Reader, depth: usize, context: Context) -> Result<(), Stop>
@@ -484,13 +532,14 @@ pub(crate) fn read_name(reader: &mut Reader, depth: usize, context: Context) -> 
     ensures bounds { Bounds 1 result (state reader.old) (state reader.new) }
     ensures saved { SavedBounds 1 result (state reader.old) (state reader.new) }
 {
-    if let [b'N', rest @ ..] = reader.rest {
-        if begins_quals(rest) {
-            return read_qualified_nested(reader, depth, context);
+    match name_case(reader.rest) {
+        NameCase::NestedName if begins_quals(&reader.rest[1..]) => {
+            read_qualified_nested(reader, depth, context)
         }
-        return read_plain_nested(reader, depth, context);
+        NameCase::NestedName => read_plain_nested(reader, depth, context),
+        NameCase::LocalName => read_other_name(reader, depth, context),
+        NameCase::UnscopedName => read_unscoped_name(reader, depth, context),
     }
-    read_other_name(reader, depth, context)
 }
 
 /// `<name> ::= <nested-name>` that has no own qualifiers: it is measured once.
@@ -524,38 +573,35 @@ pub(crate) fn read_plain_nested(
     Ok(())
 }
 
-/// `<name> ::= <nested-name>` without its own qualifiers: they are answered.
-#[tactic(auto, using(itanium_reader::proofs::Rules::bare_names))]
+/// A `<nested-name>` after its `N`, without its own qualifiers, which are passed over: it is measured.
+#[tactic(auto, using(itanium_reader::proofs::Rules::buffers))]
 #[cycle(reader)]
 #[inline(always)]
 pub(crate) fn read_bare_nested(
     reader: &mut Reader,
     depth: usize,
     context: Context,
-) -> Result<Quals, Stop>
-    requires room { HasRoom 1 (state reader.old) }
-    requires nested { name_case reader.old.rest.now ≡ NestedName }
-    ensures reads { GivesBareName result reader.new (spec.parse_bare_name depth context (state reader.old)) }
-    ensures fits { OnOk result (spec.is_wide (shape reader.new.buffer.value reader.new.found) ≡ false) }
+) -> Result<(), Stop>
+    requires room { HasRoom 2 (state reader.old) }
+    ensures reads { Gives result reader.new (option_and_then spec.fitting (spec.parse_after_quals
+        (spec.parse_unqualified (spec.parse_type depth context)
+        (spec.parse_type depth (inside_lambda context)))
+        (spec.parse_args depth context true) context
+        (spec.with_rest (past_name_quals reader.old.rest.now) (state reader.old)))) }
     ensures run { OnOk result (IsRun reader.old.buffer.value reader.new.buffer.value) }
-    ensures refused { depth ≡ 0 → reader.new.entered ≡ reader.old.entered }
     ensures bounds { Bounds 1 result (state reader.old) (state reader.new) }
     ensures saved { SavedBounds 1 result (state reader.old) (state reader.new) }
 {
-    if depth == 0 {
-        return Err(Stop::Unread);
-    }
-    reader.entered += 1;
-    reader.skip(1);
-    let quals = read_nested(reader, depth - 1, context)?;
+    reader.rest = past_name_quals(reader.rest);
+    read_after_quals(reader, depth, context)?;
     if reader.is_wide(reader.found) {
         return Err(Stop::Unread);
     }
-    Ok(quals)
+    Ok(())
 }
 
 /// `<name> ::= <nested-name>` and its own qualifiers after it: it is measured without them and with them.
-#[tactic(auto, using(crate::proofs::NestedNames::names_measured_twice))]
+#[tactic(auto, using(crate::proofs::NestedNames::qualified_nested_names))]
 #[cycle(reader)]
 #[inline(never)]
 pub(crate) fn read_qualified_nested(
@@ -572,8 +618,43 @@ pub(crate) fn read_qualified_nested(
     ensures bounds { Bounds 1 result (state reader.old) (state reader.new) }
     ensures saved { SavedBounds 1 result (state reader.old) (state reader.new) }
 {
-    let quals = read_bare_nested(reader, depth, context)?;
-    reader.print_quals(quals, context.shown)?;
+    if depth == 0 {
+        return Err(Stop::Unread);
+    }
+    reader.entered += 1;
+    reader.skip_one();
+    let name = reader.rest;
+    read_bare_nested(reader, depth - 1, context)?;
+    reader.print_quals(name_quals(name), context.shown)?;
+    if reader.is_wide(reader.found) {
+        return Err(Stop::Unread);
+    }
+    Ok(())
+}
+
+/// `<name> ::= <unscoped-name> | <unscoped-template-name> <template-args>`: it has no own qualifiers.
+#[tactic(auto, using(crate::proofs::NestedNames::unscoped_names))]
+#[cycle(reader)]
+#[inline(never)]
+pub(crate) fn read_unscoped_name(
+    reader: &mut Reader,
+    depth: usize,
+    context: Context,
+) -> Result<(), Stop>
+    requires room { HasRoom 1 (state reader.old) }
+    requires unscoped { name_case reader.old.rest.now ≡ UnscopedName }
+    ensures reads { Gives result reader.new (spec.parse_name depth context (state reader.old)) }
+    ensures fits { OnOk result (spec.is_wide (shape reader.new.buffer.value reader.new.found) ≡ false) }
+    ensures run { OnOk result (IsRun reader.old.buffer.value reader.new.buffer.value) }
+    ensures refused { depth ≡ 0 → reader.new.entered ≡ reader.old.entered }
+    ensures bounds { Bounds 1 result (state reader.old) (state reader.new) }
+    ensures saved { SavedBounds 1 result (state reader.old) (state reader.new) }
+{
+    if depth == 0 {
+        return Err(Stop::Unread);
+    }
+    reader.entered += 1;
+    read_unscoped(reader, depth - 1, context)?;
     if reader.is_wide(reader.found) {
         return Err(Stop::Unread);
     }
@@ -610,13 +691,16 @@ pub(crate) fn read_other_name(
     Ok(())
 }
 
-/// `<name>` with its own qualifiers, in a frame of its own: what lived keeps its shape.
+/// `<name>` with its own qualifiers, in a frame of its own: what lived keeps its shape. It stands right after all that
+/// was there.
 #[tactic(auto, using(itanium_reader::proofs::Rules::buffers))]
 #[cycle(reader)]
 pub(crate) fn framed_name(reader: &mut Reader, depth: usize, context: Context) -> Result<(), Stop>
     requires room { HasRoom 1 (state reader.old) }
     ensures reads { Gives result reader.new (spec.parse_name depth context (state reader.old)) }
     ensures kept { OnOk result (SameFrame reader.old.buffer.value reader.new.buffer.value) }
+    ensures stands { OnOk result (Stands reader.new.found (length (main_bytes reader.old.buffer.value))
+        (length (main_bytes reader.new.buffer.value))) }
     ensures bounds { Bounds 1 result (state reader.old) (state reader.new) }
     ensures saved { SavedBounds 1 result (state reader.old) (state reader.new) }
 {

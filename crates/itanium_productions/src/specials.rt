@@ -14,7 +14,7 @@ use itanium_syntax::offsets::{past_base_offset, thunk_offsets};
 use itanium_syntax::specials::{SpecialCase, special_case, special_close, special_text};
 
 /// `TV <type>`, `TT <type>`, `TI <type>`, `TS <type>` and `TF <type>`
-#[tactic(auto, using(itanium_reader::proofs::Rules::buffers))]
+#[tactic(auto, using(itanium_reader::proofs::Rules::words))]
 #[cycle(reader)]
 pub(crate) fn read_type_special(
     reader: &mut Reader,
@@ -39,7 +39,7 @@ pub(crate) fn read_type_special(
 }
 
 /// `TH <name>`, `TW <name>` and `GV <name>`
-#[tactic(auto, using(itanium_reader::proofs::Rules::buffers))]
+#[tactic(auto, using(itanium_reader::proofs::Rules::words))]
 #[cycle(reader)]
 pub(crate) fn read_name_special(
     reader: &mut Reader,

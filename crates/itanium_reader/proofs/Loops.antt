@@ -1,6 +1,7 @@
 -- Loops of the parser, turn by turn.
 use Rattle.std.proofs.Common.{◌≡◌, ◌<◌, ℕ, zero, suc, ◌+◌, ◌-◌, length, refl, ◌∙◌, arith, Option, Some, None}
 use Rattle.itanium_reader.specs.Parser.{ParserState, Parses, Turn, ends, goes_on, after_turn, loop, parse_loop, ◌>>=◌}
+use Rattle.itanium_reader.specs.Outcome.{LoopSoFar}
 
 module _ {L A : Type 0} (turn : L → Parses (Turn L A)) where
   -- one turn of a loop that has some left
@@ -8,12 +9,6 @@ module _ {L A : Type 0} (turn : L → Parses (Turn L A)) where
   unfolding loop
   loop_opens zero so_far s h = absurd (omega arith)
   loop_opens (suc n) so_far s h = let less : suc n - 1 ≡ n = omega arith in rw less refl
-
--- The loop has come this far: the whole is what the rest of the turns give.
-pub record LoopSoFar {L A : Type 0} (whole : Option (A × ParserState)) (turn : L → Parses (Turn L A)) (so_far : L) (s : ParserState) : Type 0 where
-  pub turns : ℕ
-  pub room : length s.rest < turns
-  pub is : whole ≡ loop turn turns so_far s
 
 pub loop_start : {L A : Type 0} {whole : Option (A × ParserState)} {turn : L → Parses (Turn L A)} {so_far : L} {s : ParserState} → whole ≡ parse_loop turn so_far s
     → LoopSoFar whole turn so_far s

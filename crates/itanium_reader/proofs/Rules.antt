@@ -1,11 +1,11 @@
 -- What the check may use for the readers: the laws of the buffer, and what unfolds each.
-use Rattle.demangle_text.proofs.Laws.{laws, runs}
+use Rattle.demangle_text.proofs.Laws.{laws, runs, lasts as buffer_lasts}
 use Rattle.itanium_syntax.proofs.Fronts.{cases, names_some, entities_some, expressions_some, arguments_some, specials_some}
 use Rattle.itanium_reader.proofs.Unfold.{builtin_fits, bare_name_opens, no_bare_name, name_opens, encoding_opens}
 use Rattle.itanium_reader.proofs.Unfold.{local_opens, expression_opens, no_expression, primary_opens, argument_opens}
 use Rattle.itanium_reader.proofs.Unfold.{thunk_opens, no_thunk, special_opens, no_attached, pack_opens, no_pack}
 use Rattle.itanium_reader.proofs.Unfold.{type_opens, no_type, substitution_opens, parameter_opens, unqualified_opens}
-use Rattle.itanium_reader.proofs.Unfold.{symbol_opens, nested_opens, kept_parent, some_parent, source_opens, no_tags}
+use Rattle.itanium_reader.proofs.Unfold.{symbol_opens, nested_opens, source_opens, outer_opens, no_tags}
 use Rattle.itanium_reader.proofs.Unfold.{nothing_in_front, words_joined}
 use Rattle.itanium_reader.proofs.Loops.{loop_start}
 
@@ -27,11 +27,17 @@ pub ruleset first_segments = (fronts, source_opens)
 
 pub ruleset lists = (buffers, nothing_in_front)
 
-pub ruleset words = (buffers, words_joined)
+pub ruleset lasts = (buffer_lasts)
+
+pub ruleset last_lists = (lists, lasts)
+
+pub ruleset words = (buffers, lasts, words_joined)
 
 pub ruleset free_names = (fronts, names_some)
 
-pub ruleset unqualified_names = (fronts, unqualified_opens, kept_parent, some_parent)
+pub ruleset outer_names = (buffers, outer_opens)
+
+pub ruleset unqualified_names = (fronts, unqualified_opens)
 
 pub ruleset nested_names = (buffers, nested_opens)
 

@@ -1,14 +1,11 @@
 -- One level of the parser's functions, and the turns of its loops.
-use Rattle.std.proofs.Common.{◌≡◌, ◌<◌, ◌≤◌, ℕ, zero, suc, ◌+◌, ◌-◌, max, Bool, true, false, List, [], ◌∷◌, ◌++◌}
+use Rattle.std.proofs.Common.{◌≡◌, ◌<◌, ◌≤◌, ℕ, zero, suc, ◌+◌, ◌-◌, max, Bool, true, false, List, [], ◌∷◌, ◌++◌, subst}
 use Rattle.std.proofs.Common.{length, take, drop, refl, sym, ◌∙◌, ap, append_assoc, arith, Option, Some, None, Result, Ok}
 use Rattle.std.proofs.Common.{Err}
-use Rattle.std.specs.Prelude.{IfSome, option_map, is_some, nat_le, nat_lt, ◌&&◌, ◌==◌, if◌then◌else◌}
+use Rattle.std.specs.Prelude.{is_some, nat_le, nat_lt, ◌&&◌, ◌==◌, if◌then◌else◌}
 use Rattle.std.proofs.lemmas.Bool.Decides.{nat_tests}
 use Rattle.std.proofs.lemmas.Grind.{common_steps}
 use Rattle.std.proofs.lemmas.List.{append-nil, length-append, take_at}
-use Rattle.demangle_text.specs.declared.shape.Piece.{Piece}
-use Rattle.demangle_text.specs.declared.buffer.Buffer.{Buffer}
-use Rattle.demangle_text.specs.State.{IsLiving, shape, SameFrame}
 use Rattle.demangle_text.specs.Shape.{Shape, Plain, plain_shape, whole_shape, text, text_len, flattened, moved}
 use Rattle.demangle_text.specs.Calls.{joined}
 use Rattle.demangle_edit.specs.Names.{angle_gap, attached, tagged}
@@ -29,9 +26,10 @@ use Rattle.itanium_syntax.specs.Types.{types_case, type_case, letter_text, two_l
 use Rattle.itanium_reader.specs.declared.reader.Reader.{Reader}
 use Rattle.itanium_reader.specs.declared.stop.Stop.{Stop}
 use Rattle.itanium_reader.specs.declared.stop.Stop.TheVariants.{Unread, Memory}
-use Rattle.itanium_reader.specs.Outcome.{Gives, SavedBounds}
-use Rattle.itanium_reader.proofs.Loops.{LoopSoFar, loop_start, loop_end, loop_more, loop_fail, ListSoFar, list_start, list_end, list_more, list_fail}
-use Rattle.itanium_reader.specs.Cases.{FreeName, ConstructorName, DestructorName, SourceName, NoTag, NextTag}
+use Rattle.demangle_text.specs.State.{shape}
+use Rattle.itanium_reader.specs.Outcome.{Gives, SavedBounds, LoopSoFar, state}
+use Rattle.itanium_reader.proofs.Loops.{loop_start, loop_end, loop_more, loop_fail, ListSoFar, list_start, list_end, list_more, list_fail}
+use Rattle.itanium_reader.specs.Cases.{FreeName, ConstructorName, DestructorName, SourceName, NoTag, NextTag, NameFirst}
 use Rattle.itanium_reader.specs.Cases.{SegmentCase, EndOfSegments, ArgsSegment, NameSegment, EndOfArguments, NextArgument}
 use Rattle.itanium_reader.specs.Cases.{EndOfTypes, NextType}
 use Rattle.itanium_grammar.specs.Answer.{max_text}
@@ -39,7 +37,7 @@ use Rattle.itanium_reader.specs.Parser.{ParserState, Parses, ParsesName, ParsesB
 use Rattle.itanium_reader.specs.Parser.{fitting_bare, enter, with_rest, save, skip, begin_list, add_argument}
 use Rattle.itanium_reader.specs.Parser.{add_nowhere, taken_back, past_initializer, substitution_as, parse_substitution}
 use Rattle.itanium_reader.specs.Parser.{parameter_as, parse_parameter, tag_turn, unqualified_as, parse_unqualified}
-use Rattle.itanium_reader.specs.Parser.{parse_free, in_parent, parse_tags, parse_source_in, parse_first_source}
+use Rattle.itanium_reader.specs.Parser.{parse_free, in_parent, parse_tags, parse_source_in}
 use Rattle.itanium_reader.specs.Parser.{later_segment, segment_as, saved_once, goes_on, first_as, attached_by}
 use Rattle.itanium_reader.specs.Parser.{segment_turn, parse_segments, parse_after_quals, with_quals, parse_nested}
 use Rattle.itanium_reader.specs.Parser.{name_as, qualified_by, parse_bare_name, parse_name, encoding_as, parse_encoding}
@@ -174,12 +172,19 @@ source_opens type param parent s h =
     let case = source_case (is_some parent) s.rest h in
     rw (case.0, case.1, case.2) refl
 
--- a name that asks for no parent is found, and put into its parent
-pub free_found : (type param : Parses Shape) (parent : Option Shape) (s : ParserState) {name found : Shape}
-    {mid after : ParserState} → unqualified_case (is_some parent) (past_internal s.rest) ≡ FreeName
-    → parse_free type param (with_rest (past_internal s.rest) s) ≡ Some (name, mid) → found ≡ in_parent parent name → after ≡ mid → parse_unqualified type param parent s ≡ Some (found, after)
+-- a name in no parent asks for none
+pub outer_opens : (type param : Parses Shape) (s : ParserState) → parse_unqualified type param None s ≡ parse_free type param (with_rest (past_internal s.rest) s)
 unfolding parse_unqualified
-free_found type param parent s case read built same = rw (case, read, built, same) refl
+outer_opens type param s = same (parse_free type param (with_rest (past_internal s.rest) s))
+  where
+    same : (found : Option (Shape × ParserState)) → (found >>= λ name. Some (in_parent None name.0, name.1)) ≡ found
+    same None = refl
+    same (Some name) = refl
+
+-- where a source name is next, it is the first segment of a <nested-name>
+source_first : (bytes : List ℕ) → begins_source bytes ≡ true → first_case bytes ≡ NameFirst
+source_first [] h = refl
+source_first (b ∷ bytes) h = rw (no_letter b 84 h (omega arith), no_letter b 83 h (omega arith)) refl
 
 pub symbol_opens : (d : ℕ) (x : Context) (s : ParserState) → parse_symbol d x s ≡ symbol_as (symbol_case s.rest) (parse_special d x) (parse_name d x) s
 unfolding parse_symbol
@@ -336,17 +341,73 @@ module _ {whole : Option (Shape × ParserState)} (unqualified : ParsesName) (arg
   unfolding segment_turn
   segments_none later none = loop_fail so_far (turn_none (segment_case s.rest) unqualified args takes name s later none)
 
--- the last segment of a nested name, which is saved and taken back
-pub segments_last : {whole : Option (Shape × ParserState)} (unqualified : ParsesName) (args : Parses Shape) {takes : Bool} {name : Shape} {s : ParserState}
-    → LoopSoFar whole (segment_turn unqualified args) (takes, name) s → {next found : Shape} {mid after : ParserState} → (segment_case s.rest ≡ EndOfSegments → ⊥)
-    → later_segment (segment_case s.rest) unqualified args name s ≡ Some (next, mid) → is_wide next ≡ false → length mid.rest < length s.rest → segment_case mid.rest ≡ EndOfSegments
-    → found ≡ next → after ≡ skip 1 (saved_once mid) → whole ≡ Some (found, after)
-segments_last unqualified args {takes} {name} {s} so_far {next} {found} {mid} {after} later read fits shorter case same left =
-    let no_letter = end_no_initializer mid.rest case in
-    let short : length (past_initializer_letter mid.rest) ≤ length mid.rest = rw no_letter (omega arith) in
-    let more = segments_read unqualified args so_far {next = next} {mid = mid} {after = past_initializer (save next mid)} later read fits shorter refl short in
-    let ended : segment_case (past_initializer_letter mid.rest) ≡ EndOfSegments = rw no_letter case in
-    segments_end unqualified args more {found = found} {after = after} ended same (left ∙ sym (end_taken_back next mid case))
+-- a <nested-name> is read up to its first segment
+pub prefix_start : (type param args : Parses Shape) (x : Context) (s : ParserState) {first : Shape} {mid after : ParserState} {takes : Bool}
+    → first_as (first_case s.rest) (parse_unqualified type param) x s ≡ Some (first, mid) → takes ≡ saves_first (first_case s.rest) → after ≡ past_initializer mid
+    → LoopSoFar (parse_after_quals (parse_unqualified type param) args x s) (segment_turn (parse_unqualified type param) args) (takes, first) after
+prefix_start type param args x s read taken left = loop_start (rw (read, taken, left) refl)
+
+-- no first segment is read
+pub prefix_none : (type param args : Parses Shape) (x : Context) (s : ParserState) → first_as (first_case s.rest) (parse_unqualified type param) x s ≡ None
+    → parse_after_quals (parse_unqualified type param) args x s ≡ None
+prefix_none type param args x s none = rw none refl
+
+-- a source name is its first segment
+pub source_prefix_start : (type param args : Parses Shape) (x : Context) (s : ParserState) {first : Shape} {mid : ParserState}
+    → begins_source s.rest ≡ true → parse_source_in None s ≡ Some (first, mid)
+    → LoopSoFar (parse_after_quals (parse_unqualified type param) args x s) (segment_turn (parse_unqualified type param) args) (true, first) (past_initializer (save first mid))
+source_prefix_start type param args x s {first} {mid} h read =
+    let case = source_first s.rest h in
+    prefix_start type param args x s {first = first} {mid = save first mid} {after = past_initializer (save first mid)} {takes = true} (rw (case, source_opens type param None s h, read) refl) (rw case refl) refl
+
+-- none is read
+pub source_prefix_none : (type param args : Parses Shape) (x : Context) (s : ParserState) → begins_source s.rest ≡ true → parse_source_in None s ≡ None
+    → parse_after_quals (parse_unqualified type param) args x s ≡ None
+source_prefix_none type param args x s h none = prefix_none type param args x s (rw (source_first s.rest h, source_opens type param None s h, none) refl)
+
+-- a segment right in front of the E, which would be saved and taken back
+pub segments_last : {whole : Option (Shape × ParserState)} (unqualified : ParsesName) (args : Parses Shape) (name : Shape) (s : ParserState)
+    → LoopSoFar whole (segment_turn unqualified args) (true, name) (past_initializer (save name s)) → {found : Shape} {after : ParserState}
+    → segment_case s.rest ≡ EndOfSegments → found ≡ name → after ≡ skip 1 (saved_once s) → whole ≡ Some (found, after)
+segments_last unqualified args name s so_far {found} {after} case same left =
+    let ended : segment_case (past_initializer_letter s.rest) ≡ EndOfSegments = rw (end_no_initializer s.rest case) case in
+    segments_end unqualified args so_far {found = found} {after = after} ended same (left ∙ sym (end_taken_back name s case))
+
+-- a source name as the next segment: no M stands in front of it
+pub source_segment : (type param args : Parses Shape) (name : Shape) (s : ParserState) {found : Shape} {after : ParserState} → begins_source s.rest ≡ true
+    → parse_source_in (Some name) (save name s) ≡ Some (found, after)
+    → (segment_case (past_initializer_letter s.rest) ≡ EndOfSegments → ⊥)
+    × (later_segment (segment_case (past_initializer_letter s.rest)) (parse_unqualified type param) args name (past_initializer (save name s)) ≡ Some (found, after))
+    × (past_initializer_letter s.rest ≡ s.rest)
+source_segment type param args name s h read =
+    let case = source_segment_case s.rest h in (
+      λ ended. cc (ended, case.0, case.1),
+      rw (case.0, case.1, source_opens type param (Some name) (save name s) h, read) refl,
+      case.0,
+    )
+  where
+    source_segment_case : (bytes : List ℕ) → begins_source bytes ≡ true → (past_initializer_letter bytes ≡ bytes) × (segment_case bytes ≡ NameSegment)
+    source_segment_case [] h = cc
+    source_segment_case (b ∷ bytes) h = (
+      rw (no_letter b 77 h (omega arith)) refl,
+      rw (no_letter b 69 h (omega arith), no_letter b 73 h (omega arith)) refl,
+    )
+
+-- a reader whose found segment isn't saved yet, in a loop that has come this far
+abbrev pub Waits : Option (Shape × ParserState) → ParsesName → Parses Shape → Reader → Type 0
+Waits whole unqualified args r =
+    LoopSoFar whole (segment_turn unqualified args) (true, shape r.buffer.value r.found) (past_initializer (save (shape r.buffer.value r.found) (state r)))
+
+pub waits_same : (whole : Option (Shape × ParserState)) (unqualified : ParsesName) (args : Parses Shape) (old new : Reader) → new ≡ old → Waits whole unqualified args old → Waits whole unqualified args new
+waits_same whole unqualified args old new same w = subst (Waits whole unqualified args) (sym same) w
+
+-- it is saved
+pub waits_saved : (whole : Option (Shape × ParserState)) (unqualified : ParsesName) (args : Parses Shape) (old new : Reader) → Waits whole unqualified args old
+    → shape new.buffer.value new.found ≡ shape old.buffer.value old.found → state new ≡ past_initializer (save (shape old.buffer.value old.found) (state old))
+    → LoopSoFar whole (segment_turn unqualified args) (true, shape new.buffer.value new.found) (state new)
+waits_saved whole unqualified args old new w named left =
+    subst (λ (t : ParserState). LoopSoFar whole (segment_turn unqualified args) (true, shape new.buffer.value new.found) t) (sym left)
+    (subst (λ (t : Shape). LoopSoFar whole (segment_turn unqualified args) (true, t) (past_initializer (save (shape old.buffer.value old.found) (state old)))) (sym named) w)
 
 -- the turns of the tags of a name
 module _ {whole : Option (Shape × ParserState)} {name : Shape} {s : ParserState} (so_far : LoopSoFar whole tag_turn name s) where
@@ -380,30 +441,6 @@ no_tags name s case = tags_end (loop_start refl) case
 pub source_found : (parent : Option Shape) (s : ParserState) {text rest : List ℕ} {found : Shape} {after : ParserState} → source_name s.rest ≡ Some (text, rest) → tag_case rest ≡ NoTag
     → found ≡ in_parent parent (plain_shape (source_text text)) → after ≡ with_rest rest s → parse_source_in parent s ≡ Some (found, after)
 source_found parent s {text} {rest} read case built same = rw (read, no_tags (plain_shape (source_text text)) (with_rest rest s) case, built, same) refl
-
--- the state after a shape was saved
-saved_there : (s : ParserState) (rest : List ℕ) (found : Shape) (after : ParserState) → after.rest ≡ rest → after.saved ≡ s.saved ++ found ∷ [] → after.scopes ≡ s.scopes
-    → after.entered ≡ s.entered → (m : ℕ) → s.most_saved ≡ max m (length s.saved) → after.most_saved ≡ max m (length after.saved) → after ≡ save found (with_rest rest s)
-saved_there s rest found after left list opened count m before now =
-    let longer = ap length list ∙ length-append s.saved (found ∷ []) in
-    let most : after.most_saved ≡ max s.most_saved (length after.saved) = omega (arith, longer, before, now) in
-    let same : record {
-      rest = after.rest;
-      saved = after.saved;
-      scopes = after.scopes;
-      entered = after.entered;
-      most_saved = after.most_saved;
-    } ≡ save found (with_rest rest s) =
-    rw (left, opened, count, most, list, length-append s.saved (found ∷ [])) refl in
-    same
-
--- the same as the first segment of a nested name
-pub first_source_found : (s : ParserState) {text rest : List ℕ} {found : Shape} {after : ParserState} → source_name s.rest ≡ Some (text, rest) → tag_case rest ≡ NoTag
-    → found ≡ plain_shape (source_text text) → after.rest ≡ rest → after.saved ≡ s.saved ++ found ∷ [] → after.scopes ≡ s.scopes
-    → after.entered ≡ s.entered → (m : ℕ) → s.most_saved ≡ max m (length s.saved) → after.most_saved ≡ max m (length after.saved) → parse_first_source s ≡ Some (found, after)
-first_source_found s {text} {rest} {found} {after} read case built left list opened count m before now =
-    let parsed : parse_source_in None s ≡ Some (found, with_rest rest s) = source_found None s read case built refl in
-    rw parsed (ap (λ (t : ParserState). Some (found, t)) (sym (saved_there s rest found after left list opened count m before now)))
 
 -- a range stays where nothing is put
 nothing_moved : (at : ℕ) (own : ℕ × ℕ) → moved at 0 own ≡ own
@@ -630,12 +667,3 @@ module _ {whole : Option (Shape × ParserState)} (of_function : Bool) (type : Pa
   pub typed_fail : types_case of_function s.rest ≡ NextType → type s ≡ None → whole ≡ None
   unfolding typed_turn
   typed_fail case none = loop_fail so_far (rw (case, none) refl)
-
--- a parent that may be there keeps its shape
-pub kept_parent : (old new : Buffer) (parent : Option Piece) → SameFrame old new → IfSome parent (IsLiving old) → option_map (shape new) parent ≡ option_map (shape old) parent
-kept_parent old new None kept living = refl
-kept_parent old new (Some p) kept living = ap Some (kept.pieces p living).shape_is
-
-pub some_parent : (b : Buffer) (parent : Option Piece) → is_some (option_map (shape b) parent) ≡ is_some parent
-some_parent b None = refl
-some_parent b (Some p) = refl

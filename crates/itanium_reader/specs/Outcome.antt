@@ -1,9 +1,10 @@
 -- What a reader says of a call.
-use Rattle.std.specs.Prelude.{◌≡◌, ◌≤◌, ℕ, ◌+◌, ◌*◌, ◌^◌, ◌<◌, ◌-◌, max, length, Option, Some, None, Result, Ok, Err}
+use Rattle.std.specs.Prelude.{◌≡◌, ◌≤◌, ℕ, ◌+◌, ◌*◌, ◌^◌, ◌<◌, ◌-◌, max, length, true, Option, Some, None, Result, Ok, Err}
 use Rattle.demangle_text.specs.Shape.{Shape}
 use Rattle.demangle_text.specs.State.{IsLiving, shape, saved, scopes}
 use Rattle.demangle_quals.specs.declared.quals.Quals.{Quals}
-use Rattle.itanium_reader.specs.Parser.{ParserState, with_rest}
+use Rattle.itanium_syntax.specs.Names.{begins_source}
+use Rattle.itanium_reader.specs.Parser.{ParserState, Parses, Turn, loop, with_rest, save, parse_source_in}
 use Rattle.itanium_reader.specs.declared.reader.Reader.{Reader}
 use Rattle.itanium_reader.specs.declared.stop.Stop.{Stop}
 use Rattle.itanium_reader.specs.declared.stop.Stop.TheVariants.{Unread, Memory}
@@ -98,6 +99,15 @@ SavedBounds slack (Ok a) before after =
 SavedBounds slack (Err Unread) before after = MostSaved (slack - 1) before after
 SavedBounds slack (Err Memory) before after = Unit {0}
 
+-- the same of a call before which a shape waits to be saved
+abbrev pub SavedBoundsWaiting : {A : Type 0} → Result A Stop → ParserState → ParserState → Type 0
+SavedBoundsWaiting (Ok a) before after =
+    (length after.saved + length after.rest ≤ length before.saved + length before.rest)
+    × (after.most_saved ≤ max before.most_saved (length before.saved + 1 + length before.rest))
+SavedBoundsWaiting (Err Unread) before after =
+    after.most_saved ≤ max before.most_saved (length before.saved + 1 + length before.rest)
+SavedBoundsWaiting (Err Memory) before after = Unit {0}
+
 -- one shape more is saved, or none
 abbrev pub SavesOne : {A : Type 0} → Result A Stop → ParserState → ParserState → Type 0
 SavesOne (Ok a) before after =
@@ -105,3 +115,22 @@ SavesOne (Ok a) before after =
     × (after.most_saved ≡ max before.most_saved (length before.saved + 1))
 SavesOne (Err Unread) before after = after.most_saved ≡ before.most_saved
 SavesOne (Err Memory) before after = Unit {0}
+
+-- a source name without tags was read as the next segment of a <nested-name>: what stood of it was saved
+pub record IsNextSource (old new : Reader) : Type 0 where
+  pub begins : begins_source old.rest.now ≡ true
+  pub living : IsLiving new.buffer.value new.found
+  pub reads : parse_source_in (Some (shape old.buffer.value old.found))
+      (save (shape old.buffer.value old.found) (state old)) ≡ Some (shape new.buffer.value new.found, state new)
+  pub shorter : length new.rest.now + 2 ≤ length old.rest.now
+  pub longer : length (saved new.buffer.value) ≡ length (saved old.buffer.value) + 1
+  pub most : (state new).most_saved ≡ max (state old).most_saved (length (saved old.buffer.value) + 1)
+  pub scopes_same : scopes new.buffer.value ≡ scopes old.buffer.value
+  pub entered_same : new.entered ≡ old.entered
+
+-- a loop has come this far: the whole is what the rest of its turns give
+pub record LoopSoFar {L A : Type 0} (whole : Option (A × ParserState)) (turn : L → Parses (Turn L A)) (so_far : L)
+    (s : ParserState) : Type 0 where
+  pub turns : ℕ
+  pub room : length s.rest < turns
+  pub is : whole ≡ loop turn turns so_far s

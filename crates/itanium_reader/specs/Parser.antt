@@ -348,10 +348,6 @@ first_as StdFirst unqualified x s = Some (plain_shape (codes "std"), skip 2 s)
 first_as SubstitutionFirst unqualified x s = parse_substitution s
 first_as NameFirst unqualified x s = unqualified None s >>= λ name. Some (name.0, save name.0 name.1)
 
--- a source name in no parent as the first segment of a <nested-name>, which is saved
-abbrev pub parse_first_source : Parses Shape
-parse_first_source s = parse_source_in None s >>= λ name. Some (name.0, save name.0 name.1)
-
 -- what stands of a <nested-name> so far is saved, and the last saved shape is to be taken back at its end
 abbrev pub next_segment : Shape × ParserState → Option (Turn (Bool × Shape) Shape × ParserState)
 next_segment next = Some (goes_on (true, next.0), past_initializer (save next.0 next.1))

@@ -1,11 +1,14 @@
 //! Names (Itanium C++ ABI 5.1.2).
-ghost use Rattle.std.specs.Prelude.{◌≡◌, ◌<◌, codes, length, option_map, None, Some, IfSome, OnOk, true};
+ghost use Rattle.std.specs.Prelude.{◌≡◌, codes, option_map, None, Some, IfSome, OnOk, Ok, true, false};
 ghost use Rattle.demangle_text.specs.Shape.{appended};
 ghost use Rattle.demangle_text.specs.State.{IsLiving, shape, Lives, IsEdit, IsRun, SameFrame, saved};
-ghost use Rattle.demangle_edit.specs.Names.{with_name_qualifiers};
+ghost use Rattle.demangle_edit.specs.Names.{qualified, with_name_qualifiers};
 ghost use Rattle.itanium_grammar.specs.Tree.{conversion_shape};
 ghost use Rattle.itanium_reader.specs.Parser as spec;
-ghost use Rattle.itanium_reader.specs.Outcome.{state, Gives, Bounds, OptionalBounds, SavedBounds};
+ghost use Rattle.itanium_syntax.specs.Names.{begins_source, tag_case};
+ghost use Rattle.itanium_syntax.specs.Scalars.{source_name};
+ghost use Rattle.itanium_reader.specs.Cases.{NextTag};
+ghost use Rattle.itanium_reader.specs.Outcome.{state, Gives, IsNextSource, Bounds, OptionalBounds, SavedBounds};
 
 use crate::reader::Reader;
 use crate::stop::Stop;
@@ -14,7 +17,7 @@ use demangle_edit::{
     qualify_text_in_place, tag,
 };
 use demangle_text::{Piece, Place};
-use itanium_syntax::names::{TagCase, source_text, tag_case};
+use itanium_syntax::names::{TagCase, begins_source, source_text, tag_case};
 use itanium_syntax::numerals::ordinal;
 use itanium_syntax::operators::operator_here;
 use itanium_syntax::scalar::source_name;
@@ -34,19 +37,16 @@ impl<'a> Reader<'a> {
         Ok(())
     }
 
-    /// The name in its parent, where there is one.
-    pub fn enclose(&mut self, parent: Option<Piece>, name: Piece) -> Result<(), AllocError>
-        requires parent { IfSome parent (IsLiving self.old.buffer.value) }
-        requires name { IsLiving self.old.buffer.value name }
+    /// The name that was found in its parent.
+    pub fn enclose(&mut self, parent: Piece) -> Result<(), AllocError>
+        requires parent { IsLiving self.old.buffer.value parent }
+        requires living { IsLiving self.old.buffer.value self.old.found }
         ensures shape { OnOk result (Lives self.new.buffer.value self.new.found
-            (spec.in_parent (option_map (shape self.old.buffer.value) parent) (shape self.old.buffer.value name))) }
+            (qualified (shape self.old.buffer.value parent) (shape self.old.buffer.value self.old.found))) }
         ensures state { OnOk result (state self.new ≡ state self.old) }
         ensures edit { OnOk result (IsEdit self.old.buffer.value self.new.buffer.value) }
     {
-        self.found = match parent {
-            None => name,
-            Some(parent) => qualify(&mut self.buffer, parent, name)?,
-        };
+        self.found = qualify(&mut self.buffer, parent, self.found)?;
         Ok(())
     }
 
@@ -128,36 +128,34 @@ impl<'a> Reader<'a> {
         }
     }
 
-    /// A `<source-name>` in no parent, and `<abi-tags>` after it, as the first segment of a `<nested-name>`: it is
-    /// saved.
+    /// A `<source-name>` without `<abi-tags>` as the next segment of a `<nested-name>`, in what was found, which is
+    /// saved. Whether one stands there; else nothing changes.
     #[tactic(auto, using(crate::proofs::Rules::source_names))]
     #[inline(always)]
-    pub fn read_first_source(&mut self) -> Result<(), Stop>
-        ensures reads { Gives result self.new (spec.parse_first_source (state self.old)) }
-        ensures some { OnOk result (0 < length (saved self.new.buffer.value)) }
-        ensures kept { OnOk result (SameFrame self.old.buffer.value self.new.buffer.value) }
-        ensures bounds { Bounds 2 result (state self.old) (state self.new) }
-        ensures saved { SavedBounds 0 result (state self.old) (state self.new) }
+    pub fn read_next_source(&mut self) -> Result<bool, AllocError>
+        requires living { IsLiving self.old.buffer.value self.old.found }
+        ensures next { result ≡ Ok true → IsNextSource self.old self.new }
+        ensures other { result ≡ Ok false → self.new ≡ self.old }
+        ensures none { result ≡ Ok false → begins_source self.old.rest.now ≡ true
+            → IfSome (source_name self.old.rest.now) (λ found. tag_case found.1 ≡ NextTag) }
+        ensures run { OnOk result (IsRun self.old.buffer.value self.new.buffer.value) }
     {
+        if !begins_source(self.rest) {
+            return Ok(false);
+        }
         let Some((from, to)) = source_name(self.rest, 0) else {
-            return Err(Stop::Unread);
+            return Ok(false);
         };
         let rest = &self.rest[to..];
         match tag_case(rest) {
             TagCase::NoTag => {
                 let text = source_text(&self.rest[from..to]);
-                let buffer = &mut *self.buffer;
-                let whole = buffer.push(text)?;
-                buffer.save(whole)?;
-                self.found = whole;
-                self.rest = rest;
-                Ok(())
-            }
-            TagCase::NextTag => {
-                self.framed_tagged_source()?;
                 self.save_found()?;
-                Ok(())
+                qualify_text_in_place(&mut self.buffer, &mut self.found, text)?;
+                self.rest = rest;
+                Ok(true)
             }
+            TagCase::NextTag => Ok(false),
         }
     }
 
@@ -172,7 +170,7 @@ impl<'a> Reader<'a> {
     {
         let mark = self.buffer.open();
         self.read_source()?;
-        self.read_tags(self.found)?;
+        self.read_found_tags()?;
         self.buffer.close_in_place(mark, &mut self.found)?;
         Ok(())
     }
@@ -194,21 +192,35 @@ impl<'a> Reader<'a> {
         Ok(())
     }
 
-    /// A constructor or a destructor of the parent, and `<abi-tags>` after it.
-    pub fn read_ctor_dtor(&mut self, destructor: bool, parent: Option<Piece>) -> Result<(), Stop>
-        requires parent { IfSome parent (IsLiving self.old.buffer.value) }
-        ensures reads { Gives result self.new
-            (spec.ctor_dtor_as destructor (option_map (shape self.old.buffer.value) parent) (state self.old)) }
+    /// A constructor or a destructor of what was found, and `<abi-tags>` after it.
+    pub fn read_ctor_dtor(&mut self, destructor: bool) -> Result<(), Stop>
+        requires living { IsLiving self.old.buffer.value self.old.found }
+        ensures reads { Gives result self.new (spec.ctor_dtor_as destructor
+            (Some (shape self.old.buffer.value self.old.found)) (state self.old)) }
         ensures run { OnOk result (IsRun self.old.buffer.value self.new.buffer.value) }
         ensures bounds { OptionalBounds result (spec.skip 2 (state self.old)) (state self.new) }
         ensures saved { SavedBounds 0 result (spec.skip 2 (state self.old)) (state self.new) }
     {
-        let Some(parent) = parent else {
-            return Err(Stop::Unread);
-        };
         self.skip(2);
-        self.found = qualify_ctor(&mut self.buffer, parent, destructor)?;
-        self.read_tags(self.found)
+        self.found = qualify_ctor(&mut self.buffer, self.found, destructor)?;
+        self.read_found_tags()
+    }
+
+    /// `<abi-tags> ::= (B <source-name>)*` after the name that was found. Mostly there is none.
+    #[tactic(auto, using(crate::proofs::Rules::source_names))]
+    #[inline(always)]
+    pub fn read_found_tags(&mut self) -> Result<(), Stop>
+        requires living { IsLiving self.old.buffer.value self.old.found }
+        ensures reads { Gives result self.new
+            (spec.parse_tags (shape self.old.buffer.value self.old.found) (state self.old)) }
+        ensures run { OnOk result (IsRun self.old.buffer.value self.new.buffer.value) }
+        ensures bounds { OptionalBounds result (state self.old) (state self.new) }
+        ensures saved { SavedBounds 0 result (state self.old) (state self.new) }
+    {
+        match tag_case(self.rest) {
+            TagCase::NoTag => Ok(()),
+            TagCase::NextTag => self.read_tags(self.found),
+        }
     }
 
     /// `<unnamed-type-name> ::= Ut [<nonnegative number>] _`, after its `Ut`.

@@ -2,6 +2,7 @@
 ghost use Rattle.std.specs.Prelude.{◌≡◌, ◌<◌, ◌≤◌, ◌+◌, IfOk, OnOk, [], length, max, true, false};
 ghost use Rattle.demangle_text.specs.Shape.{plain_shape};
 ghost use Rattle.demangle_text.specs.State.{IsLiving, Lives, shape, IsRun, SameFrame, saved, scopes, main_bytes, frame, outermost};
+ghost use Rattle.demangle_text.specs.Calls.{IsLast};
 ghost use Rattle.demangle_edit.specs.Built.{separated};
 ghost use Rattle.itanium_syntax.specs.Names.{segment_case};
 ghost use Rattle.itanium_syntax.specs.Types.{builtin_text, past_builtin};
@@ -11,7 +12,7 @@ ghost use Rattle.itanium_reader.specs.Parser as spec;
 ghost use Rattle.itanium_reader.specs.Outcome.{state, Gives, OnlyTakes, Bounds, SavedBounds};
 
 use crate::stop::Stop;
-use demangle_edit::separate;
+use demangle_edit::{separate, separate_last};
 use demangle_text::{Buffer, Piece};
 use itanium_syntax::abbreviations::{abbreviation_of, abbreviation_own_len, abbreviation_text};
 use itanium_syntax::context::Context;
@@ -83,6 +84,17 @@ impl<'a> Reader<'a> {
         } else {
             &[]
         };
+    }
+
+    /// As `skip` of one byte, which is there: it isn't asked whether it is.
+    #[inline(always)]
+    pub fn skip_one(&mut self)
+        requires some { 0 < length self.old.rest.now }
+        ensures state { state self.new ≡ spec.skip 1 (state self.old) }
+        ensures found { self.new.found ≡ self.old.found }
+        ensures buffer { self.new.buffer.value ≡ self.old.buffer.value }
+    {
+        self.rest = &self.rest[1..];
     }
 
     /// Goes past the `M` of a data member's initializer, where one stands.
@@ -365,6 +377,25 @@ impl<'a> Reader<'a> {
         separate(&mut self.buffer, list)
     }
 
+    /// As `separate_list`, of a list that stands up to the end of the main text, from the innermost mark or later: it
+    /// stays there.
+    #[tactic(auto, using(crate::proofs::Rules::last_lists))]
+    #[inline(always)]
+    pub fn separate_last(&mut self, list: Piece, first: bool) -> Result<Piece, AllocError>
+        requires living { IsLiving self.old.buffer.value list }
+        requires last { IsLast self.old.buffer.value list }
+        ensures shape { IfOk result (λ p. Lives self.new.buffer.value p
+            (separated first (shape self.old.buffer.value list))) }
+        ensures last { IfOk result (IsLast self.new.buffer.value) }
+        ensures state { OnOk result (state self.new ≡ state self.old) }
+        ensures run { OnOk result (IsRun self.old.buffer.value self.new.buffer.value) }
+    {
+        if first {
+            return Ok(self.buffer.plain(list));
+        }
+        separate_last(&mut self.buffer, list)
+    }
+
     /// A list begins, and opens a scope where it is to.
     pub fn begin_list(&mut self, opens: bool) -> Result<(), AllocError>
         ensures state { OnOk result (state self.new ≡ spec.begin_list opens (state self.old)) }
@@ -389,6 +420,7 @@ impl<'a> Reader<'a> {
         ensures state { OnOk result (state self.new ≡ spec.add_argument opens n
             (shape self.old.buffer.value self.old.found) (state self.old)) }
         ensures stand { OnOk result (length (scopes self.new.buffer.value) ≡ n) }
+        ensures main { OnOk result (main_bytes self.new.buffer.value ≡ main_bytes self.old.buffer.value) }
         ensures found { OnOk result (self.new.found ≡ self.old.found) }
         ensures kept { OnOk result (SameFrame self.old.buffer.value self.new.buffer.value) }
     {

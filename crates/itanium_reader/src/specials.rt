@@ -3,6 +3,7 @@
 ghost use Rattle.std.specs.Prelude.{◌≡◌, ◌<◌, OnOk, IfOk, decimal};
 ghost use Rattle.demangle_text.specs.Shape.{text};
 ghost use Rattle.demangle_text.specs.State.{IsLiving, Lives, shape, IsEdit, KeepsAll, IsRun};
+ghost use Rattle.demangle_text.specs.Calls.{AreAdjacent};
 ghost use Rattle.itanium_grammar.specs.Tree.{offset_sign, plain_offset_text, virtual_offset_text, offset_text, worded_shape, temporary_shape, construction_shape, single_thunk_shape, covariant_thunk_shape, thunk_shape};
 ghost use Rattle.itanium_reader.specs.Parser as spec;
 ghost use Rattle.itanium_reader.specs.Outcome.{state, Gives, Bounds, SavedBounds};
@@ -95,20 +96,21 @@ fn framed_offset(buf: &mut Buffer, offset: CallOffset) -> Result<Piece, AllocErr
 
 #[tactic(auto, using(crate::proofs::Rules::buffers))]
 impl<'a> Reader<'a> {
-    /// The words with what was found after them, and the words that close it. Nothing moves where the first words were
-    /// pushed right before what was found.
+    /// The words with what was found right after them, and the words that close it. Nothing moves.
     #[tactic(auto, using(crate::proofs::Rules::words))]
+    #[inline(always)]
     pub fn print_worded(&mut self, words: Piece, close: &[u8]) -> Result<(), AllocError>
         requires words { IsLiving self.old.buffer.value words }
         requires living { IsLiving self.old.buffer.value self.old.found }
+        requires adjacent { AreAdjacent self.old.buffer.value words self.old.found }
         ensures shape { OnOk result (Lives self.new.buffer.value self.new.found
             (worded_shape (text (shape self.old.buffer.value words))
             (shape self.old.buffer.value self.old.found) close.now)) }
         ensures state { OnOk result (state self.new ≡ state self.old) }
         ensures run { OnOk result (IsRun self.old.buffer.value self.new.buffer.value) }
     {
-        let worded = self.buffer.join(words, b"", self.found)?;
-        let closed = self.buffer.append(worded, close)?;
+        let worded = self.buffer.join_adjacent(words, self.found);
+        let closed = self.buffer.append_last(worded, close)?;
         self.found = self.buffer.whole(closed);
         Ok(())
     }

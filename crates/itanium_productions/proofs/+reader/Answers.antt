@@ -1,4 +1,4 @@
-use Rattle.std.proofs.Common.{◌≡◌, ℕ, List, drop, refl, rules, sym, arith, Some}
+use Rattle.std.proofs.Common.{◌≡◌, ℕ, List, drop, refl, rules, sym, arith, true, Some}
 use Rattle.std.proofs.lemmas.Result.{err_from_is_err_and}
 use Rattle.itanium_syntax.proofs.Fronts.{attached_some}
 use Rattle.demangle_text.specs.State.{shape}
@@ -10,9 +10,10 @@ use Rattle.itanium_syntax.specs.Encodings.{entity_case}
 use Rattle.itanium_reader.specs.Cases.{DefaultArgumentEntity}
 use Rattle.itanium_reader.specs.Outcome.{state}
 use Rattle.itanium_reader.specs.Parser as spec
-use Rattle.itanium_reader.proofs.Unfold.{saved_first, free_found, kept_parent, some_parent, stops}
+use Rattle.itanium_reader.proofs.Unfold.{saved_first, stops, prefix_start, source_prefix_start, source_prefix_none, source_segment, waits_same, waits_saved}
 use Rattle.itanium_reader.proofs.Unfold.{attached_start, attached_end, attached_more, attached_fail, attached_plain}
 use Rattle.itanium_reader.proofs.Unfold.{attached_front, pack_start, segments_end, segments_read, segments_none}
+use Rattle.itanium_syntax.specs.Context.{inside_lambda}
 use Rattle.itanium_reader.proofs.Unfold.{items_more, items_fail, typed_end, typed_more, typed_fail, begun_front}
 use Rattle.itanium_reader.proofs.Unfold.{attached_wide, attached_more_wide, segments_wide, segments_last}
 use Rattle.itanium_reader.proofs.Unfold.{pack_ends, pack_wide, typed_wide, attached_room}
@@ -25,6 +26,7 @@ args::read_attached-loop-reader-init t c = record {
   front = begun_front (shape c.args.reader.now.buffer.value c.args.reader.now.found) (shape c.begin_arguments.new.buf c.in_ok-list.list) (search rules) (search rules);
   reads = attached_start _ _ _ _ (shape c.args.reader.now.buffer.value c.args.reader.now.found) (search rules) (search rules) (search rules) (search rules) (search rules);
   living = search rules;
+  last = search rules;
   run = search rules;
   scopes_stand = search rules;
   scopes_kept = search rules;
@@ -54,13 +56,13 @@ args::read_attached-returns-then-len-front-clause-reads t c =
 
 pub args::read_attached-overflow_sub-len-in-NextArgument : goal.args::read_attached-overflow_sub-len-in-NextArgument
 args::read_attached-overflow_sub-len-in-NextArgument t c =
-    let more = shape c.join.new.self c.in_ok-list-in-NextArgument-2.list in
+    let more = shape c.add_argument.new.self.buffer.value c.join_adjacent-list.result in
     attached_room _ _ _ c.loop-reader.invariant.reads (shape c.framed_argument.new.reader.buffer.value c.framed_argument.new.reader.found) {more = more}
     (search rules) c.loop-reader.invariant.front (search rules)
 
 pub args::read_attached-returns-then-len-front-2-clause-reads : goal.args::read_attached-returns-then-len-front-2-clause-reads
 args::read_attached-returns-then-len-front-2-clause-reads t c =
-    let more = shape c.join.new.self c.in_ok-list-in-NextArgument-2.list in
+    let more = shape c.add_argument.new.self.buffer.value c.join_adjacent-list.result in
     let long : c.len-in-NextArgument.result ≡ text_len more = search rules in
     attached_more_wide _ _ _ c.loop-reader.invariant.reads
     {next = shape c.framed_argument.new.reader.buffer.value c.framed_argument.new.reader.found} {more = more}
@@ -83,6 +85,7 @@ args::read_attached-loop-reader-preserved t c = record {
   reads = attached_more _ _ _ c.loop-reader.invariant.reads {next = shape c.framed_argument.new.reader.buffer.value c.framed_argument.new.reader.found} {mid = state c.framed_argument.new.reader}
       (sym c.in-NextArgument.ensures.case) (search rules) (search rules) (search rules) (search rules) (search rules) (search rules);
   living = search rules;
+  last = search rules;
   run = search rules;
   scopes_stand = search rules;
   scopes_kept = search rules;
@@ -91,45 +94,6 @@ args::read_attached-loop-reader-preserved t c = record {
   counted = search rules;
   list = search rules;
   most = search rules;
-}
-
-pub names::read_segments-returns-then-end_nested-clause-reads : goal.names::read_segments-returns-then-end_nested-clause-reads
-names::read_segments-returns-then-end_nested-clause-reads t c =
-    let ended = c.end_nested.ensures.ended (search rules) in
-    (search rules, segments_end _ _ c.loop-context.invariant.reads ended.0 (search rules) ended.1)
-
-pub names::read_segments-returns-in_err-read_later_segment-clause-reads : goal.names::read_segments-returns-in_err-read_later_segment-clause-reads
-names::read_segments-returns-in_err-read_later_segment-clause-reads t c =
-    let e = err_from_is_err_and c.from_residual.result c.from_residual.ensures.1 in
-    let goes_on = c.end_nested.ensures.goes_on (search rules) in
-    rw (e.1, e.2) (stops _ _ (c.in_err-read_later_segment.ensures {u = tt}).reads
-    (λ none. segments_none _ _ c.loop-context.invariant.reads goes_on.0 (rw goes_on.1 at none)))
-
-pub names::read_segments-returns-then-is_wide-clause-reads : goal.names::read_segments-returns-then-is_wide-clause-reads
-names::read_segments-returns-then-is_wide-clause-reads t c =
-    segments_wide _ _ c.loop-context.invariant.reads {next = shape c.read_later_segment.new.reader.buffer.value c.read_later_segment.new.reader.found} {mid = state c.read_later_segment.new.reader}
-    (search rules) (search rules) (search rules)
-
-pub names::read_segments-returns-then-end_nested_unsaved-clause-reads : goal.names::read_segments-returns-then-end_nested_unsaved-clause-reads
-names::read_segments-returns-then-end_nested_unsaved-clause-reads t c =
-    let mid = c.read_later_segment.new.reader in (
-      search rules,
-      segments_last _ _ c.loop-context.invariant.reads {next = shape mid.buffer.value mid.found} {mid = state mid}
-          (search rules) (search rules) (search rules) (search rules) (search rules) (search rules) (search rules),
-    )
-
-pub names::read_segments-loop-context-preserved : goal.names::read_segments-loop-context-preserved
-names::read_segments-loop-context-preserved t c = record {
-  reads = segments_read _ _ c.loop-context.invariant.reads {mid = state c.read_later_segment.new.reader}
-      (search rules) (search rules) (search rules) (search rules) (search rules) (search rules);
-  living = search rules;
-  run = search rules;
-  some_saved = search rules;
-  taken = search rules;
-  counted = search rules;
-  list = search rules;
-  most = search rules;
-  scopes_stand = search rules;
 }
 
 pub names::read_attached_args-returns-in_ok-save_found-in-ArgsAttached-clause-saved : goal.names::read_attached_args-returns-in_ok-save_found-in-ArgsAttached-clause-saved
@@ -207,15 +171,6 @@ types::read_typed-loop-list-preserved t c = record {
   most = search rules;
 }
 
-pub names::read_unqualified-returns-in_ok-enclose-in-FreeName-clause-reads : goal.names::read_unqualified-returns-in_ok-enclose-in-FreeName-clause-reads
-names::read_unqualified-returns-in_ok-enclose-in-FreeName-clause-reads t c =
-    let free = c.framed_free_name.new.reader in
-    let kept = kept_parent c.args.reader.now.buffer.value free.buffer.value c.args.parent (search rules) c.requires.parent in (
-      search rules,
-      free_found _ _ _ _ {name = shape free.buffer.value free.found} {mid = state free}
-          (rw (some_parent c.args.reader.now.buffer.value c.args.parent) (search rules)) (search rules) (search rules) (search rules),
-    )
-
 pub args::read_pack-returns-then-is_wide-clause-reads : goal.args::read_pack-returns-then-is_wide-clause-reads
 args::read_pack-returns-then-is_wide-clause-reads t c =
     pack_wide _ {found = shape c.skip-in-EndOfArguments.new.self.buffer.value c.whole-reader.result} c.loop-reader.invariant.reads
@@ -242,3 +197,149 @@ encodings::read_entity-returns-in_ok-reader-in-DefaultArgumentEntity-clause-read
           {rest = c.in-Some.rest.now} {entity = shape entity.buffer.value entity.found} {mid = state entity}
           (search rules) (search rules) (search rules) (search rules) (search rules),
     )
+
+pub names::read_after_quals-returns-then-begins_source-clause-reads : goal.names::read_after_quals-returns-then-begins_source-clause-reads
+names::read_after_quals-returns-then-begins_source-clause-reads t c =
+    let mid = c.read_source_name.new.self in
+    c.read_segments.ensures.reads _ (source_prefix_start _ _ (spec.parse_args c.args.depth c.args.context true) c.args.context (state c.args.reader.now) {first = shape mid.buffer.value mid.found} {mid = state mid} (search rules) (search rules))
+
+pub names::read_after_quals-returns-in_err-read_source_name-clause-reads : goal.names::read_after_quals-returns-in_err-read_source_name-clause-reads
+names::read_after_quals-returns-in_err-read_source_name-clause-reads t c =
+    let e = err_from_is_err_and c.from_residual.result c.from_residual.ensures.1 in
+    rw (e.1, e.2) (stops _ _ (c.in_err-read_source_name.ensures {u = tt}).reads
+    (λ none. source_prefix_none _ _ (spec.parse_args c.args.depth c.args.context true) c.args.context (state c.args.reader.now) (search rules) none))
+
+pub names::read_other_prefix-returns-then-end_nested-clause-reads : goal.names::read_other_prefix-returns-then-end_nested-clause-reads
+names::read_other_prefix-returns-then-end_nested-clause-reads t c =
+    let first = c.read_first.new.reader in
+    let mid = c.skip_initializer.new.self in
+    let so_far = prefix_start _ _ (spec.parse_args c.args.depth c.args.context true) c.args.context (state c.args.reader.now) {first = shape mid.buffer.value mid.found} {mid = state first} {after = state mid} {takes = c.saves_first-takes.result} (search rules) (search rules) (search rules) in
+    let ended = c.end_nested.ensures.ended (search rules) in
+    (search rules, segments_end _ _ so_far ended.0 (search rules) ended.1)
+
+pub names::read_other_prefix-returns-in_err-read_later_segment-clause-reads : goal.names::read_other_prefix-returns-in_err-read_later_segment-clause-reads
+names::read_other_prefix-returns-in_err-read_later_segment-clause-reads t c =
+    let first = c.read_first.new.reader in
+    let mid = c.skip_initializer.new.self in
+    let so_far = prefix_start _ _ (spec.parse_args c.args.depth c.args.context true) c.args.context (state c.args.reader.now) {first = shape mid.buffer.value mid.found} {mid = state first} {after = state mid} {takes = c.saves_first-takes.result} (search rules) (search rules) (search rules) in
+    let r = c.from_residual-in_err-read_later_segment in
+    let e = err_from_is_err_and r.result r.ensures.1 in
+    let goes_on = c.end_nested.ensures.goes_on (search rules) in
+    rw (e.1, e.2) (stops _ _ (c.in_err-read_later_segment.ensures {u = tt}).reads
+    (λ none. segments_none _ _ so_far goes_on.0 (rw goes_on.1 at none)))
+
+pub names::read_other_prefix-returns-then-is_wide-clause-reads : goal.names::read_other_prefix-returns-then-is_wide-clause-reads
+names::read_other_prefix-returns-then-is_wide-clause-reads t c =
+    let first = c.read_first.new.reader in
+    let mid = c.skip_initializer.new.self in
+    let so_far = prefix_start _ _ (spec.parse_args c.args.depth c.args.context true) c.args.context (state c.args.reader.now) {first = shape mid.buffer.value mid.found} {mid = state first} {after = state mid} {takes = c.saves_first-takes.result} (search rules) (search rules) (search rules) in
+    let goes_on = c.end_nested.ensures.goes_on (search rules) in
+    let last = c.read_later_segment.new.reader in
+    let read = rw goes_on.1 at ((c.in_ok-read_later_segment.ensures {u = tt}).reads.1) in
+    segments_wide _ _ so_far {next = shape last.buffer.value last.found} {mid = state last} goes_on.0 read (search rules)
+
+pub names::read_other_prefix-returns-clause-reads : goal.names::read_other_prefix-returns-clause-reads
+names::read_other_prefix-returns-clause-reads t c =
+    let first = c.read_first.new.reader in
+    let mid = c.skip_initializer.new.self in
+    let so_far = prefix_start _ _ (spec.parse_args c.args.depth c.args.context true) c.args.context (state c.args.reader.now) {first = shape mid.buffer.value mid.found} {mid = state first} {after = state mid} {takes = c.saves_first-takes.result} (search rules) (search rules) (search rules) in
+    let goes_on = c.end_nested.ensures.goes_on (search rules) in
+    let last = c.read_later_segment.new.reader in
+    let read = rw goes_on.1 at ((c.in_ok-read_later_segment.ensures {u = tt}).reads.1) in
+    c.read_segments.ensures.reads _ (segments_read _ _ so_far {next = shape last.buffer.value last.found} {mid = state last} goes_on.0 read (search rules) (search rules) refl (search rules))
+
+pub names::read_segments-returns-then-end_nested_unsaved-clause-reads : goal.names::read_segments-returns-then-end_nested_unsaved-clause-reads
+names::read_segments-returns-then-end_nested_unsaved-clause-reads t c = λ whole so_far.
+    let here = c.read_next_source.new.self in
+    let same = c.read_next_source.ensures.other (search rules) in
+    let waits = waits_same _ _ _ c.loop-reader.reader here same (c.loop-reader.invariant.reads whole so_far) in
+    let ended = c.end_nested_unsaved.ensures.ended c.if-end_nested_unsaved.true in
+    (search rules, segments_last _ _ (shape here.buffer.value here.found) (state here) waits ended.0 (search rules) ended.1)
+
+pub names::read_segments-returns-then-end_nested-clause-reads : goal.names::read_segments-returns-then-end_nested-clause-reads
+names::read_segments-returns-then-end_nested-clause-reads t c = λ whole so_far.
+    let here = c.read_next_source.new.self in
+    let same = c.read_next_source.ensures.other (search rules) in
+    let waits = waits_same _ _ _ c.loop-reader.reader here same (c.loop-reader.invariant.reads whole so_far) in
+    let unsaved = c.end_nested_unsaved.ensures.goes_on c.if-end_nested_unsaved.false in
+    let end = c.in_ok-end_segment.ensures {u = tt} in
+    let saved_so_far = waits_saved _ _ _ c.end_nested_unsaved.new.self c.end_segment.new.self (waits_same _ _ _ here c.end_nested_unsaved.new.self unsaved.1 waits) end.shape.shape_is end.state in
+    let ended = c.end_nested.ensures.ended c.if-end_nested.true in
+    (search rules, segments_end _ _ saved_so_far ended.0 (search rules) ended.1)
+
+pub names::read_segments-returns-in_err-read_later_segment-clause-reads : goal.names::read_segments-returns-in_err-read_later_segment-clause-reads
+names::read_segments-returns-in_err-read_later_segment-clause-reads t c = λ whole so_far.
+    let here = c.read_next_source.new.self in
+    let same = c.read_next_source.ensures.other (search rules) in
+    let waits = waits_same _ _ _ c.loop-reader.reader here same (c.loop-reader.invariant.reads whole so_far) in
+    let unsaved = c.end_nested_unsaved.ensures.goes_on c.if-end_nested_unsaved.false in
+    let end = c.in_ok-end_segment.ensures {u = tt} in
+    let saved_so_far = waits_saved _ _ _ c.end_nested_unsaved.new.self c.end_segment.new.self (waits_same _ _ _ here c.end_nested_unsaved.new.self unsaved.1 waits) end.shape.shape_is end.state in
+    let r = c.from_residual-in_err-read_later_segment in
+    let e = err_from_is_err_and r.result r.ensures.1 in
+    let goes_on = c.end_nested.ensures.goes_on c.if-end_nested.false in
+    rw (e.1, e.2) (stops _ {whole = whole} _ (c.in_err-read_later_segment.ensures {u = tt}).reads
+    (λ none. segments_none _ _ saved_so_far goes_on.0 (rw goes_on.1 at none)))
+
+pub names::read_segments-returns-then-is_wide-clause-reads : goal.names::read_segments-returns-then-is_wide-clause-reads
+names::read_segments-returns-then-is_wide-clause-reads t c = λ whole so_far.
+    let old = c.loop-reader.reader in
+    let new = c.read_next_source.new.self in
+    let next = c.read_next_source.ensures.next (search rules) in
+    let case = source_segment (spec.parse_type c.args.depth c.args.context) (spec.parse_type c.args.depth (inside_lambda c.args.context)) (spec.parse_args c.args.depth c.args.context true)
+    (shape old.buffer.value old.found) (state old) next.begins next.reads in
+    segments_wide _ _ (c.loop-reader.invariant.reads whole so_far) {next = shape new.buffer.value new.found} {mid = state new} case.0 case.1 (search rules)
+
+pub names::read_segments-returns-then-is_wide-2-clause-reads : goal.names::read_segments-returns-then-is_wide-2-clause-reads
+names::read_segments-returns-then-is_wide-2-clause-reads t c = λ whole so_far.
+    let here = c.read_next_source.new.self in
+    let same = c.read_next_source.ensures.other (search rules) in
+    let waits = waits_same _ _ _ c.loop-reader.reader here same (c.loop-reader.invariant.reads whole so_far) in
+    let unsaved = c.end_nested_unsaved.ensures.goes_on c.if-end_nested_unsaved.false in
+    let end = c.in_ok-end_segment.ensures {u = tt} in
+    let saved_so_far = waits_saved _ _ _ c.end_nested_unsaved.new.self c.end_segment.new.self (waits_same _ _ _ here c.end_nested_unsaved.new.self unsaved.1 waits) end.shape.shape_is end.state in
+    let goes_on = c.end_nested.ensures.goes_on c.if-end_nested.false in
+    let last = c.read_later_segment.new.reader in
+    let read = rw goes_on.1 at ((c.in_ok-read_later_segment.ensures {u = tt}).reads.1) in
+    segments_wide _ _ saved_so_far {next = shape last.buffer.value last.found} {mid = state last} goes_on.0 read (search rules)
+
+pub names::read_segments-loop-reader-preserved-then-branch : goal.names::read_segments-loop-reader-preserved-then-branch
+names::read_segments-loop-reader-preserved-then-branch t c =
+    let old = c.loop-reader.reader in
+    let new = c.read_next_source.new.self in
+    let next = c.read_next_source.ensures.next (search rules) in
+    let case = source_segment (spec.parse_type c.args.depth c.args.context) (spec.parse_type c.args.depth (inside_lambda c.args.context)) (spec.parse_args c.args.depth c.args.context true)
+    (shape old.buffer.value old.found) (state old) next.begins next.reads in
+    record {
+      reads = λ whole so_far. segments_read _ _ (c.loop-reader.invariant.reads whole so_far) {next = shape new.buffer.value new.found} {mid = state new} case.0 case.1 (search rules)
+          (rw case.2 (omega (arith, next.shorter))) refl (search rules);
+      living = next.living;
+      run = search rules;
+      taken = search rules;
+      counted = search rules;
+      scopes_stand = search rules;
+      list = search rules;
+      most = search rules;
+    }
+
+pub names::read_segments-loop-reader-preserved : goal.names::read_segments-loop-reader-preserved
+names::read_segments-loop-reader-preserved t c = record {
+  reads = λ whole so_far.
+      let here = c.read_next_source.new.self in
+      let same = c.read_next_source.ensures.other (search rules) in
+      let waits = waits_same _ _ _ c.loop-reader.reader here same (c.loop-reader.invariant.reads whole so_far) in
+      let unsaved = c.end_nested_unsaved.ensures.goes_on c.if-end_nested_unsaved.false in
+      let end = c.in_ok-end_segment.ensures {u = tt} in
+      let saved_so_far = waits_saved _ _ _ c.end_nested_unsaved.new.self c.end_segment.new.self (waits_same _ _ _ here c.end_nested_unsaved.new.self unsaved.1 waits) end.shape.shape_is end.state in
+      let goes_on = c.end_nested.ensures.goes_on c.if-end_nested.false in
+      let last = c.read_later_segment.new.reader in
+      let read = rw goes_on.1 at ((c.in_ok-read_later_segment.ensures {u = tt}).reads.1) in
+      segments_read _ _ saved_so_far {next = shape last.buffer.value last.found} {mid = state last} goes_on.0 read (search rules) (search rules) refl (search rules);
+  living = search rules;
+  run = search rules;
+  taken = search rules;
+  counted = search rules;
+  scopes_stand = search rules;
+  list = search rules;
+  most = search rules;
+}

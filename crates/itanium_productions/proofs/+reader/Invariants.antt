@@ -1,10 +1,12 @@
-use Rattle.std.proofs.Common.{◌≡◌, ◌+◌, ◌-◌, ◌*◌, ◌<◌, ◌≤◌, length, max, true}
+use Rattle.std.proofs.Common.{◌≡◌, ◌+◌, ◌-◌, ◌*◌, ◌<◌, ◌≤◌, length, max, true, Option}
+use Rattle.demangle_text.specs.Shape.{Shape}
 use Rattle.demangle_text.specs.State.{IsLiving, IsRun, shape, saved, scopes}
+use Rattle.demangle_text.specs.Calls.{IsLast}
 use Rattle.itanium_reader.specs.Parser as spec
-use Rattle.itanium_reader.specs.Outcome.{state}
+use Rattle.itanium_reader.specs.Outcome.{state, LoopSoFar}
 use Rattle.itanium_syntax.specs.Context.{inside_lambda}
-use Rattle.itanium_reader.proofs.Loops.{LoopSoFar, ListSoFar}
-use Rattle.itanium_reader.proofs.Unfold.{AttachedSoFar, front_len, pack_end}
+use Rattle.itanium_reader.proofs.Loops.{ListSoFar}
+use Rattle.itanium_reader.proofs.Unfold.{AttachedSoFar, front_len, pack_end, Waits}
 use Rattle.itanium_productions.proofs.+reader.Given as goal
 
 abbrev pub decreases-names::read_bare_name : goal.decreases-names::read_bare_name
@@ -13,11 +15,14 @@ decreases-names::read_bare_name l = 16 * l.depth
 abbrev pub decreases-names::read_plain_nested : goal.decreases-names::read_plain_nested
 decreases-names::read_plain_nested l = 16 * l.depth
 
-abbrev pub decreases-names::read_bare_nested : goal.decreases-names::read_bare_nested
-decreases-names::read_bare_nested l = 16 * l.depth
+abbrev pub decreases-names::read_unscoped_name : goal.decreases-names::read_unscoped_name
+decreases-names::read_unscoped_name l = 16 * l.depth
 
 abbrev pub decreases-names::read_qualified_nested : goal.decreases-names::read_qualified_nested
 decreases-names::read_qualified_nested l = 16 * l.depth + 1
+
+abbrev pub decreases-names::read_bare_nested : goal.decreases-names::read_bare_nested
+decreases-names::read_bare_nested l = 16 * l.depth + 14
 
 abbrev pub decreases-names::read_other_name : goal.decreases-names::read_other_name
 decreases-names::read_other_name l = 16 * l.depth + 1
@@ -74,29 +79,30 @@ abbrev pub decreases-names::read_unscoped : goal.decreases-names::read_unscoped
 decreases-names::read_unscoped l = 16 * l.depth + 10
 
 abbrev pub decreases-names::read_nested : goal.decreases-names::read_nested
-decreases-names::read_nested l = 16 * l.depth + 13
+decreases-names::read_nested l = 16 * l.depth + 14
 
 abbrev pub decreases-names::read_after_quals : goal.decreases-names::read_after_quals
-decreases-names::read_after_quals l = 16 * l.depth + 12
+decreases-names::read_after_quals l = 16 * l.depth + 13
 
-abbrev pub invariant-names::read_segments-loop-context : goal.invariant-names::read_segments-loop-context
-invariant-names::read_segments-loop-context l = record {
-  reads : LoopSoFar (spec.parse_segments (spec.parse_unqualified (spec.parse_type l.depth l.context) (spec.parse_type l.depth (inside_lambda l.context)))
-      (spec.parse_args l.depth l.context true) l.fn.takes (shape l.fn.reader.buffer.value l.fn.reader.found) (state l.fn.reader))
-      (spec.segment_turn (spec.parse_unqualified (spec.parse_type l.depth l.context) (spec.parse_type l.depth (inside_lambda l.context))) (spec.parse_args l.depth l.context true))
-      (l.takes, shape l.reader.buffer.value l.reader.found) (state l.reader);
+abbrev pub decreases-names::read_other_prefix : goal.decreases-names::read_other_prefix
+decreases-names::read_other_prefix l = 16 * l.depth + 12
+
+abbrev pub invariant-names::read_segments-loop-reader : goal.invariant-names::read_segments-loop-reader
+invariant-names::read_segments-loop-reader l = record {
+  reads : (whole : Option (Shape × spec.ParserState))
+      → Waits whole (spec.parse_unqualified (spec.parse_type l.depth l.context) (spec.parse_type l.depth (inside_lambda l.context))) (spec.parse_args l.depth l.context true) l.fn.reader
+      → Waits whole (spec.parse_unqualified (spec.parse_type l.depth l.context) (spec.parse_type l.depth (inside_lambda l.context))) (spec.parse_args l.depth l.context true) l.reader;
   living : IsLiving l.reader.buffer.value l.reader.found;
   run : IsRun l.fn.reader.buffer.value l.reader.buffer.value;
-  some_saved : l.takes ≡ true → 0 < length (saved l.reader.buffer.value);
   taken : length l.reader.rest.now ≤ length l.fn.reader.rest.now;
   counted : l.reader.entered + 2 * length l.reader.rest.now ≤ l.fn.reader.entered + 2 * length l.fn.reader.rest.now;
   scopes_stand : length (scopes l.fn.reader.buffer.value) ≤ length (scopes l.reader.buffer.value);
   list : length (saved l.reader.buffer.value) + length l.reader.rest.now ≤ length (saved l.fn.reader.buffer.value) + length l.fn.reader.rest.now;
-  most : (state l.reader).most_saved ≤ max (state l.fn.reader).most_saved (length (saved l.fn.reader.buffer.value) + length l.fn.reader.rest.now);
+  most : (state l.reader).most_saved ≤ max (state l.fn.reader).most_saved (length (saved l.fn.reader.buffer.value) + 1 + length l.fn.reader.rest.now);
 }
 
-abbrev pub decreases-names::read_segments-loop-context : goal.decreases-names::read_segments-loop-context
-decreases-names::read_segments-loop-context l = length l.reader.rest.now
+abbrev pub decreases-names::read_segments-loop-reader : goal.decreases-names::read_segments-loop-reader
+decreases-names::read_segments-loop-reader l = length l.reader.rest.now
 
 abbrev pub invariant-args::read_attached-loop-reader : goal.invariant-args::read_attached-loop-reader
 invariant-args::read_attached-loop-reader l = record {
@@ -106,6 +112,7 @@ invariant-args::read_attached-loop-reader l = record {
       (shape l.reader.buffer.value l.list) (state l.reader);
   front : l.front ≡ front_len (shape l.fn.reader.buffer.value l.fn.reader.found);
   living : IsLiving l.reader.buffer.value l.list;
+  last : IsLast l.reader.buffer.value l.list;
   run : IsRun l.fn.reader.buffer.value l.reader.buffer.value;
   scopes_stand : length (scopes l.fn.reader.buffer.value) ≤ l.scopes;
   scopes_kept : l.scopes ≤ length (scopes l.reader.buffer.value);
@@ -190,6 +197,9 @@ decreases-names::read_segment l = 16 * l.depth + 9
 
 abbrev pub decreases-names::read_other_segment : goal.decreases-names::read_other_segment
 decreases-names::read_other_segment l = 16 * l.depth + 8
+
+abbrev pub decreases-names::read_free_segment : goal.decreases-names::read_free_segment
+decreases-names::read_free_segment l = 16 * l.depth + 7
 
 abbrev pub decreases-names::framed_name : goal.decreases-names::framed_name
 decreases-names::framed_name l = 16 * l.depth + 3

@@ -1,8 +1,7 @@
 use Rattle.std.proofs.Common.{◌≡◌, ◌≤◌, length}
 use Rattle.demangle_text.specs.State.{IsLiving, IsRun, shape, saved, scopes}
 use Rattle.itanium_reader.specs.Parser as spec
-use Rattle.itanium_reader.specs.Outcome.{state}
-use Rattle.itanium_reader.proofs.Loops.{LoopSoFar}
+use Rattle.itanium_reader.specs.Outcome.{state, LoopSoFar}
 use Rattle.itanium_reader.proofs.reader.Reader.read_tags.Given as goal
 
 abbrev pub invariant-loop-name : goal.invariant-loop-name
