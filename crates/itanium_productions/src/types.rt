@@ -332,6 +332,7 @@ pub(crate) fn read_name_type(
 /// A `<type>` in a frame of its own: what lived keeps its shape. It stands right after all that was there.
 #[tactic(auto, using(itanium_reader::proofs::Rules::buffers))]
 #[cycle(reader)]
+#[inline(always)]
 pub(crate) fn framed_type(reader: &mut Reader, depth: usize, context: Context) -> Result<(), Stop>
     requires room { HasRoom 2 (state reader.old) }
     ensures reads { Gives result reader.new (spec.parse_type depth context (state reader.old)) }

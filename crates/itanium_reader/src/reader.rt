@@ -239,6 +239,7 @@ impl<'a> Reader<'a> {
 
     /// `<substitution> ::= S [<seq-id>] _ | Sa | Sb | Ss | Si | So | Sd`
     #[tactic(auto, using(crate::proofs::Rules::substitutions))]
+    #[inline(always)]
     pub fn read_substitution(&mut self) -> Result<(), Stop>
         ensures reads { Gives result self.new (spec.parse_substitution (state self.old)) }
         ensures kept { OnOk result (SameFrame self.old.buffer.value self.new.buffer.value) }
