@@ -221,6 +221,19 @@ fn texts_that_meet_are_joined_where_they_stand(rt: HostRuntime) {
 }
 
 #[test]
+#[tactic(auto, using(demangle_text::proofs::Laws::runs, demangle_text::proofs::Laws::lasts))]
+fn texts_at_the_end_go_on_there(rt: HostRuntime) {
+    let mut buf = Buffer::new(rt.alloc());
+    let list = buf.push(b"A, ").expect(&rt, "no memory");
+    let next = buf.push(b"B").expect(&rt, "no memory");
+    let joined = buf.join_adjacent(list, next);
+    let ended = buf.append_last(joined, b">").expect(&rt, "no memory");
+    assert_text(&rt, &buf, ended, b"A, B>");
+    assert_main(&rt, &buf, b"A, B>");
+    drop(buf);
+}
+
+#[test]
 #[tactic(auto, using(demangle_text::proofs::Laws::laws, demangle_text::proofs::Laws::runs))]
 fn text_before_a_mark_is_copied(rt: HostRuntime) {
     let mut buf = Buffer::new(rt.alloc());

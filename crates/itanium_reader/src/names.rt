@@ -188,7 +188,7 @@ impl<'a> Reader<'a> {
     {
         let parent = self.found;
         self.framed_tagged_source()?;
-        self.found = qualify(&mut self.buffer, parent, self.found)?;
+        self.enclose(parent)?;
         Ok(())
     }
 
