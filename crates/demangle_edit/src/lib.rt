@@ -11,10 +11,10 @@
 //! entity is read, and `close_default_arg` joins the two after it. Both give the same shape.
 //!
 //! A list after a name is put together from pieces (`attach_template_args`, `format_params`), or built as it is
-//! read: what opens it, then `separate` before each text but the first (`separate_last` where the list is known to stand
-//! at the end), and `list_next` after each (`join` of the buffer in a list that `begin_arguments` began), then what
-//! closes it. Both give the same shape. So it is with a function type: `function_type`, or `open_function` and
-//! `close_function`.
+//! read: what opens it, then `separate` before each text but the first (`separate_last` where the list is known to
+//! stand at the end), and `list_next` after each (`join` or `join_adjacent` of the buffer in a list that
+//! `begin_arguments` began), then what closes it. Both give the same shape. So it is with a function type:
+//! `function_type`, or `open_function` and `close_function`.
 #![tactic(auto)]
 
 mod appends;

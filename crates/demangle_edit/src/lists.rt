@@ -102,8 +102,8 @@ pub(crate) fn list_more(
 ///
 /// The list is what `begin_arguments` or `open_params` answers, or a piece of the bytes that open it:
 /// `{lambda(` for a lambda, none for a pack. Of each text but the first `separate` comes before it is
-/// read, and of each `list_next` after it; after `begin_arguments` it is `join` of the buffer that
-/// comes after it. A pack needs no end but `whole` of the buffer.
+/// read, and of each `list_next` after it; after `begin_arguments` it is `join` or `join_adjacent` of the
+/// buffer that comes after it. A pack needs no end but `whole` of the buffer.
 #[inline(always)]
 #[tactic(auto, using(demangle_text::proofs::Laws::laws))]
 pub fn separate(buf: &mut Buffer, list: Piece) -> Result<Piece, AllocError>
@@ -186,7 +186,8 @@ fn close_arguments(buf: &mut Buffer, list: Piece) -> Result<Piece, AllocError>
 
 /// The text of the name with the `<` of its template arguments, after a space where it ends in `<`, as a plain piece.
 ///
-/// The list is built as a text: `separate` before each argument but the first, and `join` of the buffer after each.
+/// The list is built as a text: `separate` before each argument but the first, and `join` of the buffer after each, or
+/// `separate_last` and `join_adjacent`.
 /// `end_arguments` gives it what the name was.
 #[inline(always)]
 #[tactic(auto, using(demangle_text::proofs::Laws::laws, crate::proofs::Built::begun_text))]

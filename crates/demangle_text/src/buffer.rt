@@ -398,9 +398,9 @@ impl Buffer {
         Ok(Piece::whole_at(from, self.main.len()))
     }
 
-    /// As `join` with no bytes between them, where the first ends where the second begins, and the second stands up to
-    /// the end of the main text, both from the innermost mark or later: it isn't asked whether they do. The buffer stays
-    /// as it is.
+    /// As `join` with no bytes between them, where the first ends where the second begins, and the second stands up
+    /// to the end of the main text, both from the innermost mark or later: it isn't asked whether they do. The buffer
+    /// stays as it is.
     #[inline(always)]
     pub fn join_adjacent(&self, first: Piece, second: Piece) -> Piece
         requires first_living { IsLiving self.now first }

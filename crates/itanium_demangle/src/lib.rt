@@ -34,6 +34,5 @@ mod mangled_name;
 mod utf8;
 
 pub use crate::demangler::{Demangler, MAX_DEPTH, demangle_owned};
-pub use crate::utf8::is_utf8;
 pub use itanium_reader::MAX_TEXT;
 pub use itanium_syntax::scalar;

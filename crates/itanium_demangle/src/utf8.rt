@@ -75,9 +75,9 @@ fn is_long_ascii(bytes: &[u8]) -> bool
     !(has_non_ascii(bytes, last) | has_non_ascii(bytes, last + LANES))
 }
 
-/// Whether the bytes are UTF-8: what `std::str::from_utf8` says, sooner where all are ASCII.
+/// Whether the bytes are UTF-8.
 #[inline(always)]
-pub fn is_utf8(bytes: &[u8]) -> bool
+pub(crate) fn is_utf8(bytes: &[u8]) -> bool
     ensures yes { result ≡ true → IsUtf8 bytes.now }
     ensures no { result ≡ false → ¬ (IsUtf8 bytes.now) }
 {

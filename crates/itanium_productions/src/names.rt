@@ -1,15 +1,17 @@
 //! Names (Itanium C++ ABI 5.1.2).
-ghost use Rattle.std.specs.Prelude.{◌≡◌, ◌<◌, drop, length, Option, option_and_then, None, Some, OnOk, true, false};
+ghost use Rattle.std.specs.Prelude.{◌≡◌, ◌<◌, drop, length, Option, option_and_then, None, Some, OnOk, true};
+ghost use Rattle.std.specs.Prelude.{false};
 ghost use Rattle.demangle_text.specs.Shape.{Shape};
 ghost use Rattle.demangle_text.specs.State.{IsLiving, shape, IsRun, SameFrame, saved, Stands, main_bytes};
-ghost use Rattle.itanium_syntax.specs.Names.{begins_quals, past_name_quals, free_case, first_case, name_case, segment_case};
-ghost use Rattle.itanium_syntax.specs.Names.{unscoped_case, saves_first};
+ghost use Rattle.itanium_syntax.specs.Names.{begins_quals, past_name_quals, free_case, first_case, name_case};
+ghost use Rattle.itanium_syntax.specs.Names.{segment_case, unscoped_case, saves_first};
 ghost use Rattle.itanium_syntax.specs.Context.{inside_lambda};
 ghost use Rattle.itanium_syntax.specs.Args.{attached_case};
 ghost use Rattle.itanium_reader.specs.Cases.{NameFirst, NestedName, UnscopedName, FreeName};
 ghost use Rattle.itanium_reader.specs.Parser as spec;
 ghost use Rattle.itanium_reader.specs.Parser.{ParserState};
-ghost use Rattle.itanium_reader.specs.Outcome.{state, Gives, GivesBareName, LoopSoFar, HasRoom, Bounds, OptionalBounds, SavedBounds, SavedBoundsWaiting};
+ghost use Rattle.itanium_reader.specs.Outcome.{state, Gives, GivesBareName, LoopSoFar, HasRoom, Bounds};
+ghost use Rattle.itanium_reader.specs.Outcome.{OptionalBounds, SavedBounds, SavedBoundsWaiting};
 
 use crate::args::read_attached;
 use crate::encodings::read_local;
@@ -376,8 +378,8 @@ pub(crate) fn read_later_segment(
     }
 }
 
-/// The later segments of a `<nested-name>` after what was found, up to its `E`. What was found isn't saved yet: right in
-/// front of the `E` it would be taken back. Mostly they are `<source-name>`s.
+/// The later segments of a `<nested-name>` after what was found, up to its `E`. What was found isn't saved yet: right
+/// in front of the `E` it would be taken back. Mostly they are `<source-name>`s.
 #[tactic(auto, using(itanium_reader::proofs::Rules::segments))]
 #[cycle(reader)]
 #[inline(always)]

@@ -1,5 +1,6 @@
 -- What a reader says of a call.
-use Rattle.std.specs.Prelude.{◌≡◌, ◌≤◌, ℕ, ◌+◌, ◌*◌, ◌^◌, ◌<◌, ◌-◌, max, length, true, Option, Some, None, Result, Ok, Err}
+use Rattle.std.specs.Prelude.{◌≡◌, ◌≤◌, ℕ, ◌+◌, ◌*◌, ◌^◌, ◌<◌, ◌-◌, max, length, true, Option, Some, None}
+use Rattle.std.specs.Prelude.{Result, Ok, Err}
 use Rattle.demangle_text.specs.Shape.{Shape}
 use Rattle.demangle_text.specs.State.{IsLiving, shape, saved, scopes}
 use Rattle.demangle_quals.specs.declared.quals.Quals.{Quals}
@@ -116,7 +117,8 @@ SavesOne (Ok a) before after =
 SavesOne (Err Unread) before after = after.most_saved ≡ before.most_saved
 SavesOne (Err Memory) before after = Unit {0}
 
--- a source name without tags was read as the next segment of a <nested-name>: what stood of it was saved
+-- a source name was read as the next segment of a <nested-name>, in what was found, which was saved first. What this
+-- does to the lists and the counts is said for the callers, in the last five fields
 pub record IsNextSource (old new : Reader) : Type 0 where
   pub begins : begins_source old.rest.now ≡ true
   pub living : IsLiving new.buffer.value new.found

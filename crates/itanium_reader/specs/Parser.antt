@@ -291,7 +291,7 @@ parse_free type param s = free_as (free_case s.rest) type param s >>= λ name. p
 abbrev pub parse_tagged_source : Parses Shape
 parse_tagged_source s = parse_source s >>= λ name. parse_tags name.0 name.1
 
--- any unqualified name, in the parent that stands in front of it
+-- a source name with its tags, in the parent that stands in front of it
 abbrev pub parse_source_in : Option Shape → Parses Shape
 parse_source_in parent s = parse_tagged_source s >>= λ name. Some (in_parent parent name.0, name.1)
 

@@ -378,8 +378,8 @@ impl<'a> Reader<'a> {
         separate(&mut self.buffer, list)
     }
 
-    /// As `separate_list`, of a list that stands up to the end of the main text, from the innermost mark or later: it
-    /// stays there.
+    /// As `separate_list`, of a list that stands up to the end of the main text, from the innermost mark or later: so
+    /// does the answer.
     #[tactic(auto, using(crate::proofs::Rules::last_lists))]
     #[inline(always)]
     pub fn separate_last(&mut self, list: Piece, first: bool) -> Result<Piece, AllocError>

@@ -96,7 +96,7 @@ fn framed_offset(buf: &mut Buffer, offset: CallOffset) -> Result<Piece, AllocErr
 
 #[tactic(auto, using(crate::proofs::Rules::buffers))]
 impl<'a> Reader<'a> {
-    /// The words with what was found right after them, and the words that close it. Nothing moves.
+    /// The words with what was found right after them, and the words that close it.
     #[tactic(auto, using(crate::proofs::Rules::words))]
     #[inline(always)]
     pub fn print_worded(&mut self, words: Piece, close: &[u8]) -> Result<(), AllocError>

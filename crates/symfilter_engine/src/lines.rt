@@ -17,7 +17,7 @@ use super::prefixes::unprefixed_len;
 use super::symbols::Symbols;
 use super::words::append_words;
 use growing_text::Text;
-use itanium_demangle::{Demangler, is_utf8};
+use itanium_demangle::Demangler;
 use std::alloc::{AllocError, Global};
 use std::str;
 
@@ -386,7 +386,7 @@ pub(crate) fn write_lines<W: Sink>(
     ensures memory { IsErrOf result FilterFault.Memory →
         WritesWholeLines symbols lines.now (W.taken sink.old) (W.taken sink.new) }
 {
-    let known_utf8 = matches!(symbols, Symbols::Lines) && is_utf8(lines);
+    let known_utf8 = matches!(symbols, Symbols::Lines) && str::from_utf8(lines).is_ok();
     let mut rest = lines;
     while !rest.is_empty() {
         let len = write_next(alloc, demangler, symbols, rest, known_utf8, output, sink)?;
