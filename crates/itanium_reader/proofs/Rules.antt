@@ -1,5 +1,6 @@
 -- What the check may use for the readers: the laws of the buffer, and what unfolds each.
-use Rattle.demangle_text.proofs.Laws.{laws, runs, lasts as buffer_lasts}
+use Rattle.demangle_text.proofs.Laws.{laws, runs}
+pub use Rattle.demangle_text.proofs.Laws.{lasts}
 use Rattle.itanium_syntax.proofs.Fronts.{cases, names_some, entities_some, expressions_some, arguments_some, specials_some}
 use Rattle.itanium_reader.proofs.Unfold.{builtin_fits, bare_name_opens, no_bare_name, name_opens, encoding_opens}
 use Rattle.itanium_reader.proofs.Unfold.{local_opens, expression_opens, no_expression, primary_opens, argument_opens}
@@ -26,8 +27,6 @@ pub ruleset segments = (buffers, source_opens)
 pub ruleset first_segments = (fronts, source_opens)
 
 pub ruleset lists = (buffers, nothing_in_front)
-
-pub ruleset lasts = (buffer_lasts)
 
 pub ruleset last_lists = (lists, lasts)
 
