@@ -34,7 +34,7 @@ pub use crate::lists::{
 };
 pub use crate::names::{
     apply_name_qualifiers, attach_template_args, close_default_arg, default_arg, format_params,
-    open_default_arg, qualify, qualify_ctor, qualify_text, qualify_text_in_place, tag,
+    open_default_arg, qualify, qualify_ctor, qualify_text, qualify_text_in_place, qualify_text_last, tag,
 };
 pub use crate::parts::Glue;
 pub use crate::types::{

@@ -3,6 +3,7 @@ ghost use Rattle.std.specs.Prelude.{◌≡◌, All, map, IfOk, OnOk, OnErr};
 ghost use Rattle.demangle_text.specs.Shape.{plain_shape};
 ghost use Rattle.demangle_text.specs.State.{IsLiving, shape, Lives, IsEdit};
 ghost use Rattle.demangle_text.specs.State.{StaysInPlace, IsLeftOrStays, JoinsInPlace, Appends};
+ghost use Rattle.demangle_text.specs.Calls.{IsLast};
 ghost use Rattle.demangle_edit.specs.Names.{qualified, qualified_ctor, angle_gap, attached, tagged};
 ghost use Rattle.demangle_edit.specs.Names.{encoding_shape, with_name_qualifiers};
 ghost use Rattle.demangle_edit.specs.Names.{default_arg_opened, default_arg_closed, default_arg_shape};
@@ -66,6 +67,27 @@ pub fn qualify_text_in_place(
     ensures piece_err { OnErr result (name.new ≡ name.old) }
 {
     buf.append_name_in_place(name, b"::", text)?;
+    Ok(())
+}
+
+/// As `qualify_text_in_place`, of a parent that stands up to the end of the main text, from the innermost mark or
+/// later: it stays there.
+#[inline(always)]
+#[tactic(auto, using(demangle_text::proofs::Laws::laws))]
+pub fn qualify_text_last(
+    buf: &mut Buffer,
+    name: &mut Piece,
+    text: &[u8],
+) -> Result<(), AllocError>
+    requires parent { IsLiving buf.old name.old }
+    requires last { IsLast buf.old name.old }
+    ensures shape { OnOk result (Lives buf.new name.new
+        (qualified (shape buf.old name.old) (plain_shape text.now))) }
+    ensures edit { OnOk result (IsEdit buf.old buf.new) }
+    ensures in_place { OnOk result (StaysInPlace buf.old buf.new name.old name.new) }
+    ensures piece_err { OnErr result (name.new ≡ name.old) }
+{
+    buf.append_name_last(name, b"::", text)?;
     Ok(())
 }
 

@@ -308,6 +308,14 @@ IsLast-push old new p u inner stands = record {
 pub IsLast-named : (b : Store) (p q : Piece) → IsLast b p → StandsAs p q → IsLast b q
 IsLast-named b p q l as_piece = record { from = l.from; inner = l.inner; stands = as_piece l.from (length (main_bytes b)) l.stands }
 
+-- it stands last as long as the main text stays
+pub IsLast-same : (old new : Store) (p : Piece) → IsLast old p → SameFrame old new → main_bytes new ≡ main_bytes old → IsLast new p
+IsLast-same old new p l k main = record {
+  from = l.from;
+  inner = subst (λ (f : Frame). frame_start f ≤ l.from) (sym k.frame_same) l.inner;
+  stands = subst (λ (t : List ℕ). Stands p l.from (length t)) (sym main) l.stands;
+}
+
 -- what stood last, and what was put after it
 pub AreAdjacent-follows : (old new : Store) (p q : Piece) → IsLast old p → SameFrame old new → Stands q (length (main_bytes old)) (length (main_bytes new)) → AreAdjacent new p q
 AreAdjacent-follows old new p q l k stands = record {
@@ -332,7 +340,7 @@ AreAdjacent-same old new p q a k main = record {
 pub ruleset runs = (IsRun-edit, IsRun-same, SameFrame-keeps, SameFrame-trans, IsRun-trans, IsSince-opens, IsSince-run, SameFrame-closed, Lives-same)
 
 -- the laws for what is put after what stands last
-pub ruleset lasts = (IsLast-stays, IsLast-push, IsLast-named, AreAdjacent-follows, AreAdjacent-same)
+pub ruleset lasts = (IsLast-stays, IsLast-push, IsLast-named, IsLast-same, AreAdjacent-follows, AreAdjacent-same)
 
 -- the laws for the callers of a buffer
 pub ruleset laws = (Lives-keeps, IsEdit-keeps, KeepsAll-trans, IsEdit-trans, Opens-edit, Opens-keeps, KeepsAll-closed)

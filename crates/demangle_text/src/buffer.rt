@@ -282,6 +282,34 @@ impl Buffer {
         Ok(())
     }
 
+    /// As `append_name_in_place`, of a piece that stands up to the end of the main text, from the innermost mark or
+    /// later: it isn't asked whether it does, and it stays there.
+    #[inline(always)]
+    pub fn append_name_last(
+        &mut self,
+        piece: &mut Piece,
+        between: &[u8],
+        name: &[u8],
+    ) -> Result<(), AllocError>
+        requires living { IsLiving self.old piece.old }
+        requires last { IsLast self.old piece.old }
+        ensures shape { OnOk result (Lives self.new piece.new (named between.now name.now (shape self.old piece.old))) }
+        ensures edit { OnOk result (IsEdit self.old self.new) }
+        ensures err { OnErr result (KeepsAll self.old self.new) }
+        ensures piece_err { OnErr result (piece.new ≡ piece.old) }
+        ensures edit_of { OnOk result (IsEditOf self.old self.new piece.old piece.new
+            (length between.now + length name.now)) }
+        ensures main_err { OnErr result (main_bytes self.new ≡ main_bytes self.old) }
+    {
+        let from = self.splice_last_pair(piece, between, name)?;
+        piece.from_byte = from;
+        piece.to_byte = self.main.len();
+        piece.own_end = piece.text_len();
+        piece.own_start = piece.own_end - name.len();
+        piece.flags = alone_in_main();
+        Ok(())
+    }
+
     /// The piece with the bytes and then its own last own name at the end of its text. Ends pieces,
     /// copies a text, and keeps all after `AllocError`, as `append` does.
     #[inline(always)]

@@ -330,10 +330,29 @@ impl Buffer {
         ensures main_err { OnErr result (self.new.main_text ≡ self.old.main_text) }
     {
         if self.is_tail(*piece) {
-            self.add_pair(first, second)?;
-            return Ok(piece.from_byte);
+            return self.splice_last_pair(piece, first, second);
         }
         self.extend_elsewhere(piece, first, second)
+    }
+
+    // `splice_pair` of a piece that stands at the end of the main text.
+    #[inline(always)]
+    pub(crate) fn splice_last_pair(
+        &mut self,
+        piece: &Piece,
+        first: &[u8],
+        second: &[u8],
+    ) -> Result<usize, AllocError>
+        requires living { IsLiving self.old piece.now }
+        requires last { IsTail self.old piece.now }
+        ensures splice { IfOk result (IsSplice self.old self.new piece.now (piece.now.to_byte - piece.now.from_byte)
+            (first.now ++ second.now)) }
+        ensures edit { OnOk result (IsEdit self.old self.new) }
+        ensures err { OnErr result (KeepsAll self.old self.new) }
+        ensures main_err { OnErr result (self.new.main_text ≡ self.old.main_text) }
+    {
+        self.add_pair(first, second)?;
+        Ok(piece.from_byte)
     }
 
     // Two texts at the end of the main text.

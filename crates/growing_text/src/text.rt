@@ -96,9 +96,10 @@ impl Text {
         ensures ok { OnOk result (self.new ≡ self.old ++ bytes.now) }
         ensures err { OnErr result (self.new ≡ self.old) }
     {
-        let n = bytes.len();
-        make_room(&mut self.bytes, self.len, n)?;
-        let to = self.len + n;
+        let to = self.len + bytes.len();
+        if to > self.bytes.len() {
+            grow(&mut self.bytes, self.len, bytes.len())?;
+        }
         copy_text(&mut self.bytes[self.len..to], bytes);
         self.len = to;
         Ok(())
@@ -136,11 +137,10 @@ impl Text {
         ensures put { IsTrue result → self.new ≡ self.old ++ (bytes.now ++ end ∷ []) }
         ensures not_put { result ≡ false → self.new ≡ self.old }
     {
-        let n = bytes.len() + 1;
-        if self.bytes.len() - self.len < n {
+        let to = self.len + (bytes.len() + 1);
+        if to > self.bytes.len() {
             return false;
         }
-        let to = self.len + n;
         if !copy_ended(&mut self.bytes[self.len..to], bytes, end) {
             return false;
         }

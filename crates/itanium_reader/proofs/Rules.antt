@@ -22,6 +22,8 @@ pub ruleset tags = (buffers, loop_start)
 
 pub ruleset source_names = (buffers, no_tags)
 
+pub ruleset last_source_names = (source_names, lasts)
+
 pub ruleset segments = (buffers, source_opens)
 
 pub ruleset first_segments = (fronts, source_opens)

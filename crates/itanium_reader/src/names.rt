@@ -1,5 +1,7 @@
 //! Names (Itanium C++ ABI 5.1.2).
-ghost use Rattle.std.specs.Prelude.{◌≡◌, codes, option_map, None, Some, IfSome, OnOk, Ok, true, false};
+ghost use Rattle.std.specs.Prelude.{◌≡◌, ◌<◌, ◌≤◌, codes, option_map, None, Some, IfSome, OnOk, Ok, true, false};
+ghost use Rattle.std.specs.Prelude.{drop, length, slice_range};
+ghost use Rattle.demangle_text.specs.Calls.{IsLast};
 ghost use Rattle.demangle_text.specs.Shape.{appended};
 ghost use Rattle.demangle_text.specs.State.{IsLiving, shape, Lives, IsEdit, IsRun, SameFrame, saved};
 ghost use Rattle.demangle_edit.specs.Names.{qualified, with_name_qualifiers};
@@ -7,14 +9,14 @@ ghost use Rattle.itanium_grammar.specs.Tree.{conversion_shape};
 ghost use Rattle.itanium_reader.specs.Parser as spec;
 ghost use Rattle.itanium_syntax.specs.Names.{begins_source, tag_case};
 ghost use Rattle.itanium_syntax.specs.Scalars.{source_name};
-ghost use Rattle.itanium_reader.specs.Cases.{NextTag};
+ghost use Rattle.itanium_reader.specs.Cases.{NextTag, NoTag};
 ghost use Rattle.itanium_reader.specs.Outcome.{state, Gives, IsNextSource, Bounds, OptionalBounds, SavedBounds};
 
 use crate::reader::Reader;
 use crate::stop::Stop;
 use demangle_edit::{
     Quals, append_number, apply_name_qualifiers, close_lambda, qualify, qualify_ctor,
-    qualify_text_in_place, tag,
+    qualify_text_in_place, qualify_text_last, tag,
 };
 use demangle_text::{Piece, Place};
 use itanium_syntax::names::{TagCase, begins_source, source_text, tag_case};
@@ -22,6 +24,32 @@ use itanium_syntax::numerals::ordinal;
 use itanium_syntax::operators::operator_here;
 use itanium_syntax::scalar::source_name;
 use std::alloc::AllocError;
+
+/// From where to where the text of a `<source-name>` without `<abi-tags>` stands, where one stands at the front.
+#[tactic(auto, using(crate::proofs::Rules::source_names))]
+#[inline(always)]
+fn untagged_source(bytes: &[u8]) -> Option<(usize, usize)>
+    ensures begins { IfSome result (λ _. begins_source bytes.now ≡ true) }
+    ensures value { IfSome result (λ found. source_name bytes.now
+        ≡ Some (slice_range bytes.now found.0 found.1, drop found.1 bytes.now)) }
+    ensures untagged { IfSome result (λ found. tag_case (drop found.1 bytes.now) ≡ NoTag) }
+    ensures after { IfSome result (λ found. 0 < found.0) }
+    ensures ordered { IfSome result (λ found. found.0 < found.1) }
+    ensures within { IfSome result (λ found. found.1 ≤ length bytes.now) }
+    ensures none { result ≡ None → begins_source bytes.now ≡ true
+        → IfSome (source_name bytes.now) (λ found. tag_case found.1 ≡ NextTag) }
+{
+    if !begins_source(bytes) {
+        return None;
+    }
+    let Some((from, to)) = source_name(bytes, 0) else {
+        return None;
+    };
+    match tag_case(&bytes[to..]) {
+        TagCase::NoTag => Some((from, to)),
+        TagCase::NextTag => None,
+    }
+}
 
 #[tactic(auto, using(crate::proofs::Rules::buffers))]
 impl<'a> Reader<'a> {
@@ -79,11 +107,13 @@ impl<'a> Reader<'a> {
         }
     }
 
-    /// A `<source-name>` in no parent, and `<abi-tags>` after it.
-    #[tactic(auto, using(crate::proofs::Rules::source_names))]
+    /// A `<source-name>` in no parent, and `<abi-tags>` after it. It stands up to the end of the main text, from the
+    /// innermost mark or later.
+    #[tactic(auto, using(crate::proofs::Rules::last_source_names))]
     #[inline(always)]
     pub fn read_source_name(&mut self) -> Result<(), Stop>
         ensures reads { Gives result self.new (spec.parse_source_in None (state self.old)) }
+        ensures last { OnOk result (IsLast self.new.buffer.value self.new.found) }
         ensures kept { OnOk result (SameFrame self.old.buffer.value self.new.buffer.value) }
         ensures bounds { Bounds 2 result (state self.old) (state self.new) }
         ensures saved { SavedBounds 1 result (state self.old) (state self.new) }
@@ -140,23 +170,40 @@ impl<'a> Reader<'a> {
             → IfSome (source_name self.old.rest.now) (λ found. tag_case found.1 ≡ NextTag) }
         ensures run { OnOk result (IsRun self.old.buffer.value self.new.buffer.value) }
     {
-        if !begins_source(self.rest) {
-            return Ok(false);
-        }
-        let Some((from, to)) = source_name(self.rest, 0) else {
+        let Some((from, to)) = untagged_source(self.rest) else {
             return Ok(false);
         };
         let rest = &self.rest[to..];
-        match tag_case(rest) {
-            TagCase::NoTag => {
-                let text = source_text(&self.rest[from..to]);
-                self.save_found()?;
-                qualify_text_in_place(&mut self.buffer, &mut self.found, text)?;
-                self.rest = rest;
-                Ok(true)
-            }
-            TagCase::NextTag => Ok(false),
-        }
+        let text = source_text(&self.rest[from..to]);
+        self.save_found()?;
+        qualify_text_in_place(&mut self.buffer, &mut self.found, text)?;
+        self.rest = rest;
+        Ok(true)
+    }
+
+    /// As `read_next_source`, in what stands up to the end of the main text, from the innermost mark or later: so does
+    /// what is found.
+    #[tactic(auto, using(crate::proofs::Rules::last_source_names))]
+    #[inline(always)]
+    pub fn read_next_source_last(&mut self) -> Result<bool, AllocError>
+        requires living { IsLiving self.old.buffer.value self.old.found }
+        requires last { IsLast self.old.buffer.value self.old.found }
+        ensures next { result ≡ Ok true → IsNextSource self.old self.new }
+        ensures last { result ≡ Ok true → IsLast self.new.buffer.value self.new.found }
+        ensures other { result ≡ Ok false → self.new ≡ self.old }
+        ensures none { result ≡ Ok false → begins_source self.old.rest.now ≡ true
+            → IfSome (source_name self.old.rest.now) (λ found. tag_case found.1 ≡ NextTag) }
+        ensures run { OnOk result (IsRun self.old.buffer.value self.new.buffer.value) }
+    {
+        let Some((from, to)) = untagged_source(self.rest) else {
+            return Ok(false);
+        };
+        let rest = &self.rest[to..];
+        let text = source_text(&self.rest[from..to]);
+        self.save_found()?;
+        qualify_text_last(&mut self.buffer, &mut self.found, text)?;
+        self.rest = rest;
+        Ok(true)
     }
 
     /// A `<source-name>` and `<abi-tags>` after it, in a frame of their own: what lived keeps its shape.
@@ -164,6 +211,7 @@ impl<'a> Reader<'a> {
     #[inline(never)]
     fn framed_tagged_source(&mut self) -> Result<(), Stop>
         ensures reads { Gives result self.new (spec.parse_tagged_source (state self.old)) }
+        ensures last { OnOk result (IsLast self.new.buffer.value self.new.found) }
         ensures kept { OnOk result (SameFrame self.old.buffer.value self.new.buffer.value) }
         ensures bounds { Bounds 2 result (state self.old) (state self.new) }
         ensures saved { SavedBounds 1 result (state self.old) (state self.new) }

@@ -122,6 +122,8 @@ impl<'a> Reader<'a> {
         ensures longer { OnOk result (length (saved self.new.buffer.value) ≡ length (saved self.old.buffer.value) + 1) }
         ensures most { OnOk result ((state self.new).most_saved
             ≡ max (state self.old).most_saved (length (saved self.old.buffer.value) + 1)) }
+        ensures main { main_bytes self.new.buffer.value ≡ main_bytes self.old.buffer.value }
+        ensures found { self.new.found ≡ self.old.found }
         ensures kept { OnOk result (SameFrame self.old.buffer.value self.new.buffer.value) }
     {
         self.buffer.save_in_place(&self.found)?;

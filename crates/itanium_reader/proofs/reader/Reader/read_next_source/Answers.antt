@@ -8,8 +8,8 @@ use Rattle.itanium_reader.specs.Outcome.{state}
 use Rattle.itanium_reader.proofs.Unfold.{source_found}
 use Rattle.itanium_reader.proofs.reader.Reader.read_next_source.Goals as goal
 
-pub returns-in_ok-qualify_text_in_place-in-NoTag-clause-next : goal.returns-in_ok-qualify_text_in_place-in-NoTag-clause-next
-returns-in_ok-qualify_text_in_place-in-NoTag-clause-next c = λ _.
+pub returns-clause-next : goal.returns-clause-next
+returns-clause-next c = λ _.
     let old = c.args.self.now in
     let bytes = old.rest.now in
     let to = c.in-Some.to in
