@@ -35,14 +35,14 @@ pub(crate) fn read_attached(
     if depth == 0 {
         return Err(Stop::Unread);
     }
-    let len = reader.buffer.len(reader.found);
-    let own = reader.buffer.own_range(reader.found);
-    let ctor = reader.buffer.ctor(reader.found);
     reader.entered += 1;
     reader.skip_one();
     let opens = context.opens_scope(of_name);
     reader.begin_list(opens)?;
     let scopes = reader.buffer.scopes();
+    let len = reader.buffer.len(reader.found);
+    let own = reader.buffer.own_range(reader.found);
+    let ctor = reader.buffer.ctor(reader.found);
     let mut list = begin_arguments(&mut reader.buffer, reader.found)?;
     // The list begins with its `<`, after the name.
     let front = reader.buffer.len(list) - 1;

@@ -1,6 +1,7 @@
 //! Names (Itanium C++ ABI 5.1.2).
 ghost use Rattle.std.specs.Prelude.{◌≡◌, ◌<◌, drop, length, Option, option_and_then, None, Some, OnOk, true};
 ghost use Rattle.std.specs.Prelude.{false};
+ghost use Rattle.demangle_text.specs.Calls.{IsLast};
 ghost use Rattle.demangle_text.specs.Shape.{Shape};
 ghost use Rattle.demangle_text.specs.State.{IsLiving, shape, IsRun, SameFrame, saved, Stands, main_bytes};
 ghost use Rattle.itanium_syntax.specs.Names.{begins_quals, past_name_quals, free_case, first_case, name_case};
@@ -315,9 +316,42 @@ pub(crate) fn read_after_quals(
 {
     if begins_source(reader.rest) {
         reader.read_source_name()?;
-        return read_segments(reader, depth, context);
+        return read_last_segments(reader, depth, context);
     }
     read_other_prefix(reader, depth, context)
+}
+
+/// `read_segments` after what stands last: first the `<source-name>`s up to any other segment.
+#[tactic(auto, using(itanium_reader::proofs::Rules::segments))]
+#[cycle(reader)]
+#[inline(always)]
+pub(crate) fn read_last_segments(
+    reader: &mut Reader,
+    depth: usize,
+    context: Context,
+) -> Result<(), Stop>
+    requires room { HasRoom 1 (state reader.old) }
+    requires living { IsLiving reader.old.buffer.value reader.old.found }
+    requires last { IsLast reader.old.buffer.value reader.old.found }
+    ensures reads { (whole : Option (Shape × ParserState)) → LoopSoFar whole
+        (spec.segment_turn (spec.parse_unqualified (spec.parse_type depth context)
+        (spec.parse_type depth (inside_lambda context))) (spec.parse_args depth context true))
+        (true, shape reader.old.buffer.value reader.old.found)
+        (spec.past_initializer (spec.save (shape reader.old.buffer.value reader.old.found) (state reader.old)))
+        → Gives result reader.new whole }
+    ensures run { OnOk result (IsRun reader.old.buffer.value reader.new.buffer.value) }
+    ensures bounds { Bounds 1 result (state reader.old) (state reader.new) }
+    ensures saved { SavedBoundsWaiting result (state reader.old) (state reader.new) }
+{
+    while reader.read_next_source_last()? {
+        if reader.is_wide(reader.found) {
+            return Err(Stop::Unread);
+        }
+    }
+    if reader.end_nested_unsaved() {
+        return Ok(());
+    }
+    read_segments(reader, depth, context)
 }
 
 /// `read_after_quals` of any `<prefix>`.
@@ -535,13 +569,34 @@ pub(crate) fn read_name(reader: &mut Reader, depth: usize, context: Context) -> 
     ensures saved { SavedBounds 1 result (state reader.old) (state reader.new) }
 {
     match name_case(reader.rest) {
-        NameCase::NestedName if begins_quals(&reader.rest[1..]) => {
-            read_qualified_nested(reader, depth, context)
-        }
-        NameCase::NestedName => read_plain_nested(reader, depth, context),
+        NameCase::NestedName => read_any_nested(reader, depth, context),
         NameCase::LocalName => read_other_name(reader, depth, context),
         NameCase::UnscopedName => read_unscoped_name(reader, depth, context),
     }
+}
+
+/// `<name> ::= <nested-name>` with its own qualifiers, or with none.
+#[tactic(auto, using(crate::proofs::NestedNames::any_names))]
+#[cycle(reader)]
+#[inline(always)]
+pub(crate) fn read_any_nested(
+    reader: &mut Reader,
+    depth: usize,
+    context: Context,
+) -> Result<(), Stop>
+    requires room { HasRoom 1 (state reader.old) }
+    requires nested { name_case reader.old.rest.now ≡ NestedName }
+    ensures reads { Gives result reader.new (spec.parse_name depth context (state reader.old)) }
+    ensures fits { OnOk result (spec.is_wide (shape reader.new.buffer.value reader.new.found) ≡ false) }
+    ensures run { OnOk result (IsRun reader.old.buffer.value reader.new.buffer.value) }
+    ensures refused { depth ≡ 0 → reader.new.entered ≡ reader.old.entered }
+    ensures bounds { Bounds 1 result (state reader.old) (state reader.new) }
+    ensures saved { SavedBounds 1 result (state reader.old) (state reader.new) }
+{
+    if begins_quals(&reader.rest[1..]) {
+        return read_qualified_nested(reader, depth, context);
+    }
+    read_plain_nested(reader, depth, context)
 }
 
 /// `<name> ::= <nested-name>` that has no own qualifiers: it is measured once.

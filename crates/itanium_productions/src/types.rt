@@ -3,13 +3,14 @@ ghost use Rattle.std.specs.Prelude.{◌≡◌, ◌<◌, OnOk, length, option_and
 ghost use Rattle.demangle_text.specs.State.{IsLiving, shape, IsRun, SameFrame, Stands, main_bytes};
 ghost use Rattle.demangle_quals.specs.Quals.{no_quals};
 ghost use Rattle.itanium_syntax.specs.Args.{attached_case};
+ghost use Rattle.itanium_syntax.specs.Names.{name_case};
 ghost use Rattle.itanium_syntax.specs.Types.{params_case, past_cv, type_case};
-ghost use Rattle.itanium_reader.specs.Cases.{NameType, SubstitutionType};
+ghost use Rattle.itanium_reader.specs.Cases.{NameType, NestedName, SubstitutionType};
 ghost use Rattle.itanium_reader.specs.Parser as spec;
 ghost use Rattle.itanium_reader.specs.Outcome.{state, Gives, HasRoom, Bounds, OptionalBounds, ListBounds, SavedBounds};
 
 use crate::args::read_attached;
-use crate::names::read_name;
+use crate::names::{read_any_nested, read_name};
 use demangle_edit::{Pointer, Quals, list_next, open_function};
 use demangle_text::Piece;
 use itanium_reader::{Reader, Stop};
@@ -47,14 +48,22 @@ pub(crate) fn read_type_attached(
     }
 }
 
-/// Whether `N`, `1` to `9` or `St` stands there: then a `<type>` is a `<name>`. Some names that are types begin
-/// otherwise.
+/// Whether `N` stands there: then a `<type>` is a `<nested-name>`.
+#[inline(always)]
+fn begins_nested_type(bytes: &[u8]) -> bool
+    ensures case { result ≡ true → type_case bytes.now ≡ NameType }
+    ensures nested { result ≡ true → name_case bytes.now ≡ NestedName }
+{
+    matches!(bytes, [b'N', ..])
+}
+
+/// Whether `1` to `9` or `St` stands there: then a `<type>` is a `<name>`. Some names that are types begin otherwise.
 #[inline(always)]
 fn begins_name_type(bytes: &[u8]) -> bool
     ensures case { result ≡ true → type_case bytes.now ≡ NameType }
 {
     match bytes {
-        [b'N' | b'1'..=b'9', ..] => true,
+        [b'1'..=b'9', ..] => true,
         [b'S', b't', ..] => true,
         _ => false,
     }
@@ -88,6 +97,9 @@ pub(crate) fn read_type(reader: &mut Reader, depth: usize, context: Context) -> 
     }
     reader.entered += 1;
     let inside = context.inside_type();
+    if begins_nested_type(reader.rest) {
+        return read_nested_type(reader, depth - 1, inside);
+    }
     if begins_name_type(reader.rest) {
         return read_name_type(reader, depth - 1, inside);
     }
@@ -305,6 +317,28 @@ pub(crate) fn read_substitution_type(
     if reader.is_wide(reader.found) {
         return Err(Stop::Unread);
     }
+    Ok(())
+}
+
+/// `<class-enum-type> ::= <nested-name>`, which is saved.
+#[tactic(auto, using(itanium_reader::proofs::Rules::buffers))]
+#[cycle(reader)]
+#[inline(never)]
+pub(crate) fn read_nested_type(
+    reader: &mut Reader,
+    depth: usize,
+    context: Context,
+) -> Result<(), Stop>
+    requires room { HasRoom 1 (state reader.old) }
+    requires nested { name_case reader.old.rest.now ≡ NestedName }
+    ensures reads { Gives result reader.new (spec.saved_by (spec.parse_name depth context) (state reader.old)) }
+    ensures fits { OnOk result (spec.is_wide (shape reader.new.buffer.value reader.new.found) ≡ false) }
+    ensures run { OnOk result (IsRun reader.old.buffer.value reader.new.buffer.value) }
+    ensures bounds { Bounds 1 result (state reader.old) (state reader.new) }
+    ensures saved { SavedBounds 0 result (state reader.old) (state reader.new) }
+{
+    read_any_nested(reader, depth, context)?;
+    reader.save_found()?;
     Ok(())
 }
 

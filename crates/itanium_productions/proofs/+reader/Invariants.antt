@@ -19,7 +19,10 @@ abbrev pub decreases-names::read_unscoped_name : goal.decreases-names::read_unsc
 decreases-names::read_unscoped_name l = 16 * l.depth
 
 abbrev pub decreases-names::read_qualified_nested : goal.decreases-names::read_qualified_nested
-decreases-names::read_qualified_nested l = 16 * l.depth + 1
+decreases-names::read_qualified_nested l = 16 * l.depth
+
+abbrev pub decreases-names::read_any_nested : goal.decreases-names::read_any_nested
+decreases-names::read_any_nested l = 16 * l.depth + 1
 
 abbrev pub decreases-names::read_bare_nested : goal.decreases-names::read_bare_nested
 decreases-names::read_bare_nested l = 16 * l.depth + 14
@@ -75,6 +78,9 @@ decreases-types::read_type_attached l = 16 * l.depth + 3
 abbrev pub decreases-names::read_segments : goal.decreases-names::read_segments
 decreases-names::read_segments l = 16 * l.depth + 11
 
+abbrev pub decreases-names::read_last_segments : goal.decreases-names::read_last_segments
+decreases-names::read_last_segments l = 16 * l.depth + 12
+
 abbrev pub decreases-names::read_unscoped : goal.decreases-names::read_unscoped
 decreases-names::read_unscoped l = 16 * l.depth + 10
 
@@ -103,6 +109,24 @@ invariant-names::read_segments-loop-reader l = record {
 
 abbrev pub decreases-names::read_segments-loop-reader : goal.decreases-names::read_segments-loop-reader
 decreases-names::read_segments-loop-reader l = length l.reader.rest.now
+
+abbrev pub invariant-names::read_last_segments-loop-reader : goal.invariant-names::read_last_segments-loop-reader
+invariant-names::read_last_segments-loop-reader l = record {
+  reads : (whole : Option (Shape × spec.ParserState))
+      → Waits whole (spec.parse_unqualified (spec.parse_type l.depth l.context) (spec.parse_type l.depth (inside_lambda l.context))) (spec.parse_args l.depth l.context true) l.fn.reader
+      → Waits whole (spec.parse_unqualified (spec.parse_type l.depth l.context) (spec.parse_type l.depth (inside_lambda l.context))) (spec.parse_args l.depth l.context true) l.reader;
+  living : IsLiving l.reader.buffer.value l.reader.found;
+  last : IsLast l.reader.buffer.value l.reader.found;
+  run : IsRun l.fn.reader.buffer.value l.reader.buffer.value;
+  taken : length l.reader.rest.now ≤ length l.fn.reader.rest.now;
+  counted : l.reader.entered + 2 * length l.reader.rest.now ≤ l.fn.reader.entered + 2 * length l.fn.reader.rest.now;
+  scopes_stand : length (scopes l.fn.reader.buffer.value) ≤ length (scopes l.reader.buffer.value);
+  list : length (saved l.reader.buffer.value) + length l.reader.rest.now ≤ length (saved l.fn.reader.buffer.value) + length l.fn.reader.rest.now;
+  most : (state l.reader).most_saved ≤ max (state l.fn.reader).most_saved (length (saved l.fn.reader.buffer.value) + 1 + length l.fn.reader.rest.now);
+}
+
+abbrev pub decreases-names::read_last_segments-loop-reader : goal.decreases-names::read_last_segments-loop-reader
+decreases-names::read_last_segments-loop-reader l = length l.reader.rest.now
 
 abbrev pub invariant-args::read_attached-loop-reader : goal.invariant-args::read_attached-loop-reader
 invariant-args::read_attached-loop-reader l = record {
@@ -158,6 +182,9 @@ decreases-types::read_parameter_type l = 16 * l.depth + 4
 
 abbrev pub decreases-types::read_substitution_type : goal.decreases-types::read_substitution_type
 decreases-types::read_substitution_type l = 16 * l.depth + 4
+
+abbrev pub decreases-types::read_nested_type : goal.decreases-types::read_nested_type
+decreases-types::read_nested_type l = 16 * l.depth + 3
 
 abbrev pub decreases-types::read_name_type : goal.decreases-types::read_name_type
 decreases-types::read_name_type l = 16 * l.depth + 3
