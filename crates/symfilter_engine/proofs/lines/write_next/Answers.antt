@@ -10,8 +10,8 @@ returns-in_err-write_all-clause-err g c =
 pub returns-in_err-reserve-clause-err : goal.returns-in_err-reserve-clause-err
 returns-in_err-reserve-clause-err g c = at_fault _ (lines_unwritten c.args.symbols c.args.lines.now _)
 
-pub returns-in_err-first-clause-err : goal.returns-in_err-first-clause-err
-returns-in_err-first-clause-err g c = at_fault _ (lines_unwritten c.args.symbols c.args.lines.now _)
+pub returns-then-len-eq0-clause-err : goal.returns-then-len-eq0-clause-err
+returns-then-len-eq0-clause-err g c = lines_unwritten c.args.symbols c.args.lines.now _
 
 pub returns-in_err-write_all-2-clause-err : goal.returns-in_err-write_all-2-clause-err
 returns-in_err-write_all-2-clause-err g c =
