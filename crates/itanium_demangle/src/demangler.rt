@@ -64,6 +64,7 @@ fn begin_answer(alloc: Global, buffer: Box<Buffer>, bytes: &[u8]) -> (Reader<'_>
 
 /// Makes the printing that was found, and all that follows from a dot after it, the main text of the buffer, and drops
 /// its scopes. False where the printing isn't UTF-8.
+#[inline(always)]
 fn end_answer(reader: &mut Reader, mark: Mark) -> Result<bool, AllocError>
     requires innermost { frame reader.old.buffer.value ≡ inside mark }
     requires start { frame_start (inside mark) ≡ 0 }
@@ -109,6 +110,7 @@ impl Demangler {
     }
 
     /// Keeps the counts of a reader that has ended, and its buffer, whose main text is the answer where there is one.
+    #[inline(always)]
     fn keep(&mut self, reader: Reader, answered: bool)
         requires text { IsText (answer_text answered (Some reader.buffer)) }
         requires ended { IsEnded answered (Some reader.buffer) }
@@ -136,6 +138,7 @@ impl Demangler {
     /// a prefix there is none either, no memory is taken, and both counts are 0. An error comes only where memory is
     /// refused; then nothing is kept, and the value serves on.
     #[tactic(auto, using(crate::proofs::Rules::answers))]
+    #[inline(always)]
     pub fn prepare(&mut self, alloc: Global, symbol: &str) -> Result<bool, AllocError>
         ensures answer { IfOk result (λ _. IsAnswer symbol.now self.new.text) }
         ensures found { IfOk result (λ found. found ≡ is_some self.new.text) }
