@@ -107,6 +107,7 @@ fn parenthesize(buf: &mut Buffer, piece: Piece) -> Result<Piece, AllocError>
 
 // The piece with a value after its text. Its last own name is the whole text then.
 #[tactic(auto, using(demangle_text::proofs::Laws::laws, crate::proofs::Insertions::insertions))]
+#[inline(always)]
 fn append_value(buf: &mut Buffer, piece: Piece, value: &[u8]) -> Result<Piece, AllocError>
     requires piece { IsLiving buf.old piece }
     ensures shape { IfOk result (λ p. Lives buf.new p
@@ -151,6 +152,7 @@ fn print_cast(buf: &mut Buffer, paren: Piece, ty: Piece, value: &[u8]) -> Result
 
 // A literal of a form that doesn't show its type.
 #[tactic(auto, using(demangle_text::proofs::Laws::laws))]
+#[inline(always)]
 fn print_untyped(buf: &mut Buffer, form: LiteralForm, value: &[u8]) -> Result<Piece, AllocError>
     requires untyped { form ≡ LiteralForm.Cast → ⊥ }
     ensures shape { IfOk result (λ p. Lives buf.new p (plain_shape (spec.literal_text form [] value.now))) }

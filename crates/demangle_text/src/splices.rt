@@ -367,7 +367,7 @@ impl Buffer {
     }
 
     // The text of a piece with bytes and its last own name after it, at the end of the main text: where it begins.
-    #[inline(never)]
+    #[inline(always)]
     pub(crate) fn splice_own(&mut self, piece: Piece, between: &[u8]) -> Result<usize, AllocError>
         requires living { IsLiving self.old piece }
         ensures splice { IfOk result (IsSplice self.old self.new piece (piece.to_byte - piece.from_byte)
