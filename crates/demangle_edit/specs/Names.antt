@@ -11,6 +11,14 @@ use Rattle.demangle_edit.specs.Lists.{params_text}
 abbrev pub qualified : Shape → Shape → Shape
 qualified parent leaf = inserted Start (text parent ++ codes "::") (flattened leaf)
 
+-- the parent as a plain text, with the `::` after it that stands in front of a leaf
+abbrev pub parent_opened : Shape → Shape
+parent_opened parent = appended (codes "::") (flattened parent)
+
+-- the leaf as a plain text, with the text in front that opens its parent
+abbrev pub parent_closed : Shape → Shape → Shape
+parent_closed opened leaf = inserted Start (text opened) (flattened leaf)
+
 -- the parent as a plain text, with `::{default arg#k}::` after it, k being the number of a default argument
 abbrev pub default_arg_opened : Shape → ℕ → Shape
 default_arg_opened parent number =

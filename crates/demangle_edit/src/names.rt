@@ -7,6 +7,7 @@ ghost use Rattle.demangle_text.specs.Calls.{IsLast};
 ghost use Rattle.demangle_edit.specs.Names.{qualified, qualified_ctor, angle_gap, attached, tagged};
 ghost use Rattle.demangle_edit.specs.Names.{encoding_shape, with_name_qualifiers};
 ghost use Rattle.demangle_edit.specs.Names.{default_arg_opened, default_arg_closed, default_arg_shape};
+ghost use Rattle.demangle_edit.specs.Names.{parent_opened, parent_closed};
 
 use crate::appends::append_piece;
 use crate::lists::{append_number, close_params, list_more, open_params};
@@ -106,6 +107,25 @@ pub fn open_default_arg(buf: &mut Buffer, parent: Piece, number: u64) -> Result<
     buf.append(numbered, b"}::")
 }
 
+// A piece after what was opened for it, as a plain piece with its last own name and flags.
+#[tactic(auto, using(demangle_text::proofs::Laws::laws))]
+fn close_opened(buf: &mut Buffer, opened: Piece, last: Piece) -> Result<Piece, AllocError>
+    requires opened { IsLiving buf.old opened }
+    requires last { IsLiving buf.old last }
+    ensures shape { IfOk result (λ p. Lives buf.new p (parent_closed (shape buf.old opened) (shape buf.old last))) }
+    ensures edit { OnOk result (IsEdit buf.old buf.new) }
+    ensures in_place { IfOk result (λ p. JoinsInPlace buf.old buf.new opened last p) }
+{
+    let before = buf.len(opened);
+    let (from, to) = buf.own_range(last);
+    let (templ, ctor) = (buf.templ(last), buf.ctor(last));
+    let whole = buf.join(opened, b"", last)?;
+    // The check learns here that the length fits 64 bits, and so does each place in the text.
+    let _len = buf.len(whole);
+    let named = buf.own_at(whole, before + from, before + to);
+    Ok(buf.with_flags(named, templ, ctor))
+}
+
 /// The entity after what opens its default argument, as a plain piece with the last own name and the flags of the
 /// entity.
 #[tactic(auto, using(demangle_text::proofs::Laws::laws))]
@@ -121,14 +141,32 @@ pub fn close_default_arg(
     ensures edit { OnOk result (IsEdit buf.old buf.new) }
     ensures in_place { IfOk result (λ p. JoinsInPlace buf.old buf.new opened entity p) }
 {
-    let before = buf.len(opened);
-    let (from, to) = buf.own_range(entity);
-    let (templ, ctor) = (buf.templ(entity), buf.ctor(entity));
-    let whole = buf.join(opened, b"", entity)?;
-    // The check learns here that the length fits 64 bits, and so does each place in the text.
-    let _len = buf.len(whole);
-    let named = buf.own_at(whole, before + from, before + to);
-    Ok(buf.with_flags(named, templ, ctor))
+    close_opened(buf, opened, entity)
+}
+
+/// A parent with the `::` after it that stands in front of a leaf, as a plain piece with the last own name and the
+/// flags of the parent. `close_parent` puts the leaf after it: the two give what `qualify` gives.
+#[tactic(auto, using(demangle_text::proofs::Laws::laws))]
+pub fn open_parent(buf: &mut Buffer, parent: Piece) -> Result<Piece, AllocError>
+    requires parent { IsLiving buf.old parent }
+    ensures shape { IfOk result (λ p. Lives buf.new p (parent_opened (shape buf.old parent))) }
+    ensures edit { OnOk result (IsEdit buf.old buf.new) }
+    ensures in_place { IfOk result (λ p. StaysInPlace buf.old buf.new parent p) }
+{
+    let plain = buf.plain(parent);
+    buf.append(plain, b"::")
+}
+
+/// The leaf after what opens its parent, as a plain piece with the last own name and the flags of the leaf.
+#[tactic(auto, using(demangle_text::proofs::Laws::laws))]
+pub fn close_parent(buf: &mut Buffer, opened: Piece, leaf: Piece) -> Result<Piece, AllocError>
+    requires opened { IsLiving buf.old opened }
+    requires leaf { IsLiving buf.old leaf }
+    ensures shape { IfOk result (λ p. Lives buf.new p (parent_closed (shape buf.old opened) (shape buf.old leaf))) }
+    ensures edit { OnOk result (IsEdit buf.old buf.new) }
+    ensures in_place { IfOk result (λ p. JoinsInPlace buf.old buf.new opened leaf p) }
+{
+    close_opened(buf, opened, leaf)
 }
 
 /// The entity in a default argument of a parent, `parent::{default arg#k}::entity` with k for its number, as a plain

@@ -10,8 +10,8 @@ use crate::names::read_bare_name;
 use crate::specials::read_special;
 use crate::types::{read_type, read_typed_params};
 use demangle_edit::{
-    Quals, apply_name_qualifiers, close_default_arg, close_params, open_default_arg, open_params,
-    qualify,
+    Quals, apply_name_qualifiers, close_default_arg, close_params, close_parent, open_default_arg,
+    open_params, open_parent,
 };
 use demangle_text::Piece;
 use itanium_reader::{Reader, Stop};
@@ -173,8 +173,9 @@ pub(crate) fn read_entity(
         }
         EntityCase::NameEntity => {
             reader.skip(1);
+            let opened = open_parent(&mut reader.buffer, encoding)?;
             let quals = framed_bare_name(reader, depth, context)?;
-            reader.found = qualify(&mut reader.buffer, encoding, reader.found)?;
+            reader.found = close_parent(&mut reader.buffer, opened, reader.found)?;
             Ok(quals)
         }
         EntityCase::NoEntity => Err(Stop::Unread),

@@ -212,9 +212,9 @@ pub(crate) fn read_free_segment(
     ensures bounds { Bounds 2 result (state reader.old) (state reader.new) }
     ensures saved { SavedBounds 1 result (state reader.old) (state reader.new) }
 {
-    let parent = reader.found;
+    let opened = reader.open_parent()?;
     framed_free_name(reader, depth, context)?;
-    reader.enclose(parent)?;
+    reader.close_parent(opened)?;
     Ok(())
 }
 

@@ -1,10 +1,10 @@
 //! Names (Itanium C++ ABI 5.1.2).
-ghost use Rattle.std.specs.Prelude.{◌≡◌, ◌<◌, ◌≤◌, codes, option_map, None, Some, IfSome, OnOk, Ok, true, false};
+ghost use Rattle.std.specs.Prelude.{◌≡◌, ◌<◌, ◌≤◌, codes, option_map, None, Some, IfOk, IfSome, OnOk, Ok, true, false};
 ghost use Rattle.std.specs.Prelude.{drop, length, slice_range};
 ghost use Rattle.demangle_text.specs.Calls.{IsLast};
 ghost use Rattle.demangle_text.specs.Shape.{appended};
 ghost use Rattle.demangle_text.specs.State.{IsLiving, shape, Lives, IsEdit, IsRun, SameFrame, saved};
-ghost use Rattle.demangle_edit.specs.Names.{qualified, with_name_qualifiers};
+ghost use Rattle.demangle_edit.specs.Names.{parent_opened, parent_closed, with_name_qualifiers};
 ghost use Rattle.itanium_grammar.specs.Tree.{conversion_shape};
 ghost use Rattle.itanium_reader.specs.Parser as spec;
 ghost use Rattle.itanium_syntax.specs.Names.{begins_source, tag_case};
@@ -15,8 +15,8 @@ ghost use Rattle.itanium_reader.specs.Outcome.{state, Gives, IsNextSource, Bound
 use crate::reader::Reader;
 use crate::stop::Stop;
 use demangle_edit::{
-    Quals, append_number, apply_name_qualifiers, close_lambda, qualify, qualify_ctor,
-    qualify_text_in_place, qualify_text_last, tag,
+    Quals, append_number, apply_name_qualifiers, close_lambda, close_parent, open_parent,
+    qualify_ctor, qualify_text_in_place, qualify_text_last, tag,
 };
 use demangle_text::{Piece, Place};
 use itanium_syntax::names::{TagCase, begins_source, source_text, tag_case};
@@ -65,16 +65,27 @@ impl<'a> Reader<'a> {
         Ok(())
     }
 
-    /// The name that was found in its parent.
-    pub fn enclose(&mut self, parent: Piece) -> Result<(), AllocError>
-        requires parent { IsLiving self.old.buffer.value parent }
+    /// What was found as the parent of the name that is read next, with the `::` after it.
+    pub fn open_parent(&mut self) -> Result<Piece, AllocError>
         requires living { IsLiving self.old.buffer.value self.old.found }
-        ensures shape { OnOk result (Lives self.new.buffer.value self.new.found
-            (qualified (shape self.old.buffer.value parent) (shape self.old.buffer.value self.old.found))) }
+        ensures shape { IfOk result (λ p. Lives self.new.buffer.value p
+            (parent_opened (shape self.old.buffer.value self.old.found))) }
         ensures state { OnOk result (state self.new ≡ state self.old) }
         ensures edit { OnOk result (IsEdit self.old.buffer.value self.new.buffer.value) }
     {
-        self.found = qualify(&mut self.buffer, parent, self.found)?;
+        open_parent(&mut self.buffer, self.found)
+    }
+
+    /// The name that was found, in the parent that was opened for it.
+    pub fn close_parent(&mut self, opened: Piece) -> Result<(), AllocError>
+        requires opened { IsLiving self.old.buffer.value opened }
+        requires living { IsLiving self.old.buffer.value self.old.found }
+        ensures shape { OnOk result (Lives self.new.buffer.value self.new.found
+            (parent_closed (shape self.old.buffer.value opened) (shape self.old.buffer.value self.old.found))) }
+        ensures state { OnOk result (state self.new ≡ state self.old) }
+        ensures edit { OnOk result (IsEdit self.old.buffer.value self.new.buffer.value) }
+    {
+        self.found = close_parent(&mut self.buffer, opened, self.found)?;
         Ok(())
     }
 
@@ -234,9 +245,9 @@ impl<'a> Reader<'a> {
         ensures bounds { Bounds 2 result (state self.old) (state self.new) }
         ensures saved { SavedBounds 1 result (state self.old) (state self.new) }
     {
-        let parent = self.found;
+        let opened = self.open_parent()?;
         self.framed_tagged_source()?;
-        self.enclose(parent)?;
+        self.close_parent(opened)?;
         Ok(())
     }
 

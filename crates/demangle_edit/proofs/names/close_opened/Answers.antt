@@ -1,5 +1,5 @@
 use Rattle.demangle_text.proofs.Laws.{JoinsInPlace-join, JoinsInPlace-named}
-use Rattle.demangle_edit.proofs.names.close_default_arg.Goals as goal
+use Rattle.demangle_edit.proofs.names.close_opened.Goals as goal
 
 -- two pieces that stand one after the other stay there
 pub returns-clause-in_place : goal.returns-clause-in_place
