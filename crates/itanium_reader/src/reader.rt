@@ -59,18 +59,17 @@ impl<'a> Reader<'a> {
         ensures no_mark { frame result.buffer.value ≡ outermost }
         ensures found { IsLiving result.buffer.value result.found }
     {
+        let mut buffer = buffer;
+        buffer.clear();
         let found = buffer.empty();
-        let mut reader = Reader {
+        Reader {
             rest: bytes,
             buffer,
             found,
             entered: 0,
             most_noted: 0,
             alloc,
-        };
-        reader.buffer.clear();
-        reader.found = reader.buffer.empty();
-        reader
+        }
     }
 
     /// Goes past n bytes, or to the end.
