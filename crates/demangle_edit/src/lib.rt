@@ -34,8 +34,9 @@ pub use crate::lists::{
     open_params, separate, separate_last,
 };
 pub use crate::names::{
-    apply_name_qualifiers, attach_template_args, close_default_arg, close_parent, default_arg, format_params,
-    open_default_arg, open_parent, qualify, qualify_ctor, qualify_text, qualify_text_in_place, qualify_text_last, tag,
+    apply_name_qualifiers, attach_template_args, close_default_arg, close_parent, default_arg,
+    format_params, open_default_arg, open_parent, qualify, qualify_ctor, qualify_text,
+    qualify_text_in_place, qualify_text_last, tag,
 };
 pub use crate::parts::Glue;
 pub use crate::types::{

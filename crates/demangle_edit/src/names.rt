@@ -75,11 +75,7 @@ pub fn qualify_text_in_place(
 /// later: it stays there.
 #[inline(always)]
 #[tactic(auto, using(demangle_text::proofs::Laws::laws))]
-pub fn qualify_text_last(
-    buf: &mut Buffer,
-    name: &mut Piece,
-    text: &[u8],
-) -> Result<(), AllocError>
+pub fn qualify_text_last(buf: &mut Buffer, name: &mut Piece, text: &[u8]) -> Result<(), AllocError>
     requires parent { IsLiving buf.old name.old }
     requires last { IsLast buf.old name.old }
     ensures shape { OnOk result (Lives buf.new name.new

@@ -343,7 +343,9 @@ fn write_next<W: Sink>(
     }
     output.clear();
     output.reserve(OUTPUT_ROOM)?;
-    let len = gather_lines(alloc, demangler, symbols, lines, ordinary, known_utf8, output);
+    let len = gather_lines(
+        alloc, demangler, symbols, lines, ordinary, known_utf8, output,
+    );
     if len == 0 {
         return Err(FilterFault::Memory);
     }
