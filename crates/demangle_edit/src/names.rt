@@ -16,7 +16,7 @@ use demangle_text::{Buffer, Piece};
 use std::alloc::AllocError;
 
 /// The leaf in its parent, `parent::leaf`, as a plain piece with the last own name and the flags of
-/// the leaf.
+/// the leaf. It is offered to others: the readers here open the parent first (`open_parent`).
 #[tactic(auto, using(demangle_text::proofs::Laws::laws))]
 pub fn qualify(buf: &mut Buffer, parent: Piece, leaf: Piece) -> Result<Piece, AllocError>
     requires parent { IsLiving buf.old parent }

@@ -116,11 +116,11 @@ lines_appended symbols lines rest before after n m first rest_is (text, filtered
     (subst (λ l. AreLinesFiltered symbols (take m l) text) rest_is filtered)))
 
 -- lines of the rest were appended, and this is left of it
-pub rest_appended : (symbols : Symbols) (lines rest left before after : List ℕ) (m : ℕ)
-    → length rest ≤ length lines → rest ≡ drop (length lines - length rest) lines → AreLinesFiltered symbols (take (length lines - length rest) lines) before
+pub rest_appended : (symbols : Symbols) (lines rest left before after : List ℕ) (gathered m : ℕ)
+    → gathered + length rest ≤ length lines → rest ≡ drop (length lines - length rest) lines → AreLinesFiltered symbols (take (length lines - length rest) lines) before
     → m ≤ length rest → AppendsLines symbols (take m rest) before after → left ≡ drop m rest
-    → (length left ≤ length lines) × (left ≡ drop (length lines - length left) lines) × AreLinesFiltered symbols (take (length lines - length left) lines) after
-rest_appended symbols lines rest left before after m kept rest_is first bound appended left_is =
+    → (gathered + length left ≤ length lines) × (left ≡ drop (length lines - length left) lines) × AreLinesFiltered symbols (take (length lines - length left) lines) after
+rest_appended symbols lines rest left before after gathered m kept rest_is first bound appended left_is =
     let n : ℕ = length lines - length rest in
     let long : length left ≡ length rest - m = ap length left_is ∙ length-drop m rest in
     let more : n + m ≡ length lines - length left = omega arith in (

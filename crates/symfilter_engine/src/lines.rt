@@ -273,42 +273,60 @@ fn append_front(
     }
 }
 
-/// Appends what is written for these lines, until the output is long or memory is refused, and answers how many bytes
-/// those have whose text is in the output: 0 where memory is refused for the first. The first `ordinary` bytes are of
-/// ordinary lines.
+/// Appends what is written for the first of these lines, a run of ordinary ones or others, and answers how many bytes
+/// they have. After an error nothing is appended.
+#[inline(always)]
+fn append_next(
+    alloc: Global,
+    demangler: &mut Demangler,
+    symbols: Symbols,
+    lines: &[u8],
+    known_utf8: bool,
+    output: &mut Text,
+) -> Result<usize, AllocError>
+    requires some { 0 < length lines.now }
+    requires ended { EndsInLineFeed lines.now }
+    requires known { IsTrue known_utf8 → IsUtf8 lines.now }
+    ensures some { IfOk result (λ len. 0 < len) }
+    ensures bound { IfOk result (λ len. len ≤ length lines.now) }
+    ensures ok { IfOk result (λ len. AppendsLines symbols (take len lines.now) output.old output.new) }
+    ensures err { OnErr result (output.new ≡ output.old) }
+{
+    let ordinary = ordinary_len(symbols, lines);
+    append_front(
+        alloc, demangler, symbols, lines, ordinary, known_utf8, output,
+    )
+}
+
+/// Appends what is written for more of these lines, until the output has `limit` bytes or memory is refused, and answers
+/// how many bytes all have whose text is in the output. It was so for the first `gathered` bytes, and they are kept.
 #[inline(never)]
 fn gather_lines(
     alloc: Global,
     demangler: &mut Demangler,
     symbols: Symbols,
     lines: &[u8],
-    ordinary: usize,
     known_utf8: bool,
+    gathered: usize,
+    limit: usize,
     output: &mut Text,
 ) -> usize
-    requires empty { output.old ≡ [] }
-    requires some { 0 < length lines.now }
+    requires inside { gathered ≤ length lines.now }
+    requires so_far { AreLinesFiltered symbols (take gathered lines.now) output.old }
     requires ended { EndsInLineFeed lines.now }
-    requires inside { ordinary ≤ length lines.now }
-    requires ordinary { AreLinesFiltered symbols (take ordinary lines.now) (take ordinary lines.now) }
     requires known { IsTrue known_utf8 → IsUtf8 lines.now }
+    ensures kept { gathered ≤ result }
     ensures bound { result ≤ length lines.now }
     ensures filtered { AreLinesFiltered symbols (take result lines.now) output.new }
 {
-    let mut rest = lines;
-    let mut ordinary = ordinary;
-    loop {
-        let Ok(more) = append_front(
-            alloc, demangler, symbols, rest, ordinary, known_utf8, output,
-        ) else {
-            return lines.len() - rest.len();
+    let mut rest = &lines[gathered..];
+    while !rest.is_empty() && output.len() < limit {
+        let Ok(more) = append_next(alloc, demangler, symbols, rest, known_utf8, output) else {
+            break;
         };
         rest = &rest[more..];
-        if rest.is_empty() || output.len() >= OUTPUT_LEN {
-            return lines.len() - rest.len();
-        }
-        ordinary = ordinary_len(symbols, rest);
     }
+    lines.len() - rest.len()
 }
 
 /// Writes what is written for the first of these lines, and answers how many bytes they have: a long run of ordinary
@@ -343,12 +361,14 @@ fn write_next<W: Sink>(
     }
     output.clear();
     output.reserve(OUTPUT_ROOM)?;
-    let len = gather_lines(
-        alloc, demangler, symbols, lines, ordinary, known_utf8, output,
-    );
-    if len == 0 {
+    // The first of them alone: where memory is refused for it nothing is gathered.
+    let first = gather_lines(alloc, demangler, symbols, lines, known_utf8, 0, 1, output);
+    if first == 0 {
         return Err(FilterFault::Memory);
     }
+    let len = gather_lines(
+        alloc, demangler, symbols, lines, known_utf8, first, OUTPUT_LEN, output,
+    );
     write_all(sink, output.as_slice())?;
     Ok(len)
 }
