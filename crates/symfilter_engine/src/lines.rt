@@ -298,8 +298,9 @@ fn append_next(
     )
 }
 
-/// Appends what is written for more of these lines, until the output has `limit` bytes or memory is refused, and answers
-/// how many bytes all have whose text is in the output. It was so for the first `gathered` bytes, and they are kept.
+/// Appends what is written for more of these lines, until the output has `limit` bytes or memory is refused, and
+/// answers how many bytes all have whose text is in the output. It was so for the first `gathered` bytes, and they are
+/// kept.
 #[inline(never)]
 fn gather_lines(
     alloc: Global,
