@@ -15,22 +15,18 @@ qualified parent leaf = inserted Start (text parent ++ codes "::") (flattened le
 abbrev pub parent_opened : Shape → Shape
 parent_opened parent = appended (codes "::") (flattened parent)
 
--- the leaf as a plain text, with the text in front that opens its parent
-abbrev pub parent_closed : Shape → Shape → Shape
-parent_closed opened leaf = inserted Start (text opened) (flattened leaf)
-
 -- the parent as a plain text, with `::{default arg#k}::` after it, k being the number of a default argument
 abbrev pub default_arg_opened : Shape → ℕ → Shape
 default_arg_opened parent number =
     appended (codes "::{default arg#" ++ (decimal number ++ codes "}::")) (flattened parent)
 
--- the entity as a plain text, with the text in front that opens its default argument
-abbrev pub default_arg_closed : Shape → Shape → Shape
-default_arg_closed opened entity = inserted Start (text opened) (flattened entity)
+-- a name as a plain text, with the text in front that was opened for it: that of a parent or of a default argument
+abbrev pub enclosed : Shape → Shape → Shape
+enclosed opened name = inserted Start (text opened) (flattened name)
 
 -- the entity as a plain text, in the default argument of a parent with this number
 abbrev pub default_arg_shape : Shape → ℕ → Shape → Shape
-default_arg_shape parent number entity = default_arg_closed (default_arg_opened parent number) entity
+default_arg_shape parent number entity = enclosed (default_arg_opened parent number) entity
 
 -- the constructor of a parent, or its destructor: the last own name is all after the `::`
 abbrev pub qualified_ctor : Shape → Bool → Shape

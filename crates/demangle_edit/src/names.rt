@@ -6,8 +6,8 @@ ghost use Rattle.demangle_text.specs.State.{StaysInPlace, IsLeftOrStays, JoinsIn
 ghost use Rattle.demangle_text.specs.Calls.{IsLast};
 ghost use Rattle.demangle_edit.specs.Names.{qualified, qualified_ctor, angle_gap, attached, tagged};
 ghost use Rattle.demangle_edit.specs.Names.{encoding_shape, with_name_qualifiers};
-ghost use Rattle.demangle_edit.specs.Names.{default_arg_opened, default_arg_closed, default_arg_shape};
-ghost use Rattle.demangle_edit.specs.Names.{parent_opened, parent_closed};
+ghost use Rattle.demangle_edit.specs.Names.{default_arg_opened, default_arg_shape};
+ghost use Rattle.demangle_edit.specs.Names.{parent_opened, enclosed};
 
 use crate::appends::append_piece;
 use crate::lists::{append_number, close_params, list_more, open_params};
@@ -16,7 +16,7 @@ use demangle_text::{Buffer, Piece};
 use std::alloc::AllocError;
 
 /// The leaf in its parent, `parent::leaf`, as a plain piece with the last own name and the flags of
-/// the leaf. It is offered to others: the readers here open the parent first (`open_parent`).
+/// the leaf. It is offered to others: no reader calls it, since each opens the parent first (`open_parent`).
 #[tactic(auto, using(demangle_text::proofs::Laws::laws))]
 pub fn qualify(buf: &mut Buffer, parent: Piece, leaf: Piece) -> Result<Piece, AllocError>
     requires parent { IsLiving buf.old parent }
@@ -103,45 +103,28 @@ pub fn open_default_arg(buf: &mut Buffer, parent: Piece, number: u64) -> Result<
     buf.append(numbered, b"}::")
 }
 
-// A piece after what was opened for it, as a plain piece with its last own name and flags.
+/// A name after what was opened for it by `open_parent` or `open_default_arg`, as a plain piece with the last own name
+/// and the flags of the name.
 #[tactic(auto, using(demangle_text::proofs::Laws::laws))]
-fn close_opened(buf: &mut Buffer, opened: Piece, last: Piece) -> Result<Piece, AllocError>
+pub fn close_opened(buf: &mut Buffer, opened: Piece, name: Piece) -> Result<Piece, AllocError>
     requires opened { IsLiving buf.old opened }
-    requires last { IsLiving buf.old last }
-    ensures shape { IfOk result (λ p. Lives buf.new p (parent_closed (shape buf.old opened) (shape buf.old last))) }
+    requires name { IsLiving buf.old name }
+    ensures shape { IfOk result (λ p. Lives buf.new p (enclosed (shape buf.old opened) (shape buf.old name))) }
     ensures edit { OnOk result (IsEdit buf.old buf.new) }
-    ensures in_place { IfOk result (λ p. JoinsInPlace buf.old buf.new opened last p) }
+    ensures in_place { IfOk result (λ p. JoinsInPlace buf.old buf.new opened name p) }
 {
     let before = buf.len(opened);
-    let (from, to) = buf.own_range(last);
-    let (templ, ctor) = (buf.templ(last), buf.ctor(last));
-    let whole = buf.join(opened, b"", last)?;
+    let (from, to) = buf.own_range(name);
+    let (templ, ctor) = (buf.templ(name), buf.ctor(name));
+    let whole = buf.join(opened, b"", name)?;
     // The check learns here that the length fits 64 bits, and so does each place in the text.
     let _len = buf.len(whole);
     let named = buf.own_at(whole, before + from, before + to);
     Ok(buf.with_flags(named, templ, ctor))
 }
 
-/// The entity after what opens its default argument, as a plain piece with the last own name and the flags of the
-/// entity.
-#[tactic(auto, using(demangle_text::proofs::Laws::laws))]
-pub fn close_default_arg(
-    buf: &mut Buffer,
-    opened: Piece,
-    entity: Piece,
-) -> Result<Piece, AllocError>
-    requires opened { IsLiving buf.old opened }
-    requires entity { IsLiving buf.old entity }
-    ensures shape { IfOk result (λ p. Lives buf.new p
-        (default_arg_closed (shape buf.old opened) (shape buf.old entity))) }
-    ensures edit { OnOk result (IsEdit buf.old buf.new) }
-    ensures in_place { IfOk result (λ p. JoinsInPlace buf.old buf.new opened entity p) }
-{
-    close_opened(buf, opened, entity)
-}
-
 /// A parent with the `::` after it that stands in front of a leaf, as a plain piece with the last own name and the
-/// flags of the parent. `close_parent` puts the leaf after it: the two give what `qualify` gives.
+/// flags of the parent. `close_opened` puts the leaf after it: the two give what `qualify` gives.
 #[tactic(auto, using(demangle_text::proofs::Laws::laws))]
 pub fn open_parent(buf: &mut Buffer, parent: Piece) -> Result<Piece, AllocError>
     requires parent { IsLiving buf.old parent }
@@ -151,18 +134,6 @@ pub fn open_parent(buf: &mut Buffer, parent: Piece) -> Result<Piece, AllocError>
 {
     let plain = buf.plain(parent);
     buf.append(plain, b"::")
-}
-
-/// The leaf after what opens its parent, as a plain piece with the last own name and the flags of the leaf.
-#[tactic(auto, using(demangle_text::proofs::Laws::laws))]
-pub fn close_parent(buf: &mut Buffer, opened: Piece, leaf: Piece) -> Result<Piece, AllocError>
-    requires opened { IsLiving buf.old opened }
-    requires leaf { IsLiving buf.old leaf }
-    ensures shape { IfOk result (λ p. Lives buf.new p (parent_closed (shape buf.old opened) (shape buf.old leaf))) }
-    ensures edit { OnOk result (IsEdit buf.old buf.new) }
-    ensures in_place { IfOk result (λ p. JoinsInPlace buf.old buf.new opened leaf p) }
-{
-    close_opened(buf, opened, leaf)
 }
 
 /// The entity in a default argument of a parent, `parent::{default arg#k}::entity` with k for its number, as a plain
@@ -184,7 +155,7 @@ pub fn default_arg(
 {
     let mark = buf.open();
     let opened = open_default_arg(buf, parent, number)?;
-    let named = close_default_arg(buf, opened, entity)?;
+    let named = close_opened(buf, opened, entity)?;
     buf.close(mark, named)
 }
 

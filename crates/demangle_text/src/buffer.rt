@@ -301,7 +301,7 @@ impl Buffer {
             (length between.now + length name.now)) }
         ensures main_err { OnErr result (main_bytes self.new ≡ main_bytes self.old) }
     {
-        let from = self.splice_last_pair(piece, between, name)?;
+        let from = self.splice_pair_last(piece, between, name)?;
         piece.from_byte = from;
         piece.to_byte = self.main.len();
         piece.own_end = piece.text_len();

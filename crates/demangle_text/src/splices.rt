@@ -330,14 +330,14 @@ impl Buffer {
         ensures main_err { OnErr result (self.new.main_text ≡ self.old.main_text) }
     {
         if self.is_tail(*piece) {
-            return self.splice_last_pair(piece, first, second);
+            return self.splice_pair_last(piece, first, second);
         }
         self.extend_elsewhere(piece, first, second)
     }
 
     // `splice_pair` of a piece that stands at the end of the main text.
     #[inline(always)]
-    pub(crate) fn splice_last_pair(
+    pub(crate) fn splice_pair_last(
         &mut self,
         piece: &Piece,
         first: &[u8],

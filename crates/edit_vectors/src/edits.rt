@@ -7,7 +7,7 @@ use crate::pieces::{
 };
 use demangle_edit::{
     Glue, Pointer, Quals, Reference, address, append_number, apply_name_qualifiers,
-    attach_template_args, begin_arguments, close_default_arg, close_function, close_lambda,
+    attach_template_args, begin_arguments, close_function, close_lambda, close_opened,
     close_params, collapse_ref, default_arg, end_arguments, expand, format_params, function_type,
     glue, list_next, open_default_arg, open_function, open_params, qualify, qualify_ctor,
     qualify_text, separate, subexpr, tag, wrap_array, wrap_cv, wrap_member_pointer, wrap_pointer,
@@ -62,7 +62,7 @@ fn an_entity_stays_after_what_opens_its_default_argument(rt: HostRuntime) {
     let mut buf = Buffer::new(rt.alloc());
     let opened = push(&rt, &mut buf, b"f()::{default arg#1}::");
     let entity = push(&rt, &mut buf, b"x");
-    close_default_arg(&mut buf, opened, entity).expect(&rt, "no memory");
+    close_opened(&mut buf, opened, entity).expect(&rt, "no memory");
     assert_eq!(&rt; buf.main_bytes(), b"f()::{default arg#1}::x".as_slice());
     drop(buf);
 }

@@ -10,8 +10,8 @@ use crate::names::read_bare_name;
 use crate::specials::read_special;
 use crate::types::{read_type, read_typed_params};
 use demangle_edit::{
-    Quals, apply_name_qualifiers, close_default_arg, close_params, close_parent, open_default_arg,
-    open_params, open_parent,
+    Quals, apply_name_qualifiers, close_opened, close_params, open_default_arg, open_params,
+    open_parent,
 };
 use demangle_text::Piece;
 use itanium_reader::{Reader, Stop};
@@ -168,14 +168,14 @@ pub(crate) fn read_entity(
             reader.rest = rest;
             let opened = open_default_arg(&mut reader.buffer, encoding, number)?;
             let quals = framed_bare_name(reader, depth, context)?;
-            reader.found = close_default_arg(&mut reader.buffer, opened, reader.found)?;
+            reader.found = close_opened(&mut reader.buffer, opened, reader.found)?;
             Ok(quals)
         }
         EntityCase::NameEntity => {
             reader.skip(1);
             let opened = open_parent(&mut reader.buffer, encoding)?;
             let quals = framed_bare_name(reader, depth, context)?;
-            reader.found = close_parent(&mut reader.buffer, opened, reader.found)?;
+            reader.found = close_opened(&mut reader.buffer, opened, reader.found)?;
             Ok(quals)
         }
         EntityCase::NoEntity => Err(Stop::Unread),

@@ -316,16 +316,17 @@ pub(crate) fn read_after_quals(
 {
     if begins_source(reader.rest) {
         reader.read_source_name()?;
-        return read_last_segments(reader, depth, context);
+        return read_segments_last(reader, depth, context);
     }
     read_other_prefix(reader, depth, context)
 }
 
-/// `read_segments` after what stands last: first the `<source-name>`s up to any other segment.
+/// `read_segments` after what stands up to the end of the main text, from the innermost mark or later: first the
+/// `<source-name>`s up to any other segment.
 #[tactic(auto, using(itanium_reader::proofs::Rules::segments))]
 #[cycle(reader)]
 #[inline(always)]
-pub(crate) fn read_last_segments(
+pub(crate) fn read_segments_last(
     reader: &mut Reader,
     depth: usize,
     context: Context,

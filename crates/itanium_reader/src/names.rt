@@ -4,7 +4,7 @@ ghost use Rattle.std.specs.Prelude.{drop, length, slice_range};
 ghost use Rattle.demangle_text.specs.Calls.{IsLast};
 ghost use Rattle.demangle_text.specs.Shape.{appended};
 ghost use Rattle.demangle_text.specs.State.{IsLiving, shape, Lives, IsEdit, IsRun, SameFrame, saved};
-ghost use Rattle.demangle_edit.specs.Names.{parent_opened, parent_closed, with_name_qualifiers};
+ghost use Rattle.demangle_edit.specs.Names.{parent_opened, enclosed, with_name_qualifiers};
 ghost use Rattle.itanium_grammar.specs.Tree.{conversion_shape};
 ghost use Rattle.itanium_reader.specs.Parser as spec;
 ghost use Rattle.itanium_syntax.specs.Names.{begins_source, tag_case};
@@ -15,7 +15,7 @@ ghost use Rattle.itanium_reader.specs.Outcome.{state, Gives, IsNextSource, Bound
 use crate::reader::Reader;
 use crate::stop::Stop;
 use demangle_edit::{
-    Quals, append_number, apply_name_qualifiers, close_lambda, close_parent, open_parent,
+    Quals, append_number, apply_name_qualifiers, close_lambda, close_opened, open_parent,
     qualify_ctor, qualify_text_in_place, qualify_text_last, tag,
 };
 use demangle_text::{Piece, Place};
@@ -81,11 +81,11 @@ impl<'a> Reader<'a> {
         requires opened { IsLiving self.old.buffer.value opened }
         requires living { IsLiving self.old.buffer.value self.old.found }
         ensures shape { OnOk result (Lives self.new.buffer.value self.new.found
-            (parent_closed (shape self.old.buffer.value opened) (shape self.old.buffer.value self.old.found))) }
+            (enclosed (shape self.old.buffer.value opened) (shape self.old.buffer.value self.old.found))) }
         ensures state { OnOk result (state self.new ≡ state self.old) }
         ensures edit { OnOk result (IsEdit self.old.buffer.value self.new.buffer.value) }
     {
-        self.found = close_parent(&mut self.buffer, opened, self.found)?;
+        self.found = close_opened(&mut self.buffer, opened, self.found)?;
         Ok(())
     }
 
@@ -217,7 +217,8 @@ impl<'a> Reader<'a> {
         Ok(true)
     }
 
-    /// A `<source-name>` and `<abi-tags>` after it, in a frame of their own: what lived keeps its shape.
+    /// A `<source-name>` and `<abi-tags>` after it, in a frame of their own: what lived keeps its shape. It stands up to
+    /// the end of the main text, from the innermost mark or later.
     #[cold]
     #[inline(never)]
     fn framed_tagged_source(&mut self) -> Result<(), Stop>

@@ -111,7 +111,7 @@ impl<'a> Reader<'a> {
         }
     }
 
-    /// Saves what was found for substitutions.
+    /// Saves what was found for substitutions: it stays found, and the main text stays.
     #[inline(always)]
     pub fn save_found(&mut self) -> Result<(), AllocError>
         requires living { IsLiving self.old.buffer.value self.old.found }

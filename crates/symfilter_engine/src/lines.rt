@@ -362,7 +362,7 @@ fn write_next<W: Sink>(
     }
     output.clear();
     output.reserve(OUTPUT_ROOM)?;
-    // The first of them alone: where memory is refused for it nothing is gathered.
+    // One append: 0 says that memory was refused for it, and no clause says so.
     let first = gather_lines(alloc, demangler, symbols, lines, known_utf8, 0, 1, output);
     if first == 0 {
         return Err(FilterFault::Memory);

@@ -201,7 +201,7 @@ encodings::read_entity-returns-in_ok-reader-in-DefaultArgumentEntity-clause-read
 pub names::read_after_quals-returns-then-begins_source-clause-reads : goal.names::read_after_quals-returns-then-begins_source-clause-reads
 names::read_after_quals-returns-then-begins_source-clause-reads t c =
     let mid = c.read_source_name.new.self in
-    c.read_last_segments.ensures.reads _ (source_prefix_start _ _ (spec.parse_args c.args.depth c.args.context true) c.args.context (state c.args.reader.now) {first = shape mid.buffer.value mid.found} {mid = state mid} (search rules) (search rules))
+    c.read_segments_last.ensures.reads _ (source_prefix_start _ _ (spec.parse_args c.args.depth c.args.context true) c.args.context (state c.args.reader.now) {first = shape mid.buffer.value mid.found} {mid = state mid} (search rules) (search rules))
 
 pub names::read_after_quals-returns-in_err-read_source_name-clause-reads : goal.names::read_after_quals-returns-in_err-read_source_name-clause-reads
 names::read_after_quals-returns-in_err-read_source_name-clause-reads t c =
@@ -248,16 +248,16 @@ names::read_other_prefix-returns-clause-reads t c =
     let read = rw goes_on.1 at ((c.in_ok-read_later_segment.ensures {u = tt}).reads.1) in
     c.read_segments.ensures.reads _ (segments_read _ _ so_far {next = shape last.buffer.value last.found} {mid = state last} goes_on.0 read (search rules) (search rules) refl (search rules))
 
-pub names::read_last_segments-returns-then-end_nested_unsaved-clause-reads : goal.names::read_last_segments-returns-then-end_nested_unsaved-clause-reads
-names::read_last_segments-returns-then-end_nested_unsaved-clause-reads t c = λ whole so_far.
+pub names::read_segments_last-returns-then-end_nested_unsaved-clause-reads : goal.names::read_segments_last-returns-then-end_nested_unsaved-clause-reads
+names::read_segments_last-returns-then-end_nested_unsaved-clause-reads t c = λ whole so_far.
     let here = c.read_next_source_last.new.self in
     let same = c.read_next_source_last.ensures.other (search rules) in
     let waits = waits_same _ _ _ c.loop-reader.reader here same (c.loop-reader.invariant.reads whole so_far) in
     let ended = c.end_nested_unsaved.ensures.ended c.if-end_nested_unsaved.true in
     (search rules, segments_last _ _ (shape here.buffer.value here.found) (state here) waits ended.0 (search rules) ended.1)
 
-pub names::read_last_segments-returns-then-is_wide-clause-reads : goal.names::read_last_segments-returns-then-is_wide-clause-reads
-names::read_last_segments-returns-then-is_wide-clause-reads t c = λ whole so_far.
+pub names::read_segments_last-returns-then-is_wide-clause-reads : goal.names::read_segments_last-returns-then-is_wide-clause-reads
+names::read_segments_last-returns-then-is_wide-clause-reads t c = λ whole so_far.
     let old = c.loop-reader.reader in
     let new = c.read_next_source_last.new.self in
     let next = c.read_next_source_last.ensures.next (search rules) in
@@ -265,16 +265,16 @@ names::read_last_segments-returns-then-is_wide-clause-reads t c = λ whole so_fa
     (shape old.buffer.value old.found) (state old) next.begins next.reads in
     segments_wide _ _ (c.loop-reader.invariant.reads whole so_far) {next = shape new.buffer.value new.found} {mid = state new} case.0 case.1 (search rules)
 
-pub names::read_last_segments-returns-clause-reads : goal.names::read_last_segments-returns-clause-reads
-names::read_last_segments-returns-clause-reads t c = λ whole so_far.
+pub names::read_segments_last-returns-clause-reads : goal.names::read_segments_last-returns-clause-reads
+names::read_segments_last-returns-clause-reads t c = λ whole so_far.
     let here = c.read_next_source_last.new.self in
     let same = c.read_next_source_last.ensures.other (search rules) in
     let waits = waits_same _ _ _ c.loop-reader.reader here same (c.loop-reader.invariant.reads whole so_far) in
     let unsaved = c.end_nested_unsaved.ensures.goes_on c.if-end_nested_unsaved.false in
     c.read_segments.ensures.reads whole (waits_same _ _ _ here c.end_nested_unsaved.new.self unsaved.1 waits)
 
-pub names::read_last_segments-loop-reader-preserved : goal.names::read_last_segments-loop-reader-preserved
-names::read_last_segments-loop-reader-preserved t c =
+pub names::read_segments_last-loop-reader-preserved : goal.names::read_segments_last-loop-reader-preserved
+names::read_segments_last-loop-reader-preserved t c =
     let old = c.loop-reader.reader in
     let new = c.read_next_source_last.new.self in
     let next = c.read_next_source_last.ensures.next (search rules) in

@@ -78,8 +78,8 @@ decreases-types::read_type_attached l = 16 * l.depth + 3
 abbrev pub decreases-names::read_segments : goal.decreases-names::read_segments
 decreases-names::read_segments l = 16 * l.depth + 11
 
-abbrev pub decreases-names::read_last_segments : goal.decreases-names::read_last_segments
-decreases-names::read_last_segments l = 16 * l.depth + 12
+abbrev pub decreases-names::read_segments_last : goal.decreases-names::read_segments_last
+decreases-names::read_segments_last l = 16 * l.depth + 12
 
 abbrev pub decreases-names::read_unscoped : goal.decreases-names::read_unscoped
 decreases-names::read_unscoped l = 16 * l.depth + 10
@@ -110,8 +110,8 @@ invariant-names::read_segments-loop-reader l = record {
 abbrev pub decreases-names::read_segments-loop-reader : goal.decreases-names::read_segments-loop-reader
 decreases-names::read_segments-loop-reader l = length l.reader.rest.now
 
-abbrev pub invariant-names::read_last_segments-loop-reader : goal.invariant-names::read_last_segments-loop-reader
-invariant-names::read_last_segments-loop-reader l = record {
+abbrev pub invariant-names::read_segments_last-loop-reader : goal.invariant-names::read_segments_last-loop-reader
+invariant-names::read_segments_last-loop-reader l = record {
   reads : (whole : Option (Shape × spec.ParserState))
       → Waits whole (spec.parse_unqualified (spec.parse_type l.depth l.context) (spec.parse_type l.depth (inside_lambda l.context))) (spec.parse_args l.depth l.context true) l.fn.reader
       → Waits whole (spec.parse_unqualified (spec.parse_type l.depth l.context) (spec.parse_type l.depth (inside_lambda l.context))) (spec.parse_args l.depth l.context true) l.reader;
@@ -125,8 +125,8 @@ invariant-names::read_last_segments-loop-reader l = record {
   most : (state l.reader).most_saved ≤ max (state l.fn.reader).most_saved (length (saved l.fn.reader.buffer.value) + 1 + length l.fn.reader.rest.now);
 }
 
-abbrev pub decreases-names::read_last_segments-loop-reader : goal.decreases-names::read_last_segments-loop-reader
-decreases-names::read_last_segments-loop-reader l = length l.reader.rest.now
+abbrev pub decreases-names::read_segments_last-loop-reader : goal.decreases-names::read_segments_last-loop-reader
+decreases-names::read_segments_last-loop-reader l = length l.reader.rest.now
 
 abbrev pub invariant-args::read_attached-loop-reader : goal.invariant-args::read_attached-loop-reader
 invariant-args::read_attached-loop-reader l = record {

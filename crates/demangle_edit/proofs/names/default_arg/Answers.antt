@@ -2,7 +2,7 @@ use Rattle.std.proofs.Common.{ap, ap₂, ◌∙◌, subst, IfOk}
 use Rattle.demangle_text.specs.Shape.{Shape}
 use Rattle.demangle_text.specs.State.{Lives}
 use Rattle.demangle_text.proofs.Laws.{Opens-edit, Appends-close}
-use Rattle.demangle_edit.specs.Names.{default_arg_opened, default_arg_closed}
+use Rattle.demangle_edit.specs.Names.{default_arg_opened, enclosed}
 use Rattle.demangle_edit.proofs.names.default_arg.Goals as goal
 
 -- the parent and the entity are older than the mark, so both keep their shapes
@@ -12,11 +12,11 @@ returns-clause-shape c =
     let parent = opens.pieces c.args.parent c.requires.parent in
     let entity = (Opens-edit _ _ _ _ opens c.in_ok-opened.ensures.edit).pieces c.args.entity c.requires.entity in
     let opened = c.in_ok-opened.ensures.shape.shape_is ∙ ap (λ (s : Shape). default_arg_opened s c.args.number) parent.shape_is in
-    let is = c.in_ok-named.ensures.shape.shape_is ∙ ap₂ default_arg_closed opened entity.shape_is in
+    let is = c.in_ok-named.ensures.shape.shape_is ∙ ap₂ enclosed opened entity.shape_is in
     subst (λ (s : Shape). IfOk c.close.result (λ p. Lives c.close.new.self p s)) is c.close.ensures.shape
 
 pub returns-clause-appends : goal.returns-clause-appends
 returns-clause-appends c =
     let run = Opens-edit _ _ _ _ (Opens-edit _ _ _ _ c.open-mark.ensures.opens c.in_ok-opened.ensures.edit) c.in_ok-named.ensures.edit in
-    Appends-close c.args.buf.now c.close_default_arg.new.buf c.close.new.self c.open-mark.result c.close.result
+    Appends-close c.args.buf.now c.close_opened.new.buf c.close.new.self c.open-mark.result c.close.result
     c.open-mark.ensures.mark run c.close.ensures.closed c.close.ensures.stands

@@ -10,7 +10,7 @@ use Rattle.demangle_text.proofs.buffer.Buffer.append_name_last.Goals as goal
 pub overflow_sub-piece : goal.overflow_sub-piece
 overflow_sub-piece c =
     let p = c.args.piece.now in
-    let n = c.splice_last_pair.new.self in
+    let n = c.splice_pair_last.new.self in
     let both = c.args.between.now ++ c.args.name.now in
     let long = splice-long c.args.self.now n p (p.to_byte - p.from_byte) both c.in_ok-from.from c.requires.living c.in_ok-from.ensures.splice in
     omega (arith, long, length-append c.args.between.now c.args.name.now, c.len-piece.ensures.value, c.text_len-piece.ensures.value, ap (λ (s : Store). length s.main_text) c.self.view_is)
@@ -18,7 +18,7 @@ overflow_sub-piece c =
 pub returns-clause-shape : goal.returns-clause-shape
 returns-clause-shape c =
     let b = c.args.self.now in
-    let n = c.splice_last_pair.new.self in
+    let n = c.splice_pair_last.new.self in
     let p = c.args.piece.now in
     let from = c.in_ok-from.from in
     let name = c.args.name.now in
