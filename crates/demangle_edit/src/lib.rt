@@ -8,8 +8,8 @@
 //! and leave no other byte there (`in_place`). The others put their text at the end (`appends`).
 //!
 //! An entity in a default argument is put together from pieces (`default_arg`), or what opens it is made before the
-//! entity is read, and `close_opened` joins the two after it. Both give the same shape. So do `qualify` of a leaf in its
-//! parent, and `open_parent` before the leaf is read and `close_opened` after it.
+//! entity is read, and `close_opened` joins the two after it. Both give the same shape. So do `qualify` of a leaf in
+//! its parent, and `open_parent` before the leaf is read and `close_opened` after it.
 //!
 //! A list after a name is put together from pieces (`attach_template_args`, `format_params`), or built as it is
 //! read: what opens it, then `separate` before each text but the first (`separate_last` where the list is known to

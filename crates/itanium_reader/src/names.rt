@@ -217,8 +217,8 @@ impl<'a> Reader<'a> {
         Ok(true)
     }
 
-    /// A `<source-name>` and `<abi-tags>` after it, in a frame of their own: what lived keeps its shape. It stands up to
-    /// the end of the main text, from the innermost mark or later.
+    /// A `<source-name>` and `<abi-tags>` after it, in a frame of their own: what lived keeps its shape. It stands up
+    /// to the end of the main text, from the innermost mark or later.
     #[cold]
     #[inline(never)]
     fn framed_tagged_source(&mut self) -> Result<(), Stop>
