@@ -160,8 +160,8 @@ impl<'a> Reader<'a> {
         let rest = &self.rest[to..];
         match tag_case(rest) {
             TagCase::NoTag => {
-                let text = source_text(&self.rest[from..to]);
-                qualify_text_in_place(&mut self.buffer, &mut self.found, text)?;
+                let name = source_text(&self.rest[from..to]);
+                qualify_text_in_place(&mut self.buffer, &mut self.found, name)?;
                 self.rest = rest;
                 Ok(())
             }
