@@ -6,7 +6,7 @@ use Rattle.std.proofs.lemmas.List.Edits.{length-between}
 use Rattle.std.proofs.lemmas.List.Elements.{All-head, All-tail, All-nil, All-cons}
 use Rattle.demangle_text.specs.declared.shape.Piece.{Piece}
 use Rattle.demangle_text.specs.Pieces.{Store, IsStore, IsPiece, IsApart, outline_of, shape_of, shape_in, home_bytes, IsAside, carried, carried_from}
-use Rattle.demangle_text.specs.State.{IsLiving, shape, Lives, IsOlder, Frame, frame, frame_start, main_bytes, IsEdit, saved, scopes, parts_at, IsBelow, KeepsAll}
+use Rattle.demangle_text.specs.State.{IsLiving, shape, Lives, IsOlder, Frame, frame, frame_start, main_bytes, IsEdit, saved, scopes, parts_at, KeepsAll}
 use Rattle.demangle_text.proofs.States.{KeepsAll-elsewhere}
 use Rattle.demangle_text.proofs.Laws.{IsEdit-trans, IsEdit-keeps}
 use Rattle.demangle_text.proofs.Texts.{Moves, part-below, part-moved, front_below}
@@ -62,11 +62,6 @@ module _ (main new side : List ℕ) (low from to dest : ℕ) (m : Moves main new
         shapes-carried ps (All-tail (IsPiece main side) p ps h) (All-tail (IsApart low from to) p ps a),
       )
 
--- what is below a frame in the main text
-below_main : (f : ℕ × ℕ) (h : Bool) (n : ℕ) → IsBelow f h n → h ≡ false → n ≤ f.0
-below_main f false n o e = o
-below_main f true n o e = absurd (let h : ⊥ = cc in h)
-
 le_trans : (a b c : ℕ) → a ≤ b → b ≤ c → a ≤ c
 le_trans a b c h k = omega arith
 
@@ -74,7 +69,7 @@ le_trans a b c h k = omega arith
 module _ (s t : Store) (low from to dest : ℕ) (m : Moves s.main_text t.main_text low from to dest) (inner : s.frame_main ≤ low)
     (saved_apart : All (IsApart low from to) s.saved_pieces) (args_apart : All (IsApart low from to) s.arg_pieces)
     (by_side : t.side_text ≡ s.side_text) (by_saved : t.saved_pieces ≡ map (carried low from dest) s.saved_pieces) (by_args : t.arg_pieces ≡ map (carried low from dest) s.arg_pieces)
-    (by_starts : t.scope_starts ≡ s.scope_starts) (by_frame_main : t.frame_main ≡ s.frame_main) (by_frame_side : t.frame_side ≡ s.frame_side) where
+    (by_starts : t.scope_starts ≡ s.scope_starts) (by_frame_main : t.frame_main ≡ s.frame_main) where
   IsStore-moved : IsStore s → IsStore t
   IsStore-moved i =
       let n : length t.arg_pieces ≡ length s.arg_pieces = ap length by_args ∙ length-map s.arg_pieces (carried low from dest) in
@@ -83,7 +78,6 @@ module _ (s t : Store) (low from to dest : ℕ) (m : Moves s.main_text t.main_te
         args_lie = rw (by_side, by_args) (All-carried s.main_text t.main_text s.side_text low from to dest m s.arg_pieces i.args_lie args_apart);
         starts_fit = rw (by_starts, n) i.starts_fit;
         main_frame = omega (arith, m.low_new);
-        side_frame = rw by_side (omega (arith, i.side_frame));
       }
 
   older_text : (h : Bool) (a b : ℕ) → a ≤ b → (h ≡ false → b ≤ low) → slice_range (home_bytes t.main_text t.side_text h) a b ≡ slice_range (home_bytes s.main_text s.side_text h) a b
@@ -106,7 +100,7 @@ module _ (s t : Store) (low from to dest : ℕ) (m : Moves s.main_text t.main_te
   IsEdit-moved : IsStore s → IsEdit s t
   unfolding IsLiving shape saved scopes main_bytes frame frame_start IsOlder Frame
   IsEdit-moved i = record {
-    pieces = λ p h o. Lives-below p h (λ e. le_trans _ _ _ (below_main (s.frame_main, s.frame_side) (lies_aside p.flags) p.to_byte o e) inner);
+    pieces = λ p h o. Lives-below p h (λ e. le_trans _ _ _ (o e) inner);
     frame_same = cc;
     lists = record {
       saved_same = rw (by_side, by_saved) (shapes-carried s.main_text t.main_text s.side_text low from to dest m s.saved_pieces i.saved_lie saved_apart);
@@ -170,7 +164,7 @@ module _ (s : Store) (m side : List ℕ) (saved args : List Piece) (same : m ≡
   KeepsAll-aside =
       KeepsAll-elsewhere s aside refl a.side
       (subst (λ (v : List ℕ). map (shape_in v side) saved ≡ map (shape_in v s.side_text) s.saved_pieces) same a.saved_shapes)
-      (subst (λ (v : List ℕ). map (shape_in v side) args ≡ map (shape_in v s.side_text) s.arg_pieces) same a.args_shapes) refl refl refl
+      (subst (λ (v : List ℕ). map (shape_in v side) args ≡ map (shape_in v s.side_text) s.arg_pieces) same a.args_shapes) refl refl
 
   IsStore-aside : IsStore s → IsStore aside
   IsStore-aside i =
@@ -180,7 +174,6 @@ module _ (s : Store) (m side : List ℕ) (saved args : List Piece) (same : m ≡
         args_lie = subst (λ (v : List ℕ). All (IsPiece v side) args) same a.args_lie;
         starts_fit = rw a.args_long i.starts_fit;
         main_frame = i.main_frame;
-        side_frame = omega (arith, n, i.side_frame);
       }
 
   -- and then a block is moved
@@ -192,9 +185,9 @@ module _ (s : Store) (m side : List ℕ) (saved args : List Piece) (same : m ≡
     after_move = record s { main_text = main; side_text = side; saved_pieces = saved'; arg_pieces = args' }
 
     pub IsStore-after : IsStore after_move
-    IsStore-after = IsStore-moved aside after_move low from to dest moves inner saved_apart args_apart refl by_saved by_args refl refl refl (IsStore-aside i)
+    IsStore-after = IsStore-moved aside after_move low from to dest moves inner saved_apart args_apart refl by_saved by_args refl refl (IsStore-aside i)
 
     pub IsEdit-after : IsEdit s after_move
     IsEdit-after =
         IsEdit-trans s aside after_move (IsEdit-keeps s aside KeepsAll-aside)
-        (IsEdit-moved aside after_move low from to dest moves inner saved_apart args_apart refl by_saved by_args refl refl refl (IsStore-aside i))
+        (IsEdit-moved aside after_move low from to dest moves inner saved_apart args_apart refl by_saved by_args refl refl (IsStore-aside i))

@@ -114,13 +114,13 @@ parts_at-push (s ∷ t ∷ rest) xs x h some =
     both ∙ sym (with_arg-more x (slice_range xs s t) (parts_at (t ∷ rest) xs) some)
 
 -- a buffer whose arguments or their places change, and nothing else
-module _ (s new : Store) (main : new.main_text ≡ s.main_text) (side : new.side_text ≡ s.side_text) (frame_main : new.frame_main ≡ s.frame_main) (frame_side : new.frame_side ≡ s.frame_side) where
+module _ (s new : Store) (main : new.main_text ≡ s.main_text) (side : new.side_text ≡ s.side_text) (frame_main : new.frame_main ≡ s.frame_main) where
   shape_same : shape new ≡ shape s
   unfolding shape
   shape_same = ap (λ (ts : List ℕ). λ (p : Piece). shape_in ts new.side_text p) main ∙ ap (λ (ts : List ℕ). λ (p : Piece). shape_in s.main_text ts p) side
 
-  frame_fits : IsStore s → (new.frame_main ≤ length new.main_text) × (new.frame_side ≤ length new.side_text)
-  frame_fits i = (rw (frame_main, main) i.main_frame, rw (frame_side, side) i.side_frame)
+  frame_fits : IsStore s → new.frame_main ≤ length new.main_text
+  frame_fits i = rw (frame_main, main) i.main_frame
 
   -- the scopes, by the arguments and their places
   scopes_are : (args : List Piece) (starts : List ℕ) → new.arg_pieces ≡ args → new.scope_starts ≡ starts → scopes new ≡ parts_at starts (map (shape s) args)
@@ -139,8 +139,7 @@ module _ (s new : Store) (main : new.main_text ≡ s.main_text) (side : new.side
     saved_lie = rw (main, side, saved) i.saved_lie;
     args_lie = rw (main, side, args) i.args_lie;
     starts_fit = rw (args, starts) (AreStarts-push s.scope_starts (length s.arg_pieces) i.starts_fit);
-    main_frame = (frame_fits i).0;
-    side_frame = (frame_fits i).1;
+    main_frame = frame_fits i;
   }
 
   -- the last scope gains an argument
@@ -161,8 +160,7 @@ module _ (s new : Store) (main : new.main_text ≡ s.main_text) (side : new.side
     saved_lie = rw (main, side, saved) i.saved_lie;
     args_lie = rw (main, side, args) (All-push (IsPiece s.main_text s.side_text) s.arg_pieces p i.args_lie lies);
     starts_fit = rw (args, starts) (AreStarts-more s.scope_starts (length s.arg_pieces) (length (s.arg_pieces ++ p ∷ [])) (omega (arith, length-append s.arg_pieces (p ∷ []))) i.starts_fit);
-    main_frame = (frame_fits i).0;
-    side_frame = (frame_fits i).1;
+    main_frame = frame_fits i;
   }
 
   -- the first scopes are kept
@@ -185,8 +183,7 @@ module _ (s new : Store) (main : new.main_text ≡ s.main_text) (side : new.side
         saved_lie = rw (main, side, saved) i.saved_lie;
         args_lie = rw (main, side, args) (All-take (IsPiece s.main_text s.side_text) from s.arg_pieces i.args_lie);
         starts_fit = rw (args, starts, m) (AreStarts-take s.scope_starts (length s.arg_pieces) n i.starts_fit there);
-        main_frame = (frame_fits i).0;
-        side_frame = (frame_fits i).1;
+        main_frame = frame_fits i;
       }
 
 -- there are as many scopes as places

@@ -11,7 +11,7 @@ use Rattle.demangle_text.specs.declared.shape.Mark.{Mark}
 use Rattle.demangle_text.specs.Shape.{text}
 use Rattle.demangle_text.specs.Pieces.{Store, IsStore, IsPiece, IsAt, IsOutlined, outline_of, shape_of, shape_in, piece_text, home_bytes, Extends}
 use Rattle.demangle_text.specs.State.{IsLiving, shape, saved, scopes, main_bytes, Stands, StandsBefore, frame}
-use Rattle.demangle_text.specs.State.{frame_start, inside, outside, Frame, IsBelow, IsOlder, KeepsAll, IsEdit, Opens}
+use Rattle.demangle_text.specs.State.{frame_start, inside, outside, Frame, IsOlder, KeepsAll, IsEdit, Opens}
 use Rattle.demangle_text.specs.State.{Closes, Lives, parts_at}
 use Rattle.demangle_text.proofs.Forms.{text-form_of}
 use Rattle.growing_text.proofs.Parts.{part-append}
@@ -107,7 +107,6 @@ IsStore-grown s m n i = record {
   args_lie = λ k d h. IsPiece-grown s.main_text s.side_text m n _ (i.args_lie k d h);
   starts_fit = i.starts_fit;
   main_frame = omega (arith, length-append s.main_text m, i.main_frame);
-  side_frame = omega (arith, length-append s.side_text n, i.side_frame);
 }
 
 -- the store with a longer main text
@@ -127,9 +126,9 @@ IsStore-longer s m i = subst IsStore (longer-is s m) (IsStore-grown s m [] i)
 pub KeepsAll-elsewhere : (s t : Store) → t.main_text ≡ s.main_text → Extends s.side_text t.side_text
     → map (shape_in t.main_text t.side_text) t.saved_pieces ≡ map (shape_in s.main_text s.side_text) s.saved_pieces
     → map (shape_in t.main_text t.side_text) t.arg_pieces ≡ map (shape_in s.main_text s.side_text) s.arg_pieces
-    → t.scope_starts ≡ s.scope_starts → t.frame_main ≡ s.frame_main → t.frame_side ≡ s.frame_side → KeepsAll s t
+    → t.scope_starts ≡ s.scope_starts → t.frame_main ≡ s.frame_main → KeepsAll s t
 unfolding IsLiving shape saved scopes main_bytes frame frame_start Frame
-KeepsAll-elsewhere s t by_main by_side by_saved by_args by_starts by_frame_main by_frame_side =
+KeepsAll-elsewhere s t by_main by_side by_saved by_args by_starts by_frame_main =
     record {
       pieces = λ p h. record {
         living = rw by_main (IsPiece-extends s.main_text s.side_text t.side_text by_side p h);
@@ -160,27 +159,26 @@ Lives-grown s t p stands outlined =
     let there : IsAt p p.from_byte (length (s.main_text ++ t)) = record { in_main = stands.in_main; begins = refl; ends = stands.ends } in
     Lives-at_end (longer s t) p t there (omega (arith, stands.begins, length-append s.main_text t)) (drop_at s.main_text t p.from_byte (sym stands.begins)) outlined
 
--- what lives lies before the ends of both texts
-below_ends : (main side : List ℕ) (f : ℕ × ℕ) (h : Bool) (n : ℕ) → f.0 ≡ length main → f.1 ≡ length side → n ≤ length (home_bytes main side h) → IsBelow f h n
-below_ends main side f false n by_main by_side within = subst (λ (k : ℕ). n ≤ k) (sym by_main) within
-below_ends main side f true n by_main by_side within = subst (λ (k : ℕ). n ≤ k) (sym by_side) within
+-- what lives in the main text lies before its end
+below_end : (main side : List ℕ) (end n : ℕ) (h : Bool) → end ≡ length main → n ≤ length (home_bytes main side h) → h ≡ false → n ≤ end
+below_end main side end n h by_main within e = omega (arith, by_main, rw e at within)
 
--- a mark is opened at the ends of both texts
-pub Opens-here : (s : Store) (m : Mark) → IsStore s → m.inside_main ≡ length s.main_text → m.inside_side ≡ length s.side_text
-    → m.outside_main ≡ s.frame_main → m.outside_side ≡ s.frame_side → Opens s (record s { frame_main = m.inside_main; frame_side = m.inside_side }) m
+-- a mark is opened at the end of the main text
+pub Opens-here : (s : Store) (m : Mark) → IsStore s → m.inside_main ≡ length s.main_text → m.outside_main ≡ s.frame_main
+    → Opens s (record s { frame_main = m.inside_main }) m
 unfolding IsLiving shape saved scopes main_bytes frame frame_start inside outside IsOlder Frame
-Opens-here s m i by_main by_side outer_main outer_side = record {
+Opens-here s m i by_main outer = record {
   pieces = λ p h. record { living = h; shape_is = refl };
-  older = λ p h. below_ends s.main_text s.side_text (m.inside_main, m.inside_side) (lies_aside p.flags) p.to_byte by_main by_side h.within;
+  older = λ p h. below_end s.main_text s.side_text m.inside_main p.to_byte (lies_aside p.flags) by_main h.within;
   inside_is = refl;
-  outside_is = λ j. (outer_main j, outer_side j);
+  outside_is = outer;
   lists = record { saved_same = refl; scopes_same = refl };
   nested = omega (arith, by_main, i.main_frame);
   front = take_all m.inside_main s.main_text (omega (arith, by_main));
 }
 
 -- a mark is closed after an edit inside it
-pub Closes-edit : (s t : Store) (m : Mark) → frame s ≡ inside m → IsEdit s t → Closes s (record t { frame_main = m.outside_main; frame_side = m.outside_side }) m
+pub Closes-edit : (s t : Store) (m : Mark) → frame s ≡ inside m → IsEdit s t → Closes s (record t { frame_main = m.outside_main }) m
 unfolding IsLiving shape saved scopes main_bytes frame outside Frame
 Closes-edit s t m innermost e = record {
   pieces = λ p h o.
@@ -230,9 +228,9 @@ text_is s p h = text-form_of (piece_text s.main_text s.side_text p) (outline_of 
 
 -- the same as it was
 pub unchanged : (s new : Store) → new.main_text ≡ s.main_text → new.side_text ≡ s.side_text → new.saved_pieces ≡ s.saved_pieces → new.arg_pieces ≡ s.arg_pieces
-    → new.scope_starts ≡ s.scope_starts → new.frame_main ≡ s.frame_main → new.frame_side ≡ s.frame_side → KeepsAll s new
+    → new.scope_starts ≡ s.scope_starts → new.frame_main ≡ s.frame_main → KeepsAll s new
 unfolding IsLiving shape
-unchanged s new by_main by_side by_saved by_args by_starts by_frame_main by_frame_side =
+unchanged s new by_main by_side by_saved by_args by_starts by_frame_main =
     let e : new ≡ s = λ j. record {
       main_text = by_main j;
       side_text = by_side j;
@@ -240,7 +238,6 @@ unchanged s new by_main by_side by_saved by_args by_starts by_frame_main by_fram
       arg_pieces = by_args j;
       scope_starts = by_starts j;
       frame_main = by_frame_main j;
-      frame_side = by_frame_side j;
     } in
     rw e (record {
       pieces = λ p h. record { living = h; shape_is = refl };

@@ -154,7 +154,7 @@ AreStarts (start ∷ []) count = start ≤ count
 AreStarts (start ∷ next ∷ rest) count = (start ≤ next) × AreStarts (next ∷ rest) count
 
 -- what a buffer keeps: its two texts, the saved pieces, the arguments of all scopes with the places
--- where the scopes begin, and how long the texts were at the innermost mark
+-- where the scopes begin, and how long the main text was at the innermost mark
 pub record Store : Type 0 where
   pub main_text : List ℕ
   pub side_text : List ℕ
@@ -162,7 +162,6 @@ pub record Store : Type 0 where
   pub arg_pieces : List Piece
   pub scope_starts : List ℕ
   pub frame_main : ℕ
-  pub frame_side : ℕ
 
 -- what is kept lies in the texts
 pub record IsStore (s : Store) : Type 0 where
@@ -170,7 +169,6 @@ pub record IsStore (s : Store) : Type 0 where
   pub args_lie : All (IsPiece s.main_text s.side_text) s.arg_pieces
   pub starts_fit : AreStarts s.scope_starts (length s.arg_pieces)
   pub main_frame : s.frame_main ≤ length s.main_text
-  pub side_frame : s.frame_side ≤ length s.side_text
 
 -- the piece lies in the main text, from the innermost mark or later up to the end
 pub record IsTail (s : Store) (p : Piece) : Type 0 where

@@ -1,9 +1,8 @@
 -- What a buffer is to its callers: the shapes of its pieces, its frames, its saved shapes and its scopes.
-use Rattle.std.specs.Prelude.{◌≡◌, ℕ, ◌≤◌, ◌<◌, Bool, true, false, List, [], ◌∷◌, ◌++◌, ◌+◌, ◌-◌, length, take, drop}
+use Rattle.std.specs.Prelude.{◌≡◌, ℕ, ◌≤◌, ◌<◌, List, [], ◌∷◌, ◌++◌, ◌+◌, ◌-◌, length, take, drop}
 use Rattle.std.specs.Prelude.{slice_range, slice_index_or, slice_set, map}
 use Rattle.demangle_text.specs.Shape.{Shape, text_len}
-use Rattle.demangle_text.specs.Flags.{lies_aside}
-use Rattle.demangle_text.specs.Pieces.{Store, IsPiece, IsAt, shape_in}
+use Rattle.demangle_text.specs.Pieces.{Store, IsPiece, IsAt, EndsBy, shape_in}
 use Rattle.demangle_text.specs.declared.shape.Piece.{Piece}
 use Rattle.demangle_text.specs.declared.shape.Mark.{Mark}
 
@@ -39,41 +38,36 @@ Stands p from to = IsAt p from to
 
 -- a frame is the stretch of calls from one mark to the next
 unfoldable pub Frame : Type 0
-Frame = ℕ × ℕ
+Frame = ℕ
 
 -- the frame of a buffer with no open mark
 unfoldable pub outermost : Frame
 unfolding Frame
-outermost = (0, 0)
+outermost = 0
 
 -- the frame inside the innermost open mark
 unfoldable pub frame : Store → Frame
 unfolding Frame
-frame b = (b.frame_main, b.frame_side)
+frame b = b.frame_main
 
 -- the frame inside a mark, and the one outside it
 unfoldable pub inside : Mark → Frame
 unfolding Frame
-inside m = (m.inside_main, m.inside_side)
+inside m = m.inside_main
 
 unfoldable pub outside : Mark → Frame
 unfolding Frame
-outside m = (m.outside_main, m.outside_side)
+outside m = m.outside_main
 
 -- the byte of the main text at which a frame begins
 unfoldable pub frame_start : Frame → ℕ
 unfolding Frame
-frame_start f = f.0
+frame_start f = f
 
--- a place of one of the two texts lies before the frame
-abbrev pub IsBelow : ℕ × ℕ → Bool → ℕ → Type 0
-IsBelow f false n = n ≤ f.0
-IsBelow f true n = n ≤ f.1
-
--- the piece was made before the frame began
+-- the piece was made before the frame began, or lies in the side text, whose bytes stay
 unfoldable pub IsOlder : Piece → Frame → Type 0
 unfolding Frame
-IsOlder p f = IsBelow f (lies_aside p.flags) p.to_byte
+IsOlder p f = EndsBy f p
 
 -- what is answered for a piece was made when the piece was
 unfoldable pub IsAsOld : Piece → Piece → Type 0

@@ -11,7 +11,6 @@ store_of a = record {
   arg_pieces = a.lists.args;
   scope_starts = a.starts.items;
   frame_main = a.frame_main;
-  frame_side = a.frame_side;
 }
 
 -- what holds of the fields between calls

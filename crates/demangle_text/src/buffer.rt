@@ -1,5 +1,5 @@
 //! A buffer of pieces over one main text and one side text.
-ghost use Rattle.std.specs.Prelude.{◌≡◌, ℕ, ◌+◌, ◌-◌, ◌<◌, ◌≤◌, [], ◌++◌, length, take, IfOk};
+ghost use Rattle.std.specs.Prelude.{◌≡◌, ℕ, ◌+◌, ◌-◌, ◌^◌, ◌<◌, ◌≤◌, [], ◌++◌, length, take, IfOk};
 ghost use Rattle.std.specs.Prelude.{OnOk, OnErr, slice_range, slice_index, is_some, codes};
 ghost use Rattle.demangle_text.specs.Shape.{gap_after};
 
@@ -21,9 +21,8 @@ pub struct Buffer {
     pub(crate) lists: Lists,
     // Where the arguments of each scope begin.
     pub(crate) starts: Vec<usize>,
-    // How long both texts were at the innermost mark.
+    // How long the main text was at the innermost mark.
     pub(crate) frame_main: usize,
-    pub(crate) frame_side: usize,
 }
 
 impl Model for Buffer {
@@ -61,6 +60,7 @@ impl Buffer {
     ghost use Rattle.demangle_text.specs.Shape.{declared_at};
     ghost use Rattle.demangle_text.specs.Calls.{joined, named, CanInsert, IsPlain, IsDeclared, IsNotFunction, kind_of};
     ghost use Rattle.demangle_text.specs.Calls.{IsLast, AreAdjacent};
+    ghost use Rattle.demangle_text.specs.Pieces.{IsTail};
     ghost use Rattle.demangle_text.specs.Calls.{group_of, after_of, declared_group};
 
     /// An empty buffer, with no mark open. It takes no memory.
@@ -80,7 +80,6 @@ impl Buffer {
             },
             starts: Vec::new(alloc),
             frame_main: 0,
-            frame_side: 0,
         }
     }
 
@@ -99,7 +98,6 @@ impl Buffer {
         self.main.clear();
         self.lists.side.clear();
         self.frame_main = 0;
-        self.frame_side = 0;
     }
 
     /// Opens a mark, which is the innermost one then, at the end of the main text. All living
@@ -112,12 +110,9 @@ impl Buffer {
     {
         let mark = Mark {
             inside_main: self.main.len(),
-            inside_side: self.lists.side.len(),
             outside_main: self.frame_main,
-            outside_side: self.frame_side,
         };
         self.frame_main = mark.inside_main;
-        self.frame_side = mark.inside_side;
         mark
     }
 
@@ -152,7 +147,6 @@ impl Buffer {
     {
         self.keep_only(mark.inside_main, piece)?;
         self.frame_main = mark.outside_main;
-        self.frame_side = mark.outside_side;
         Ok(())
     }
 
@@ -273,7 +267,32 @@ impl Buffer {
             (length between.now + length name.now)) }
         ensures main_err { OnErr result (main_bytes self.new ≡ main_bytes self.old) }
     {
-        let from = self.splice_pair(piece, between, name)?;
+        if self.is_tail(*piece) {
+            return self.append_name_last(piece, between, name);
+        }
+        self.append_name_elsewhere(piece, between, name)
+    }
+
+    // `append_name_in_place` of a piece that doesn't stand at the end of the main text. The compiler knows the bytes
+    // between text and name here, since all callers give the same.
+    #[inline(never)]
+    fn append_name_elsewhere(
+        &mut self,
+        piece: &mut Piece,
+        between: &[u8],
+        name: &[u8],
+    ) -> Result<(), AllocError>
+        requires living { IsLiving self.old piece.old }
+        requires apart { IsTail self.old piece.old → ⊥ }
+        ensures shape { OnOk result (Lives self.new piece.new (named between.now name.now (shape self.old piece.old))) }
+        ensures edit { OnOk result (IsEdit self.old self.new) }
+        ensures err { OnErr result (KeepsAll self.old self.new) }
+        ensures piece_err { OnErr result (piece.new ≡ piece.old) }
+        ensures edit_of { OnOk result (IsEditOf self.old self.new piece.old piece.new
+            (length between.now + length name.now)) }
+        ensures main_err { OnErr result (main_bytes self.new ≡ main_bytes self.old) }
+    {
+        let from = self.extend_copied(piece, between, name)?;
         piece.from_byte = from;
         piece.to_byte = self.main.len();
         piece.own_end = piece.text_len();
@@ -465,13 +484,14 @@ impl Buffer {
         }
     }
 
-    /// How many bytes the text of the piece has.
+    /// How many bytes the text of the piece has: fewer than 2^63.
     #[inline(always)]
     pub fn len(&self, piece: Piece) -> usize
         requires living { IsLiving self.now piece }
         ensures value { result ≡ text_len (shape self.now piece) }
+        ensures fits { result < 2 ^ 63 }
     {
-        piece.text_len()
+        self.bytes(piece).len()
     }
 
     /// What the piece declares, or `None` where it is plain.

@@ -100,6 +100,7 @@ pub(crate) fn add_spliced(
 }
 
 // The text of a piece and two texts after it. After an error the main text is as it was.
+#[inline(always)]
 pub(crate) fn add_extended(
     main: &mut Text,
     side: &Text,

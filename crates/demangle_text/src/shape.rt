@@ -51,13 +51,10 @@ pub struct Piece {
 /// What `open` hands out, and `close` takes back.
 #[derive(Drop)]
 pub struct Mark {
-    // How long both texts were at the mark, and at the one outside it.
+    // How long the main text was at the mark, and at the one outside it.
     pub(crate) inside_main: usize,
-    pub(crate) inside_side: usize,
     pub(crate) outside_main: usize,
-    pub(crate) outside_side: usize,
     ghost main_nested: { outside_main ≤ inside_main },
-    ghost side_nested: { outside_side ≤ inside_side },
 }
 
 impl Piece {

@@ -236,7 +236,7 @@ impl Buffer {
         Ok(piece.from_byte)
     }
 
-    // `extend_elsewhere` of the piece's text alone, inlined as well.
+    // `extend_elsewhere` of the piece's text alone. It is inlined, so that this second piece is made on no other way.
     #[inline(always)]
     fn extend_alone(
         &mut self,
@@ -274,8 +274,8 @@ impl Buffer {
 
     // The text of a piece that doesn't stand at the end, with both texts after it, at the end of the main text: where
     // it begins.
-    #[inline(never)]
-    fn extend_elsewhere(
+    #[inline(always)]
+    pub(crate) fn extend_copied(
         &mut self,
         piece: &Piece,
         first: &[u8],
@@ -291,6 +291,24 @@ impl Buffer {
         let from = self.main.len();
         add_extended(&mut self.main, &self.lists.side, piece, first, second)?;
         Ok(from)
+    }
+
+    // `extend_copied`, out of line.
+    #[inline(never)]
+    fn extend_elsewhere(
+        &mut self,
+        piece: &Piece,
+        first: &[u8],
+        second: &[u8],
+    ) -> Result<usize, AllocError>
+        requires living { IsLiving self.old piece.now }
+        requires apart { IsTail self.old piece.now → ⊥ }
+        ensures splice { IfOk result (IsSplice self.old self.new piece.now (piece.now.to_byte - piece.now.from_byte)
+            (first.now ++ second.now)) }
+        ensures kept { KeepsAll self.old self.new }
+        ensures main_err { OnErr result (self.new.main_text ≡ self.old.main_text) }
+    {
+        self.extend_copied(piece, first, second)
     }
 
     // The text of a piece that doesn't stand at the end, with three texts at a place of it, at the end of the main

@@ -12,7 +12,7 @@ use Rattle.itanium_syntax.specs.Context.{inside_lambda}
 use Rattle.itanium_syntax.specs.Names.{name_case, unscoped_case, begins_quals, name_quals, past_name_quals}
 use Rattle.itanium_reader.specs.Cases.{NestedName, UnscopedName}
 use Rattle.itanium_reader.specs.Parser.{ParserState, ◌>>=◌, is_wide, fitting, fitting_bare, enter, skip, with_rest, with_quals, unscoped_as}
-use Rattle.itanium_reader.specs.Parser.{parse_unqualified, parse_after_quals, parse_type, parse_args, parse_bare_name, parse_name}
+use Rattle.itanium_reader.specs.Parser.{parse_unqualified, parse_after_quals, parse_nested, parse_type, parse_args, parse_bare_name, parse_name}
 use Rattle.itanium_reader.proofs.Unfold.{name_opens, bare_name_opens, no_bare_name, nested_opens}
 use Rattle.itanium_reader.proofs.Rules.{buffers, names}
 
@@ -52,24 +52,11 @@ plain_nested_opens d x s some case plain =
     let none = no_quals_there (drop 1 s.rest) plain in
     rw (name_opens d x s, bare_name_opens d x s some, case, nested_opens _ _ x (skip 1 (enter s)), none.0, none.1) (measured_once _ _)
 
--- a name that was measured, and is measured again with its qualifiers
-measured_twice : (read : Option (Shape × ParserState)) (quals : Quals) (shown : Bool)
-    → (read >>= with_quals quals >>= fitting_bare >>= λ name. fitting (with_name_qualifiers name.0.0 name.0.1 shown, name.1))
-    ≡ (read >>= fitting >>= λ name. fitting (with_name_qualifiers name.0 quals shown, name.1))
-measured_twice None quals shown = refl
-measured_twice (Some name) quals shown = go (is_wide name.0)
-  where
-    go : (wide : Bool) → ((if wide then None else with_quals quals name) >>= λ found. fitting (with_name_qualifiers found.0.0 found.0.1 shown, found.1))
-        ≡ ((if wide then None else Some name) >>= λ found. fitting (with_name_qualifiers found.0 quals shown, found.1))
-    go true = refl
-    go false = refl
-
--- a name that is nested is what is after its qualifiers, and then these
+-- a name that is nested is measured without its qualifiers and with them
 pub qualified_nested_opens : (d : ℕ) (x : Context) (s : ParserState) → 0 < d → name_case s.rest ≡ NestedName → parse_name d x s
-    ≡ (parse_after_quals (parse_unqualified (parse_type (d - 1) x) (parse_type (d - 1) (inside_lambda x))) (parse_args (d - 1) x true) x
-    (with_rest (past_name_quals (drop 1 s.rest)) (skip 1 (enter s))) >>= fitting >>= λ name. fitting (with_name_qualifiers name.0 (name_quals (drop 1 s.rest)) x.shown, name.1))
-qualified_nested_opens d x s some case =
-    rw (name_opens d x s, bare_name_opens d x s some, case, nested_opens _ _ x (skip 1 (enter s))) (measured_twice _ _ _)
+    ≡ (parse_nested (parse_unqualified (parse_type (d - 1) x) (parse_type (d - 1) (inside_lambda x))) (parse_args (d - 1) x true) x (skip 1 (enter s))
+    >>= fitting_bare >>= λ name. fitting (with_name_qualifiers name.0.0 name.0.1 x.shown, name.1))
+qualified_nested_opens d x s some case = rw (name_opens d x s, bare_name_opens d x s some, case) refl
 
 -- a name that isn't nested, nor in a function, has no qualifiers
 pub unscoped_name_opens : (d : ℕ) (x : Context) (s : ParserState) → 0 < d → name_case s.rest ≡ UnscopedName → parse_name d x s

@@ -46,13 +46,14 @@ pub(crate) fn read_attached(
     let mut list = begin_arguments(&mut reader.buffer, reader.found)?;
     // The list begins with its `<`, after the name.
     let front = reader.buffer.len(list) - 1;
+    let widest = front + text_limit();
     let mut first = true;
     loop {
         match args_case(reader.rest) {
             ArgsCase::EndOfArguments => {
                 reader.skip(1);
                 reader.found = end_arguments(&mut reader.buffer, list, len, own, ctor)?;
-                if reader.buffer.len(reader.found) - front > text_limit() {
+                if reader.buffer.len(reader.found) > widest {
                     return Err(Stop::Unread);
                 }
                 return Ok(());
@@ -62,7 +63,7 @@ pub(crate) fn read_attached(
                 framed_argument(reader, depth - 1, context)?;
                 reader.add_argument(opens, scopes)?;
                 list = reader.buffer.join_adjacent(list, reader.found);
-                if reader.buffer.len(list) - front > text_limit() {
+                if reader.buffer.len(list) > widest {
                     return Err(Stop::Unread);
                 }
                 first = false;

@@ -35,7 +35,7 @@ pub(crate) fn read_primary(reader: &mut Reader, depth: usize, context: Context) 
             reader.read_end()
         }
         LiteralCase::ValueLiteral => {
-            reader.skip(1);
+            reader.skip_one();
             read_literal(reader, depth, context)
         }
         LiteralCase::NoLiteral => Err(Stop::Unread),

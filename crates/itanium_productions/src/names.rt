@@ -4,7 +4,7 @@ ghost use Rattle.std.specs.Prelude.{false};
 ghost use Rattle.demangle_text.specs.Calls.{IsLast};
 ghost use Rattle.demangle_text.specs.Shape.{Shape};
 ghost use Rattle.demangle_text.specs.State.{IsLiving, shape, IsRun, SameFrame, saved, Stands, main_bytes};
-ghost use Rattle.itanium_syntax.specs.Names.{begins_quals, past_name_quals, free_case, first_case, name_case};
+ghost use Rattle.itanium_syntax.specs.Names.{begins_quals, free_case, first_case, name_case};
 ghost use Rattle.itanium_syntax.specs.Names.{segment_case, unscoped_case, saves_first};
 ghost use Rattle.itanium_syntax.specs.Context.{inside_lambda};
 ghost use Rattle.itanium_syntax.specs.Args.{attached_case};
@@ -25,8 +25,8 @@ use itanium_syntax::context::Context;
 use itanium_syntax::encodings::shows_words;
 use itanium_syntax::names::{
     FirstCase, FreeCase, NameCase, SegmentCase, UnqualifiedCase, UnscopedCase, begins_quals,
-    begins_source, first_case, free_case, name_case, name_quals, past_internal, past_name_quals,
-    saves_first, segment_case, unqualified_case, unscoped_case,
+    begins_source, first_case, free_case, name_case, name_quals, past_internal, saves_first,
+    segment_case, unqualified_case, unscoped_case,
 };
 
 /// `<closure-type-name> ::= Ul <lambda-sig> E [<nonnegative number>] _`, after its `Ul`.
@@ -287,11 +287,8 @@ pub(crate) fn read_nested(
     ensures bounds { Bounds 1 result (state reader.old) (state reader.new) }
     ensures saved { SavedBounds 1 result (state reader.old) (state reader.new) }
 {
-    let mut quals = Quals::none();
-    if begins_quals(reader.rest) {
-        quals = name_quals(reader.rest);
-        reader.rest = past_name_quals(reader.rest);
-    }
+    let (quals, rest) = name_quals(reader.rest);
+    reader.rest = rest;
     read_after_quals(reader, depth, context)?;
     Ok(quals)
 }
@@ -455,6 +452,7 @@ pub(crate) fn read_segments(reader: &mut Reader, depth: usize, context: Context)
 /// `<template-args>` after the name that was found, which is saved in front of them, or none.
 #[tactic(auto, using(itanium_reader::proofs::Rules::fronts))]
 #[cycle(reader)]
+#[inline(always)]
 pub(crate) fn read_attached_args(
     reader: &mut Reader,
     depth: usize,
@@ -482,6 +480,7 @@ pub(crate) fn read_attached_args(
 /// `<template-args>`.
 #[tactic(auto, using(itanium_reader::proofs::Rules::fronts))]
 #[cycle(reader)]
+#[inline(always)]
 pub(crate) fn read_unscoped(reader: &mut Reader, depth: usize, context: Context) -> Result<(), Stop>
     requires room { HasRoom 0 (state reader.old) }
     ensures reads { Gives result reader.new
@@ -623,35 +622,8 @@ pub(crate) fn read_plain_nested(
         return Err(Stop::Unread);
     }
     reader.entered += 1;
-    reader.skip(1);
+    reader.skip_one();
     read_after_quals(reader, depth - 1, context)?;
-    if reader.is_wide(reader.found) {
-        return Err(Stop::Unread);
-    }
-    Ok(())
-}
-
-/// A `<nested-name>` after its `N`, without its own qualifiers, which are passed over: it is measured.
-#[tactic(auto, using(itanium_reader::proofs::Rules::buffers))]
-#[cycle(reader)]
-#[inline(always)]
-pub(crate) fn read_bare_nested(
-    reader: &mut Reader,
-    depth: usize,
-    context: Context,
-) -> Result<(), Stop>
-    requires room { HasRoom 2 (state reader.old) }
-    ensures reads { Gives result reader.new (option_and_then spec.fitting (spec.parse_after_quals
-        (spec.parse_unqualified (spec.parse_type depth context)
-        (spec.parse_type depth (inside_lambda context)))
-        (spec.parse_args depth context true) context
-        (spec.with_rest (past_name_quals reader.old.rest.now) (state reader.old)))) }
-    ensures run { OnOk result (IsRun reader.old.buffer.value reader.new.buffer.value) }
-    ensures bounds { Bounds 1 result (state reader.old) (state reader.new) }
-    ensures saved { SavedBounds 1 result (state reader.old) (state reader.new) }
-{
-    reader.rest = past_name_quals(reader.rest);
-    read_after_quals(reader, depth, context)?;
     if reader.is_wide(reader.found) {
         return Err(Stop::Unread);
     }
@@ -681,9 +653,12 @@ pub(crate) fn read_qualified_nested(
     }
     reader.entered += 1;
     reader.skip_one();
-    let name = reader.rest;
-    read_bare_nested(reader, depth - 1, context)?;
-    reader.print_quals(name_quals(name), context.shown)?;
+    let below = depth - 1;
+    let quals = read_nested(reader, below, context)?;
+    if reader.is_wide(reader.found) {
+        return Err(Stop::Unread);
+    }
+    reader.print_quals(quals, context.shown)?;
     if reader.is_wide(reader.found) {
         return Err(Stop::Unread);
     }

@@ -437,11 +437,6 @@ module _ {whole : Option (Shape × ParserState)} {name : Shape} {s : ParserState
 pub no_tags : (name : Shape) (s : ParserState) → tag_case s.rest ≡ NoTag → parse_tags name s ≡ Some (name, s)
 no_tags name s case = tags_end (loop_start refl) case
 
--- a source name is found that no tag follows, and put into its parent
-pub source_found : (parent : Option Shape) (s : ParserState) {text rest : List ℕ} {found : Shape} {after : ParserState} → source_name s.rest ≡ Some (text, rest) → tag_case rest ≡ NoTag
-    → found ≡ in_parent parent (plain_shape (source_text text)) → after ≡ with_rest rest s → parse_source_in parent s ≡ Some (found, after)
-source_found parent s {text} {rest} read case built same = rw (read, no_tags (plain_shape (source_text text)) (with_rest rest s) case, built, same) refl
-
 -- a range stays where nothing is put
 nothing_moved : (at : ℕ) (own : ℕ × ℕ) → moved at 0 own ≡ own
 nothing_moved at (from, to) = grind (arith, nat_tests)
@@ -620,10 +615,6 @@ module _ {whole : Option (Shape × ParserState)} (add_argument : Shape → Parse
       → more ≡ joined (separated first found) [] next → max_text < text_len more - front_len name → whole ≡ None
   attached_more_wide {next} {more} case read built long =
       items_wide add_argument item (attached_to name) so_far.so_far case read refl (wide_by (listed_more first list_so_far next) (omega (arith, long, more_len next more built)))
-
-  -- the front is in what is found
-  pub attached_room : (next : Shape) {more : Shape} → more ≡ joined (separated first found) [] next → {front all : ℕ} → front ≡ front_len name → all ≡ text_len more → front ≤ all
-  attached_room next {more} built front_is all_is = omega (arith, front_is, all_is, more_len next more built)
 
   pub attached_fail : args_case s.rest ≡ NextArgument → item s ≡ None → whole ≡ None
   attached_fail case none = items_fail add_argument item (attached_to name) so_far.so_far case none

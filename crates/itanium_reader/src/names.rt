@@ -19,37 +19,11 @@ use demangle_edit::{
     qualify_ctor, qualify_text_in_place, qualify_text_last, tag,
 };
 use demangle_text::{Piece, Place};
-use itanium_syntax::names::{TagCase, begins_source, source_text, tag_case};
+use itanium_syntax::names::{TagCase, source_text, tag_case, untagged_source};
 use itanium_syntax::numerals::ordinal;
 use itanium_syntax::operators::operator_here;
 use itanium_syntax::scalar::source_name;
 use std::alloc::AllocError;
-
-/// From where to where the text of a `<source-name>` without `<abi-tags>` stands, where one stands at the front.
-#[tactic(auto, using(crate::proofs::Rules::source_names))]
-#[inline(always)]
-fn untagged_source(bytes: &[u8]) -> Option<(usize, usize)>
-    ensures begins { IfSome result (λ _. begins_source bytes.now ≡ true) }
-    ensures value { IfSome result (λ found. source_name bytes.now
-        ≡ Some (slice_range bytes.now found.0 found.1, drop found.1 bytes.now)) }
-    ensures untagged { IfSome result (λ found. tag_case (drop found.1 bytes.now) ≡ NoTag) }
-    ensures after { IfSome result (λ found. 0 < found.0) }
-    ensures ordered { IfSome result (λ found. found.0 < found.1) }
-    ensures within { IfSome result (λ found. found.1 ≤ length bytes.now) }
-    ensures none { result ≡ None → begins_source bytes.now ≡ true
-        → IfSome (source_name bytes.now) (λ found. tag_case found.1 ≡ NextTag) }
-{
-    if !begins_source(bytes) {
-        return None;
-    }
-    let Some((from, to)) = source_name(bytes, 0) else {
-        return None;
-    };
-    match tag_case(&bytes[to..]) {
-        TagCase::NoTag => Some((from, to)),
-        TagCase::NextTag => None,
-    }
-}
 
 #[tactic(auto, using(crate::proofs::Rules::buffers))]
 impl<'a> Reader<'a> {
@@ -129,18 +103,12 @@ impl<'a> Reader<'a> {
         ensures bounds { Bounds 2 result (state self.old) (state self.new) }
         ensures saved { SavedBounds 1 result (state self.old) (state self.new) }
     {
-        let Some((from, to)) = source_name(self.rest, 0) else {
-            return Err(Stop::Unread);
+        let Some((name, rest)) = untagged_source(self.rest) else {
+            return self.framed_tagged_source();
         };
-        let rest = &self.rest[to..];
-        match tag_case(rest) {
-            TagCase::NoTag => {
-                self.found = self.buffer.push(source_text(&self.rest[from..to]))?;
-                self.rest = rest;
-                Ok(())
-            }
-            TagCase::NextTag => self.framed_tagged_source(),
-        }
+        self.found = self.buffer.push(source_text(name))?;
+        self.rest = rest;
+        Ok(())
     }
 
     /// A `<source-name>` in the parent that was found, and `<abi-tags>` after it.
@@ -154,19 +122,12 @@ impl<'a> Reader<'a> {
         ensures bounds { Bounds 2 result (state self.old) (state self.new) }
         ensures saved { SavedBounds 1 result (state self.old) (state self.new) }
     {
-        let Some((from, to)) = source_name(self.rest, 0) else {
-            return Err(Stop::Unread);
+        let Some((name, rest)) = untagged_source(self.rest) else {
+            return self.read_tagged_segment();
         };
-        let rest = &self.rest[to..];
-        match tag_case(rest) {
-            TagCase::NoTag => {
-                let name = source_text(&self.rest[from..to]);
-                qualify_text_in_place(&mut self.buffer, &mut self.found, name)?;
-                self.rest = rest;
-                Ok(())
-            }
-            TagCase::NextTag => self.read_tagged_segment(),
-        }
+        qualify_text_in_place(&mut self.buffer, &mut self.found, source_text(name))?;
+        self.rest = rest;
+        Ok(())
     }
 
     /// A `<source-name>` without `<abi-tags>` as the next segment of a `<nested-name>`, in what was found, which is
@@ -181,11 +142,10 @@ impl<'a> Reader<'a> {
             → IfSome (source_name self.old.rest.now) (λ found. tag_case found.1 ≡ NextTag) }
         ensures run { OnOk result (IsRun self.old.buffer.value self.new.buffer.value) }
     {
-        let Some((from, to)) = untagged_source(self.rest) else {
+        let Some((name, rest)) = untagged_source(self.rest) else {
             return Ok(false);
         };
-        let rest = &self.rest[to..];
-        let text = source_text(&self.rest[from..to]);
+        let text = source_text(name);
         self.save_found()?;
         qualify_text_in_place(&mut self.buffer, &mut self.found, text)?;
         self.rest = rest;
@@ -206,11 +166,10 @@ impl<'a> Reader<'a> {
             → IfSome (source_name self.old.rest.now) (λ found. tag_case found.1 ≡ NextTag) }
         ensures run { OnOk result (IsRun self.old.buffer.value self.new.buffer.value) }
     {
-        let Some((from, to)) = untagged_source(self.rest) else {
+        let Some((name, rest)) = untagged_source(self.rest) else {
             return Ok(false);
         };
-        let rest = &self.rest[to..];
-        let text = source_text(&self.rest[from..to]);
+        let text = source_text(name);
         self.save_found()?;
         qualify_text_last(&mut self.buffer, &mut self.found, text)?;
         self.rest = rest;

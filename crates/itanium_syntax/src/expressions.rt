@@ -1,10 +1,10 @@
 //! The cases of literals and of expressions (Itanium C++ ABI 5.1, "Expressions"): which one the next bytes begin. Of
 //! several cases the first one that fits holds.
-ghost use Rattle.std.specs.Prelude.{◌≡◌, ◌<◌, ◌≤◌, IfSome, option_map, length, not};
+ghost use Rattle.std.specs.Prelude.{◌≡◌, ◌<◌, ◌≤◌, IfSome, IsUtf8, option_map, length, not, true};
 ghost use Rattle.itanium_syntax.specs.Expressions as spec;
 
 use crate::operators::{operator_arity, operator_here};
-use std::str::from_utf8;
+use std::str::{from_utf8, from_utf8_unchecked};
 
 /// What an `L` begins among template arguments and expressions.
 #[derive(Clone, Copy)]
@@ -74,6 +74,19 @@ fn value_len(bytes: &[u8]) -> usize
     bytes.len()
 }
 
+/// True only where the bytes are UTF-8; here where all are ASCII.
+#[inline(always)]
+fn are_ascii(bytes: &[u8]) -> bool
+    ensures utf8 { result ≡ true → IsUtf8 bytes.now }
+{
+    for byte in bytes {
+        if *byte > 127 {
+            return false;
+        }
+    }
+    true
+}
+
 /// The value of a literal, all bytes up to the first `E`, and what is after the `E`; `None` where there is no `E` or
 /// the value isn't UTF-8.
 #[tactic(auto, unfolding(crate::specs::Expressions::literal_value))]
@@ -85,7 +98,12 @@ pub fn literal_value(bytes: &[u8]) -> Option<(&str, &[u8])>
     if len == bytes.len() {
         return None;
     }
-    match from_utf8(&bytes[..len]) {
+    let value = &bytes[..len];
+    if are_ascii(value) {
+        let text = unsafe { from_utf8_unchecked(value) };
+        return Some((text, &bytes[len + 1..]));
+    }
+    match from_utf8(value) {
         Ok(value) => Some((value, &bytes[len + 1..])),
         Err(_) => None,
     }

@@ -1,6 +1,8 @@
 //! Digits, and the numbers and indices that are written with them (Itanium C++ ABI 5.1.2).
-ghost use Rattle.std.specs.Prelude.{◌≡◌, ◌<◌, ◌≤◌, ◌+◌, ◌*◌, ◌^◌, SomeIff, IfSome, option_map, length, drop, codes, false};
+ghost use Rattle.std.specs.Prelude.{◌≡◌, ◌<◌, ◌≤◌, ◌+◌, ◌*◌, ◌^◌, SomeIff, Some, IfSome, option_map, length, drop, codes};
+ghost use Rattle.std.specs.Prelude.{true, false};
 ghost use Rattle.itanium_syntax.specs.Bytes.{begins};
+ghost use Rattle.itanium_syntax.specs.Names.{begins_source};
 ghost use Rattle.itanium_syntax.specs.Scalars as spec;
 
 /// The digits that a numeral is written in.
@@ -89,6 +91,36 @@ pub fn short_numeral(bytes: &[u8]) -> Option<(u64, usize)>
         return long_numeral(bytes);
     }
     Some((tens * 10 + ones, 2))
+}
+
+/// The number that one decimal digit or two write in front, the first from `1` to `9`, and how many digits there are.
+/// `None` may be answered anywhere; here where more digits or fewer than three bytes stand there.
+#[tactic(auto, unfolding(crate::specs::Scalars::front_digits, crate::specs::Scalars::weighted))]
+#[inline(always)]
+pub(crate) fn short_length(bytes: &[u8]) -> Option<(usize, usize)>
+    ensures value { IfSome result (λ found. spec.numeral Radix.Decimal bytes.now
+        ≡ Some (found.0, drop found.1 bytes.now)) }
+    ensures begins { IfSome result (λ _. begins_source bytes.now ≡ true) }
+    ensures positive { IfSome result (λ found. 0 < found.0) }
+    ensures small { IfSome result (λ found. found.0 < 100) }
+    ensures taken { IfSome result (λ found. 0 < found.1) }
+    ensures few { IfSome result (λ found. found.1 < 3) }
+    ensures within { IfSome result (λ found. found.1 ≤ length bytes.now) }
+{
+    let [first, second, third, ..] = bytes else {
+        return None;
+    };
+    if !matches!(*first, b'1'..=b'9') {
+        return None;
+    }
+    let tens = (*first - b'0') as usize;
+    let Some(ones) = digit(Radix::Decimal, *second) else {
+        return Some((tens, 1));
+    };
+    if let b'0'..=b'9' = *third {
+        return None;
+    }
+    Some((tens * 10 + ones as usize, 2))
 }
 
 /// `numeral` of decimal digits. It is inlined, so that the answer goes through memory on this way alone.

@@ -16,7 +16,7 @@ use Rattle.itanium_reader.proofs.Unfold.{attached_front, pack_start, segments_en
 use Rattle.itanium_syntax.specs.Context.{inside_lambda}
 use Rattle.itanium_reader.proofs.Unfold.{items_more, items_fail, typed_end, typed_more, typed_fail, begun_front}
 use Rattle.itanium_reader.proofs.Unfold.{attached_wide, attached_more_wide, segments_wide, segments_last}
-use Rattle.itanium_reader.proofs.Unfold.{pack_ends, pack_wide, typed_wide, attached_room}
+use Rattle.itanium_reader.proofs.Unfold.{pack_ends, pack_wide, typed_wide}
 use Rattle.itanium_reader.proofs.Unfold.{items_wide}
 use Rattle.itanium_productions.proofs.+reader.Goals as goal
 
@@ -24,6 +24,7 @@ pub args::read_attached-loop-reader-init : goal.args::read_attached-loop-reader-
 args::read_attached-loop-reader-init t c = record {
   positive = search rules;
   front = begun_front (shape c.args.reader.now.buffer.value c.args.reader.now.found) (shape c.begin_arguments.new.buf c.in_ok-list.list) (search rules) (search rules);
+  widest = search rules;
   reads = attached_start _ _ _ _ (shape c.args.reader.now.buffer.value c.args.reader.now.found) (search rules) (search rules) (search rules) (search rules) (search rules);
   living = search rules;
   last = search rules;
@@ -47,28 +48,22 @@ pub args::read_attached-returns-in-EndOfArguments-clause-reads : goal.args::read
 args::read_attached-returns-in-EndOfArguments-clause-reads t c =
     (search rules, attached_end _ _ _ c.loop-reader.invariant.reads (sym c.in-EndOfArguments.ensures.case) (search rules) (search rules) (search rules))
 
-pub args::read_attached-returns-then-len-front-clause-reads : goal.args::read_attached-returns-then-len-front-clause-reads
-args::read_attached-returns-then-len-front-clause-reads t c =
+pub args::read_attached-returns-then-len-widest-clause-reads : goal.args::read_attached-returns-then-len-widest-clause-reads
+args::read_attached-returns-then-len-widest-clause-reads t c =
     let last = shape c.end_arguments.new.buf c.in_ok-reader-in-EndOfArguments.field-0 in
     let long : c.len.result ≡ text_len last = search rules in
     attached_wide _ _ _ c.loop-reader.invariant.reads {last = last} (sym c.in-EndOfArguments.ensures.case) (search rules)
-    (omega (arith, c.if-len-front.true, c.text_limit.ensures.value, long, c.loop-reader.invariant.front))
+    (omega (arith, c.if-len-widest.true, c.loop-reader.invariant.widest, long, c.loop-reader.invariant.front))
 
-pub args::read_attached-overflow_sub-len-in-NextArgument : goal.args::read_attached-overflow_sub-len-in-NextArgument
-args::read_attached-overflow_sub-len-in-NextArgument t c =
-    let more = shape c.add_argument.new.self.buffer.value c.join_adjacent-list.result in
-    attached_room _ _ _ c.loop-reader.invariant.reads (shape c.framed_argument.new.reader.buffer.value c.framed_argument.new.reader.found) {more = more}
-    (search rules) c.loop-reader.invariant.front (search rules)
-
-pub args::read_attached-returns-then-len-front-2-clause-reads : goal.args::read_attached-returns-then-len-front-2-clause-reads
-args::read_attached-returns-then-len-front-2-clause-reads t c =
+pub args::read_attached-returns-then-len-widest-2-clause-reads : goal.args::read_attached-returns-then-len-widest-2-clause-reads
+args::read_attached-returns-then-len-widest-2-clause-reads t c =
     let more = shape c.add_argument.new.self.buffer.value c.join_adjacent-list.result in
     let long : c.len-in-NextArgument.result ≡ text_len more = search rules in
     attached_more_wide _ _ _ c.loop-reader.invariant.reads
     {next = shape c.framed_argument.new.reader.buffer.value c.framed_argument.new.reader.found} {more = more}
     {mid = state c.framed_argument.new.reader}
     (sym c.in-NextArgument.ensures.case) (search rules) (search rules)
-    (omega (arith, c.if-len-front-2.true, c.text_limit-in-NextArgument.ensures.value, long, c.loop-reader.invariant.front))
+    (omega (arith, c.if-len-widest-2.true, c.loop-reader.invariant.widest, long, c.loop-reader.invariant.front))
 
 pub args::read_attached-returns-in_err-framed_argument-in-NextArgument-clause-reads : goal.args::read_attached-returns-in_err-framed_argument-in-NextArgument-clause-reads
 args::read_attached-returns-in_err-framed_argument-in-NextArgument-clause-reads t c =
@@ -82,6 +77,7 @@ pub args::read_attached-loop-reader-preserved : goal.args::read_attached-loop-re
 args::read_attached-loop-reader-preserved t c = record {
   positive = search rules;
   front = c.loop-reader.invariant.front;
+  widest = c.loop-reader.invariant.widest;
   reads = attached_more _ _ _ c.loop-reader.invariant.reads {next = shape c.framed_argument.new.reader.buffer.value c.framed_argument.new.reader.found} {mid = state c.framed_argument.new.reader}
       (sym c.in-NextArgument.ensures.case) (search rules) (search rules) (search rules) (search rules) (search rules) (search rules);
   living = search rules;

@@ -5,6 +5,7 @@ use Rattle.demangle_text.specs.Calls.{IsLast}
 use Rattle.itanium_reader.specs.Parser as spec
 use Rattle.itanium_reader.specs.Outcome.{state, LoopSoFar}
 use Rattle.itanium_syntax.specs.Context.{inside_lambda}
+use Rattle.itanium_grammar.specs.Answer.{max_text}
 use Rattle.itanium_reader.proofs.Loops.{ListSoFar}
 use Rattle.itanium_reader.proofs.Unfold.{AttachedSoFar, front_len, pack_end, Waits}
 use Rattle.itanium_productions.proofs.+reader.Given as goal
@@ -23,9 +24,6 @@ decreases-names::read_qualified_nested l = 16 * l.depth
 
 abbrev pub decreases-names::read_any_nested : goal.decreases-names::read_any_nested
 decreases-names::read_any_nested l = 16 * l.depth + 1
-
-abbrev pub decreases-names::read_bare_nested : goal.decreases-names::read_bare_nested
-decreases-names::read_bare_nested l = 16 * l.depth + 14
 
 abbrev pub decreases-names::read_other_name : goal.decreases-names::read_other_name
 decreases-names::read_other_name l = 16 * l.depth + 1
@@ -135,6 +133,7 @@ invariant-args::read_attached-loop-reader l = record {
       (spec.add_argument l.opens l.scopes) (spec.parse_argument (l.depth - 1) l.context) (shape l.fn.reader.buffer.value l.fn.reader.found) l.first
       (shape l.reader.buffer.value l.list) (state l.reader);
   front : l.front ≡ front_len (shape l.fn.reader.buffer.value l.fn.reader.found);
+  widest : l.widest ≡ l.front + max_text;
   living : IsLiving l.reader.buffer.value l.list;
   last : IsLast l.reader.buffer.value l.list;
   run : IsRun l.fn.reader.buffer.value l.reader.buffer.value;
@@ -338,4 +337,7 @@ abbrev pub decreases-specials::read_special : goal.decreases-specials::read_spec
 decreases-specials::read_special l = 16 * l.depth + 5
 
 abbrev pub decreases-specials::read_symbol : goal.decreases-specials::read_symbol
-decreases-specials::read_symbol l = 16 * l.depth + 6
+decreases-specials::read_symbol l = 16 * l.depth + 7
+
+abbrev pub decreases-specials::read_other_symbol : goal.decreases-specials::read_other_symbol
+decreases-specials::read_other_symbol l = 16 * l.depth + 6

@@ -27,7 +27,7 @@ invariant_of-self c =
     let all : c.scopes.result ≡ length s.scope_starts = length-starts s _ _ c.self.view_is c.scopes.ensures.value in
     let from = c.index-start.result.now in
     let e = c.index-start.ensures ∙ get_or_default s.scope_starts c.args.n from 0 (omega arith) in
-    IsStore-kept s _ refl refl refl refl c.self.invariant c.args.n from (omega arith) e refl c.truncate.ensures.value c.truncate-then-n-scopes.ensures.items
+    IsStore-kept s _ refl refl refl c.self.invariant c.args.n from (omega arith) e refl c.truncate.ensures.value c.truncate-then-n-scopes.ensures.items
 
 pub returns-then-n-scopes-clause-scopes : goal.returns-then-n-scopes-clause-scopes
 returns-then-n-scopes-clause-scopes c =
@@ -35,7 +35,7 @@ returns-then-n-scopes-clause-scopes c =
     let all : c.scopes.result ≡ length s.scope_starts = length-starts s _ _ c.self.view_is c.scopes.ensures.value in
     let from = c.index-start.result.now in
     let e = c.index-start.ensures ∙ get_or_default s.scope_starts c.args.n from 0 (omega arith) in
-    rw (← c.self.view_is) (scopes-kept s _ refl refl refl refl c.self.invariant c.args.n from (omega arith) e c.truncate.ensures.value c.truncate-then-n-scopes.ensures.items)
+    rw (← c.self.view_is) (scopes-kept s _ refl refl refl c.self.invariant c.args.n from (omega arith) e c.truncate.ensures.value c.truncate-then-n-scopes.ensures.items)
 
 pub returns-else-n-scopes-clause-scopes : goal.returns-else-n-scopes-clause-scopes
 returns-else-n-scopes-clause-scopes c =

@@ -9,11 +9,11 @@ invariant_of-self-2 c =
     let s = store_of c.self.inside in
     let all : c.len-start.result ≡ length s.arg_pieces = omega arith in
     let e = c.in_ok-push.ensures.items ∙ ap (λ (n : ℕ). s.scope_starts ++ n ∷ []) all in
-    IsStore-open s _ refl refl refl refl c.self.invariant refl refl e
+    IsStore-open s _ refl refl refl c.self.invariant refl refl e
 
 pub returns-clause-scopes : goal.returns-clause-scopes
 returns-clause-scopes c =
     let s = store_of c.self.inside in
     let all : c.len-start.result ≡ length s.arg_pieces = omega arith in
     let e = c.in_ok-push.ensures.items ∙ ap (λ (n : ℕ). s.scope_starts ++ n ∷ []) all in
-    rw (← c.self.view_is) (scopes-open s _ refl refl refl refl refl e)
+    rw (← c.self.view_is) (scopes-open s _ refl refl refl refl e)

@@ -10,10 +10,10 @@ pub invariant_of-self-2 : goal.invariant_of-self-2
 invariant_of-self-2 c =
     let s = store_of c.self.inside in
     let lies = subst (λ (b : Store). IsLiving b c.args.piece.now) (sym c.self.view_is) c.requires.living in
-    IsStore-arg s _ refl refl refl refl c.self.invariant c.args.piece.now lies refl c.in_ok-push.ensures.ok refl
+    IsStore-arg s _ refl refl refl c.self.invariant c.args.piece.now lies refl c.in_ok-push.ensures.ok refl
 
 pub returns-clause-scopes : goal.returns-clause-scopes
 returns-clause-scopes c =
     let s = store_of c.self.inside in
     let some : 0 < length (scopes s) = omega (arith, ap (λ (b : Store). length (scopes b)) c.self.view_is) in
-    rw (← c.self.view_is) (scopes-arg s _ refl refl refl refl c.self.invariant c.args.piece.now c.in_ok-push.ensures.ok refl some)
+    rw (← c.self.view_is) (scopes-arg s _ refl refl refl c.self.invariant c.args.piece.now c.in_ok-push.ensures.ok refl some)

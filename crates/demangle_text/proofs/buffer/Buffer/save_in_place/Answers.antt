@@ -15,5 +15,4 @@ invariant_of-self-2 c =
       args_lie = c.self.invariant.args_lie;
       starts_fit = c.self.invariant.starts_fit;
       main_frame = c.self.invariant.main_frame;
-      side_frame = c.self.invariant.side_frame;
     }

@@ -5,7 +5,7 @@ use Rattle.demangle_text.specs.State.{IsLiving}
 use Rattle.demangle_text.specs.View.{store_of}
 use Rattle.demangle_text.proofs.States.{KeepsAll-longer, IsStore-longer}
 use Rattle.demangle_text.proofs.Tails.{IsSplice-joined, length-text}
-use Rattle.demangle_text.proofs.buffer.Buffer.extend_elsewhere.Goals as goal
+use Rattle.demangle_text.proofs.buffer.Buffer.extend_copied.Goals as goal
 
 pub invariant_of-self-2 : goal.invariant_of-self-2
 invariant_of-self-2 c = rw c.in_ok-add_extended.ensures.ok (IsStore-longer (store_of c.self.inside) _ c.self.invariant)
