@@ -33,6 +33,7 @@ fn is_minus(value: &[u8]) -> bool
 }
 
 // How a literal of a type with this text is printed, with a minus or without one.
+#[inline(always)]
 fn literal_form(ty: &[u8], minus: bool) -> LiteralForm
     ensures value { result ≡ spec.literal_form ty.now minus }
 {

@@ -24,6 +24,7 @@ use std::alloc::AllocError;
 
 // A token at the end of a plain text or of a group, or in a group that is opened for it.
 #[tactic(auto, using(demangle_text::proofs::Laws::laws, crate::proofs::Declarators::declarators))]
+#[inline(always)]
 fn wrap_token(buf: &mut Buffer, inner: Piece, token: &[u8]) -> Result<Piece, AllocError>
     requires inner { IsLiving buf.old inner }
     ensures shape { IfOk result (λ p. Lives buf.new p (pointed token.now (shape buf.old inner))) }

@@ -107,7 +107,7 @@ impl Buffer {
     }
 
     // The text of a piece at the end of the main text: where it begins.
-    #[inline(never)]
+    #[inline(always)]
     pub(crate) fn copy_text(&mut self, piece: Piece) -> Result<usize, AllocError>
         requires living { IsLiving self.old piece }
         ensures from { IfOk result (λ from. from ≡ length self.old.main_text) }
@@ -394,13 +394,20 @@ impl Buffer {
         ensures err { OnErr result (KeepsAll self.old self.new) }
         ensures main_err { OnErr result (self.new.main_text ≡ self.old.main_text) }
     {
-        let name = piece.own_name();
         if self.is_tail(piece) {
+            let name = piece.own_name();
             self.add_with_part(between, name.from_byte, name.to_byte)?;
             return Ok(piece.from_byte);
         }
         let from = self.main.len();
-        add_joined(&mut self.main, &self.lists.side, piece, between, name)?;
+        let name = piece.own_name();
+        add_joined(
+            &mut self.main,
+            &self.lists.side,
+            piece.alone(),
+            between,
+            name,
+        )?;
         Ok(from)
     }
 

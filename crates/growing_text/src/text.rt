@@ -176,6 +176,7 @@ impl Text {
     }
 
     /// Puts bytes at the end, and a part of the text once more after them.
+    #[inline(always)]
     pub fn add_with_part(&mut self, bytes: &[u8], from: usize, to: usize) -> Result<(), AllocError>
         requires ordered { from ≤ to }
         requires within { to ≤ length self.old }

@@ -3,6 +3,7 @@ use Rattle.std.proofs.Common.{◌≤◌, ◌++◌, List, ℕ, Bool, length, slic
 use Rattle.demangle_text.specs.Pieces.{Store, IsTail, home_bytes, piece_text, own_text}
 use Rattle.demangle_text.specs.State.{IsLiving}
 use Rattle.demangle_text.specs.View.{store_of}
+use Rattle.demangle_text.proofs.Alone.{alone_text}
 use Rattle.demangle_text.proofs.Laws.{IsEdit-keeps}
 use Rattle.demangle_text.proofs.States.{KeepsAll-longer, IsStore-longer}
 use Rattle.demangle_text.proofs.Tails.{IsSplice-added, IsSplice-joined, length-text, own-within, own-part, own-piece}
@@ -39,11 +40,14 @@ pub returns-clause-splice : goal.returns-clause-splice
 returns-clause-splice c =
     let s = store_of c.self.inside in
     let p = c.args.piece in
-    let q = c.own_name-name.result in
-    let e = c.own_name-name.ensures in
+    let q = c.own_name-name-2.result in
+    let e = c.own_name-name-2.ensures in
+    let a = c.alone.ensures in
     let lies = subst (λ (b : Store). IsLiving b p) (sym c.self.view_is) c.requires.living in
     let apart = λ (h : IsTail s p). let t = c.is_tail.ensures.other (subst (λ (b : Store). IsTail b p) c.self.view_is h) in let f = c.if-is_tail.false in let k : ⊥ = cc (t, f) in k in
+    let whole = alone_text s.main_text s.side_text c.alone.result p (record { home = a.home; begins = a.begins; ends = a.ends }) in
     let is = c.in_ok-add_joined.ensures.ok
+    ∙ ap (λ (t : List ℕ). s.main_text ++ (t ++ c.args.between.now ++ piece_text s.main_text s.side_text q)) whole
     ∙ ap (λ (v : List ℕ). s.main_text ++ (piece_text s.main_text s.side_text p ++ c.args.between.now ++ v)) (own-piece s p q lies e.home e.begins e.ends) in
     rw (← c.self.view_is) (IsSplice-joined s _ p c.args.between.now (own_text s.main_text s.side_text p) c.len-from.result apart (length-text s p lies)
     c.self.invariant.main_frame c.len-from.ensures.value is)
