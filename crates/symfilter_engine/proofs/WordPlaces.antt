@@ -2,15 +2,15 @@
 use Rattle.std.proofs.Common.{◌≡◌, ◌≢◌, ℕ, suc, ◌+◌, ◌-◌, ◌<◌, ◌≤◌, List, [], ◌∷◌, ◌++◌, Bool, true, false, ◌&&◌, ◌||◌}
 use Rattle.std.proofs.Common.{◌==◌, Some, None, Result, Ok, Err, OnOk, ◌⊎◌, inl, inr, if◌then◌else◌, nat_le, codes}
 use Rattle.std.proofs.Common.{length, take, drop, get_or, refl, sym, ap, subst, ◌∙◌, arith, append_assoc, append-nil}
-use Rattle.std.proofs.lemmas.List.{length-drop, length-take-le, get_or-take, get_or-drop, get_or_past, take-append-drop, take-take, take_all, take_rest, drop-take}
+use Rattle.std.proofs.lemmas.List.{length-drop, length-take-le, get_or-take, get_or-drop, get_or_past, take-append-drop, take-take, take_all, take_rest, drop-take, drop-drop}
+use Rattle.std.proofs.Math.Seq.{take-add}
 use Rattle.std.proofs.lemmas.List.Elements.{All-get_or, All-from_get_or, All-drop, All-same}
 use Rattle.std.proofs.lemmas.Bool.{false≢true, and_parts, or_cases, eqb-true, leb-true, cases_lt, cases_Bool}
 use Rattle.std.proofs.lemmas.Str.{IsUtf8-from_ascii}
 use Rattle.std.specs.Prelude.{All, IsUtf8}
-use Rattle.itanium_syntax.specs.Bytes.{is, is_between, is_digit, one_of, begins}
-use Rattle.itanium_grammar.specs.Answer.{IsAnswer}
-use Rattle.symfilter_engine.specs.Replaced.{is_word_byte, IsWordByte, IsDot, ends_in_dot, sign_of, past_sign, symbol_at, symbol_in, IsWordAnswer, answered, IsReplaced, no_byte, one_word}
-use Rattle.symfilter_engine.specs.Progress.{underscore, capital_z, HasNone, IsFirst, HasNoPrefix, IsFirstPrefix, AreWordBytes, IsBoundary, AppendsReplaced}
+use Rattle.itanium_syntax.specs.Bytes.{is, is_between, is_digit, one_of, begins, begins_one_of}
+use Rattle.symfilter_engine.specs.Replaced.{is_word_byte, IsWordByte, IsDot, ends_in_dot, past_sign, symbol_in, IsWordAnswer, IsReplaced, no_byte, one_word}
+use Rattle.symfilter_engine.specs.Progress.{underscore, capital_z, HasNone, IsFirst, HasNoPrefix, IsFirstPrefix, AreWordBytes, IsBoundary, Extends, AppendsReplaced}
 use Rattle.symfilter_engine.proofs.ReplacedText.{no_prefix-left, more_replaced, unprefixed}
 
 -- no prefix ends before the place
@@ -93,6 +93,18 @@ no_prefix-shorter bytes n m small none = subst HasNoPrefix (take-take n m bytes 
 pub no_prefix-rest : (bytes : List ℕ) (done more : ℕ) → HasNoPrefix (take more (take (length bytes - done) (drop done bytes))) → HasNoPrefix (take more (drop done bytes))
 no_prefix-rest bytes done more none = subst (λ l. HasNoPrefix (take more l)) (take_rest bytes done) none
 
+-- a word has its prefix's underscore at least
+pub some_word : (bytes : List ℕ) (from more end : ℕ) → IsFirstPrefix (take (length bytes - from) (drop from bytes)) more → from + more ≤ end
+    → is_word_byte (get_or bytes end 0) ≡ false → from + more < end
+some_word bytes from more end prefix low ended =
+    elim (cases_lt (from + more) end) [
+      | inl below ↦ below
+      | inr above ↦
+          let there : get_or bytes (from + more) 0 ≡ underscore = sym (ap (λ l. get_or l more 0) (take_rest bytes from) ∙ get_or-drop from bytes more 0) ∙ prefix.underscore in
+          let same : end ≡ from + more = omega (arith, above, low) in
+          absurd (false≢true (sym ended ∙ ap is_word_byte (ap (λ n. get_or bytes n 0) same ∙ there)))
+    ]
+
 -- a byte of words is ASCII
 between_below : (low high byte : ℕ) → (nat_le low byte && nat_le byte high) ≡ true → byte ≤ high
 between_below low high byte is = leb-true byte high ((and_parts (nat_le low byte) (nat_le byte high) is).1)
@@ -169,18 +181,18 @@ which false true c first second symbol is = inl (cc)
 which false false true first second symbol is = inr (cc)
 which false false false first second symbol is = absurd (cc)
 
-pub symbol_words : (strip : Bool) (bytes symbol : List ℕ) → symbol_at strip bytes ≡ Some symbol → All IsWordByte bytes → All IsWordByte symbol
-symbol_words strip bytes symbol is all =
-    elim (which (begins (codes "_Z") bytes) (begins (codes "__Z") bytes) (strip && begins (codes "___Z") bytes) bytes (drop 1 bytes) symbol is) [
-      | inl whole ↦ All-same IsWordByte symbol bytes whole all
-      | inr rest ↦ All-same IsWordByte symbol (drop 1 bytes) rest (All-drop IsWordByte 1 bytes all)
-    ]
+sign_passed : (t : Bool) (word : List ℕ) → All IsWordByte word → All IsWordByte (if t then drop 1 word else word)
+sign_passed true word all = All-drop IsWordByte 1 word all
+sign_passed false word all = all
 
--- what follows the sign of a stem
-pub past_sign_is : (word : List ℕ) (sign stem : ℕ) → sign ≤ length (take stem word) → stem ≤ length word → drop sign (take stem word) ≡ past_sign (take stem word)
-    → take (stem - sign) (drop sign word) ≡ past_sign (take stem word)
-past_sign_is word sign stem low inside rest =
-    sym (drop-take sign (stem - sign) word) ∙ ap (λ n. drop sign (take n word)) (omega (arith, low, length-take-le stem word inside)) ∙ rest
+pub symbol_words : (strip : Bool) (word symbol : List ℕ) → symbol_in strip word ≡ Some symbol → All IsWordByte word → All IsWordByte symbol
+symbol_words strip word symbol is all =
+    let bytes = past_sign word in
+    let rest : All IsWordByte bytes = sign_passed (begins_one_of (codes ".$") word) word all in
+    elim (which (begins (codes "_Z") bytes) (begins (codes "__Z") bytes) (strip && begins (codes "___Z") bytes) bytes (drop 1 bytes) symbol is) [
+      | inl whole ↦ All-same IsWordByte symbol bytes whole rest
+      | inr less ↦ All-same IsWordByte symbol (drop 1 bytes) less (All-drop IsWordByte 1 bytes rest)
+    ]
 
 -- a word, and what is written for it
 pub word_replaced : (strip : Bool) (word answer : List ℕ) (stem : ℕ) → 0 < length word → All IsWordByte word → All IsDot (drop stem word)
@@ -197,27 +209,6 @@ pub word_stays : (strip : Bool) (word : List ℕ) (stem : ℕ) → 0 < length wo
     → ends_in_dot (take stem word) ≡ false → IsWordAnswer strip (take stem word) (take stem word) → IsReplaced strip word word
 word_stays strip word stem some all dotted undotted is_answer =
     subst (IsReplaced strip word) (take-append-drop stem word) (word_replaced strip word (take stem word) stem some all dotted undotted is_answer)
-
--- the word was appended as it stands
-pub word_appended : {T E : Type 0} (r : Result T E) (strip : Bool) (word before after : List ℕ) → IsReplaced strip word word → OnOk r (after ≡ before ++ word)
-    → OnOk r (AppendsReplaced strip word before after)
-word_appended (Ok _) strip word before after replaced after_is = (word, replaced, after_is)
-word_appended (Err _) strip word before after replaced after_is = tt
-
--- its sign, the answer and its dots were appended
-pub answer_appended : {T E : Type 0} (r : Result T E) (strip : Bool) (word symbol text before mid after : List ℕ) (stem sign : ℕ) → 0 < length word → All IsWordByte word
-    → All IsDot (drop stem word) → ends_in_dot (take stem word) ≡ false → stem ≤ length word → sign ≤ length (take stem word)
-    → take sign (take stem word) ≡ sign_of (take stem word) → symbol_in strip (take stem word) ≡ Some symbol → IsAnswer symbol (Some text)
-    → mid ≡ before ++ (take sign word ++ text) → OnOk r (after ≡ mid ++ take (length word - stem) (drop stem word)) → OnOk r (AppendsReplaced strip word before after)
-answer_appended (Ok _) strip word symbol text before mid after stem sign some all dotted undotted inside low sign_is is has mid_is after_is =
-    let front : List ℕ = sign_of (take stem word) in
-    let same : take sign word ≡ front = sym (take-take sign stem word (omega (arith, low, length-take-le stem word inside))) ∙ sign_is in (
-      (front ++ text) ++ drop stem word,
-      word_replaced strip word (front ++ text) stem some all dotted undotted (answered is has),
-      after_is ∙ ap (λ l. mid ++ l) (take_rest word stem) ∙ ap (λ l. l ++ drop stem word) (mid_is ∙ ap (λ l. before ++ (l ++ text)) same)
-          ∙ append_assoc before (front ++ text) (drop stem word),
-    )
-answer_appended (Err _) strip word symbol text before mid after stem sign some all dotted undotted inside low sign_is is has mid_is after_is = tt
 
 -- after bytes without a prefix a word was replaced too
 pub turn_replaced : (strip : Bool) (text old before mid after : List ℕ) (done more start end : ℕ) → end ≤ length text → done ≤ start → start ≤ done + more → start ≤ end
@@ -237,6 +228,73 @@ turn_replaced strip text old before mid after done more start end inside low hig
       after_is ∙ ap (λ l. l ++ answer) (mid_is ∙ ap (λ l. l ++ front) before_is ∙ append_assoc old written front) ∙ append_assoc old (written ++ front) answer,
     )
 
+-- what stands from one place up to another
+abbrev pub part : List ℕ → ℕ → ℕ → List ℕ
+part text low high = take (high - low) (drop low text)
+
+pub part_len : (text : List ℕ) (low high : ℕ) → high ≤ length text → length (part text low high) ≡ high - low
+part_len text low high inside = length-take-le (high - low) (drop low text) (omega (arith, length-drop low text, inside))
+
+parts_joined : (text : List ℕ) (low mid high : ℕ) → low ≤ mid → mid ≤ high → part text low mid ++ part text mid high ≡ part text low high
+parts_joined text low mid high first second =
+    sym (ap (λ n. take n (drop low text)) (omega (arith, first, second)) ∙ take-add (mid - low) (high - mid) (drop low text)
+    ∙ ap (λ l. part text low mid ++ take (high - mid) l) (drop-drop (mid - low) low text ∙ ap (λ n. drop n text) (omega (arith, first))))
+
+more_parts : (output text : List ℕ) (low mid high : ℕ) → low ≤ mid → mid ≤ high
+    → output ++ part text low high ≡ (output ++ part text low mid) ++ part text mid high
+more_parts output text low mid high first second =
+    ap (λ l. output ++ l) (sym (parts_joined text low mid high first second)) ∙ sym (append_assoc output (part text low mid) (part text mid high))
+
+-- one more word stays, and is yet to be appended
+pub stays_replaced : (strip : Bool) (text old output : List ℕ) (done from more start end : ℕ) → done ≤ from → from ≤ start → start ≤ from + more → start ≤ end
+    → end ≤ length text → IsBoundary text from → IsBoundary text start → AppendsReplaced strip (take from text) old (output ++ part text done from)
+    → HasNoPrefix (take more (drop from text)) → IsReplaced strip (part text start end) (part text start end)
+    → AppendsReplaced strip (take end text) old (output ++ part text done end)
+stays_replaced strip text old output done from more start end kept low high ordered inside first second so_far none replaced =
+    turn_replaced strip text old (output ++ part text done from) (output ++ part text done start) (output ++ part text done end) from more start end
+    inside low high ordered first second so_far none (more_parts output text done from start kept low)
+    (part text start end, replaced, more_parts output text done start end (omega (arith, kept, low)) ordered)
+
+-- the sign of a word is appended with what stands before it, and the dots at its end are yet to be
+answer_placed : (output text answer : List ℕ) (done start sign stem end : ℕ) → done ≤ start → sign ≤ stem → start + stem ≤ end
+    → (output ++ (part text done (start + sign) ++ answer)) ++ part text (start + stem) end
+    ≡ (output ++ part text done start) ++ ((take sign (part text start end) ++ answer) ++ drop stem (part text start end))
+answer_placed output text answer done start sign stem end first second third =
+    let before = part text done start in
+    let front = take sign (part text start end) in
+    let dots = drop stem (part text start end) in
+    let front_is : front ≡ part text start (start + sign) =
+    take-take sign (end - start) (drop start text) (omega (arith, second, third)) ∙ ap (λ n. take n (drop start text)) (omega arith) in
+    let dots_are : part text (start + stem) end ≡ dots =
+    sym (ap (λ n. drop stem (take n (drop start text))) (omega (arith, third)) ∙ drop-take stem (end - (start + stem)) (drop start text)
+    ∙ ap (take (end - (start + stem))) (drop-drop stem start text)) in
+    let whole : part text done (start + sign) ≡ before ++ front =
+    sym (ap (λ l. before ++ l) front_is ∙ parts_joined text done start (start + sign) first (omega arith)) in
+    append_assoc output (part text done (start + sign) ++ answer) (part text (start + stem) end)
+    ∙ ap (λ l. output ++ l) (ap (λ l. (part text done (start + sign) ++ answer) ++ l) dots_are ∙ ap (λ l. (l ++ answer) ++ dots) whole
+    ∙ ap (λ l. l ++ dots) (append_assoc before front answer) ∙ append_assoc before (front ++ answer) dots)
+    ∙ sym (append_assoc output before ((front ++ answer) ++ dots))
+
+-- one more word is answered
+pub answer_replaced : (strip : Bool) (text old output answer after : List ℕ) (done from more start sign stem end : ℕ) → done ≤ from → from ≤ start → start ≤ from + more
+    → start < end → end ≤ length text → IsBoundary text from → IsBoundary text start → AppendsReplaced strip (take from text) old (output ++ part text done from)
+    → HasNoPrefix (take more (drop from text)) → All IsWordByte (part text start end) → All IsDot (drop stem (part text start end))
+    → ends_in_dot (take stem (part text start end)) ≡ false → sign ≤ stem → start + stem ≤ end
+    → IsWordAnswer strip (take stem (part text start end)) (take sign (take stem (part text start end)) ++ answer)
+    → after ≡ output ++ (part text done (start + sign) ++ answer)
+    → AppendsReplaced strip (take end text) old (after ++ part text (start + stem) end)
+answer_replaced strip text old output answer after done from more start sign stem end kept low high some inside first second so_far none all dotted undotted sign_in stem_in is_answer after_is =
+    let word = part text start end in
+    let front = take sign (take stem word) in
+    turn_replaced strip text old (output ++ part text done from) (output ++ part text done start) (after ++ part text (start + stem) end) from more start end
+    inside low high (omega (arith, some)) first second so_far none (more_parts output text done from start kept low) (
+      (front ++ answer) ++ drop stem word,
+      word_replaced strip word (front ++ answer) stem (omega (arith, some, part_len text start end inside)) all dotted undotted is_answer,
+      ap (λ l. l ++ part text (start + stem) end) after_is
+          ∙ answer_placed output text answer done start sign stem end (omega (arith, kept, low)) sign_in stem_in
+          ∙ ap (λ l. (output ++ part text done start) ++ ((l ++ answer) ++ drop stem word)) (sym (take-take sign stem word sign_in)),
+    )
+
 -- no prefix is left
 rest_replaced : (strip : Bool) (text old before after : List ℕ) (done : ℕ) → done ≤ length text → IsBoundary text done
     → AppendsReplaced strip (take done text) old before → HasNoPrefix (take (length text - done) (drop done text))
@@ -249,9 +307,12 @@ rest_replaced strip text old before after done inside boundary (written, replace
       after_is ∙ ap (λ l. l ++ rest) before_is ∙ append_assoc old written rest,
     )
 
-pub rest_appended : {T E : Type 0} (r : Result T E) (strip : Bool) (text old before after : List ℕ) (done : ℕ) → done ≤ length text → IsBoundary text done
-    → AppendsReplaced strip (take done text) old before → HasNoPrefix (take (length text - done) (drop done text))
-    → OnOk r (after ≡ before ++ take (length text - done) (drop done text)) → OnOk r (AppendsReplaced strip text old after)
-rest_appended (Ok _) strip text old before after done inside boundary so_far none after_is =
-    rest_replaced strip text old before after done inside boundary so_far none after_is
-rest_appended (Err _) strip text old before after done inside boundary so_far none after_is = tt
+pub extended : (old output more after : List ℕ) → Extends old output → after ≡ output ++ more → Extends old after
+extended old output more after (front, output_is) after_is = (front ++ more, after_is ∙ ap (λ l. l ++ more) output_is ∙ append_assoc old front more)
+
+pub rest_appended : {T E : Type 0} (r : Result T E) (strip : Bool) (text old output after : List ℕ) (done from : ℕ) → done ≤ from → from ≤ length text → IsBoundary text from
+    → AppendsReplaced strip (take from text) old (output ++ part text done from) → HasNoPrefix (part text from (length text))
+    → OnOk r (after ≡ output ++ part text done (length text)) → OnOk r (AppendsReplaced strip text old after)
+rest_appended (Ok _) strip text old output after done from kept inside boundary so_far none after_is =
+    rest_replaced strip text old (output ++ part text done from) after from inside boundary so_far none (after_is ∙ more_parts output text done from (length text) kept inside)
+rest_appended (Err _) strip text old output after done from kept inside boundary so_far none after_is = tt

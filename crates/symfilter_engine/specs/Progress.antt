@@ -1,6 +1,5 @@
 -- What has been written on the way.
-use Rattle.std.specs.Prelude.{◌≡◌, ◌≢◌, ℕ, suc, ◌-◌, ◌<◌, ◌≤◌, List, [], ◌∷◌, ◌++◌, All, Bool, true, false, ◌==◌, Option, length, take, slice_index, if◌then◌else◌}
-use Rattle.std.specs.Int.{w64, trailing_zeros}
+use Rattle.std.specs.Prelude.{◌≡◌, ◌≢◌, ℕ, suc, ◌-◌, ◌<◌, ◌≤◌, List, [], ◌∷◌, ◌++◌, All, Bool, true, false, Option, length, take, slice_index}
 use Rattle.std.specs.Io.KnownBytes.{Appends, Consumes, IsAtEnd}
 use Rattle.symfilter_engine.specs.declared.symbols.Symbols.{Symbols}
 use Rattle.symfilter_engine.specs.Filtered.{line_feed, IsLineAnswer, AreLinesFiltered, WritesBeginning}
@@ -40,10 +39,6 @@ pub record IsFirstPrefix (bytes : List ℕ) (place : ℕ) : Type 0 where
 -- from one place up to another all are bytes of words
 abbrev pub AreWordBytes : List ℕ → ℕ → ℕ → Type 0
 AreWordBytes bytes low high = (k : ℕ) → low ≤ k → k < high → is_word_byte (slice_index bytes k) ≡ true
-
--- the place of the lowest bit that is set, or this one where none is
-abbrev pub first_set : ℕ → ℕ → ℕ
-first_set mask none = if mask == 0 then none else trailing_zeros w64 mask
 
 -- the place is none between two bytes of a word
 abbrev pub IsBoundary : List ℕ → ℕ → Type 0

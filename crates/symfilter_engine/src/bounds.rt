@@ -1,21 +1,20 @@
 //! Where words begin and end.
-ghost use Rattle.std.specs.Prelude.{◌≡◌, ◌+◌, ◌<◌, ◌≤◌, false, length, slice_index};
+ghost use Rattle.std.specs.Prelude.{◌≡◌, ◌+◌, ◌<◌, ◌≤◌, false, length, slice_index, IfSome, IfNone};
 ghost use Rattle.symfilter_engine.specs.Replaced as spec;
-ghost use Rattle.symfilter_engine.specs.Progress.{AreWordBytes, IsBoundary, first_set};
+ghost use Rattle.symfilter_engine.specs.Progress.{AreWordBytes, IsBoundary};
 
 use std::simd::prelude::*;
 
 /// How many bytes are looked at at once.
 const LANES: usize = 16;
 
-/// An upper-case letter and this bit are the lower-case one.
-const LOWER_CASE: u8 = 32;
+/// By the high nibble of a byte, which is its four high bits, a bit for the bytes of words that have it: 1 for `$` and
+/// `.`, 2 for the digits, 4 for `A` to `O` and `a` to `o`, 8 for `P` to `Z` and `_`, 16 for `p` to `z`.
+const BY_HIGH_NIBBLE: [u8; 16] = [0, 0, 1, 2, 4, 8, 4, 16, 0, 0, 0, 0, 0, 0, 0, 0];
 
-/// How many letters there are.
-const LETTERS: u8 = 26;
-
-/// How many digits there are.
-const DIGITS: u8 = 10;
+/// By the low nibble of a byte, the bits for all bytes of words that have it. A byte is one of words where its two
+/// entries have a bit in common.
+const BY_LOW_NIBBLE: [u8; 16] = [26, 30, 30, 30, 31, 30, 30, 30, 30, 30, 28, 4, 4, 4, 5, 12];
 
 /// Whether the byte is one of words.
 #[inline(always)]
@@ -43,34 +42,24 @@ pub(crate) fn word_start(text: &[u8], low: usize, place: usize) -> usize
     start
 }
 
-/// The place of the lowest of 16 bits that is set, or 16 where none is.
+/// Where the word ends whose bytes stand before `at`, where that is among the 16 bytes from there on.
 #[inline(always)]
-fn first_set(mask: u64) -> usize
-    ensures value { result ≡ first_set mask 16 }
-{
-    if mask == 0 {
-        return LANES;
-    }
-    mask.trailing_zeros() as usize
-}
-
-/// How many of the 16 bytes from `at` on are bytes of words, before the first that isn't.
-#[inline(always)]
-fn word_run(text: &[u8], at: usize) -> usize
+fn word_end_among(text: &[u8], at: usize) -> Option<usize>
     requires inside { at + 16 ≤ length text.now }
-    ensures bound { result ≤ 16 }
-    ensures word { AreWordBytes text.now at (at + result) }
-    ensures ended { result < 16 → spec.is_word_byte (slice_index text.now (at + result)) ≡ false }
+    ensures low { IfSome result (λ end. at ≤ end) }
+    ensures high { IfSome result (λ end. end < at + 16) }
+    ensures word { IfSome result (λ end. AreWordBytes text.now at end) }
+    ensures ended { IfSome result (λ end. spec.is_word_byte (slice_index text.now end) ≡ false) }
+    ensures none { IfNone result (AreWordBytes text.now at (at + 16)) }
 {
     let bytes = u8x16::from_slice(&text[at..]);
-    let from_a = (bytes | u8x16::splat(LOWER_CASE)) - u8x16::splat(b'a');
-    let from_zero = bytes - u8x16::splat(b'0');
-    let others = from_a.simd_ge(u8x16::splat(LETTERS))
-        & from_zero.simd_ge(u8x16::splat(DIGITS))
-        & bytes.simd_ne(u8x16::splat(b'_'))
-        & bytes.simd_ne(u8x16::splat(b'$'))
-        & bytes.simd_ne(u8x16::splat(b'.'));
-    first_set(others.to_bitmask())
+    let low = u8x16::from_array(BY_LOW_NIBBLE).swizzle_dyn(bytes & u8x16::splat(15));
+    let high = u8x16::from_array(BY_HIGH_NIBBLE).swizzle_dyn(bytes >> u8x16::splat(4));
+    let others = (low & high).simd_eq(u8x16::splat(0)).to_bitmask();
+    if others == 0 {
+        return None;
+    }
+    Some(at + others.trailing_zeros() as usize)
 }
 
 /// Where the word ends whose bytes stand from `place` on, byte by byte.
@@ -99,13 +88,15 @@ pub(crate) fn word_end(text: &[u8], place: usize) -> usize
     ensures word { AreWordBytes text.now place result }
     ensures ended { spec.is_word_byte (slice_index text.now result) ≡ false }
 {
-    let mut end = place;
-    while text.len() - end >= LANES {
-        let run = word_run(text, end);
-        end += run;
-        if run < LANES {
-            return end;
+    let mut at = place;
+    if text.len() >= LANES {
+        let last = text.len() - LANES;
+        while at <= last {
+            if let Some(end) = word_end_among(text, at) {
+                return end;
+            }
+            at += LANES;
         }
     }
-    word_end_from(text, end)
+    word_end_from(text, at)
 }

@@ -1,7 +1,7 @@
 //! What is written for words, and for the text around them.
-ghost use Rattle.std.specs.Prelude.{◌≡◌, ◌<◌, ◌≤◌, false, length, take, drop, All, OnOk, OnErr, option_map};
+ghost use Rattle.std.specs.Prelude.{◌≡◌, ◌≤◌, ◌++◌, false, length, take, drop, All, IfOk, IfSome, IfNone, OnOk, OnErr, option_map};
 ghost use Rattle.symfilter_engine.specs.Replaced as spec;
-ghost use Rattle.symfilter_engine.specs.Replaced.{IsWordByte, IsDot, sign_of, past_sign, ends_in_dot};
+ghost use Rattle.symfilter_engine.specs.Replaced.{IsWordByte, IsDot, sign_of, past_sign, ends_in_dot, IsWordAnswer};
 ghost use Rattle.symfilter_engine.specs.Progress.{AppendsReplaced, Extends};
 
 use super::bounds::{word_end, word_start};
@@ -14,6 +14,19 @@ use std::str;
 /// How many bytes the word has without the dots at its end.
 #[inline(always)]
 fn stem_len(word: &[u8]) -> usize
+    ensures bound { result ≤ length word.now }
+    ensures dots { All IsDot (drop result word.now) }
+    ensures stem { ends_in_dot (take result word.now) ≡ false }
+{
+    if word.is_empty() || word[word.len() - 1] != b'.' {
+        return word.len();
+    }
+    stem_len_elsewhere(word)
+}
+
+/// `stem_len` of a word that ends in a dot, out of line.
+#[inline(never)]
+fn stem_len_elsewhere(word: &[u8]) -> usize
     ensures bound { result ≤ length word.now }
     ensures dots { All IsDot (drop result word.now) }
     ensures stem { ends_in_dot (take result word.now) ≡ false }
@@ -50,6 +63,25 @@ fn symbol_at(strip: bool, bytes: &[u8]) -> Option<&[u8]>
     }
 }
 
+/// The symbol in a word without the dots at its end, with how many bytes its sign has; or `None` where no symbol is in
+/// it.
+#[inline(always)]
+fn symbol_in(strip: bool, word: &[u8]) -> Option<(usize, &[u8])>
+    ensures bound { IfSome result (λ found. found.0 ≤ length word.now) }
+    ensures sign { IfSome result (λ found. take found.0 word.now ≡ sign_of word.now) }
+    ensures symbol { option_map (λ found. found.1.now) result ≡ spec.symbol_in strip word.now }
+{
+    // Nearly all have no sign, and the usual prefix.
+    if let [b'_', b'Z', ..] = word {
+        return Some((0, word));
+    }
+    let sign = sign_len(word);
+    match symbol_at(strip, &word[sign..]) {
+        Some(symbol) => Some((sign, symbol)),
+        None => None,
+    }
+}
+
 /// The symbol as a text.
 #[inline(always)]
 fn as_text(symbol: &[u8]) -> &str
@@ -59,30 +91,29 @@ fn as_text(symbol: &[u8]) -> &str
     unsafe { str::from_utf8_unchecked(symbol) }
 }
 
-/// Appends what is written for a word. After an error a part of it may be appended.
-fn append_word(
+/// The answer of the symbol in a word without the dots at its end, with how many bytes of the word stay in front of it;
+/// or `None` where the word stays.
+#[inline(always)]
+fn word_answer<'a>(
     alloc: Global,
-    demangler: &mut Demangler,
+    demangler: &'a mut Demangler,
     strip: bool,
-    word: &[u8],
-    output: &mut Text,
-) -> Result<(), AllocError>
-    requires some { 0 < length word.now }
-    requires word { All IsWordByte word.now }
-    ensures ok { OnOk result (AppendsReplaced strip word.now output.old output.new) }
-    ensures err { OnErr result (Extends output.old output.new) }
+    word: &'a [u8],
+) -> Result<Option<(usize, &'a str)>, AllocError>
+    requires { All IsWordByte word.now }
+    ensures bound { IfOk result (λ found. IfSome found (λ answer. answer.0 ≤ length word.now)) }
+    ensures some { IfOk result (λ found. IfSome found (λ answer.
+        IsWordAnswer strip word.now (take answer.0 word.now ++ answer.1.now))) }
+    ensures none { IfOk result (λ found. IfNone found (IsWordAnswer strip word.now word.now)) }
 {
-    let stem = stem_len(word);
-    let sign = sign_len(&word[..stem]);
-    let Some(symbol) = symbol_at(strip, &word[sign..stem]) else {
-        return output.add(word);
+    let Some((sign, symbol)) = symbol_in(strip, word) else {
+        return Ok(None);
     };
     demangler.prepare(alloc, as_text(symbol))?;
-    let Some(answer) = demangler.text() else {
-        return output.add(word);
-    };
-    output.add_pair(&word[..sign], answer.as_bytes())?;
-    output.add(&word[stem..])
+    match demangler.text() {
+        Some(answer) => Ok(Some((sign, answer))),
+        None => Ok(None),
+    }
 }
 
 /// Appends the replaced text. After an error a part of it may be appended.
@@ -96,14 +127,19 @@ fn append_each_word(
     ensures ok { OnOk result (AppendsReplaced strip text.now output.old output.new) }
     ensures err { OnErr result (Extends output.old output.new) }
 {
+    // The text up to `from` is looked through, and what is written for it up to `done` is appended.
     let mut done = 0;
-    while let Some(more) = first_prefix(&text[done..]) {
-        let place = done + more;
-        let start = word_start(text, done, place);
-        let end = word_end(text, place);
-        output.add(&text[done..start])?;
-        append_word(alloc, demangler, strip, &text[start..end], output)?;
-        done = end;
+    let mut from = 0;
+    while let Some(more) = first_prefix(&text[from..]) {
+        let place = from + more;
+        let start = word_start(text, from, place);
+        from = word_end(text, place);
+        let word = &text[start..from];
+        let stem = stem_len(word);
+        if let Some((sign, answer)) = word_answer(alloc, demangler, strip, &word[..stem])? {
+            output.add_pair(&text[done..start + sign], answer.as_bytes())?;
+            done = start + stem;
+        }
     }
     output.add(&text[done..])
 }

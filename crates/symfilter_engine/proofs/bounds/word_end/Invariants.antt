@@ -2,13 +2,13 @@ use Rattle.std.proofs.Common.{◌-◌, ◌≤◌, length}
 use Rattle.symfilter_engine.specs.Progress.{AreWordBytes}
 use Rattle.symfilter_engine.proofs.bounds.word_end.Given as goal
 
-abbrev pub invariant-loop-end : goal.invariant-loop-end
-invariant-loop-end l =
+abbrev pub invariant-loop-at : goal.invariant-loop-at
+invariant-loop-at l =
     record {
-      low : l.place ≤ l.end;
-      high : l.end ≤ length l.text;
-      word : AreWordBytes l.text l.place l.end;
+      low : l.place ≤ l.at;
+      high : l.at ≤ length l.text;
+      word : AreWordBytes l.text l.place l.at;
     }
 
-abbrev pub decreases-loop-end : goal.decreases-loop-end
-decreases-loop-end l = length l.text - l.end
+abbrev pub decreases-loop-at : goal.decreases-loop-at
+decreases-loop-at l = length l.text - l.at

@@ -1,36 +1,83 @@
-use Rattle.std.proofs.Common.{[], ◌+◌, sym, arith, append-nil}
-use Rattle.symfilter_engine.specs.Replaced.{no_byte}
-use Rattle.symfilter_engine.proofs.WordPlaces.{words_joined, word_slice, turn_replaced, rest_appended, no_prefix-rest}
+use Rattle.std.proofs.Common.{[], ◌+◌, ◌≤◌, ◌++◌, IfSome, IfNone, length, take, refl, sym, subst, arith, append-nil}
+use Rattle.std.proofs.lemmas.List.{length-take-le}
+use Rattle.std.proofs.lemmas.List.Elements.{All-take}
+use Rattle.symfilter_engine.specs.Replaced.{IsWordByte, IsWordAnswer, no_byte}
+use Rattle.symfilter_engine.proofs.WordPlaces.{words_joined, some_word, word_slice, word_stays, part, part_len, stays_replaced, answer_replaced, extended, rest_appended, no_prefix-rest}
 use Rattle.symfilter_engine.proofs.words.append_each_word.Goals as goal
 
 pub loop-more-init : goal.loop-more-init
 loop-more-init c = record {
+  ordered = omega arith;
   inside = omega arith;
   boundary = λ some. absurd (omega (arith, some));
-  so_far = ([], no_byte, sym (append-nil _));
+  extends = ([], sym (append-nil _));
+  so_far = ([], no_byte, refl);
 }
 
-pub append_word-requires-clause-word : goal.append_word-requires-clause-word
-append_word-requires-clause-word c =
-    let start = c.word_start-start in
-    let end = c.word_end-end in
-    let place = c.loop-more.done + c.in-Some.more in
-    word_slice c.args.text.now start.result end.result (omega arith) end.ensures.high
-    (words_joined c.args.text.now start.result place end.result start.ensures.word end.ensures.word)
+pub word_answer-requires : goal.word_answer-requires
+word_answer-requires c =
+    let text = c.args.text.now in
+    let start = c.word_start-start.result in
+    let end = c.word_end-from.result in
+    let all = word_slice text start end (omega arith) c.word_end-from.ensures.high
+    (words_joined text start (c.loop-more.from + c.in-Some.more) end c.word_start-start.ensures.word c.word_end-from.ensures.word) in
+    All-take IsWordByte c.stem_len-stem.result (part text start end) all
+
+pub loop-more-preserved-in-Some-2 : goal.loop-more-preserved-in-Some-2
+loop-more-preserved-in-Some-2 c =
+    let text = c.args.text.now in
+    let start = c.word_start-start.result in
+    let end = c.word_end-from.result in
+    let word = part text start end in
+    let stem = c.stem_len-stem.result in
+    let sign = c.in-Some-2.sign in
+    let answer = c.as_bytes.result.now in
+    let all = word_slice text start end (omega arith) c.word_end-from.ensures.high
+    (words_joined text start (c.loop-more.from + c.in-Some.more) end c.word_start-start.ensures.word c.word_end-from.ensures.word) in
+    let some = some_word text c.loop-more.from c.in-Some.more end c.in-Some.ensures.found c.word_end-from.ensures.low c.word_end-from.ensures.ended in
+    let stem_in : start + stem ≤ end = omega (arith, c.stem_len-stem.ensures.bound, part_len text start end c.word_end-from.ensures.high) in
+    let sign_in : sign ≤ stem =
+    omega (arith, subst (λ found. IfSome found (λ a. a.0 ≤ length (take stem word))) c.in-Some-2.is c.in_ok-sign.ensures.bound, length-take-le stem word c.stem_len-stem.ensures.bound) in
+    let is_answer : IsWordAnswer c.args.strip (take stem word) (take sign (take stem word) ++ answer) =
+    subst (λ l. IsWordAnswer c.args.strip (take stem word) (take sign (take stem word) ++ l)) (sym c.as_bytes.ensures.value)
+    (subst (λ found. IfSome found (λ a. IsWordAnswer c.args.strip (take stem word) (take a.0 (take stem word) ++ a.1.now))) c.in-Some-2.is c.in_ok-sign.ensures.some) in
+    record {
+      ordered = stem_in;
+      inside = c.word_end-from.ensures.high;
+      boundary = λ _ _. c.word_end-from.ensures.ended;
+      extends = extended c.args.output.now c.loop-more.output _ c.add_pair.new.self c.loop-more.invariant.extends c.in_ok-add_pair.ensures.ok;
+      so_far = answer_replaced c.args.strip text c.args.output.now c.loop-more.output answer c.add_pair.new.self c.loop-more.done c.loop-more.from c.in-Some.more
+          start sign stem end c.loop-more.invariant.ordered c.word_start-start.ensures.low c.word_start-start.ensures.high (omega (arith, some, c.word_start-start.ensures.high)) c.word_end-from.ensures.high
+          c.loop-more.invariant.boundary c.word_start-start.ensures.boundary c.loop-more.invariant.so_far
+          (no_prefix-rest text c.loop-more.from c.in-Some.more c.in-Some.ensures.found.before) all c.stem_len-stem.ensures.dots c.stem_len-stem.ensures.stem
+          sign_in stem_in is_answer c.in_ok-add_pair.ensures.ok;
+    }
 
 pub loop-more-preserved : goal.loop-more-preserved
 loop-more-preserved c =
-    let start = c.word_start-start in
-    let end = c.word_end-end in
+    let text = c.args.text.now in
+    let start = c.word_start-start.result in
+    let end = c.word_end-from.result in
+    let word = part text start end in
+    let stem = c.stem_len-stem.result in
+    let all = word_slice text start end (omega arith) c.word_end-from.ensures.high
+    (words_joined text start (c.loop-more.from + c.in-Some.more) end c.word_start-start.ensures.word c.word_end-from.ensures.word) in
+    let some = some_word text c.loop-more.from c.in-Some.more end c.in-Some.ensures.found c.word_end-from.ensures.low c.word_end-from.ensures.ended in
+    let is_answer : IsWordAnswer c.args.strip (take stem word) (take stem word) =
+    subst (λ found. IfNone found (IsWordAnswer c.args.strip (take stem word) (take stem word))) c.in_default-2.is c.in_ok-sign.ensures.none in
     record {
-      inside = end.ensures.high;
-      boundary = λ _ _. end.ensures.ended;
-      so_far = turn_replaced c.args.strip c.args.text.now _ _ _ _ c.loop-more.done c.in-Some.more start.result end.result
-          end.ensures.high start.ensures.low start.ensures.high (omega arith) c.loop-more.invariant.boundary start.ensures.boundary
-          c.loop-more.invariant.so_far (no_prefix-rest c.args.text.now c.loop-more.done c.in-Some.more c.in-Some.ensures.found.before) c.in_ok-add.ensures.ok c.in_ok-append_word.ensures.ok;
+      ordered = omega (arith, c.loop-more.invariant.ordered, c.word_end-from.ensures.low);
+      inside = c.word_end-from.ensures.high;
+      boundary = λ _ _. c.word_end-from.ensures.ended;
+      extends = c.loop-more.invariant.extends;
+      so_far = stays_replaced c.args.strip text c.args.output.now c.loop-more.output c.loop-more.done c.loop-more.from c.in-Some.more start end
+          c.loop-more.invariant.ordered c.word_start-start.ensures.low c.word_start-start.ensures.high (omega arith) c.word_end-from.ensures.high
+          c.loop-more.invariant.boundary c.word_start-start.ensures.boundary c.loop-more.invariant.so_far
+          (no_prefix-rest text c.loop-more.from c.in-Some.more c.in-Some.ensures.found.before)
+          (word_stays c.args.strip word stem (omega (arith, some, c.word_start-start.ensures.high, part_len text start end c.word_end-from.ensures.high)) all c.stem_len-stem.ensures.dots c.stem_len-stem.ensures.stem is_answer);
     }
 
 pub returns-clause-ok : goal.returns-clause-ok
 returns-clause-ok c =
-    rest_appended c.add-2.result c.args.strip c.args.text.now c.args.output.now c.loop-more.output c.add-2.new.self c.loop-more.done
-    c.loop-more.invariant.inside c.loop-more.invariant.boundary c.loop-more.invariant.so_far c.in_default.ensures.none c.add-2.ensures.ok
+    rest_appended c.add.result c.args.strip c.args.text.now c.args.output.now c.loop-more.output c.add.new.self c.loop-more.done c.loop-more.from
+    c.loop-more.invariant.ordered c.loop-more.invariant.inside c.loop-more.invariant.boundary c.loop-more.invariant.so_far c.in_default.ensures.none c.add.ensures.ok

@@ -1,14 +1,17 @@
-use Rattle.std.proofs.Common.{◌-◌, ◌≤◌, length, take}
-use Rattle.symfilter_engine.specs.Progress.{IsBoundary, AppendsReplaced}
+use Rattle.std.proofs.Common.{◌-◌, ◌≤◌, ◌++◌, length, take, drop}
+use Rattle.symfilter_engine.specs.Progress.{IsBoundary, Extends, AppendsReplaced}
 use Rattle.symfilter_engine.proofs.words.append_each_word.Given as goal
 
 abbrev pub invariant-loop-more : goal.invariant-loop-more
 invariant-loop-more l =
     record {
-      inside : l.done ≤ length l.text;
-      boundary : IsBoundary l.text l.done;
-      so_far : AppendsReplaced l.strip (take l.done l.text) l.fn.output l.output;
+      ordered : l.done ≤ l.from;
+      inside : l.from ≤ length l.text;
+      boundary : IsBoundary l.text l.from;
+      extends : Extends l.fn.output l.output;
+      -- what stands from `done` on is yet to be appended
+      so_far : AppendsReplaced l.strip (take l.from l.text) l.fn.output (l.output ++ take (l.from - l.done) (drop l.done l.text));
     }
 
 abbrev pub decreases-loop-more : goal.decreases-loop-more
-decreases-loop-more l = length l.text - l.done
+decreases-loop-more l = length l.text - l.from

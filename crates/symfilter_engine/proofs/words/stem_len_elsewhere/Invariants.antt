@@ -1,7 +1,7 @@
 use Rattle.std.proofs.Common.{◌≤◌, length, drop}
 use Rattle.std.specs.Prelude.{All}
 use Rattle.symfilter_engine.specs.Replaced.{IsDot}
-use Rattle.symfilter_engine.proofs.words.stem_len.Given as goal
+use Rattle.symfilter_engine.proofs.words.stem_len_elsewhere.Given as goal
 
 abbrev pub invariant-loop-len : goal.invariant-loop-len
 invariant-loop-len l =
