@@ -17,10 +17,10 @@ mod handle;
 mod loose;
 
 use handle::Handle;
-use itanium_demangle::Demangler;
+use itanium_demangle::{Demangler, is_utf8};
 use std::alloc::Global;
 use std::mem::replace;
-use std::str::from_utf8;
+use std::str::from_utf8_unchecked;
 use symfilter_engine::{Failed, FilterFault, Sink, Tally, filter};
 
 /// The text is written.
@@ -74,9 +74,10 @@ pub extern "C" fn cosvigle_ask(
     ensures keeps { handle.old.kept ≢ None → handle.new.kept ≢ None }
 {
     *needed = 0;
-    let Ok(text) = from_utf8(symbol) else {
+    if !is_utf8(symbol) {
         return NOT_UTF8;
-    };
+    }
+    let text = unsafe { from_utf8_unchecked(symbol) };
     let mut demangler = match replace(handle, Handle::none(alloc)).into_box() {
         Some(kept) => kept,
         None => match Box::new(alloc, Demangler::new()) {

@@ -1,4 +1,4 @@
-//! Whether bytes are UTF-8, which those of most answers are: ASCII bytes are looked at by lanes.
+//! Whether bytes are UTF-8, which those of most symbols and answers are: ASCII bytes are looked at by lanes.
 ghost use Rattle.std.specs.Prelude.{◌≡◌, ◌<◌, ◌+◌, ◌≤◌, length, true, false};
 ghost use Rattle.std.specs.Str.{IsUtf8};
 ghost use Rattle.itanium_demangle.specs.Ascii.{AreAscii};
@@ -75,9 +75,9 @@ fn is_long_ascii(bytes: &[u8]) -> bool
     !(has_non_ascii(bytes, last) | has_non_ascii(bytes, last + LANES))
 }
 
-/// Whether the bytes are UTF-8.
+/// Whether the bytes are UTF-8, as those of a symbol have to be.
 #[inline(always)]
-pub(crate) fn is_utf8(bytes: &[u8]) -> bool
+pub fn is_utf8(bytes: &[u8]) -> bool
     ensures yes { result ≡ true → IsUtf8 bytes.now }
     ensures no { result ≡ false → ¬ (IsUtf8 bytes.now) }
 {
