@@ -14,9 +14,8 @@ IsComponentAt symbol (Some answer) i found =
     → found ≡ option_map printing (slice_get next.saved i)
 IsComponentAt symbol None i found = found ≡ None
 
--- the same, of whatever answer the symbol has
-abbrev pub IsComponent : List ℕ → ℕ → Option (List ℕ) → Type 0
-IsComponent symbol i found =
-    (answer : Option (List ℕ))
-    → IsAnswer symbol answer
-    → IsComponentAt symbol answer i found
+-- the same, of the symbol's answer
+pub record IsComponent (symbol : List ℕ) (i : ℕ) (found : Option (List ℕ)) : Type 0 where
+  pub answer : Option (List ℕ)
+  pub answers : IsAnswer symbol answer
+  pub component : IsComponentAt symbol answer i found

@@ -4,11 +4,16 @@
 //! lends a component.
 #![tactic(auto)]
 
-ghost use Rattle.std.specs.Prelude.{◌≡◌, ◌≤◌, ◌*◌, IfOk, OnOk, OnErr, option_map, length};
+ghost use Rattle.std.specs.Prelude.{◌≡◌, ◌≤◌, ◌*◌, IfOk, OnOk, OnErr, MatchResult, ⊤, option_map, length};
+ghost use Rattle.std.specs.Borrow.{sem};
+ghost use mathlib.Core.Option.{none};
+ghost use denote.Follow.{follows_so};
+ghost use Rattle.itanium_demangle.specs.contracts.demangler.Demangler.{the_row};
 ghost use Rattle.itanium_grammar.specs.Answer.{IsAnswer};
 ghost use Rattle.itanium_demangle.specs.Demangler.{IsPrepared};
 ghost use Rattle.itanium_demangle.specs.LastRun.{no_run};
 ghost use Rattle.callers.specs.Component.{IsComponent};
+ghost use Rattle.callers.specs.Lengths.{IsAnswerLen};
 
 use itanium_demangle::Demangler;
 use std::alloc::{AllocError, Global};
@@ -28,7 +33,7 @@ pub fn ask(demangler: &mut Demangler, alloc: Global, symbol: &str) -> Result<(),
 }
 
 /// How many counted productions a symbol enters: at most two for each of its bytes. It is what the value's `entered`
-/// answers afterwards.
+/// returns afterwards. After an error the value keeps nothing.
 pub fn entered_by(
     demangler: &mut Demangler,
     alloc: Global,
@@ -37,23 +42,36 @@ pub fn entered_by(
     ensures kept { IfOk result (λ entered. entered ≡ demangler.new.entered) }
     ensures prepared { OnOk result (IsPrepared symbol.now demangler.new) }
     ensures bound { IfOk result (λ entered. entered ≤ 2 * length symbol.now) }
+    ensures nothing_kept { OnErr result (demangler.new ≡ no_run) }
 {
     demangler.demangle(alloc, symbol)?;
     Ok(demangler.entered())
 }
 
-/// The answer of a symbol, by a value that was asked for another one before: it is the symbol's own, whatever became of
-/// the other, an error too.
+/// How many bytes the answer of one symbol has, and then the answer of another by the same value: it is that symbol's
+/// own, whatever became of the one before, an error too.
 pub fn answer_after<'a>(
     demangler: &'a mut Demangler,
     alloc: Global,
     before: &str,
     symbol: &'a str,
-) -> Result<Option<&'a str>, AllocError>
-    ensures answer { IfOk result (λ found. IsAnswer symbol.now (option_map (λ text. text.now) found)) }
+) -> (
+    Result<Option<usize>, AllocError>,
+    Result<Option<&'a str>, AllocError>,
+)
+    ensures before { IfOk result.0 (IsAnswerLen before.now) }
+    ensures answer { IfOk result.1 (λ found. IsAnswer symbol.now (option_map (λ text. text.now) found)) }
+    // `last` is the value once the answer is no longer lent.
+    ensures* kept { sem 𝓛 (follows_so the_row the_row demangler.entry.ghost_name none (λ _ _. ⊤)
+        (λ last. MatchResult result.1
+        (λ found. (last.text ≡ option_map (λ text. text.now) found) × IsPrepared symbol.now last)
+        (λ _. last ≡ no_run))) }
 {
-    let _ = ask(demangler, alloc, before);
-    demangler.demangle(alloc, symbol)
+    let len = match ask(demangler, alloc, before) {
+        Ok(()) => Ok(demangler.text().map(str::len)),
+        Err(error) => Err(error),
+    };
+    (len, demangler.demangle(alloc, symbol))
 }
 
 /// The component of a symbol with this index, from 0 on, lent until the next call: where the symbol has an answer, the
@@ -65,6 +83,11 @@ pub fn component_of<'a>(
     i: usize,
 ) -> Result<Option<&'a [u8]>, AllocError>
     ensures component { IfOk result (λ found. IsComponent symbol.now i (option_map (λ text. text.now) found)) }
+    // `last` is the value once the component is no longer lent.
+    ensures* kept { sem 𝓛 (follows_so the_row the_row demangler.entry.ghost_name none (λ _ _. ⊤)
+        (λ last. MatchResult result
+        (λ _. IsAnswer symbol.now last.text × IsPrepared symbol.now last)
+        (λ _. last ≡ no_run))) }
 {
     demangler.demangle(alloc, symbol)?;
     Ok(demangler.component(i))

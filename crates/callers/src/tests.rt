@@ -22,11 +22,9 @@ fn productions_are_counted(rt: HostRuntime) {
 #[test]
 fn a_symbol_after_another_is_answered(rt: HostRuntime) {
     let mut demangler = Demangler::new();
-    let found = answer_after(&mut demangler, rt.alloc(), "_Z3fo", "_Z3foo").expect(
-        &rt,
-        "no memory",
-    );
-    assert_eq!(rt; found, Some("foo"));
+    let (len, found) = answer_after(&mut demangler, rt.alloc(), "_Z4quux", "_Z3foo");
+    assert_eq!(rt; len, Ok(Some(4)));
+    assert_eq!(rt; found, Ok(Some("foo")));
     drop(demangler);
 }
 

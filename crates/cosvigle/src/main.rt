@@ -5,12 +5,10 @@
 #![tactic(auto)]
 
 mod arguments;
-mod faults;
 mod help;
 mod options;
 
 use arguments::answer_of;
-use faults::fault_line;
 use help::{HELP, VERSION};
 use itanium_demangle::Demangler;
 use options::{Asked, Choices, read_arguments};
@@ -105,7 +103,7 @@ fn main(rt: HostRuntime) -> ExitCode {
     match status {
         Ok(status) => ExitCode::from(status),
         Err(fault) => {
-            let _ = eprintln!(rt; "{}", fault_line(fault));
+            let _ = eprintln!(rt; "cosvigle: {}", fault.reason());
             ExitCode::FAILURE
         }
     }

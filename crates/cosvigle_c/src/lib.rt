@@ -155,7 +155,7 @@ impl Sink for Gathered {
         self.failed
     }
 
-    fn write(&mut self, bytes: &[u8]) -> Result<usize, Failed> {
+    fn put(&mut self, bytes: &[u8]) -> Result<usize, Failed> {
         match self.text.extend_from_slice(bytes) {
             Ok(()) => Ok(bytes.len()),
             Err(_) => {

@@ -1,6 +1,6 @@
 -- What the edits answer where there may be no step, what they take away, and where they put what they answer.
 use Rattle.std.specs.Prelude.{ℕ, List, [], codes, nat_eq}
-use Rattle.std.specs.Prelude.{Bool, false, not, ◌&&◌, if◌then◌else◌, Option, Some, None}
+use Rattle.std.specs.Prelude.{Bool, true, false, not, ◌&&◌, if◌then◌else◌, Option, Some, None}
 use Rattle.std.specs.List.{ends_with}
 use Rattle.demangle_text.specs.Shape.{Shape, Form, Plain, Declared, text, is_plain}
 use Rattle.demangle_quals.specs.declared.quals.Quals.{Quals}
@@ -27,6 +27,16 @@ abbrev pub is_shortened : Pointer → Shape → Bool
 is_shortened Star s = false
 is_shortened Left s = is_cut false s
 is_shortened Right s = false
+
+-- whether a reference to the type is the type itself: a plain text that ends in `&` and loses no byte
+abbrev pub is_kept : Bool → Shape → Bool
+is_kept rvalue s = is_plain s.form && ends_with nat_eq (text s) (codes "&") && not (is_cut rvalue s)
+
+-- whether a pointer or a reference to the type is the type itself
+abbrev pub is_left : Pointer → Shape → Bool
+is_left Star s = false
+is_left Left s = is_kept false s
+is_left Right s = is_kept true s
 
 -- the array of the type, where there is one
 abbrev pub array_step : Option ℕ → Shape → Option Shape

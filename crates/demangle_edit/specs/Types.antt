@@ -84,7 +84,7 @@ has_array (Declared Function before None after) = false
 abbrev pub member_gap : List ℕ → List ℕ
 member_gap t = if ends_with nat_eq t (codes "(") || ends_with nat_eq t (codes " ") then [] else codes " "
 
--- no type is a member pointer to an array
+-- no type is a member pointer to an array, or to a pointer or a reference to one, whose shape is an array's too
 abbrev pub has_member_pointer : Form → Bool
 has_member_pointer (Plain t) = true
 has_member_pointer (Declared Function before group after) = true

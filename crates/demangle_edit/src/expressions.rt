@@ -1,5 +1,5 @@
 //! Edits that make literals and operands of expressions (Itanium C++ ABI 5.1, "Expressions").
-ghost use Rattle.std.specs.Prelude.{◌≡◌, codes, [], IfOk, OnOk};
+ghost use Rattle.std.specs.Prelude.{◌≡◌, codes, [], false, IfOk, OnOk};
 ghost use Rattle.demangle_text.specs.Shape.{text, plain_shape, appended, whole_shape};
 ghost use Rattle.demangle_text.specs.State.{IsLiving, shape, Lives, IsEdit, KeepsAll, main_bytes};
 ghost use Rattle.demangle_text.specs.State.{StaysInPlace, IsLeftOrStays, JoinsInPlace, Appends};
@@ -304,6 +304,7 @@ pub fn subexpr(buf: &mut Buffer, piece: Piece, paren: bool) -> Result<Piece, All
         (spec.operand_shape paren (shape buf.old piece))) }
     ensures edit { OnOk result (IsEdit buf.old buf.new) }
     ensures in_place { IfOk result (λ p. IsLeftOrStays buf.old buf.new piece p) }
+    ensures same { paren ≡ false → (result ≡ Ok piece) × (buf.new ≡ buf.old) }
 {
     if !paren {
         return Ok(piece);

@@ -1,5 +1,6 @@
 //! Edits that make a name out of names (Itanium C++ ABI 5.1.2).
-ghost use Rattle.std.specs.Prelude.{◌≡◌, All, map, IfOk, OnOk, OnErr};
+ghost use Rattle.std.specs.Prelude.{◌≡◌, All, map, false, IfOk, OnOk, OnErr};
+ghost use Rattle.demangle_quals.specs.Quals.{has_quals};
 ghost use Rattle.demangle_text.specs.Shape.{plain_shape};
 ghost use Rattle.demangle_text.specs.State.{IsLiving, shape, Lives, IsEdit};
 ghost use Rattle.demangle_text.specs.State.{StaysInPlace, IsLeftOrStays, JoinsInPlace, Appends};
@@ -263,6 +264,7 @@ pub fn apply_name_qualifiers(
         (with_name_qualifiers (shape buf.old name) quals shown)) }
     ensures edit { OnOk result (IsEdit buf.old buf.new) }
     ensures in_place { IfOk result (λ p. IsLeftOrStays buf.old buf.new name p) }
+    ensures same { has_quals quals ≡ false → (result ≡ Ok name) × (buf.new ≡ buf.old) }
 {
     if !quals.is_set() {
         return Ok(name);

@@ -9,7 +9,7 @@ ghost use Rattle.demangle_text.specs.State.{StaysInPlace, IsLeftOrStays, JoinsIn
 ghost use Rattle.demangle_edit.specs.Answers.{Answers, IfFound, OnNone};
 ghost use Rattle.demangle_edit.specs.Types.{pointed, collapse_step, pointer_shape, cv_place, cv_shape};
 ghost use Rattle.demangle_edit.specs.Built.{function_closed};
-ghost use Rattle.demangle_edit.specs.Calls.{is_cut, is_shortened, function_step, opening_step, array_step, after_text};
+ghost use Rattle.demangle_edit.specs.Calls.{is_cut, is_shortened, is_kept, is_left, function_step, opening_step, array_step, after_text};
 ghost use Rattle.demangle_edit.specs.Calls.{member_pointer_step};
 ghost use Rattle.demangle_edit.specs.Types.{expansion_shape};
 ghost use Rattle.demangle_edit.specs.Types.{dimension_digits, array_shape};
@@ -50,6 +50,7 @@ pub fn wrap_pointer(buf: &mut Buffer, inner: Piece, kind: Pointer) -> Result<Pie
     ensures edit { OnOk result (IsEdit buf.old buf.new) }
     ensures in_place { is_shortened kind (shape buf.old inner) ≡ false
         → IfOk result (λ p. IsLeftOrStays buf.old buf.new inner p) }
+    ensures same { is_left kind (shape buf.old inner) ≡ true → (result ≡ Ok inner) × (buf.new ≡ buf.old) }
     ensures cut_main { is_shortened kind (shape buf.old inner) ≡ true
         → OnOk result (main_bytes buf.new ≡ main_bytes buf.old) }
     ensures cut_stands { is_shortened kind (shape buf.old inner) ≡ true
@@ -86,6 +87,8 @@ pub fn collapse_ref(
     ensures none_main { OnNone result (main_bytes buf.new ≡ main_bytes buf.old) }
     ensures in_place { is_cut rvalue (shape buf.old inner) ≡ false
         → IfFound result (λ p. IsLeftOrStays buf.old buf.new inner p) }
+    ensures same { is_kept rvalue (shape buf.old inner) ≡ true
+        → (result ≡ Ok (Some inner)) × (buf.new ≡ buf.old) }
     ensures cut_main { is_cut rvalue (shape buf.old inner) ≡ true
         → OnOk result (main_bytes buf.new ≡ main_bytes buf.old) }
     ensures cut_stands { is_cut rvalue (shape buf.old inner) ≡ true

@@ -4,7 +4,6 @@ use Rattle.std.proofs.lemmas.Bool.{le-leb}
 use Rattle.std.proofs.lemmas.List.Elements.{All-head, All-tail}
 use Rattle.demangle_text.specs.declared.shape.Piece.{Piece}
 use Rattle.demangle_text.specs.Pieces.{EndsBy, carried, carried_from}
-use Rattle.demangle_text.specs.Flags.{lies_aside}
 
 stays : (h e : Bool) (from dest at : ℕ) → (h ≡ false → e ≡ true) → at ≡ carried_from h e from dest at
 stays true e from dest at k = refl
@@ -13,9 +12,9 @@ stays false false from dest at k = absurd (let h : ⊥ = cc (k refl) in h)
 
 one : (low from dest : ℕ) (p : Piece) → EndsBy low p → p ≡ carried low from dest p
 one low from dest p h =
-    let k = (λ (home : (lies_aside p.flags) ≡ false). le-leb p.to_byte low (h home)) in
-    let a = stays (lies_aside p.flags) (leb p.to_byte low) from dest p.from_byte k in
-    let b = stays (lies_aside p.flags) (leb p.to_byte low) from dest p.to_byte k in
+    let k = (λ (home : p.aside ≡ false). le-leb p.to_byte low (h home)) in
+    let a = stays p.aside (leb p.to_byte low) from dest p.from_byte k in
+    let b = stays p.aside (leb p.to_byte low) from dest p.to_byte k in
     λ j. record p { from_byte = a j; to_byte = b j }
 
 pub carried-below : (low from dest : ℕ) (ps : List Piece) → All (EndsBy low) ps → ps ≡ map (carried low from dest) ps

@@ -10,7 +10,6 @@ use Rattle.demangle_text.specs.State.{IsLiving, shape, Lives, IsOlder, Frame, fr
 use Rattle.demangle_text.proofs.States.{KeepsAll-elsewhere}
 use Rattle.demangle_text.proofs.Laws.{IsEdit-trans, IsEdit-keeps}
 use Rattle.demangle_text.proofs.Texts.{Moves, part-below, part-moved, front_below}
-use Rattle.demangle_text.specs.Flags.{lies_aside}
 
 module _ (main new side : List ℕ) (low from to dest : ℕ) (m : Moves main new low from to dest) where
   -- the text of a range that is carried
@@ -35,15 +34,15 @@ module _ (main new side : List ℕ) (low from to dest : ℕ) (m : Moves main new
 
   module _ (p : Piece) (h : IsPiece main side p) (a : IsApart low from to p) where
     shape_in-carried : shape_in new side (carried low from dest p) ≡ shape_in main side p
-    shape_in-carried = ap (λ (t : List ℕ). shape_of t (outline_of p)) (carried_text (lies_aside p.flags) (leb p.to_byte low) p.from_byte p.to_byte refl h.ordered h.within a)
+    shape_in-carried = ap (λ (t : List ℕ). shape_of t (outline_of p)) (carried_text p.aside (leb p.to_byte low) p.from_byte p.to_byte refl h.ordered h.within a)
 
     IsPiece-carried : IsPiece new side (carried low from dest p)
     IsPiece-carried =
-        let w = carried_within (lies_aside p.flags) (leb p.to_byte low) p.from_byte p.to_byte refl h.ordered h.within a in
+        let w = carried_within p.aside (leb p.to_byte low) p.from_byte p.to_byte refl h.ordered h.within a in
         record {
           ordered = w.0;
           within = w.1;
-          outlined = rw (carried_text (lies_aside p.flags) (leb p.to_byte low) p.from_byte p.to_byte refl h.ordered h.within a) h.outlined;
+          outlined = rw (carried_text p.aside (leb p.to_byte low) p.from_byte p.to_byte refl h.ordered h.within a) h.outlined;
         }
 
   -- the same of a list of pieces
@@ -88,12 +87,12 @@ module _ (s t : Store) (low from to dest : ℕ) (m : Moves s.main_text t.main_te
   older_within false b within below = let k = below refl in omega (arith, m.low_new)
   older_within true b within below = rw by_side within
 
-  Lives-below : (p : Piece) → IsLiving s p → ((lies_aside p.flags) ≡ false → p.to_byte ≤ low) → Lives t p (shape s p)
+  Lives-below : (p : Piece) → IsLiving s p → (p.aside ≡ false → p.to_byte ≤ low) → Lives t p (shape s p)
   unfolding IsLiving shape
   Lives-below p h below =
-      let same = older_text (lies_aside p.flags) p.from_byte p.to_byte h.ordered below in
+      let same = older_text p.aside p.from_byte p.to_byte h.ordered below in
       record {
-        living = record { ordered = h.ordered; within = older_within (lies_aside p.flags) p.to_byte h.within below; outlined = rw same h.outlined };
+        living = record { ordered = h.ordered; within = older_within p.aside p.to_byte h.within below; outlined = rw same h.outlined };
         shape_is = ap (λ (v : List ℕ). shape_of v (outline_of p)) same;
       }
 

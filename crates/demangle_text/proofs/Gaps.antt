@@ -3,7 +3,6 @@ use Rattle.std.proofs.Common.{◌≡◌, ℕ, ◌+◌, ◌≤◌, Bool, true, fa
 use Rattle.std.proofs.Common.{refl, sym, ap, ◌∙◌, subst, arith, append_assoc}
 use Rattle.std.proofs.lemmas.List.{length-append, length-drop, length-take-le, take_at}
 use Rattle.demangle_text.specs.declared.shape.Piece.{Piece}
-use Rattle.demangle_text.specs.Flags.{lies_aside}
 use Rattle.demangle_text.specs.Pieces.{Store, IsStore, IsApart, IsAside, EndsBy, carried}
 use Rattle.growing_text.specs.Room.{HasRoom}
 use Rattle.demangle_text.specs.Pieces.{home_bytes, piece_text}
@@ -113,8 +112,8 @@ module _ (old new : Store) (at n : ℕ) (gap : IsGap old new at n) (place : at �
   pub text-kept : EndsBy at p → piece_text new.main_text new.side_text p ≡ piece_text old.main_text old.side_text p
   unfolding IsLiving
   text-kept before =
-      part-kept old new at n p.from_byte p.to_byte (lies_aside p.flags) gap place lies.ordered lies.within before
+      part-kept old new at n p.from_byte p.to_byte p.aside gap place lies.ordered lies.within before
 
-  pub within-kept : p.to_byte ≤ length (home_bytes new.main_text new.side_text (lies_aside p.flags))
+  pub within-kept : p.to_byte ≤ length (home_bytes new.main_text new.side_text p.aside)
   unfolding IsLiving
-  within-kept = home-longer old new at n p.to_byte (lies_aside p.flags) gap place lies.within
+  within-kept = home-longer old new at n p.to_byte p.aside gap place lies.within

@@ -16,7 +16,6 @@ use Rattle.demangle_text.specs.State.{Closes, Lives, parts_at}
 use Rattle.demangle_text.proofs.Forms.{text-form_of}
 use Rattle.growing_text.proofs.Parts.{part-append}
 use Rattle.demangle_text.proofs.Texts.{map_same}
-use Rattle.demangle_text.specs.Flags.{lies_aside}
 
 home-grown : (main side m n : List ℕ) (h : Bool) → home_bytes (main ++ m) (side ++ n) h ≡ home_bytes main side h ++ home_bytes m n h
 home-grown main side m n false = refl
@@ -26,13 +25,13 @@ home-grown main side m n true = refl
 module _ (main side m n : List ℕ) (p : Piece) (h : IsPiece main side p) where
   piece_text-grown : piece_text (main ++ m) (side ++ n) p ≡ piece_text main side p
   piece_text-grown =
-      ap (λ (t : List ℕ). slice_range t p.from_byte p.to_byte) (home-grown main side m n (lies_aside p.flags))
-      ∙ part-append (home_bytes main side (lies_aside p.flags)) (home_bytes m n (lies_aside p.flags)) p.from_byte p.to_byte h.ordered h.within
+      ap (λ (t : List ℕ). slice_range t p.from_byte p.to_byte) (home-grown main side m n p.aside)
+      ∙ part-append (home_bytes main side p.aside) (home_bytes m n p.aside) p.from_byte p.to_byte h.ordered h.within
 
   pub IsPiece-grown : IsPiece (main ++ m) (side ++ n) p
   IsPiece-grown = record {
     ordered = h.ordered;
-    within = rw (home-grown main side m n (lies_aside p.flags)) (omega (arith, length-append (home_bytes main side (lies_aside p.flags)) (home_bytes m n (lies_aside p.flags)), h.within));
+    within = rw (home-grown main side m n p.aside) (omega (arith, length-append (home_bytes main side p.aside) (home_bytes m n p.aside), h.within));
     outlined = rw piece_text-grown h.outlined;
   }
 
@@ -169,7 +168,7 @@ pub Opens-here : (s : Store) (m : Mark) → IsStore s → m.inside_main ≡ leng
 unfolding IsLiving shape saved scopes main_bytes frame frame_start inside outside IsOlder Frame
 Opens-here s m i by_main outer = record {
   pieces = λ p h. record { living = h; shape_is = refl };
-  older = λ p h. below_end s.main_text s.side_text m.inside_main p.to_byte (lies_aside p.flags) by_main h.within;
+  older = λ p h. below_end s.main_text s.side_text m.inside_main p.to_byte p.aside by_main h.within;
   inside_is = refl;
   outside_is = outer;
   lists = record { saved_same = refl; scopes_same = refl };
@@ -203,12 +202,12 @@ Stands-ordered s p from to lies stands = omega (arith, lies.ordered, stands.begi
 pub Stands-tail : (s : Store) (p : Piece) (P : Type 0) → IsLiving s p → ((from : ℕ) → frame_start (frame s) ≤ from → Stands p from (length (main_bytes s)) → P)
     → (StandsBefore s p (length (main_bytes s)) → P) → P
 unfolding IsLiving Stands main_bytes frame frame_start Frame
-Stands-tail s p P lies tail before = by (lies_aside p.flags) (leb s.frame_main p.from_byte) (leb (length s.main_text) p.to_byte) refl refl refl
+Stands-tail s p P lies tail before = by p.aside (leb s.frame_main p.from_byte) (leb (length s.main_text) p.to_byte) refl refl refl
   where
-    within : lies_aside p.flags ≡ false → p.to_byte ≤ length s.main_text
+    within : p.aside ≡ false → p.to_byte ≤ length s.main_text
     within home = subst (λ (h : Bool). p.to_byte ≤ length (home_bytes s.main_text s.side_text h)) home lies.within
 
-    by : (aside inner ends : Bool) → lies_aside p.flags ≡ aside → leb s.frame_main p.from_byte ≡ inner → leb (length s.main_text) p.to_byte ≡ ends → P
+    by : (aside inner ends : Bool) → p.aside ≡ aside → leb s.frame_main p.from_byte ≡ inner → leb (length s.main_text) p.to_byte ≡ ends → P
     by true inner ends home from to = before (λ a b at. cc)
     by false true true home from to =
         tail p.from_byte (leb-true _ _ from) (record { in_main = home; begins = refl; ends = omega (arith, within home, leb-true _ _ to) })

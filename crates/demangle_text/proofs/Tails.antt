@@ -17,7 +17,6 @@ use Rattle.demangle_text.proofs.Inserts.{Inserts, length-inserted, shape-inserte
 use Rattle.demangle_text.proofs.Groups.{Groups, group_text, layout_end_within, shape-opened, IsOutlined-opened}
 use Rattle.demangle_text.proofs.Texts.{part-part, front_below}
 use Rattle.demangle_text.proofs.States.{Lives-at_end, text_is}
-use Rattle.demangle_text.specs.Flags.{lies_aside, templ_by, ctor_by}
 
 -- the text from a place on, with bytes inserted in it
 tail_inserted : (main bytes : List ℕ) (from at : ℕ) → from + at ≤ length main
@@ -62,17 +61,6 @@ IsSplice-inserted s t p at bytes h ordered within is =
       in_place = λ _. (refl, n);
     }
 
--- bytes after such a piece
-pub IsSplice-added : (s t : Store) (p : Piece) (bytes : List ℕ) → IsTail s p → p.from_byte ≤ p.to_byte → t.main_text ≡ s.main_text ++ bytes → IsSplice s t p (p.to_byte - p.from_byte) bytes p.from_byte
-IsSplice-added s t p bytes h ordered is =
-    let main = s.main_text in
-    let k = p.from_byte + (p.to_byte - p.from_byte) in
-    let all : length main ≤ k = omega (arith, h.ends) in
-    let front : take k main ≡ main = take_all k main all in
-    let none : drop k main ≡ [] = drop_all k main all in
-    IsSplice-inserted s t p (p.to_byte - p.from_byte) bytes h ordered (omega arith)
-    (is ∙ ap (λ (v : List ℕ). main ++ v) (sym (append-nil bytes)) ∙ ap (λ (v : List ℕ). main ++ (bytes ++ v)) (sym none) ∙ ap (λ (v : List ℕ). v ++ (bytes ++ drop k main)) (sym front))
-
 -- an edit that spliced bytes into the text of a piece
 pub IsEditOf-spliced : (b n : Store) (p q : Piece) (at from : ℕ) (bytes : List ℕ) → IsSplice b n p at bytes from → IsAt q from (length n.main_text) → IsEditOf b n p q (length bytes)
 unfolding main_bytes frame frame_start Frame Stands
@@ -98,20 +86,6 @@ IsSplice-copied s t p at bytes from apart inner starts is =
       front = ap (take from) is ∙ front_longer s.main_text more from (omega (arith, starts));
       in_place = λ h. absurd (apart h);
     }
-
--- a copy of a text with bytes and more text after it, of a piece that doesn't
-pub IsSplice-joined : (s t : Store) (p : Piece) (bytes more : List ℕ) (from : ℕ) → (IsTail s p → ⊥) → length (piece_text s.main_text s.side_text p) ≡ p.to_byte - p.from_byte
-    → s.frame_main ≤ length s.main_text → from ≡ length s.main_text → t.main_text ≡ s.main_text ++ (piece_text s.main_text s.side_text p ++ bytes ++ more)
-    → IsSplice s t p (p.to_byte - p.from_byte) (bytes ++ more) from
-IsSplice-joined s t p bytes more from apart long inner starts is =
-    let text = piece_text s.main_text s.side_text p in
-    let k = p.to_byte - p.from_byte in
-    let all : length text ≤ k = omega arith in
-    let front : take k text ≡ text = take_all k text all in
-    let none : drop k text ≡ [] = drop_all k text all in
-    IsSplice-copied s t p k (bytes ++ more) from apart inner starts
-    (is ∙ ap (λ (v : List ℕ). s.main_text ++ v) (append_assoc text bytes more ∙ ap (λ (v : List ℕ). text ++ v) (sym (append-nil (bytes ++ more)))
-    ∙ ap (λ (v : List ℕ). text ++ ((bytes ++ more) ++ v)) (sym none) ∙ ap (λ (v : List ℕ). v ++ ((bytes ++ more) ++ drop k text)) (sym front)))
 
 -- the texts of two pieces that meet and end the main text
 adjacent_text : (s : Store) (first second : Piece) → IsAdjacent s first second → first.from_byte ≤ first.to_byte → second.from_byte ≤ second.to_byte
@@ -164,50 +138,11 @@ IsJoint-adjacent s first second h ordered after =
     record { first_in_main = one.in_main; second_in_main = two.in_main; inner = omega (arith, h.inner, one.begins); meets = one.ends ∙ sym two.begins; ends = two.ends } in
     IsJoint-inserted s s first [] second meet ordered after (sym (take-append-drop second.from_byte s.main_text))
 
--- a copy of both, where they don't meet at the end, the second isn't there with the first before it, nor the first
-pub IsJoint-copied : (s t : Store) (first : Piece) (bytes : List ℕ) (second : Piece) (from : ℕ) → (IsAdjacent s first second → ⊥) → (IsTail s second → EndsBy second.from_byte first → ⊥)
-    → (IsTail s first → ⊥)
-    → s.frame_main ≤ length s.main_text → from ≡ length s.main_text
-    → t.main_text ≡ s.main_text ++ (piece_text s.main_text s.side_text first ++ bytes ++ piece_text s.main_text s.side_text second) → IsJoint s t first bytes second from
-IsJoint-copied s t first bytes second from apart later elsewhere inner starts is =
-    let more = piece_text s.main_text s.side_text first ++ bytes ++ piece_text s.main_text s.side_text second in
-    record {
-      within = omega (arith, ap length is ∙ length-append s.main_text more);
-      text = ap (drop from) is ∙ drop_at s.main_text more from (sym starts);
-      inner = omega (arith, inner, starts);
-      front = ap (take from) is ∙ front_longer s.main_text more from (omega (arith, starts));
-      in_place = λ h. absurd (apart h);
-      in_front = λ tail before _. absurd (later tail before);
-      after = λ tail. absurd (elsewhere tail);
-    }
-
 -- a first piece and a second one that is there with the first before it meet
 tails-meet : (s : Store) (first second : Piece) → second.from_byte ≤ second.to_byte → IsTail s second → EndsBy second.from_byte first → IsTail s first → IsAdjacent s first second
 tails-meet s first second ordered two before one =
     let by = before one.in_main in
     record { first_in_main = one.in_main; second_in_main = two.in_main; inner = one.inner; meets = omega (arith, by, ordered, one.ends, two.ends); ends = two.ends }
-
--- the bytes and the second text after a first piece that ends the main text
-pub IsJoint-after : (s t : Store) (first : Piece) (bytes : List ℕ) (second : Piece) → (IsAdjacent s first second → ⊥) → IsTail s first
-    → first.from_byte ≤ first.to_byte → second.from_byte ≤ second.to_byte
-    → t.main_text ≡ s.main_text ++ (bytes ++ piece_text s.main_text s.side_text second) → IsJoint s t first bytes second first.from_byte
-IsJoint-after s t first bytes second apart h first_ordered ordered is =
-    let main = s.main_text in
-    let after = piece_text main s.side_text second in
-    let more = bytes ++ after in
-    let at = first.from_byte in
-    let there : at ≤ length main = omega (arith, first_ordered, h.ends) in
-    let longer = ap length is ∙ length-append main more in
-    record {
-      within = omega (arith, longer, there);
-      text = ap (drop at) is ∙ drop-append-le at main more there ∙ ap (λ (v : List ℕ). v ++ more) (sym (tail_text s first h))
-          ∙ sym (append_assoc (piece_text main s.side_text first) bytes after);
-      inner = h.inner;
-      front = ap (take at) is ∙ front_longer main more at there;
-      in_place = λ k. absurd (apart k);
-      in_front = λ tail before _. absurd (apart (tails-meet s first second ordered tail before h));
-      after = λ _. (refl, longer ∙ ap (λ (k : ℕ). length main + k) (length-append bytes after));
-    }
 
 -- the first text and the bytes in front of a second one that ends the main text
 pub IsJoint-moved : (s t : Store) (first : Piece) (bytes : List ℕ) (second : Piece) → (IsAdjacent s first second → ⊥) → IsTail s second → EndsBy second.from_byte first
@@ -271,7 +206,7 @@ suffix_within t (Cut kind (Some group) at) h = h.1
 -- how long the text of a piece is
 pub length-text : (s : Store) (p : Piece) → IsLiving s p → length (piece_text s.main_text s.side_text p) ≡ p.to_byte - p.from_byte
 unfolding IsLiving
-length-text s p h = length-between (home_bytes s.main_text s.side_text (lies_aside p.flags)) p.from_byte p.to_byte h.within
+length-text s p h = length-between (home_bytes s.main_text s.side_text p.aside) p.from_byte p.to_byte h.within
 
 -- a splice of a living piece
 module _ (b n : Store) (p : Piece) (at : ℕ) (bytes : List ℕ) (from : ℕ) (lies : IsLiving b p) (i : IsSplice b n p at bytes from) where
@@ -306,7 +241,7 @@ module _ (b n : Store) (p : Piece) (at : ℕ) (bytes : List ℕ) (from : ℕ) (l
     pub Lives-inserted : (place : Place) → CanInsert place (shape b p).form → at ≡ place_at place (outline_of p).layout (p.to_byte - p.from_byte)
         → (outline_of q).layout ≡ layout_with place (length bytes) (outline_of p).layout
         → (outline_of q).own ≡ own_at (outline_of p).layout (length n.main_text - from) (moved at (length bytes) (outline_of p).own)
-        → templ_by q.flags ≡ templ_by p.flags → ctor_by q.flags ≡ ctor_by p.flags → Lives n q (inserted place bytes (shape b p))
+        → q.templ ≡ p.templ → q.ctor ≡ p.ctor → Lives n q (inserted place bytes (shape b p))
     unfolding IsLiving shape
     Lives-inserted place can at_is layout own templ ctor =
         let m = outline_of p in
@@ -324,7 +259,7 @@ module _ (b n : Store) (p : Piece) (at : ℕ) (bytes : List ℕ) (from : ℕ) (l
     -- bytes and a name at the end, which is the last own name then
     pub Lives-named : (between name : List ℕ) → bytes ≡ between ++ name → at ≡ p.to_byte - p.from_byte → (outline_of q).layout ≡ Flat
         → (outline_of q).own ≡ (length n.main_text - from - length name, length n.main_text - from)
-        → templ_by q.flags ≡ false → ctor_by q.flags ≡ false → Lives n q (named between name (shape b p))
+        → q.templ ≡ false → q.ctor ≡ false → Lives n q (named between name (shape b p))
     unfolding IsLiving shape
     Lives-named between name is at_is layout own templ ctor =
         let before = t ++ between in
@@ -357,7 +292,7 @@ module _ (b n : Store) (p : Piece) (at : ℕ) (bytes : List ℕ) (from : ℕ) (l
     pub Lives-opened : (group : List ℕ) → IsDeclared (shape b p).form → at ≡ place_at Suffix (outline_of p).layout (p.to_byte - p.from_byte) → bytes ≡ group_text group (take at t)
         → (outline_of q).layout ≡ layout_opened (length bytes) (length group + 2) (outline_of p).layout
         → (outline_of q).own ≡ own_at (outline_of p).layout (length n.main_text - from) (moved at (length bytes) (outline_of p).own)
-        → templ_by q.flags ≡ templ_by p.flags → ctor_by q.flags ≡ ctor_by p.flags → Lives n q (opened_group group (shape b p))
+        → q.templ ≡ p.templ → q.ctor ≡ p.ctor → Lives n q (opened_group group (shape b p))
     unfolding IsLiving shape
     Lives-opened group declared at_is is layout own templ ctor =
         let m = outline_of p in
@@ -413,7 +348,7 @@ Lives-kept_only b n p q at lies within is stands outline =
     record { living = lives.living; shape_is = lives.shape_is ∙ ap (shape_of t) outline }
 
 -- a text that stands there already
-pub kept_only-already : (b : Store) (p : Piece) (at : ℕ) → (lies_aside p.flags) ≡ false → p.from_byte ≡ at
+pub kept_only-already : (b : Store) (p : Piece) (at : ℕ) → p.aside ≡ false → p.from_byte ≡ at
     → p.to_byte ≡ length b.main_text → b.main_text ≡ take at b.main_text ++ piece_text b.main_text b.side_text p
 kept_only-already b p at home begins ends =
     let text : piece_text b.main_text b.side_text p ≡ drop at b.main_text =
@@ -429,32 +364,6 @@ kept_only-copy main mid t at from to is within starts ends =
     let block = take_all (to - from) (drop from mid) (omega (arith, ends, length-drop from mid)) ∙ ap (drop from) is ∙ drop_at main t from (sym starts) in
     ap (λ (v : List ℕ). v ++ slice_range mid from to) low ∙ ap (λ (v : List ℕ). take at main ++ v) block
 
--- where the last own name lies
-module _ (b : Store) (p q : Piece) (lies : IsLiving b p) (home : lies_aside q.flags ≡ lies_aside p.flags)
-    (begins : q.from_byte ≡ p.from_byte + p.own_start) (ends : q.to_byte ≡ p.from_byte + p.own_end) where
-  pub own-ordered : q.from_byte ≤ q.to_byte
-  unfolding IsLiving
-  own-ordered = omega (arith, begins, ends, lies.outlined.own_ordered)
-
-  own-inside : p.from_byte + p.own_end ≤ p.to_byte
-  unfolding IsLiving
-  own-inside = omega (arith, length-text b p lies, lies.outlined.own_within, lies.ordered)
-
-  pub own-within : q.to_byte ≤ length (home_bytes b.main_text b.side_text (lies_aside q.flags))
-  unfolding IsLiving
-  own-within = rw home (omega (arith, ends, own-inside, lies.within))
-
-  -- and its bytes
-  pub own-part : slice_range (home_bytes b.main_text b.side_text (lies_aside p.flags)) q.from_byte q.to_byte ≡ own_text b.main_text b.side_text p
-  unfolding IsLiving
-  own-part =
-      let bytes = home_bytes b.main_text b.side_text (lies_aside p.flags) in
-      ap (λ (k : ℕ). slice_range bytes k q.to_byte) begins ∙ ap (λ (k : ℕ). slice_range bytes (p.from_byte + p.own_start) k) ends
-      ∙ part-part bytes p.from_byte p.to_byte p.own_start p.own_end lies.outlined.own_ordered own-inside
-
-  pub own-piece : piece_text b.main_text b.side_text q ≡ own_text b.main_text b.side_text p
-  own-piece = ap (λ (h : Bool). slice_range (home_bytes b.main_text b.side_text h) q.from_byte q.to_byte) home ∙ own-part
-
 -- they are the text of the last own name
 pub own_text-is : (b : Store) (p : Piece) → IsLiving b p → own_text b.main_text b.side_text p ≡ text (own_shape (shape b p))
 unfolding IsLiving shape
@@ -466,11 +375,11 @@ unfolding IsLiving
 length-own b p lies = length-between (piece_text b.main_text b.side_text p) p.own_start p.own_end lies.outlined.own_within
 
 -- the last own name as a piece of its own
-pub Lives-own : (b : Store) (p q : Piece) → IsLiving b p → (lies_aside q.flags) ≡ (lies_aside p.flags) → q.from_byte ≡ p.from_byte + p.own_start → q.to_byte ≡ p.from_byte + p.own_end
+pub Lives-own : (b : Store) (p q : Piece) → IsLiving b p → q.aside ≡ p.aside → q.from_byte ≡ p.from_byte + p.own_start → q.to_byte ≡ p.from_byte + p.own_end
     → outline_of q ≡ whole_outline (p.from_byte + p.own_end - (p.from_byte + p.own_start)) → Lives b q (own_shape (shape b p))
 unfolding IsLiving shape
 Lives-own b p q lies home begins ends outline =
-    let bytes = home_bytes b.main_text b.side_text (lies_aside p.flags) in
+    let bytes = home_bytes b.main_text b.side_text p.aside in
     let t = piece_text b.main_text b.side_text p in
     let u = slice_range bytes (p.from_byte + p.own_start) (p.from_byte + p.own_end) in
     let n = length-text b p lies in

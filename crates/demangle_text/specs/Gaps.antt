@@ -1,13 +1,9 @@
 -- A gap in the main text, what fills it, and what else stays as it is.
-use Rattle.std.specs.Prelude.{◌≡◌, ℕ, List, ◌++◌, length, take, drop}
-use Rattle.demangle_text.specs.Pieces.{Store, IsStore, Extends}
+use Rattle.std.specs.Prelude.{◌≡◌, ℕ, ◌+◌, ◌≤◌, List, ◌++◌, length, take, drop}
+use Rattle.demangle_text.specs.Pieces.{Store, IsStore, IsSplice, Extends}
 use Rattle.growing_text.specs.Room.{HasRoom}
 use Rattle.demangle_text.specs.State.{IsEdit}
-use Rattle.demangle_text.specs.declared.parts.Three.{Three}
-
--- three texts, one after the other
-abbrev pub in_order : Three → List ℕ
-in_order texts = texts.front.now ++ (texts.bytes.now ++ texts.back.now)
+use Rattle.demangle_text.specs.declared.shape.Piece.{Piece}
 
 -- the store where bytes stand at a place of this main text
 abbrev pub with_gap_filled : List ℕ → ℕ → List ℕ → Store → Store
@@ -19,3 +15,16 @@ pub record IsGap (old new : Store) (at n : ℕ) : Type 0 where
   pub side : Extends old.side_text new.side_text
   pub consistent : (bytes : List ℕ) → length bytes ≡ n → IsStore (with_gap_filled old.main_text at bytes new)
   pub edit : (bytes : List ℕ) → length bytes ≡ n → IsEdit old (with_gap_filled old.main_text at bytes new)
+
+-- the main text ends in the text of the piece, from a byte on, with a gap of n bytes at a place of it. Whatever bytes
+-- fill the gap, the call is an edit, and they are in the text then
+pub record IsOpen (old new : Store) (p : Piece) (at n from : ℕ) : Type 0 where
+  pub main : List ℕ
+  pub within : from + at ≤ length main
+  pub room : HasRoom (take (from + at) main) (drop (from + at) main) new.main_text n
+  pub consistent : (bytes : List ℕ) → length bytes ≡ n → IsStore (with_gap_filled main (from + at) bytes new)
+  pub edit : (bytes : List ℕ) → length bytes ≡ n → IsEdit old (with_gap_filled main (from + at) bytes new)
+  pub splice :
+      (bytes : List ℕ)
+      → length bytes ≡ n
+      → IsSplice old (with_gap_filled main (from + at) bytes new) p at bytes from

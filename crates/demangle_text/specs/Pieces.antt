@@ -9,7 +9,6 @@ use Rattle.demangle_text.specs.declared.shape.Place.TheVariants.{Start, Close, S
 use Rattle.demangle_text.specs.declared.shape.Piece.{Piece}
 use Rattle.demangle_text.specs.declared.ranges.Kept.{Kept}
 use Rattle.demangle_text.specs.Shape.{Form, Plain, Declared, Shape}
-use Rattle.demangle_text.specs.Flags.{lies_aside, templ_by, ctor_by, grouped_by, kind_by, group_from}
 
 -- how a text is cut
 pub data Layout : Type 0 where
@@ -25,6 +24,11 @@ pub record Outline : Type 0 where
   pub templ : Bool
   pub ctor : Bool
 
+-- a place of a group, where there is one
+abbrev pub group_from : Bool → ℕ → Option ℕ
+group_from true start = Some start
+group_from false start = None
+
 -- the layout of a piece that declares this
 abbrev pub layout_by : Option Kind → Option ℕ → ℕ → Layout
 layout_by None group at = Flat
@@ -33,10 +37,10 @@ layout_by (Some kind) group at = Cut kind group at
 -- what the text of a piece stands for
 abbrev pub outline_of : Piece → Outline
 outline_of p = record {
-  layout = layout_by (kind_by p.flags) (group_from (grouped_by p.flags) p.group_start) p.after_start;
+  layout = layout_by p.kind (group_from p.grouped p.group_start) p.after_start;
   own = (p.own_start, p.own_end);
-  templ = templ_by p.flags;
-  ctor = ctor_by p.flags;
+  templ = p.templ;
+  ctor = p.ctor;
 }
 
 -- the form that a layout cuts out of a text
@@ -125,7 +129,7 @@ home_bytes main side true = side
 
 -- the text of a piece
 abbrev pub piece_text : List ℕ → List ℕ → Piece → List ℕ
-piece_text main side p = slice_range (home_bytes main side (lies_aside p.flags)) p.from_byte p.to_byte
+piece_text main side p = slice_range (home_bytes main side p.aside) p.from_byte p.to_byte
 
 -- the last own name of a piece
 abbrev pub own_text : List ℕ → List ℕ → Piece → List ℕ
@@ -134,7 +138,7 @@ own_text main side p = slice_range (piece_text main side p) p.own_start p.own_en
 -- the piece lies in the two texts
 pub record IsPiece (main side : List ℕ) (p : Piece) : Type 0 where
   pub ordered : p.from_byte ≤ p.to_byte
-  pub within : p.to_byte ≤ length (home_bytes main side (lies_aside p.flags))
+  pub within : p.to_byte ≤ length (home_bytes main side p.aside)
   pub outlined : IsOutlined (piece_text main side p) (outline_of p)
 
 -- the shape of a piece
@@ -143,7 +147,7 @@ shape_in main side p = shape_of (piece_text main side p) (outline_of p)
 
 -- the piece lies in the main text, at these bytes
 pub record IsAt (p : Piece) (from to : ℕ) : Type 0 where
-  pub in_main : lies_aside p.flags ≡ false
+  pub in_main : p.aside ≡ false
   pub begins : p.from_byte ≡ from
   pub ends : p.to_byte ≡ to
 
@@ -170,20 +174,34 @@ pub record IsStore (s : Store) : Type 0 where
   pub starts_fit : AreStarts s.scope_starts (length s.arg_pieces)
   pub main_frame : s.frame_main ≤ length s.main_text
 
+-- the piece ends a main text of this length, from the mark's byte or later
+pub record IsTailAt (mark end : ℕ) (p : Piece) : Type 0 where
+  pub in_main : p.aside ≡ false
+  pub inner : mark ≤ p.from_byte
+  pub ends : p.to_byte ≡ end
+
 -- the piece lies in the main text, from the innermost mark or later up to the end
-pub record IsTail (s : Store) (p : Piece) : Type 0 where
-  pub in_main : lies_aside p.flags ≡ false
-  pub inner : s.frame_main ≤ p.from_byte
-  pub ends : p.to_byte ≡ length s.main_text
+abbrev pub IsTail : Store → Piece → Type 0
+IsTail s p = IsTailAt s.frame_main (length s.main_text) p
 
 -- the text begins with the other
 pub record Extends (old new : List ℕ) : Type 0 where
   pub more : List ℕ
   pub all : new ≡ old ++ more
 
+-- the main text ends in the text of the piece, from a byte on, at the mark or later: where the piece ended it, nothing
+-- changed
+pub record IsBrought (old side : List ℕ) (mark : ℕ) (p : Piece) (new : List ℕ) (from : ℕ) : Type 0 where
+  pub begins : from + (p.to_byte - p.from_byte) ≡ length new
+  pub text : drop from new ≡ piece_text old side p
+  pub inner : mark ≤ from
+  pub front : take from new ≡ take from old
+  pub longer : Extends old new
+  pub in_place : IsTailAt mark (length old) p → (from ≡ p.from_byte) × (new ≡ old)
+
 -- a piece in the main text ends by `low`, or lies in the block from `from` to `to`
 abbrev pub IsApart : ℕ → ℕ → ℕ → Piece → Type 0
-IsApart low from to p = lies_aside p.flags ≡ false → low < p.to_byte → (from ≤ p.from_byte) × (p.to_byte ≤ to)
+IsApart low from to p = p.aside ≡ false → low < p.to_byte → (from ≤ p.from_byte) × (p.to_byte ≤ to)
 
 -- both lists keep their shapes while texts of theirs are put at the end of the side text
 pub record IsAside (main old_side new_side : List ℕ) (old_saved new_saved old_args new_args : List Piece) : Type 0 where
@@ -196,7 +214,7 @@ pub record IsAside (main old_side new_side : List ℕ) (old_saved new_saved old_
 
 -- the piece lies in the side text, or ends by a byte of the main text
 abbrev pub EndsBy : ℕ → Piece → Type 0
-EndsBy end p = lies_aside p.flags ≡ false → p.to_byte ≤ end
+EndsBy end p = p.aside ≡ false → p.to_byte ≤ end
 
 -- the pieces of a list
 abbrev pub pieces_of : List Kept → List Piece
@@ -223,14 +241,14 @@ abbrev pub carried : ℕ → ℕ → ℕ → Piece → Piece
 carried low from dest p =
     let ends = nat_le p.to_byte low in
     record p {
-      from_byte = carried_from (lies_aside p.flags) ends from dest p.from_byte;
-      to_byte = carried_from (lies_aside p.flags) ends from dest p.to_byte;
+      from_byte = carried_from p.aside ends from dest p.from_byte;
+      to_byte = carried_from p.aside ends from dest p.to_byte;
     }
 
 -- the second piece begins where the first ends, and both lie in the main text, from the innermost mark up to the end
 pub record IsAdjacent (s : Store) (first second : Piece) : Type 0 where
-  pub first_in_main : lies_aside first.flags ≡ false
-  pub second_in_main : lies_aside second.flags ≡ false
+  pub first_in_main : first.aside ≡ false
+  pub second_in_main : second.aside ≡ false
   pub inner : s.frame_main ≤ first.from_byte
   pub meets : first.to_byte ≡ second.from_byte
   pub ends : second.to_byte ≡ length s.main_text

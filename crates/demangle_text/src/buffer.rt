@@ -3,9 +3,7 @@ ghost use Rattle.std.specs.Prelude.{◌≡◌, ℕ, ◌+◌, ◌-◌, ◌^◌, �
 ghost use Rattle.std.specs.Prelude.{OnOk, OnErr, slice_range, slice_index, is_some, codes};
 ghost use Rattle.demangle_text.specs.Shape.{gap_after};
 
-use crate::flags::{alone_in_main, flagged, is_ctor, is_grouped, is_templ, plain_flags};
 use crate::moves::Lists;
-use crate::parts::Three;
 use crate::ranges::Ranges;
 use crate::shape::{Kind, Mark, Piece, Place};
 use growing_text::Text;
@@ -162,7 +160,7 @@ impl Buffer {
         ensures stands { IfOk result (λ p. Stands p (length (main_bytes self.old)) (length (main_bytes self.new))) }
     {
         let from = self.main.len();
-        self.add_bytes(bytes)?;
+        self.main.add(bytes)?;
         Ok(Piece::whole_at(from, self.main.len()))
     }
 
@@ -187,7 +185,7 @@ impl Buffer {
         ensures main_err { OnErr result (main_bytes self.new ≡ main_bytes self.old) }
         ensures stands { IfOk result (λ p. Stands p (length (main_bytes self.old)) (length (main_bytes self.new))) }
     {
-        let from = self.copy_text(piece.alone())?;
+        let from = self.copy_text(piece)?;
         Ok(piece.moved_to(from, self.main.len()))
     }
 
@@ -204,7 +202,9 @@ impl Buffer {
         ensures edit_of { IfOk result (λ p. IsEditOf self.old self.new piece p (length bytes.now)) }
         ensures main_err { OnErr result (main_bytes self.new ≡ main_bytes self.old) }
     {
-        self.insert(piece, Place::End, bytes)
+        let from = self.extend(piece, bytes, b"")?;
+        let at = piece.place(Place::End);
+        Ok(piece.with_bytes(Place::End, at, bytes.len(), from, self.main.len()))
     }
 
     /// As `append`, of a piece that stands up to the end of the main text, from the innermost mark or later: it isn't
@@ -219,9 +219,7 @@ impl Buffer {
         ensures edit_of { IfOk result (λ p. IsEditOf self.old self.new piece p (length bytes.now)) }
         ensures main_err { OnErr result (main_bytes self.new ≡ main_bytes self.old) }
     {
-        let at = piece.place(Place::End);
-        let from = self.splice_last(piece, bytes)?;
-        Ok(piece.with_bytes(Place::End, at, bytes.len(), from, self.main.len()))
+        self.insert(piece, Place::End, bytes)
     }
 
     /// The piece with both texts at the end of its text, one after the other. Ends pieces, copies a
@@ -242,7 +240,7 @@ impl Buffer {
             (length first.now + length second.now)) }
         ensures main_err { OnErr result (main_bytes self.new ≡ main_bytes self.old) }
     {
-        let from = self.splice_pair(&piece, first, second)?;
+        let from = self.extend(piece, first, second)?;
         let n = first.len() + second.len();
         let at = piece.place(Place::End);
         Ok(piece.with_bytes(Place::End, at, n, from, self.main.len()))
@@ -267,37 +265,12 @@ impl Buffer {
             (length between.now + length name.now)) }
         ensures main_err { OnErr result (main_bytes self.new ≡ main_bytes self.old) }
     {
-        if self.is_tail(*piece) {
-            return self.append_name_last(piece, between, name);
-        }
-        self.append_name_elsewhere(piece, between, name)
-    }
-
-    // `append_name_in_place` of a piece that doesn't stand at the end of the main text. The compiler knows the bytes
-    // between text and name here, since all callers give the same.
-    #[inline(never)]
-    fn append_name_elsewhere(
-        &mut self,
-        piece: &mut Piece,
-        between: &[u8],
-        name: &[u8],
-    ) -> Result<(), AllocError>
-        requires living { IsLiving self.old piece.old }
-        requires apart { IsTail self.old piece.old → ⊥ }
-        ensures shape { OnOk result (Lives self.new piece.new (named between.now name.now (shape self.old piece.old))) }
-        ensures edit { OnOk result (IsEdit self.old self.new) }
-        ensures err { OnErr result (KeepsAll self.old self.new) }
-        ensures piece_err { OnErr result (piece.new ≡ piece.old) }
-        ensures edit_of { OnOk result (IsEditOf self.old self.new piece.old piece.new
-            (length between.now + length name.now)) }
-        ensures main_err { OnErr result (main_bytes self.new ≡ main_bytes self.old) }
-    {
-        let from = self.extend_copied(piece, between, name)?;
-        piece.from_byte = from;
-        piece.to_byte = self.main.len();
-        piece.own_end = piece.text_len();
-        piece.own_start = piece.own_end - name.len();
-        piece.flags = alone_in_main();
+        let from = self.extend(*piece, between, name)?;
+        let whole = Piece::whole_at(from, self.main.len());
+        *piece = Piece {
+            own_start: whole.own_end - name.len(),
+            ..whole
+        };
         Ok(())
     }
 
@@ -320,13 +293,7 @@ impl Buffer {
             (length between.now + length name.now)) }
         ensures main_err { OnErr result (main_bytes self.new ≡ main_bytes self.old) }
     {
-        let from = self.splice_pair_last(piece, between, name)?;
-        piece.from_byte = from;
-        piece.to_byte = self.main.len();
-        piece.own_end = piece.text_len();
-        piece.own_start = piece.own_end - name.len();
-        piece.flags = alone_in_main();
-        Ok(())
+        self.append_name_in_place(piece, between, name)
     }
 
     /// The piece with the bytes and then its own last own name at the end of its text. Ends pieces,
@@ -342,7 +309,7 @@ impl Buffer {
             (length between.now + text_len (own_shape (shape self.old piece)))) }
         ensures main_err { OnErr result (main_bytes self.new ≡ main_bytes self.old) }
     {
-        let from = self.splice_own(piece, between)?;
+        let from = self.extend_by_own(piece, between)?;
         let to = self.main.len();
         let n = between.len() + (piece.own_end - piece.own_start);
         let at = piece.place(Place::End);
@@ -363,6 +330,9 @@ impl Buffer {
         ensures edit_of { IfOk result (λ p. IsEditOf self.old self.new piece p (length bytes.now)) }
         ensures main_err { OnErr result (main_bytes self.new ≡ main_bytes self.old) }
     {
+        if let Place::End = place {
+            return self.append(piece, bytes);
+        }
         let at = piece.place(place);
         let from = self.splice(piece, at, bytes)?;
         Ok(piece.with_bytes(place, at, bytes.len(), from, self.main.len()))
@@ -393,12 +363,7 @@ impl Buffer {
     {
         let at = piece.place(Place::Suffix);
         let front = Buffer::group_opening(&self.bytes(piece)[..at]);
-        let texts = Three {
-            front,
-            bytes,
-            back: b")",
-        };
-        let from = self.splice_three(piece, at, texts)?;
+        let from = self.splice_group(piece, at, front, bytes)?;
         let n = front.len() + bytes.len() + 1;
         Ok(piece.with_group(at, n, bytes.len() + 2, from, self.main.len()))
     }
@@ -477,7 +442,7 @@ impl Buffer {
         ensures range { (from to : ℕ) → Stands piece from to → (from ≤ to) × (to ≤ length (main_bytes self.now)) }
         ensures older { (f : Frame) (from to : ℕ) → IsOlder piece f → Stands piece from to → to ≤ frame_start f }
     {
-        if piece.is_aside() {
+        if piece.aside {
             self.lists.side.part(piece.from_byte, piece.to_byte)
         } else {
             self.main.part(piece.from_byte, piece.to_byte)
@@ -500,7 +465,7 @@ impl Buffer {
         requires living { IsLiving self.now piece }
         ensures value { result ≡ kind_of (shape self.now piece).form }
     {
-        piece.declares()
+        piece.kind
     }
 
     /// Whether the piece is declared with a group.
@@ -509,7 +474,7 @@ impl Buffer {
         requires living { IsLiving self.now piece }
         ensures value { result ≡ is_some (group_of (shape self.now piece).form) }
     {
-        piece.declares().is_some() && is_grouped(piece.flags)
+        matches!(piece.kind, Some(_) if piece.grouped)
     }
 
     /// The byte of its text at which `after` begins, or `None` where the piece is plain.
@@ -518,7 +483,7 @@ impl Buffer {
         requires living { IsLiving self.now piece }
         ensures value { result ≡ after_of (shape self.now piece).form }
     {
-        match piece.declares() {
+        match piece.kind {
             None => None,
             Some(_) => Some(piece.after_start),
         }
@@ -540,7 +505,7 @@ impl Buffer {
     pub fn templ(&self, piece: Piece) -> bool
         ensures value { result ≡ (shape self.now piece).templ }
     {
-        is_templ(piece.flags)
+        piece.templ
     }
 
     /// Whether the piece names a constructor, a destructor or a conversion.
@@ -548,7 +513,7 @@ impl Buffer {
     pub fn ctor(&self, piece: Piece) -> bool
         ensures value { result ≡ (shape self.now piece).ctor }
     {
-        is_ctor(piece.flags)
+        piece.ctor
     }
 
     /// The shape with these flags. The answer is as old as the piece.
@@ -560,7 +525,8 @@ impl Buffer {
         ensures stands { StandsAs piece result }
     {
         Piece {
-            flags: flagged(piece.flags, templ, ctor),
+            templ,
+            ctor,
             ..piece
         }
     }
@@ -609,9 +575,7 @@ impl Buffer {
         ensures stands { StandsAs piece result }
     {
         Piece {
-            group_start: 0,
-            after_start: 0,
-            flags: plain_flags(piece.flags),
+            kind: None,
             ..piece
         }
     }

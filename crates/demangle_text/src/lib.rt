@@ -16,7 +16,6 @@
 #![tactic(auto)]
 
 mod buffer;
-mod flags;
 mod lists;
 mod moves;
 mod parts;

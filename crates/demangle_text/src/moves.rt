@@ -1,17 +1,15 @@
-//! What a move of bytes in the main text does to the pieces that are kept.
+//! What a move of bytes in the output does to the pieces that are kept.
 ghost use Rattle.std.specs.Prelude.{◌≡◌, ℕ, ◌+◌, ◌-◌, ◌^◌, ◌<◌, ◌≤◌, ◌++◌, length, slice_range, All, map, IfOk, OnOk};
 ghost use Rattle.std.specs.Prelude.{OnErr, true, false};
 ghost use Rattle.std.specs.List.{AllWithin};
-ghost use Rattle.demangle_text.specs.Flags.{lies_aside};
 ghost use Rattle.demangle_text.specs.Pieces.{IsPiece, IsApart, IsAside, EndsBy, Extends, shape_in, outline_of, carried};
 
-use crate::flags::in_side;
 use crate::ranges::{Block, Move, Ranges};
 use crate::shape::Piece;
 use growing_text::Text;
 use std::alloc::AllocError;
 
-// The saved pieces, the arguments of all scopes, and the side text, which has the texts of them that a move would tear.
+// The saved pieces, the arguments of all scopes, and the spill, which has the texts of them that a move would tear.
 #[derive(Drop)]
 pub(crate) struct Lists {
     pub(crate) side: Text,
@@ -52,34 +50,32 @@ impl Lists {
     }
 }
 
-// The piece with its text at the end of the side text.
-fn set_aside(main: &[u8], side: &mut Text, piece: Piece) -> Result<Piece, AllocError>
-    requires ordered { piece.from_byte ≤ piece.to_byte }
-    requires within { piece.to_byte ≤ length main.now }
-    ensures aside { IfOk result (λ p. lies_aside p.flags ≡ true) }
-    ensures begins { IfOk result (λ p. p.from_byte ≡ length side.old) }
-    ensures ends { IfOk result (λ p. p.to_byte ≡ length side.old + (piece.to_byte - piece.from_byte)) }
-    ensures outline { IfOk result (λ p. outline_of p ≡ outline_of piece) }
-    ensures text { OnOk result (side.new ≡ side.old ++ slice_range main.now piece.from_byte piece.to_byte) }
-    ensures err { OnErr result (side.new ≡ side.old) }
+// Whether a kept piece would be torn by a move of the block.
+fn is_torn(piece: Piece, block: Block) -> bool
+    ensures torn { result ≡ true → piece.aside ≡ false }
+    ensures apart { result ≡ false → IsApart block.low block.from block.end piece }
 {
-    let from = side.len();
-    side.add(&main[piece.from_byte..piece.to_byte])?;
-    Ok(Piece {
-        from_byte: from,
-        to_byte: side.len(),
-        flags: in_side(piece.flags),
-        ..piece
-    })
+    !piece.aside
+        && block.low < piece.to_byte
+        && (piece.from_byte < block.from || block.end < piece.to_byte)
 }
 
-// A kept piece before a block is moved: one that would be torn is set aside.
-fn evict_alone(
-    main: &[u8],
-    side: &mut Text,
-    piece: Piece,
-    block: Block,
-) -> Result<Piece, AllocError>
+// How many bytes the pieces of a list have that would be torn.
+pub(crate) fn torn_len(pieces: &Ranges, block: Block) -> usize
+    requires ordered { All (λ p. p.from_byte ≤ p.to_byte) pieces.now }
+{
+    let mut n: usize = 0;
+    for i in pieces.count_by(block.low)..pieces.len() {
+        let piece = pieces.piece_at(i);
+        if is_torn(piece, block) {
+            n = n.saturating_add(piece.text_len());
+        }
+    }
+    n
+}
+
+// A kept piece before a block is moved: one that would be torn has its text at the end of the spill.
+fn set_aside(main: &[u8], side: &mut Text, piece: Piece, block: Block) -> Result<Piece, AllocError>
     requires lies { IsPiece main.now side.old piece }
     ensures side { Extends side.old side.new }
     ensures lies { IfOk result (IsPiece main.now side.new) }
@@ -87,13 +83,17 @@ fn evict_alone(
     ensures apart { IfOk result (IsApart block.low block.from block.end) }
     ensures ends { IfOk result (λ p. (end : ℕ) → EndsBy end piece → EndsBy end p) }
 {
-    if piece.is_aside() || piece.to_byte <= block.low {
+    if !is_torn(piece, block) {
         return Ok(piece);
     }
-    if block.from <= piece.from_byte && piece.to_byte <= block.end {
-        return Ok(piece);
-    }
-    set_aside(main, side, piece)
+    let from = side.len();
+    side.add(&main[piece.from_byte..piece.to_byte])?;
+    Ok(Piece {
+        from_byte: from,
+        to_byte: side.len(),
+        aside: true,
+        ..piece
+    })
 }
 
 // Sets aside the texts of all pieces of a list that would be torn: none of them lies before the first that a move can
@@ -109,7 +109,7 @@ fn evict(main: &[u8], side: &mut Text, pieces: &mut Ranges, block: Block) -> Res
 {
     let first = pieces.count_by(block.low);
     for i in first..pieces.len() {
-        let piece = evict_alone(main, side, pieces.piece_at(i), block)?;
+        let piece = set_aside(main, side, pieces.piece_at(i), block)?;
         pieces.set(i, piece);
     }
     Ok(())

@@ -11,7 +11,7 @@ use std::marker::Model;
 // How many pieces the first memory holds.
 const FIRST_ROOM: usize = 16;
 
-// A piece, with a byte of the main text by which it ends, and all that were kept before it.
+// A piece, with a byte of the output by which it ends, and all that were kept before it.
 #[derive(Clone, Copy)]
 pub(crate) struct Kept {
     piece: Piece,
@@ -24,7 +24,7 @@ pub(crate) struct Ranges {
     count: usize,
 }
 
-// A block of the main text that goes elsewhere. What ends by `low` stays.
+// A block of the output that goes elsewhere. What ends by `low` stays.
 #[derive(Clone, Copy)]
 pub(crate) struct Block {
     pub(crate) low: usize,
@@ -32,7 +32,7 @@ pub(crate) struct Block {
     pub(crate) end: usize,
 }
 
-// A block of the main text, and where it goes.
+// A block of the output, and where it goes.
 #[derive(Clone, Copy)]
 pub(crate) struct Move {
     pub(crate) block: Block,
@@ -78,7 +78,7 @@ impl Ranges {
         self.count = 0;
     }
 
-    // A byte of the main text by which the first n pieces end.
+    // A byte of the output by which the first n pieces end.
     #[inline(always)]
     fn reach(&self, n: usize) -> usize
         requires within { n ≤ length self.now }
@@ -88,7 +88,7 @@ impl Ranges {
         if n == 0 { 0 } else { self.kept[n - 1].reach }
     }
 
-    // How many of the first pieces a move of what lies after a byte of the main text leaves where they are.
+    // How many of the first pieces a move of what lies after a byte of the output leaves where they are.
     #[inline(always)]
     pub(crate) fn count_by(&self, low: usize) -> usize
         ensures within { result ≤ length self.now }
@@ -151,7 +151,7 @@ impl Ranges {
         self.kept[i].piece = piece;
     }
 
-    // A piece at the end. It is read where it is kept, once there is room. All end by a byte of the main text.
+    // A piece at the end. It is read where it is kept, once there is room. All end by a byte of the output.
     #[inline(always)]
     pub(crate) fn push(&mut self, piece: &Piece, end: usize) -> Result<(), AllocError>
         requires ends { All (EndsBy end) self.old }
@@ -208,7 +208,7 @@ fn carry_each(kept: &mut Vec<Kept>, first: usize, count: usize, reach: usize, by
     }
 }
 
-// Puts a piece after the first ones. It and all before it end by a byte of the main text.
+// Puts a piece after the first ones. It and all before it end by a byte of the output.
 #[inline(always)]
 fn set_kept(kept: &mut Vec<Kept>, at: usize, piece: &Piece, end: usize)
     requires reached { AreReached (pieces_of kept.old.items) (reaches_of kept.old.items) at }
@@ -233,7 +233,7 @@ fn carry_alone(piece: Piece, by: &Move) -> Piece
     requires fits { by.now.dest + (by.now.block.end - by.now.block.from) < 2 ^ 64 }
     ensures value { result ≡ carried by.now.block.low by.now.block.from by.now.dest piece }
 {
-    if piece.is_aside() || piece.to_byte <= by.block.low {
+    if piece.aside || piece.to_byte <= by.block.low {
         return piece;
     }
     Piece {
@@ -249,7 +249,7 @@ fn reached(end: usize, piece: &Piece) -> usize
     ensures more { end ≤ result }
     ensures ends { EndsBy result piece.now }
 {
-    if !piece.is_aside() && end < piece.to_byte {
+    if !piece.aside && end < piece.to_byte {
         piece.to_byte
     } else {
         end

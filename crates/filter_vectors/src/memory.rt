@@ -54,7 +54,7 @@ impl Source for MemorySource<'_> {
         self.failed
     }
 
-    fn read(&mut self, into: &mut [u8]) -> Result<usize, Failed> {
+    fn take(&mut self, into: &mut [u8]) -> Result<usize, Failed> {
         self.called_late = is_late(self.failed, self.called_late);
         if self.calls_left == 0 {
             self.failed = true;
@@ -108,7 +108,7 @@ impl Sink for MemorySink {
         self.failed
     }
 
-    fn write(&mut self, bytes: &[u8]) -> Result<usize, Failed> {
+    fn put(&mut self, bytes: &[u8]) -> Result<usize, Failed> {
         self.called_late = is_late(self.failed, self.called_late);
         let count = bytes.len().min(self.most);
         if self.calls_left > 0 && self.bytes.extend_from_slice(&bytes[..count]).is_ok() {
@@ -174,7 +174,7 @@ impl Source for WatchingSource<'_> {
         false
     }
 
-    fn read(&mut self, into: &mut [u8]) -> Result<usize, Failed> {
+    fn take(&mut self, into: &mut [u8]) -> Result<usize, Failed> {
         if self.expected.get(self.calls) != Some(&self.taken.get()) {
             self.as_expected = false;
         }
@@ -211,7 +211,7 @@ impl Sink for CountingSink<'_> {
         false
     }
 
-    fn write(&mut self, bytes: &[u8]) -> Result<usize, Failed> {
+    fn put(&mut self, bytes: &[u8]) -> Result<usize, Failed> {
         let count = bytes.len().min(self.most);
         self.taken.set(self.taken.get().saturating_add(count));
         Ok(count)

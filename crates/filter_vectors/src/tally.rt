@@ -148,7 +148,7 @@ fn assert_reader_asked(rt: &impl Abort, at: usize, turn: Turn) {
     });
     let mut room = [0u8; 3];
     for call in 1..=CALLS {
-        let _ = source.read(&mut room);
+        let _ = source.take(&mut room);
         assert_eq!(rt; calls.get(), call);
     }
 }
@@ -162,7 +162,7 @@ fn assert_writer_asked(rt: &impl Abort, at: usize, turn: Turn) {
         turn,
     });
     for call in 1..=CALLS {
-        let _ = sink.write(b"abc");
+        let _ = sink.put(b"abc");
         assert_eq!(rt; calls.get(), call);
     }
 }
@@ -199,7 +199,7 @@ fn assert_reader_fails_at(rt: &impl Abort, at: usize) {
     });
     let mut room = [0u8; 3];
     for call in 1..=CALLS {
-        let fails = source.read(&mut room) == Err(Failed);
+        let fails = source.take(&mut room) == Err(Failed);
         assert_fails_at(rt, at, call, fails, Source::failed(&source));
     }
 }
@@ -213,7 +213,7 @@ fn assert_writer_fails_at(rt: &impl Abort, at: usize, turn: Turn) {
         turn,
     });
     for call in 1..=CALLS {
-        let fails = sink.write(b"abc") == Err(Failed);
+        let fails = sink.put(b"abc") == Err(Failed);
         assert_fails_at(rt, at, call, fails, Sink::failed(&sink));
     }
 }
@@ -242,14 +242,14 @@ fn nothing_read_and_nothing_to_write_are_no_failures(rt: HostRuntime) {
         turn: Turn::DoesNothing,
     });
     let mut room = [0u8; 3];
-    assert_eq!(rt; source.read(&mut room), Ok(0));
+    assert_eq!(rt; source.take(&mut room), Ok(0));
     assert!(rt; !Source::failed(&source));
     let mut sink = Tally::new(Counted {
         calls: &calls,
         at: NEVER,
         turn: Turn::DoesNothing,
     });
-    assert_eq!(rt; sink.write(b""), Ok(0));
+    assert_eq!(rt; sink.put(b""), Ok(0));
     assert!(rt; !Sink::failed(&sink));
 }
 
@@ -266,9 +266,9 @@ fn a_tally_reads_and_writes(rt: HostRuntime) {
 fn a_full_slice_is_a_failure(rt: HostRuntime) {
     let mut room = [0u8; 2];
     let mut sink = Tally::new(room.as_mut_slice());
-    assert_eq!(rt; sink.write(b"abc"), Ok(2));
+    assert_eq!(rt; sink.put(b"abc"), Ok(2));
     assert!(rt; !sink.failed());
-    assert_eq!(rt; sink.write(b"c"), Err(Failed));
+    assert_eq!(rt; sink.put(b"c"), Err(Failed));
     assert!(rt; sink.failed());
 }
 
@@ -277,12 +277,12 @@ fn any_error_of_a_reader_is_a_failure(rt: HostRuntime) {
     for kind in KINDS {
         let mut source = Tally::new(FailsOnce { kind, calls: 0 });
         let mut line = [0u8; 7];
-        assert_eq!(rt; source.read(&mut line), Ok(7));
+        assert_eq!(rt; source.take(&mut line), Ok(7));
         assert!(rt; !Source::failed(&source));
-        assert_eq!(rt; source.read(&mut line), Err(Failed));
+        assert_eq!(rt; source.take(&mut line), Err(Failed));
         assert!(rt; Source::failed(&source));
         // The source goes on, and it has failed all the same.
-        let _ = source.read(&mut line);
+        let _ = source.take(&mut line);
         assert!(rt; Source::failed(&source));
     }
 }
@@ -291,12 +291,12 @@ fn any_error_of_a_reader_is_a_failure(rt: HostRuntime) {
 fn any_error_of_a_writer_is_a_failure(rt: HostRuntime) {
     for kind in KINDS {
         let mut sink = Tally::new(FailsOnce { kind, calls: 0 });
-        assert_eq!(rt; sink.write(b"abc"), Ok(1));
+        assert_eq!(rt; sink.put(b"abc"), Ok(1));
         assert!(rt; !Sink::failed(&sink));
-        assert_eq!(rt; sink.write(b"bc"), Err(Failed));
+        assert_eq!(rt; sink.put(b"bc"), Err(Failed));
         assert!(rt; Sink::failed(&sink));
         // The sink goes on, and it has failed all the same.
-        let _ = sink.write(b"bc");
+        let _ = sink.put(b"bc");
         assert!(rt; Sink::failed(&sink));
     }
 }

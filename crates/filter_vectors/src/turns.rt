@@ -88,7 +88,7 @@ impl Source for TurnSource<'_> {
         self.failed
     }
 
-    fn read(&mut self, into: &mut [u8]) -> Result<usize, Failed> {
+    fn take(&mut self, into: &mut [u8]) -> Result<usize, Failed> {
         self.note.call();
         self.calls = self.calls.saturating_add(1);
         if self.calls == self.fails_at {
@@ -145,7 +145,7 @@ impl Sink for TurnSink<'_> {
         self.failed
     }
 
-    fn write(&mut self, bytes: &[u8]) -> Result<usize, Failed> {
+    fn put(&mut self, bytes: &[u8]) -> Result<usize, Failed> {
         self.note.call();
         self.calls = self.calls.saturating_add(1);
         let size = next_size(self.size, self.most);

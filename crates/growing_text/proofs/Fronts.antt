@@ -66,14 +66,6 @@ module _ {X : Type 0} (ys bs : List X) (len at n k : ℕ) (within : at ≤ len) 
       ∙ ap (λ (v : List X). v ++ (bs ++ rest)) (sym low)
       ∙ ap (λ (v : List X). take at (take len ys) ++ (bs ++ v)) (sym high)
 
--- bytes after the front, over those that stand there
-pub front-added : {X : Type 0} (ys bs rest : List X) (len n : ℕ) → length bs ≡ n → len ≤ length ys
-    → take (len + n) (take len ys ++ (bs ++ rest)) ≡ take len ys ++ bs
-front-added ys bs rest len n long within =
-    let front = take len ys in
-    let k = length-take-le len ys within in
-    ap (take (len + n)) (sym (append_assoc front bs rest)) ∙ take_at (front ++ bs) rest (len + n) (omega (arith, k, long, length-append front bs))
-
 -- bytes over those that stand at a place
 pub front-put : {X : Type 0} (ys bs : List X) (len at n : ℕ) → length bs ≡ n → at + n ≤ len → len ≤ length ys
     → take len (take at ys ++ (bs ++ drop n (drop at ys))) ≡ take at (take len ys) ++ (bs ++ drop (at + n) (take len ys))

@@ -1,7 +1,6 @@
 -- Room between two texts, which is filled from its front on.
 use Rattle.std.proofs.Common.{◌≡◌, ℕ, ◌+◌, ◌-◌, ◌≤◌, List, [], ◌++◌, length, take, drop, slice_range, refl, sym, ap, ◌∙◌, arith, append_assoc}
 use Rattle.std.proofs.lemmas.List.{length-append, length-drop, length-take-le, take_at, drop_at, drop-append-le, take-append-drop, drop-drop, nil_from_length, append-nil}
-use Rattle.std.proofs.lemmas.List.Edits.{length-between}
 use Rattle.std.specs.List.{copy_within}
 use Rattle.growing_text.specs.Room.{HasRoom}
 use Rattle.growing_text.proofs.Fronts.{front-inserted}
@@ -127,13 +126,3 @@ part-put old all one mid n at from to h by_at is ordered within =
     let low : take at all ≡ old = ap (take at) h.parts ∙ take_at old (h.room ++ []) at (sym by_at) in
     let rest = one ++ drop (at + length one) all in
     ap (λ (v : List ℕ). slice_range v from to) (is ∙ ap (λ (v : List ℕ). v ++ rest) low) ∙ part-append old rest from to ordered within
-
--- a part of what stands before the room, put at its front
-pub part-room : (old all new : List ℕ) (n at from to : ℕ) → HasRoom old [] all n → at ≡ length old → from ≤ to → to ≤ length old
-    → new ≡ take at all ++ (slice_range all from to ++ drop (at + (to - from)) all)
-    → new ≡ take at all ++ (slice_range old from to ++ drop (at + length (slice_range old from to)) all)
-part-room old all new n at from to h by_at ordered within is =
-    let part = slice_range old from to in
-    let long : length part ≡ to - from = length-between old from to within in
-    let same : slice_range all from to ≡ part = ap (λ (v : List ℕ). slice_range v from to) h.parts ∙ part-append old (h.room ++ []) from to ordered within in
-    is ∙ ap (λ (v : List ℕ). take at all ++ (v ++ drop (at + (to - from)) all)) same ∙ ap (λ (i : ℕ). take at all ++ (part ++ drop (at + i) all)) (sym long)

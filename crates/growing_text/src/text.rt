@@ -3,7 +3,7 @@ ghost use Rattle.std.specs.Prelude.{◌≡◌, ℕ, ◌+◌, ◌-◌, ◌≤◌,
 ghost use Rattle.std.specs.Prelude.{IsTrue, OnOk, OnErr};
 ghost use Rattle.growing_text.specs.Room.{HasRoom};
 
-use crate::lanes::{copy_any_ended, copy_ended, copy_text};
+use crate::lanes::copy_text;
 use std::alloc::{AllocError, Global};
 use std::marker::Model;
 
@@ -96,70 +96,29 @@ impl Text {
         ensures ok { OnOk result (self.new ≡ self.old ++ bytes.now) }
         ensures err { OnErr result (self.new ≡ self.old) }
     {
+        make_room(&mut self.bytes, self.len, bytes.len())?;
         let to = self.len + bytes.len();
-        if to > self.bytes.len() {
-            grow(&mut self.bytes, self.len, bytes.len())?;
-        }
         copy_text(&mut self.bytes[self.len..to], bytes);
         self.len = to;
         Ok(())
     }
 
-    /// Puts bytes at the end out of line, and by no lanes: for those that are many.
+    /// As `add`, out of line.
     #[inline(never)]
     pub fn add_many(&mut self, bytes: &[u8]) -> Result<(), AllocError>
         ensures ok { OnOk result (self.new ≡ self.old ++ bytes.now) }
         ensures err { OnErr result (self.new ≡ self.old) }
     {
-        let n = bytes.len();
-        make_room(&mut self.bytes, self.len, n)?;
-        let end = self.len + n;
-        self.bytes[self.len..end].copy_from_slice(bytes);
-        self.len = end;
-        Ok(())
+        self.add(bytes)
     }
 
-    /// Puts bytes at the end, and one byte after them. It is inlined for 16 to 128 bytes.
+    /// Puts bytes at the end, and one byte after them.
     #[inline(always)]
     pub fn add_ended(&mut self, bytes: &[u8], end: u8) -> Result<(), AllocError>
         ensures ok { OnOk result (self.new ≡ self.old ++ (bytes.now ++ end ∷ [])) }
         ensures err { OnErr result (self.new ≡ self.old) }
     {
-        if self.add_ended_by_lanes(bytes, end) {
-            return Ok(());
-        }
-        self.add_any_ended(bytes, end)
-    }
-
-    // Bytes and one after them, where there is room and lanes can put so many. Elsewhere nothing is put.
-    #[inline(always)]
-    fn add_ended_by_lanes(&mut self, bytes: &[u8], end: u8) -> bool
-        ensures put { IsTrue result → self.new ≡ self.old ++ (bytes.now ++ end ∷ []) }
-        ensures not_put { result ≡ false → self.new ≡ self.old }
-    {
-        let to = self.len + (bytes.len() + 1);
-        if to > self.bytes.len() {
-            return false;
-        }
-        if !copy_ended(&mut self.bytes[self.len..to], bytes, end) {
-            return false;
-        }
-        self.len = to;
-        true
-    }
-
-    // Any bytes and one after them, out of line. Room is made where there is too little.
-    #[inline(never)]
-    fn add_any_ended(&mut self, bytes: &[u8], end: u8) -> Result<(), AllocError>
-        ensures ok { OnOk result (self.new ≡ self.old ++ (bytes.now ++ end ∷ [])) }
-        ensures err { OnErr result (self.new ≡ self.old) }
-    {
-        let n = bytes.len() + 1;
-        make_room(&mut self.bytes, self.len, n)?;
-        let to = self.len + n;
-        copy_any_ended(&mut self.bytes[self.len..to], bytes, end);
-        self.len = to;
-        Ok(())
+        self.add_pair(bytes, &[end])
     }
 
     /// Puts two texts at the end, one after the other.
@@ -204,65 +163,6 @@ impl Text {
         let end = self.len();
         self.add_room(to - from)?;
         self.put_part(end, from, to);
-        Ok(())
-    }
-
-    /// Puts a part of the text once more at the end, and two texts after it.
-    #[inline(always)]
-    pub fn repeat_with_pair(
-        &mut self,
-        from: usize,
-        to: usize,
-        first: &[u8],
-        second: &[u8],
-    ) -> Result<(), AllocError>
-        requires ordered { from ≤ to }
-        requires within { to ≤ length self.old }
-        ensures ok { OnOk result (self.new ≡ self.old ++ (slice_range self.old from to ++ (first.now ++ second.now))) }
-        ensures err { OnErr result (self.new ≡ self.old) }
-    {
-        let Some(n) = (first.len() + second.len()).checked_add(to - from) else {
-            return Err(AllocError);
-        };
-        let end = self.len();
-        self.add_room(n)?;
-        let front = self.put_part(end, from, to);
-        let middle = self.put(front, first);
-        self.put(middle, second);
-        Ok(())
-    }
-
-    /// Puts bytes at a place: what lies after it moves on.
-    pub fn insert(&mut self, at: usize, bytes: &[u8]) -> Result<(), AllocError>
-        requires within { at ≤ length self.old }
-        ensures ok { OnOk result (self.new ≡ take at self.old ++ (bytes.now ++ drop at self.old)) }
-        ensures err { OnErr result (self.new ≡ self.old) }
-    {
-        self.open_room(at, bytes.len())?;
-        self.put(at, bytes);
-        Ok(())
-    }
-
-    /// Puts three texts at a place, one after the other: what lies after it moves on.
-    pub fn insert_three(
-        &mut self,
-        at: usize,
-        front: &[u8],
-        bytes: &[u8],
-        back: &[u8],
-    ) -> Result<(), AllocError>
-        requires within { at ≤ length self.old }
-        ensures ok { OnOk result (self.new ≡ take at self.old
-            ++ ((front.now ++ (bytes.now ++ back.now)) ++ drop at self.old)) }
-        ensures err { OnErr result (self.new ≡ self.old) }
-    {
-        let Some(n) = (front.len() + back.len()).checked_add(bytes.len()) else {
-            return Err(AllocError);
-        };
-        self.open_room(at, n)?;
-        let first = self.put(at, front);
-        let second = self.put(first, bytes);
-        self.put(second, back);
         Ok(())
     }
 

@@ -6,7 +6,7 @@ use Rattle.std.specs.Global.{Global}
 use Rattle.demangle_text.specs.declared.buffer.Buffer.{Buffer}
 use Rattle.demangle_text.specs.Shape.{Shape, text}
 use Rattle.demangle_text.specs.State.{saved, scopes, frame, outermost, main_bytes}
-use Rattle.itanium_grammar.specs.Answer.{after_prefix, HasCounts, HasComponents, HasSaved, HasBounds}
+use Rattle.itanium_grammar.specs.Answer.{after_prefix, HasCounts, HasComponents, HasSaved, HasBounds, HasLength}
 use Rattle.itanium_demangle.specs.declared.demangler.Demangler.TheInside.{Inside}
 use Rattle.itanium_demangle.specs.LastRun.{LastRun, no_run}
 
@@ -55,11 +55,12 @@ abbrev pub IsPrinted : List ℕ → List ℕ → Option (List ℕ) → Type 0
 IsPrinted printing after (Some text) = IsUtf8 printing × (text ≡ printing ++ after)
 IsPrinted printing after None = ¬ (IsUtf8 printing)
 
--- after a symbol the counts, the components and their shapes are those of its readings, and without a prefix nothing
--- is left
+-- after a symbol the counts, the components, their shapes and the length of the text are those of its readings, and
+-- without a prefix nothing is left
 pub record IsPrepared (symbol : List ℕ) (run : LastRun) : Type 0 where
   pub counts : HasCounts symbol run.entered run.most_saved
   pub components : HasComponents symbol run.text run.components
   pub saved : HasSaved symbol run.text run.saved
   pub bounds : HasBounds symbol run.entered run.most_saved
+  pub longest : HasLength symbol run.text
   pub no_prefix : after_prefix symbol ≡ None → run ≡ no_run

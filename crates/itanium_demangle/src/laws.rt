@@ -1,7 +1,11 @@
 //! Answers that are written out, and the laws by which a reader speaks of trees. The functions do nothing: each stands
 //! for the facts that are its contract.
+ghost use Rattle.std.specs.Prelude.{◌≡◌};
+ghost use Rattle.itanium_grammar.specs.Answer.{max_depth, max_text};
 ghost use Rattle.itanium_demangle.specs.Examples.{WorkedSymbols};
 ghost use Rattle.itanium_demangle.specs.Readers.{LawsOfReaders};
+
+use crate::{MAX_DEPTH, MAX_TEXT};
 
 /// The answers of some symbols, as the definition gives them.
 #[tactic(auto, using(crate::proofs::Examples::worked_symbols))]
@@ -15,4 +19,11 @@ pub fn worked_symbols()
 #[tactic(auto, using(crate::proofs::Readers::laws_of_readers))]
 pub fn laws_of_readers()
     ensures laws { LawsOfReaders }
+{}
+
+/// The limits of the definition of an answer are the public constants.
+#[tactic(auto, using(itanium_reader::proofs::Unfold::max_text_is))]
+pub fn laws_of_limits()
+    ensures depth { MAX_DEPTH ≡ max_depth }
+    ensures text { MAX_TEXT ≡ max_text }
 {}

@@ -4,14 +4,13 @@ use Rattle.std.specs.Prelude.{codes, ◌==◌}
 use Rattle.std.proofs.lemmas.Bool.{or_parts}
 use Rattle.itanium_syntax.specs.Bytes.{one_of}
 use Rattle.demangle_text.specs.Shape.{Shape}
-use Rattle.demangle_quals.specs.declared.quals.Quals.{Quals}
 use Rattle.demangle_quals.specs.Quals.{no_quals}
 use Rattle.demangle_edit.specs.Names.{with_name_qualifiers}
 use Rattle.itanium_syntax.specs.declared.context.Context.{Context}
 use Rattle.itanium_syntax.specs.Context.{inside_lambda}
 use Rattle.itanium_syntax.specs.Names.{name_case, unscoped_case, begins_quals, name_quals, past_name_quals}
 use Rattle.itanium_reader.specs.Cases.{NestedName, UnscopedName}
-use Rattle.itanium_reader.specs.Parser.{ParserState, ◌>>=◌, is_wide, fitting, fitting_bare, enter, skip, with_rest, with_quals, unscoped_as}
+use Rattle.itanium_reader.specs.Parser.{ParserState, ◌>>=◌, is_wide, fitting, fitting_bare, enter, skip, with_quals, unscoped_as}
 use Rattle.itanium_reader.specs.Parser.{parse_unqualified, parse_after_quals, parse_nested, parse_type, parse_args, parse_bare_name, parse_name}
 use Rattle.itanium_reader.proofs.Unfold.{name_opens, bare_name_opens, no_bare_name, nested_opens}
 use Rattle.itanium_reader.proofs.Rules.{buffers, names}

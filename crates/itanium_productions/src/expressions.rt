@@ -13,7 +13,7 @@ use demangle_text::Piece;
 use itanium_reader::{Reader, Stop};
 use itanium_syntax::context::Context;
 use itanium_syntax::expressions::{
-    ExpressionCase, LiteralCase, expression_case, expression_text, literal_case, takes_parentheses,
+    ExpressionCase, LiteralCase, expression_case, expression_text, is_external, literal_case,
 };
 use itanium_syntax::types::{TypeCase, type_case};
 
@@ -313,7 +313,7 @@ pub(crate) fn read_operand(reader: &mut Reader, depth: usize, context: Context) 
     ensures bounds { Bounds 1 result (state reader.old) (state reader.new) }
     ensures saved { SavedBounds 1 result (state reader.old) (state reader.new) }
 {
-    let paren = takes_parentheses(reader.rest);
+    let paren = !is_external(reader.rest);
     read_expression(reader, depth, context)?;
     reader.found = subexpr(&mut reader.buffer, reader.found, paren)?;
     Ok(())

@@ -81,8 +81,7 @@ fn begins_substitution_type(bytes: &[u8]) -> bool
     }
 }
 
-/// `<type>`, within `depth` open productions: a name or a substitution goes straight to its reader, and a component
-/// that no `<template-args>` follow is mostly found here.
+/// `<type>`, within `depth` open productions: a name or a substitution goes straight to its reader.
 #[tactic(auto, using(itanium_reader::proofs::Rules::types))]
 #[cycle(reader)]
 pub(crate) fn read_type(reader: &mut Reader, depth: usize, context: Context) -> Result<(), Stop>
@@ -105,12 +104,6 @@ pub(crate) fn read_type(reader: &mut Reader, depth: usize, context: Context) -> 
         return read_name_type(reader, depth - 1, inside);
     }
     if begins_substitution_type(reader.rest) {
-        if reader.read_lone_component() {
-            if reader.is_wide(reader.found) {
-                return Err(Stop::Unread);
-            }
-            return Ok(());
-        }
         return read_substitution_type(reader, depth - 1, inside);
     }
     read_other_type(reader, depth - 1, inside)

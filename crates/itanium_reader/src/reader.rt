@@ -1,14 +1,13 @@
 //! What the readers share: the bytes that are left, the buffer with what was saved, and the piece that was found.
-ghost use Rattle.std.specs.Prelude.{◌≡◌, ◌<◌, ◌≤◌, ◌+◌, ◌^◌, IfOk, OnOk, Some, [], length, max, true, false};
+ghost use Rattle.std.specs.Prelude.{◌≡◌, ◌<◌, ◌≤◌, ◌+◌, ◌^◌, IfOk, OnOk, [], length, max, true, false};
 ghost use Rattle.demangle_text.specs.Shape.{plain_shape};
 ghost use Rattle.demangle_text.specs.State.{IsLiving, Lives, shape, IsRun, SameFrame, saved, scopes, main_bytes, frame, outermost};
 ghost use Rattle.demangle_text.specs.Calls.{IsLast};
 ghost use Rattle.demangle_edit.specs.Built.{separated};
-ghost use Rattle.itanium_syntax.specs.Args.{attached_case};
 ghost use Rattle.itanium_syntax.specs.Names.{segment_case};
 ghost use Rattle.itanium_syntax.specs.Types.{builtin_text, past_builtin};
 ghost use Rattle.itanium_grammar.specs.Answer.{max_text};
-ghost use Rattle.itanium_reader.specs.Cases.{EndOfSegments, NoneAttached};
+ghost use Rattle.itanium_reader.specs.Cases.{EndOfSegments};
 ghost use Rattle.itanium_reader.specs.Parser as spec;
 ghost use Rattle.itanium_reader.specs.Outcome.{state, Gives, OnlyTakes, Bounds, SavedBounds};
 
@@ -16,10 +15,9 @@ use crate::stop::Stop;
 use demangle_edit::{separate, separate_last};
 use demangle_text::{Buffer, Piece};
 use itanium_syntax::abbreviations::{abbreviation_of, abbreviation_own_len, abbreviation_text};
-use itanium_syntax::args::{AttachedCase, attached_case};
 use itanium_syntax::context::Context;
 use itanium_syntax::names::{SubstitutionCase, source_text, substitution_case};
-use itanium_syntax::numerals::{Radix, index_of, short_index};
+use itanium_syntax::numerals::{Radix, index_of};
 use itanium_syntax::scalar::source_name;
 use itanium_syntax::types::{builtin_text, past_builtin};
 use std::alloc::{AllocError, Global};
@@ -258,42 +256,6 @@ impl<'a> Reader<'a> {
         }
     }
 
-    /// Whether a `<substitution>` for a component that no `<template-args>` follow was read. It may answer false though
-    /// one stands there, here where its index has more than one digit; then nothing changes.
-    #[tactic(auto, using(crate::proofs::Rules::substitutions))]
-    #[inline(always)]
-    pub fn read_lone_component(&mut self) -> bool
-        ensures reads { result ≡ true → spec.parse_substitution (state self.old)
-            ≡ Some (shape self.new.buffer.value self.new.found, state self.new) }
-        ensures living { result ≡ true → IsLiving self.new.buffer.value self.new.found }
-        ensures alone { result ≡ true → attached_case self.new.rest.now ≡ NoneAttached }
-        ensures shorter { result ≡ true → length self.new.rest.now + 2 ≤ length self.old.rest.now }
-        ensures state { state self.new ≡ spec.with_rest self.new.rest.now (state self.old) }
-        ensures buffer { self.new.buffer ≡ self.old.buffer }
-        ensures other { result ≡ false → self.new ≡ self.old }
-    {
-        let [_, inside @ ..] = self.rest else {
-            return false;
-        };
-        match substitution_case(inside) {
-            SubstitutionCase::AbbreviationSubstitution => return false,
-            SubstitutionCase::ComponentSubstitution => {}
-        }
-        let Some((index, rest)) = short_index(Radix::Base36, inside) else {
-            return false;
-        };
-        match attached_case(rest) {
-            AttachedCase::ArgsAttached => return false,
-            AttachedCase::NoneAttached => {}
-        }
-        let Some(component) = self.buffer.saved(index) else {
-            return false;
-        };
-        self.found = component;
-        self.rest = rest;
-        true
-    }
-
     /// A `<substitution>` for a name of std, after its `S`.
     #[inline(never)]
     fn read_abbreviation(&mut self) -> Result<(), Stop>
@@ -311,22 +273,9 @@ impl<'a> Reader<'a> {
         Ok(())
     }
 
-    /// A `<substitution>` for a component, after its `S`. Mostly its index has no digit or one.
+    /// `<substitution> ::= S [<seq-id>] _`, after its `S`: a component.
     #[inline(always)]
     fn read_component(&mut self) -> Result<(), Stop>
-        ensures reads { Gives result self.new (spec.parse_component (state self.old)) }
-        ensures kept { OnOk result (SameFrame self.old.buffer.value self.new.buffer.value) }
-        ensures taken { OnlyTakes result (state self.old) (state self.new) }
-    {
-        match short_index(Radix::Base36, self.rest) {
-            Some((index, rest)) => self.take_component(index, rest),
-            None => self.read_long_component(),
-        }
-    }
-
-    /// `read_component` of an index of any number of digits.
-    #[inline(never)]
-    fn read_long_component(&mut self) -> Result<(), Stop>
         ensures reads { Gives result self.new (spec.parse_component (state self.old)) }
         ensures kept { OnOk result (SameFrame self.old.buffer.value self.new.buffer.value) }
         ensures taken { OnlyTakes result (state self.old) (state self.new) }
@@ -334,21 +283,10 @@ impl<'a> Reader<'a> {
         let Some((index, rest)) = index_of(Radix::Base36, self.rest) else {
             return Err(Stop::Unread);
         };
-        self.take_component(index, rest)
-    }
-
-    /// Finds the component with this index, and goes to the bytes after it.
-    #[inline(always)]
-    fn take_component(&mut self, index: usize, rest: &'a [u8]) -> Result<(), Stop>
-        requires shorter { length rest.now < length self.old.rest.now }
-        ensures reads { Gives result self.new (spec.component_at index rest.now (state self.old)) }
-        ensures kept { OnOk result (SameFrame self.old.buffer.value self.new.buffer.value) }
-        ensures taken { OnlyTakes result (state self.old) (state self.new) }
-    {
-        let Some(piece) = self.buffer.saved(index) else {
+        let Some(component) = self.buffer.saved(index) else {
             return Err(Stop::Unread);
         };
-        self.found = piece;
+        self.found = component;
         self.rest = rest;
         Ok(())
     }

@@ -1,9 +1,11 @@
 -- Fronts of the bytes: what each scalar and each case takes.
 use Rattle.std.proofs.Common.{◌≡◌, ◌<◌, ◌≤◌, ℕ, suc, ◌+◌, ◌^◌, Bool, true, false, List, [], ◌∷◌, length, drop, refl}
 use Rattle.std.proofs.Common.{sym, ap, ◌∙◌, arith, Option, Some, None, length-drop, if◌then◌else◌, nat_lt, nat_le, ◌&&◌}
-use Rattle.std.proofs.Common.{codes}
+use Rattle.std.proofs.Common.{codes, inl, inr, ◌-◌}
+use Rattle.std.proofs.Math.ListN.{drop_of_length-le}
+use Rattle.std.proofs.lemmas.Bool.{cases_lt}
 use Rattle.std.specs.Prelude.{◌==◌, ◌||◌, option_map}
-use Rattle.std.proofs.lemmas.List.{drop-drop}
+use Rattle.std.proofs.lemmas.List.{drop-drop, take_all}
 use Rattle.std.proofs.lemmas.Grind.{common_steps}
 use Rattle.std.proofs.lemmas.Option.{cond_some, option_and_then_some, some_pair_parts, same_Some}
 use Rattle.demangle_quals.specs.declared.quals.Pointer.{Pointer}
@@ -61,6 +63,13 @@ after_then {rest} {mid} {bytes} a b = record { count = a.count + b.count; is = b
 
 pub after-le : {rest bytes : List ℕ} → IsAfter rest bytes → length rest ≤ length bytes
 after-le {rest} {bytes} a = omega (arith, ap length a.is, length-drop a.count bytes)
+
+-- the front is as long as what is missing
+end_of : {rest bytes : List ℕ} → IsAfter rest bytes → rest ≡ drop (length bytes - length rest) bytes
+end_of {rest} {bytes} a = a.is ∙ elim (cases_lt a.count (length bytes)) [
+  | inl within ↦ ap (λ n. drop n bytes) (omega (arith, within, ap length a.is, length-drop a.count bytes))
+  | inr past ↦ drop_of_length-le bytes past ∙ sym (drop_of_length-le bytes (omega (arith, past, ap length a.is, length-drop a.count bytes)))
+]
 
 -- a front, and what may be left out after it
 pub takes_then : {rest mid bytes : List ℕ} → Takes mid bytes → IsAfter rest mid → Takes rest bytes
@@ -465,6 +474,16 @@ call_offset_takes bytes found e = go (begins (codes "h") bytes) (begins (codes "
     go true v f = after_takes (after_drop 1 bytes) (plain_offset_takes (drop 1 bytes) found f)
     go false true f = after_takes (after_drop 1 bytes) (virtual_offset_takes (drop 1 bytes) found f)
     go false false f = cc
+
+-- a call offset at a place ends where as many bytes are left as after it
+pub offset_at : (bytes rest : List ℕ) (place : ℕ) (offset : CallOffset)
+    → Some (offset, rest) ≡ call_offset (take (length bytes - place) (drop place bytes))
+    → Some (offset, drop (length bytes - length rest) bytes) ≡ call_offset (drop place bytes)
+offset_at bytes rest place offset e =
+    let all = take_all (length bytes - place) (drop place bytes) (omega (arith, length-drop place bytes)) in
+    let read : Some (offset, rest) ≡ call_offset (drop place bytes) = rw all at e in
+    let is = end_of (after_then (after_drop place bytes) (call_offset_takes (drop place bytes) (offset, rest) (sym read)).after) in
+    rw (← is) read
 
 covariant_offsets_takes : (bytes : List ℕ) (found : ThunkOffsets × List ℕ) → covariant_offsets bytes ≡ Some found → Takes found.1 bytes
 covariant_offsets_takes bytes found e = option_and_then_some _ (call_offset bytes) found e (λ a read more. takes_takes (call_offset_takes bytes a read) (go a (call_offset a.1) refl more))

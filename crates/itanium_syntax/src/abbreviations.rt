@@ -42,7 +42,7 @@ pub fn abbreviation_text(abbreviation: Abbreviation) -> &'static [u8]
     }
 }
 
-/// How long the last own name of a name of std is, in bytes: it stands after `std::`.
+/// How long the base name of a name of std is, in bytes: it stands after `std::`.
 pub fn abbreviation_own_len(abbreviation: Abbreviation) -> usize
     ensures value { result ≡ length (spec.abbreviation_own abbreviation) }
     ensures within { 5 + result ≤ length (spec.abbreviation_text abbreviation) }

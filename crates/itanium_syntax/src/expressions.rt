@@ -1,10 +1,10 @@
 //! The cases of literals and of expressions (Itanium C++ ABI 5.1, "Expressions"): which one the next bytes begin. Of
 //! several cases the first one that fits holds.
-ghost use Rattle.std.specs.Prelude.{◌≡◌, ◌<◌, ◌≤◌, IfSome, IsUtf8, option_map, length, not, true};
+ghost use Rattle.std.specs.Prelude.{◌≡◌, ◌<◌, ◌≤◌, IfSome, option_map, length};
 ghost use Rattle.itanium_syntax.specs.Expressions as spec;
 
 use crate::operators::{operator_arity, operator_here};
-use std::str::{from_utf8, from_utf8_unchecked};
+use std::str::from_utf8;
 
 /// What an `L` begins among template arguments and expressions.
 #[derive(Clone, Copy)]
@@ -43,13 +43,6 @@ pub fn is_external(bytes: &[u8]) -> bool
     matches!(bytes, [b'L', b'_', b'Z', ..])
 }
 
-/// Whether an operand that begins there is printed in parentheses: each is, but for an external name.
-pub fn takes_parentheses(bytes: &[u8]) -> bool
-    ensures value { result ≡ not (spec.is_external bytes.now) }
-{
-    !is_external(bytes)
-}
-
 /// Which literal stands there, from its `L` on.
 pub fn literal_case(bytes: &[u8]) -> LiteralCase
     ensures case { result ≡ spec.literal_case bytes.now }
@@ -74,19 +67,6 @@ fn value_len(bytes: &[u8]) -> usize
     bytes.len()
 }
 
-/// True only where the bytes are UTF-8; here where all are ASCII.
-#[inline(always)]
-fn are_ascii(bytes: &[u8]) -> bool
-    ensures utf8 { result ≡ true → IsUtf8 bytes.now }
-{
-    for byte in bytes {
-        if *byte > 127 {
-            return false;
-        }
-    }
-    true
-}
-
 /// The value of a literal, all bytes up to the first `E`, and what is after the `E`; `None` where there is no `E` or
 /// the value isn't UTF-8.
 #[tactic(auto, unfolding(crate::specs::Expressions::literal_value))]
@@ -98,12 +78,7 @@ pub fn literal_value(bytes: &[u8]) -> Option<(&str, &[u8])>
     if len == bytes.len() {
         return None;
     }
-    let value = &bytes[..len];
-    if are_ascii(value) {
-        let text = unsafe { from_utf8_unchecked(value) };
-        return Some((text, &bytes[len + 1..]));
-    }
-    match from_utf8(value) {
+    match from_utf8(&bytes[..len]) {
         Ok(value) => Some((value, &bytes[len + 1..])),
         Err(_) => None,
     }
@@ -113,98 +88,43 @@ pub fn literal_value(bytes: &[u8]) -> Option<(&str, &[u8])>
 pub fn expression_refused(first: u8, second: u8) -> bool
     ensures value { result ≡ spec.expression_refused first second }
 {
-    match (first, second) {
-        (b'c', b'l') => true,
-        (b'c', b'v') => true,
-        (b't', b'l') => true,
-        (b'i', b'l') => true,
-        (b'd', b'c') => true,
-        (b's', b'c') => true,
-        (b'c', b'c') => true,
-        (b'r', b'c') => true,
-        (b't', b'i') => true,
-        (b't', b'e') => true,
-        (b's', b't') => true,
-        (b's', b'z') => true,
-        (b'a', b't') => true,
-        (b'a', b'z') => true,
-        (b'n', b'x') => true,
-        (b's', b'o') => true,
-        (b'd', b't') => true,
-        (b'p', b't') => true,
-        (b'd', b's') => true,
-        (b's', b'Z') => true,
-        (b's', b'P') => true,
-        (b's', b'p') => true,
-        (b't', b'w') => true,
-        (b't', b'r') => true,
-        (b'g', b's') => true,
-        (b'n', b'w') => true,
-        (b'n', b'a') => true,
-        (b'd', b'l') => true,
-        (b'd', b'a') => true,
-        _ => false,
-    }
+    matches!(
+        (first, second),
+        (b'c', b'l' | b'v' | b'c')
+            | (b't', b'l' | b'i' | b'e' | b'w' | b'r')
+            | (b'i', b'l')
+            | (b'd', b'c' | b't' | b's' | b'l' | b'a')
+            | (b's', b'c' | b't' | b'z' | b'o' | b'Z' | b'P' | b'p')
+            | (b'r', b'c')
+            | (b'a', b't' | b'z')
+            | (b'n', b'x' | b'w' | b'a')
+            | (b'p', b't')
+            | (b'g', b's')
+    )
 }
 
 /// The text of the operator whose code is next; no text where none is.
 pub fn expression_text(bytes: &[u8]) -> &'static str
     ensures text { result.now ≡ spec.expression_text bytes.now }
 {
-    match operator_here(bytes) {
-        Some(text) => text,
-        None => "",
-    }
+    operator_here(bytes).unwrap_or("")
 }
 
-/// Whether such an expression stands there.
-fn refused_here(bytes: &[u8]) -> bool
-    ensures value { result ≡ spec.refused_here bytes.now }
-{
-    match bytes {
-        [first, second, ..] => expression_refused(*first, *second),
-        _ => false,
-    }
-}
-
-/// How many operands the operator has whose code is next, or `None` where none is.
-fn arity_here(bytes: &[u8]) -> Option<u8>
-    ensures value { result ≡ spec.arity_here bytes.now }
-{
-    match bytes {
-        [first, second, ..] => operator_arity(*first, *second),
-        _ => None,
-    }
-}
-
-/// Which expression without an operator stands there.
-fn operand_case(bytes: &[u8]) -> ExpressionCase
-    ensures case { result ≡ spec.operand_case bytes.now }
-{
-    match bytes {
-        [b'T', b's' | b'u' | b'e' | b'L', ..] => ExpressionCase::NoExpression,
-        [b'T', ..] => ExpressionCase::ParameterExpression,
-        [b'L', ..] => ExpressionCase::LiteralExpression,
-        _ => ExpressionCase::NoExpression,
-    }
-}
-
-/// Which expression with an operator of so many operands stands there.
+/// Which `<expression>` stands there: one with an operator of so many operands, or one without.
 fn operator_case(bytes: &[u8], arity: Option<u8>) -> ExpressionCase
     ensures case { result ≡ spec.operator_case bytes.now arity }
 {
-    let Some(arity) = arity else {
-        return operand_case(bytes);
-    };
-    match bytes {
-        [b'a', b'd', b'L', b'_', b'Z', ..] => ExpressionCase::AddressExpression,
-        [b'p', b'p', ..] | [b'm', b'm', ..] => ExpressionCase::PostExpression,
-        [b'g', b't', ..] => ExpressionCase::GreaterExpression,
-        _ => match arity {
-            1 => ExpressionCase::UnaryExpression,
-            3 => ExpressionCase::ConditionalExpression,
-            _ => ExpressionCase::BinaryExpression,
-        },
+    match (bytes, arity) {
+        ([b'T', b's' | b'u' | b'e' | b'L', ..], None) => ExpressionCase::NoExpression,
+        ([b'T', ..], None) => ExpressionCase::ParameterExpression,
+        ([b'L', ..], None) => ExpressionCase::LiteralExpression,
+        (_, None) => ExpressionCase::NoExpression,
+        ([b'a', b'd', b'L', b'_', b'Z', ..], _) => ExpressionCase::AddressExpression,
+        ([b'p', b'p', ..] | [b'm', b'm', ..], _) => ExpressionCase::PostExpression,
+        ([b'g', b't', ..], _) => ExpressionCase::GreaterExpression,
+        (_, Some(1)) => ExpressionCase::UnaryExpression,
+        (_, Some(3)) => ExpressionCase::ConditionalExpression,
+        _ => ExpressionCase::BinaryExpression,
     }
 }
 
@@ -222,8 +142,9 @@ pub fn expression_case(bytes: &[u8]) -> ExpressionCase
     if is_pre(bytes) {
         return ExpressionCase::PreExpression;
     }
-    if refused_here(bytes) {
-        return ExpressionCase::NoExpression;
+    match bytes {
+        [first, second, ..] if expression_refused(*first, *second) => ExpressionCase::NoExpression,
+        [first, second, ..] => operator_case(bytes, operator_arity(*first, *second)),
+        _ => operator_case(bytes, None),
     }
-    operator_case(bytes, arity_here(bytes))
 }

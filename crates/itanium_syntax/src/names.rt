@@ -1,12 +1,10 @@
 //! The cases of names (Itanium C++ ABI 5.1.2): which one the next bytes begin. Of several cases the first one that
 //! fits holds.
-ghost use Rattle.std.specs.Prelude.{◌≡◌, ◌<◌, ◌≤◌, length, codes, ◌+◌, drop, slice_range, IfSome, Some, None, option_map, true, false};
+ghost use Rattle.std.specs.Prelude.{◌≡◌, ◌≤◌, ◌+◌, length, IfSome, Some, None, true, false};
 ghost use Rattle.demangle_quals.specs.Quals.{no_quals};
-ghost use Rattle.itanium_syntax.specs.Bytes.{begins};
 ghost use Rattle.itanium_syntax.specs.Names as spec;
 ghost use Rattle.itanium_syntax.specs.Scalars.{source_name};
 
-use crate::numerals::short_length;
 use crate::operators::operator_here;
 use crate::scalar::source_name;
 use crate::types::{cv_quals, ref_qualifier};
@@ -130,7 +128,7 @@ pub fn first_case(bytes: &[u8]) -> FirstCase
     }
 }
 
-/// Whether the first segment of a `<nested-name>` is saved.
+/// Whether the first segment of a `<nested-name>` goes into the substitution table.
 pub fn saves_first(case: FirstCase) -> bool
     ensures value { result ≡ spec.saves_first case }
 {
@@ -169,17 +167,10 @@ pub fn free_case(bytes: &[u8]) -> FreeCase
         [b'U', b'l', ..] => FreeCase::LambdaName,
         [b'c', b'v', ..] => FreeCase::ConversionName,
         [b'l', b'i', ..] => FreeCase::LiteralOperatorName,
-        _ => operator_case(bytes),
-    }
-}
-
-// An `<operator-name>`, or no name.
-fn operator_case(bytes: &[u8]) -> FreeCase
-    ensures case { result ≡ spec.operator_case bytes.now }
-{
-    match operator_here(bytes) {
-        Some(_) => FreeCase::OperatorName,
-        None => FreeCase::NoName,
+        _ => match operator_here(bytes) {
+            Some(_) => FreeCase::OperatorName,
+            None => FreeCase::NoName,
+        },
     }
 }
 
@@ -217,38 +208,13 @@ pub fn past_internal(bytes: &[u8]) -> &[u8]
     ensures within { length result.now ≤ length bytes.now }
 {
     match bytes {
-        [b'L', rest @ ..] => match rest {
-            [b'0'..=b'9', ..] => rest,
-            _ => bytes,
-        },
+        [b'L', b'0'..=b'9', ..] => &bytes[1..],
         _ => bytes,
     }
 }
 
-/// `<source-name>` at the front, and a byte after it: the place of the identifier's first byte, and the place after its
-/// last. `None` may be answered anywhere; here where its number has more digits than two.
-#[tactic(auto, unfolding(crate::specs::Scalars::source_name, crate::specs::Scalars::number))]
-#[inline(always)]
-fn short_source(bytes: &[u8]) -> Option<(usize, usize)>
-    ensures value { IfSome result (λ found. source_name bytes.now
-        ≡ Some (slice_range bytes.now found.0 found.1, drop found.1 bytes.now)) }
-    ensures begins { IfSome result (λ _. spec.begins_source bytes.now ≡ true) }
-    ensures after { IfSome result (λ found. 0 < found.0) }
-    ensures ordered { IfSome result (λ found. found.0 < found.1) }
-    ensures inside { IfSome result (λ found. found.1 < length bytes.now) }
-{
-    let Some((len, from)) = short_length(bytes) else {
-        return None;
-    };
-    let to = from + len;
-    if to >= bytes.len() {
-        return None;
-    }
-    Some((from, to))
-}
-
 /// The identifier of a `<source-name>` without `<abi-tags>`, and what is after it, where one stands at the front, else
-/// `None`. Mostly its number has one digit or two, and the byte after it isn't `B`.
+/// `None`.
 #[inline(always)]
 pub fn untagged_source(bytes: &[u8]) -> Option<(&[u8], &[u8])>
     ensures begins { IfSome result (λ _. spec.begins_source bytes.now ≡ true) }
@@ -258,62 +224,15 @@ pub fn untagged_source(bytes: &[u8]) -> Option<(&[u8], &[u8])>
     ensures none { result ≡ None → spec.begins_source bytes.now ≡ true
         → IfSome (source_name bytes.now) (λ found. spec.tag_case found.1 ≡ TagCase.NextTag) }
 {
-    if let Some((from, to)) = short_source(bytes) {
-        let rest = &bytes[to..];
-        if rest[0] == b'B' && begins_tag(rest) {
-            return None;
-        }
-        return Some((&bytes[from..to], rest));
-    }
     if !begins_source(bytes) {
         return None;
     }
-    long_untagged_source(bytes)
-}
-
-/// `untagged_source` of a number with any number of digits, whatever its first one is. It is inlined, so that what
-/// `long_source` answers goes through memory on this way alone.
-#[inline(always)]
-fn long_untagged_source(bytes: &[u8]) -> Option<(&[u8], &[u8])>
-    ensures value { IfSome result (λ found. source_name bytes.now ≡ Some (found.0.now, found.1.now)) }
-    ensures untagged { IfSome result (λ found. spec.tag_case found.1.now ≡ TagCase.NoTag) }
-    ensures shorter { IfSome result (λ found. length found.1.now + 2 ≤ length bytes.now) }
-    ensures none { result ≡ None → IfSome (source_name bytes.now) (λ found. spec.tag_case found.1 ≡ TagCase.NextTag) }
-{
-    let Some((from, to)) = long_source(bytes) else {
-        return None;
-    };
+    let (from, to) = source_name(bytes, 0)?;
     let rest = &bytes[to..];
-    if begins_tag(rest) {
-        return None;
+    match tag_case(rest) {
+        TagCase::NoTag => Some((&bytes[from..to], rest)),
+        TagCase::NextTag => None,
     }
-    Some((&bytes[from..to], rest))
-}
-
-/// Whether an `<abi-tag>` begins there. It is out of line, since it is seldom asked.
-#[cold]
-#[inline(never)]
-fn begins_tag(bytes: &[u8]) -> bool
-    ensures yes { result ≡ true → spec.tag_case bytes.now ≡ TagCase.NextTag }
-    ensures no { result ≡ false → spec.tag_case bytes.now ≡ TagCase.NoTag }
-{
-    match tag_case(bytes) {
-        TagCase::NoTag => false,
-        TagCase::NextTag => true,
-    }
-}
-
-/// `source_name` of a number with any number of digits, at the front.
-#[cold]
-#[inline(never)]
-fn long_source(bytes: &[u8]) -> Option<(usize, usize)>
-    ensures value { option_map (λ found. (slice_range bytes.now found.0 found.1, drop found.1 bytes.now)) result
-        ≡ source_name bytes.now }
-    ensures after { IfSome result (λ found. 0 < found.0) }
-    ensures ordered { IfSome result (λ found. found.0 < found.1) }
-    ensures within { IfSome result (λ found. found.1 ≤ length bytes.now) }
-{
-    source_name(bytes, 0)
 }
 
 /// The text of a source name: an unnamed namespace has a text of its own.
@@ -338,14 +257,6 @@ pub fn source_text(name: &[u8]) -> &[u8]
     }
 }
 
-/// `const` alone.
-const CONSTANT: Quals = Quals {
-    constant: true,
-    volatile: false,
-    restrict: false,
-    reference: None,
-};
-
 /// Whether qualifiers of a `<nested-name>` stand there, or `H`, which says none.
 #[inline(always)]
 pub fn begins_quals(bytes: &[u8]) -> bool
@@ -360,26 +271,9 @@ pub fn begins_quals(bytes: &[u8]) -> bool
 }
 
 /// The qualifiers of a `<nested-name>`, which are `H`, for none, or `<CV-qualifiers>` and a `<ref-qualifier>`; and what
-/// follows them. Mostly they are `const` alone.
+/// follows them.
 #[inline(always)]
 pub fn name_quals(bytes: &[u8]) -> (Quals, &[u8])
-    ensures quals { result.0 ≡ spec.name_quals bytes.now }
-    ensures rest { result.1.now ≡ spec.past_name_quals bytes.now }
-    ensures within { length result.1.now ≤ length bytes.now }
-{
-    match bytes {
-        [b'K', b'R' | b'O', ..] => {}
-        [b'K', rest @ ..] => return (CONSTANT, rest),
-        _ => {}
-    }
-    // The answer goes through memory on this way alone.
-    let (quals, rest) = any_quals(bytes);
-    (quals, rest)
-}
-
-/// `name_quals` of any qualifiers.
-#[inline(never)]
-fn any_quals(bytes: &[u8]) -> (Quals, &[u8])
     ensures quals { result.0 ≡ spec.name_quals bytes.now }
     ensures rest { result.1.now ≡ spec.past_name_quals bytes.now }
     ensures within { length result.1.now ≤ length bytes.now }

@@ -76,44 +76,14 @@ pub fn operator_arity(first: u8, second: u8) -> Option<u8>
     ensures value { result ≡ spec.operator_arity first second }
 {
     match (first, second) {
-        (b'n', b'w') => Some(2),
-        (b'n', b'a') => Some(2),
-        (b'd', b'l') => Some(1),
-        (b'd', b'a') => Some(1),
-        (b'p', b's') => Some(1),
-        (b'n', b'g') => Some(1),
-        (b'a', b'd') => Some(1),
-        (b'd', b'e') => Some(1),
-        (b'c', b'o') => Some(1),
-        (b'p', b'l') => Some(2),
-        (b'm', b'i') => Some(2),
-        (b'm', b'l') => Some(2),
-        (b'd', b'v') => Some(2),
-        (b'r', b'm') => Some(2),
-        (b'a', b'n') => Some(2),
-        (b'o', b'r') => Some(2),
-        (b'e', b'o') => Some(2),
-        (b'l', b's') => Some(2),
-        (b'r', b's') => Some(2),
-        (b'e', b'q') => Some(2),
-        (b'n', b'e') => Some(2),
-        (b'l', b't') => Some(2),
-        (b'g', b't') => Some(2),
-        (b'l', b'e') => Some(2),
-        (b'g', b'e') => Some(2),
-        (b'n', b't') => Some(1),
-        (b'a', b'a') => Some(2),
-        (b'o', b'o') => Some(2),
-        (b'p', b'p') => Some(1),
-        (b'm', b'm') => Some(1),
-        (b'c', b'm') => Some(2),
-        (b'p', b'm') => Some(2),
-        (b'p', b't') => Some(2),
-        (b'c', b'l') => Some(2),
-        (b'i', b'x') => Some(2),
+        (b'd', b'l' | b'a' | b'e')
+        | (b'p', b's' | b'p')
+        | (b'n', b'g' | b't')
+        | (b'a', b'd')
+        | (b'c', b'o')
+        | (b'm', b'm') => Some(1),
         (b'q', b'u') => Some(3),
-        (b's', b's') => Some(2),
-        _ if assignment_text(first, second).is_some() => Some(2),
+        _ if operator_text(first, second).is_some() => Some(2),
         _ => None,
     }
 }

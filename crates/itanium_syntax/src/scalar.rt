@@ -22,10 +22,8 @@ pub fn number(input: &[u8], place: usize) -> Option<(u64, usize)>
     ensures after { IfSome result (λ found. place < found.1) }
     ensures within { IfSome result (λ found. found.1 ≤ length input.now) }
 {
-    match short_numeral(&input[place..]) {
-        Some((value, count)) => Some((value, place + count)),
-        None => None,
-    }
+    let (value, count) = short_numeral(&input[place..])?;
+    Some((value, place + count))
 }
 
 /// `<seq-id>`: as many digits in base 36, `0` to `9` and `A` to `Z`, as stand at `place`, at least one. The value, and
@@ -39,10 +37,8 @@ pub fn sequence_id(input: &[u8], place: usize) -> Option<(u64, usize)>
     ensures after { IfSome result (λ found. place < found.1) }
     ensures within { IfSome result (λ found. found.1 ≤ length input.now) }
 {
-    match numeral(Radix::Base36, &input[place..]) {
-        Some((value, count)) => Some((value, place + count)),
-        None => None,
-    }
+    let (value, count) = numeral(Radix::Base36, &input[place..])?;
+    Some((value, place + count))
 }
 
 /// `<source-name> ::= <positive length number> <identifier>`: the place of the identifier's first byte, and the place
@@ -58,9 +54,7 @@ pub fn source_name(input: &[u8], place: usize) -> Option<(usize, usize)>
     ensures ordered { IfSome result (λ found. found.0 < found.1) }
     ensures within { IfSome result (λ found. found.1 ≤ length input.now) }
 {
-    let Some((len, first)) = number(input, place) else {
-        return None;
-    };
+    let (len, first) = number(input, place)?;
     if len == 0 || (len as usize) > input.len() - first {
         return None;
     }
@@ -79,8 +73,6 @@ pub fn call_offset(input: &[u8], place: usize) -> Option<(CallOffset, usize)>
     ensures after { IfSome result (λ found. place < found.1) }
     ensures within { IfSome result (λ found. found.1 ≤ length input.now) }
 {
-    match offset_here(&input[place..]) {
-        Some((offset, count)) => Some((offset, place + count)),
-        None => None,
-    }
+    let (offset, rest) = offset_here(&input[place..])?;
+    Some((offset, input.len() - rest.len()))
 }

@@ -59,11 +59,7 @@ pub fn type_case(bytes: &[u8]) -> TypeCase
     ensures case { result ≡ spec.type_case bytes.now }
     ensures cv { spec.OnCv result (length (spec.past_cv bytes.now) < length bytes.now) }
 {
-    if !builtin_text(bytes).is_empty() {
-        return TypeCase::BuiltinType;
-    }
     match bytes {
-        [b'D', b'p', ..] => TypeCase::ExpansionType,
         [b'u', ..] => TypeCase::VendorType,
         [b'A', ..] => TypeCase::ArrayType,
         [b'F', ..] => TypeCase::FunctionType,
@@ -77,7 +73,9 @@ pub fn type_case(bytes: &[u8]) -> TypeCase
         [b'S', b't', ..] => TypeCase::NameType,
         [b'S', ..] => TypeCase::SubstitutionType,
         [b'U', ..] => TypeCase::UnreadType,
-        _ => TypeCase::NameType,
+        [b'D', b'p', ..] => TypeCase::ExpansionType,
+        _ if builtin_text(bytes).is_empty() => TypeCase::NameType,
+        _ => TypeCase::BuiltinType,
     }
 }
 

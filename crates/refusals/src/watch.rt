@@ -93,9 +93,9 @@ impl<E: Source> Source for Watched<'_, E> {
         self.end.failed()
     }
 
-    fn read(&mut self, into: &mut [u8]) -> Result<usize, Failed> {
+    fn take(&mut self, into: &mut [u8]) -> Result<usize, Failed> {
         self.watch.note_take(into.len());
-        self.end.read(into)
+        self.end.take(into)
     }
 }
 
@@ -110,8 +110,8 @@ impl<E: Sink> Sink for Watched<'_, E> {
         self.end.failed()
     }
 
-    fn write(&mut self, bytes: &[u8]) -> Result<usize, Failed> {
+    fn put(&mut self, bytes: &[u8]) -> Result<usize, Failed> {
         self.watch.note_put(bytes.len());
-        self.end.write(bytes)
+        self.end.put(bytes)
     }
 }

@@ -141,9 +141,10 @@ pub no_last : (symbols : Symbols) (line : List ℕ) (at : Option (List ℕ)) →
 no_last symbols line at line_is = subst (λ l. WritesFiltered symbols l at at) (sym line_is) ([], nothing_filtered symbols, Appends-nil at)
 
 -- a last line was written
-pub last_written : (line answer : List ℕ) (before after : Option (List ℕ)) → line ≢ [] → HasNoLineFeed line → IsLineAnswer line answer → Appends before after answer
-    → WritesFiltered Lines line before after
-last_written line answer before after some unended_line is_answer writes = (answer, unended no_line some unended_line is_answer, writes)
+pub last_written : (symbols : Symbols) (line answer : List ℕ) (before after : Option (List ℕ)) → symbols ≡ Lines → line ≢ [] → HasNoLineFeed line → IsLineAnswer line answer
+    → Appends before after answer → WritesFiltered symbols line before after
+last_written symbols line answer before after is some unended_line is_answer writes =
+    subst (λ s. WritesFiltered s line before after) (sym is) (answer, unended no_line some unended_line is_answer, writes)
 
 -- nothing of it was written
 pub last_unwritten : (symbols : Symbols) (line : List ℕ) (at : Option (List ℕ)) → WritesBeginning symbols line at at
@@ -151,21 +152,24 @@ last_unwritten symbols line at =
     let found = filtered_of symbols line in ([], (found.0, found.1, (found.0, refl)), Appends-nil at)
 
 -- a front of it was written
-pub last_begins : (line answer : List ℕ) (before after : Option (List ℕ)) → line ≢ [] → HasNoLineFeed line → IsLineAnswer line answer → WritesFront answer before after
-    → WritesBeginning Lines line before after
-last_begins line answer before after some unended_line is_answer (rest, writes) =
+pub last_begins : (symbols : Symbols) (line answer : List ℕ) (before after : Option (List ℕ)) → symbols ≡ Lines → line ≢ [] → HasNoLineFeed line → IsLineAnswer line answer
+    → WritesFront answer before after → WritesBeginning symbols line before after
+last_begins symbols line answer before after is some unended_line is_answer (rest, writes) =
+    subst (λ s. WritesBeginning s line before after) (sym is)
     (writes.front, (answer, unended no_line some unended_line is_answer, (rest, writes.bytes_are)), writes.written)
 
 -- a last line was written replaced
-pub last_replaced : (strip : Bool) (line old output bytes : List ℕ) (before after : Option (List ℕ)) → old ≡ [] → AppendsReplaced strip line old output → bytes ≡ output
-    → Appends before after bytes → WritesFiltered (Words strip) line before after
-last_replaced strip line old output bytes before after none (text, replaced, output_is) bytes_are writes =
+pub last_replaced : (symbols : Symbols) (strip : Bool) (line old output bytes : List ℕ) (before after : Option (List ℕ)) → symbols ≡ Words strip → old ≡ []
+    → AppendsReplaced strip line old output → bytes ≡ output → Appends before after bytes → WritesFiltered symbols line before after
+last_replaced symbols strip line old output bytes before after is none (text, replaced, output_is) bytes_are writes =
+    subst (λ s. WritesFiltered s line before after) (sym is)
     (text, replaced, subst (Appends before after) (bytes_are ∙ output_is ∙ ap (λ l. l ++ text) none) writes)
 
 -- a front of its replaced text was written
-pub replaced_begins : (strip : Bool) (line old output bytes : List ℕ) (before after : Option (List ℕ)) → old ≡ [] → AppendsReplaced strip line old output → bytes ≡ output
-    → WritesFront bytes before after → WritesBeginning (Words strip) line before after
-replaced_begins strip line old output bytes before after none (text, replaced, output_is) bytes_are (rest, writes) =
+pub replaced_begins : (symbols : Symbols) (strip : Bool) (line old output bytes : List ℕ) (before after : Option (List ℕ)) → symbols ≡ Words strip → old ≡ []
+    → AppendsReplaced strip line old output → bytes ≡ output → WritesFront bytes before after → WritesBeginning symbols line before after
+replaced_begins symbols strip line old output bytes before after is none (text, replaced, output_is) bytes_are (rest, writes) =
+    subst (λ s. WritesBeginning s line before after) (sym is)
     (writes.front, (text, replaced, (rest, sym (bytes_are ∙ output_is ∙ ap (λ l. l ++ text) none) ∙ writes.bytes_are)), writes.written)
 
 -- nothing was given yet

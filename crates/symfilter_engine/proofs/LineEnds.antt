@@ -1,7 +1,7 @@
 -- Where lines end.
 use Rattle.std.proofs.Common.{Bool, ◌≡◌, ◌≢◌, inl, inr, ℕ, zero, suc, ◌+◌, ◌-◌, ◌<◌, ◌≤◌, List, [], ◌∷◌, ◌++◌, not, eqb, length, take, drop, get_or, sym, ap, subst, ◌∙◌, arith, append_assoc}
 use Rattle.std.proofs.lemmas.Bool.{eqb-true, eqb-false, cases_lt}
-use Rattle.std.proofs.lemmas.List.{get_or-take, get_or-drop, length-take-le, length-drop, length-append, take_more, length_push, get_or_push, get_or_append_left, drop_at, drop-drop, take-append-drop}
+use Rattle.std.proofs.lemmas.List.{get_or-take, get_or-drop, length-take-le, length-drop, length-append, take_more, length_push, get_or_push, get_or_append_left, drop_at, drop-drop, take-append-drop, take_rest}
 use Rattle.std.proofs.lemmas.List.Elements.{All-from_get_or, All-get_or}
 use Rattle.std.proofs.lemmas.Simd.{run_in_chunk_fails, run_in_chunk_stops}
 use Rattle.std.proofs.Math.Seq.{take-add}
@@ -12,7 +12,7 @@ use Rattle.std.specs.List.{prefix_len}
 use Rattle.symfilter_engine.specs.declared.symbols.Symbols.{Symbols}
 use Rattle.symfilter_engine.specs.declared.symbols.Symbols.TheVariants.{Lines, Words}
 use Rattle.symfilter_engine.specs.Filtered.{line_feed, EndsInLineFeed, AreLinesAnswered, no_line, one_more, AreLinesFiltered, IsLineAnswer}
-use Rattle.symfilter_engine.specs.Progress.{HasNone, IsFirst, EndsAt, HasNoPrefix, AppendsReplaced, AppendsLine, AppendsLines}
+use Rattle.symfilter_engine.specs.Progress.{HasNone, IsFirst, EndsAt, HasNoPrefix, AppendsReplaced, AppendsLines}
 use Rattle.symfilter_engine.proofs.FilteredText.{AreLinesAnswered-append, AreLinesFiltered-append}
 use Rattle.symfilter_engine.proofs.ReplacedText.{unprefixed}
 use Rattle.symfilter_engine.proofs.LineAnswers.{other_line}
@@ -82,10 +82,18 @@ ordinary_line lines end ends ordinary =
     subst (AreLinesAnswered (take (end + 1) lines)) (sym (with_feed lines end ends))
     (first_line lines (take end lines) end ends (other_line (take end lines) (front_byte lines end ordinary)))
 
--- such lines, and more of them
-pub more_ordinary : (lines : List ℕ) (n m : ℕ) → AreLinesAnswered (take n lines) (take n lines) → AreLinesAnswered (take m (drop n lines)) (take m (drop n lines))
-    → AreLinesAnswered (take (n + m) lines) (take (n + m) lines)
-more_ordinary lines n m first more = subst (λ l. AreLinesAnswered l l) (sym (take-add n m lines)) (AreLinesAnswered-append first more)
+-- ordinary lines, and one more
+pub more_ordinary : (lines : List ℕ) (len end : ℕ) → AreLinesAnswered (take len lines) (take len lines)
+    → EndsAt (take (length lines - len) (drop len lines)) end → get_or lines len 0 ≢ 95
+    → (len + (end + 1) ≤ length lines) × AreLinesAnswered (take (len + (end + 1)) lines) (take (len + (end + 1)) lines)
+more_ordinary lines len end first ends ordinary =
+    let rest : List ℕ = drop len lines in
+    let there : EndsAt rest end = subst (λ l. EndsAt l end) (take_rest lines len) ends in
+    let front : get_or rest 0 0 ≡ get_or lines len 0 = get_or-drop len lines 0 0 ∙ ap (λ n. get_or lines n 0) (omega arith) in
+    let next = ordinary_line rest end there (λ is. ordinary (sym front ∙ is)) in (
+      omega (arith, there.inside, length-drop len lines),
+      subst (λ l. AreLinesAnswered l l) (sym (take-add len (end + 1) lines)) (AreLinesAnswered-append first next),
+    )
 
 -- whole lines without a prefix
 pub unprefixed_lines : (symbols : Symbols) (strip : Bool) (lines : List ℕ) → symbols ≡ Words strip → EndsInLineFeed lines → HasNoPrefix lines
@@ -103,8 +111,9 @@ pub block_appended : (strip : Bool) (lines before after : List ℕ) → EndsInLi
 block_appended strip lines before after ended (text, replaced, after_is) = (text, (ended, replaced), after_is)
 
 -- one line was appended
-pub line_appended : (lines before after : List ℕ) (end : ℕ) → EndsAt lines end → AppendsLine (take end lines) before after → AppendsLines Lines (take (end + 1) lines) before after
-line_appended lines before after end ends (answer, is_answer, after_is) = (answer ++ line_feed ∷ [], first_line lines answer end ends is_answer, after_is)
+pub line_appended : (lines answer before after : List ℕ) (end : ℕ) → EndsAt lines end → IsLineAnswer (take end lines) answer → after ≡ before ++ (answer ++ line_feed ∷ [])
+    → AppendsLines Lines (take (end + 1) lines) before after
+line_appended lines answer before after end ends is_answer after_is = (answer ++ line_feed ∷ [], first_line lines answer end ends is_answer, after_is)
 
 -- more lines were appended
 pub lines_appended : (symbols : Symbols) (lines rest before after : List ℕ) (n m : ℕ) → AreLinesFiltered symbols (take n lines) before → rest ≡ drop n lines
@@ -116,11 +125,11 @@ lines_appended symbols lines rest before after n m first rest_is (text, filtered
     (subst (λ l. AreLinesFiltered symbols (take m l) text) rest_is filtered)))
 
 -- lines of the rest were appended, and this is left of it
-pub rest_appended : (symbols : Symbols) (lines rest left before after : List ℕ) (gathered m : ℕ)
-    → gathered + length rest ≤ length lines → rest ≡ drop (length lines - length rest) lines → AreLinesFiltered symbols (take (length lines - length rest) lines) before
+pub rest_appended : (symbols : Symbols) (lines rest left before after : List ℕ) (m : ℕ)
+    → length rest ≤ length lines → rest ≡ drop (length lines - length rest) lines → AreLinesFiltered symbols (take (length lines - length rest) lines) before
     → m ≤ length rest → AppendsLines symbols (take m rest) before after → left ≡ drop m rest
-    → (gathered + length left ≤ length lines) × (left ≡ drop (length lines - length left) lines) × AreLinesFiltered symbols (take (length lines - length left) lines) after
-rest_appended symbols lines rest left before after gathered m kept rest_is first bound appended left_is =
+    → (length left ≤ length lines) × (left ≡ drop (length lines - length left) lines) × AreLinesFiltered symbols (take (length lines - length left) lines) after
+rest_appended symbols lines rest left before after m inside rest_is first bound appended left_is =
     let n : ℕ = length lines - length rest in
     let long : length left ≡ length rest - m = ap length left_is ∙ length-drop m rest in
     let more : n + m ≡ length lines - length left = omega arith in (

@@ -1,13 +1,17 @@
 -- The faults of a run, and when each comes.
-use Rattle.std.specs.Prelude.{◌≡◌, ℕ, List, Bool, true, false, codes, Result, Ok, Err}
+use Rattle.std.specs.Prelude.{◌≡◌, ℕ, List, ◌++◌, Bool, true, false, codes, Result, Ok, Err}
 use Rattle.symfilter_engine.specs.declared.fault.FilterFault.{FilterFault}
 use Rattle.symfilter_engine.specs.declared.fault.FilterFault.TheVariants.{Read, Write, Memory}
 
--- the words for a fault
+-- the words for a fault, without a program's name in front
+abbrev pub reason_of : FilterFault → List ℕ
+reason_of Read = codes "read failed"
+reason_of Write = codes "write failed"
+reason_of Memory = codes "out of memory"
+
+-- the line that `symfilter` prints for a fault
 abbrev pub words_of : FilterFault → List ℕ
-words_of Read = codes "symfilter: read failed"
-words_of Write = codes "symfilter: write failed"
-words_of Memory = codes "symfilter: out of memory"
+words_of fault = codes "symfilter: " ++ reason_of fault
 
 -- what reading ends with: `Read` exactly where the source has failed, and never `Write`
 abbrev pub IsReadOutcome : {T : Type 0} → Result T FilterFault → Bool → Type 0

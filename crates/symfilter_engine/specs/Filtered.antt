@@ -16,7 +16,7 @@ HasNoLineFeed bytes = All (λ byte. byte ≢ line_feed) bytes
 
 -- a line without its line feed, and what is written for it
 pub data IsLineAnswer (line : List ℕ) : List ℕ → Type 0 where
-  -- its answer, where it is UTF-8 and has one
+  -- its demangled name, where it is UTF-8 and has one
   answered : {text : List ℕ} → IsUtf8 line → IsAnswer line (Some text) → IsLineAnswer line text
   -- the line itself, where it has none
   unanswered : IsUtf8 line → IsAnswer line None → IsLineAnswer line line
@@ -27,7 +27,7 @@ pub data IsLineAnswer (line : List ℕ) : List ℕ → Type 0 where
 pub data AreLinesAnswered : List ℕ → List ℕ → Type 0 where
   -- there is none
   no_line : AreLinesAnswered [] []
-  -- one more line: its answer is written, then the line feed
+  -- one more line: what is written for it is followed by the line feed
   one_more : {lines text line answer : List ℕ} → AreLinesAnswered lines text
       → HasNoLineFeed line → IsLineAnswer line answer
       → AreLinesAnswered (lines ++ (line ++ line_feed ∷ [])) (text ++ (answer ++ line_feed ∷ []))
@@ -73,7 +73,7 @@ abbrev pub WritesBeginning : Symbols → List ℕ → Option (List ℕ) → Opti
 WritesBeginning symbols given before after =
     (written : List ℕ) × IsBeginning symbols given written × Appends before after written
 
--- the source gave a front of its bytes, where they are known, and the sink got a beginning of its filtered text
+-- the source gave a front of its bytes, where they are known, and the sink got a beginning of their filtered text
 pub record FiltersFront (symbols : Symbols) (before after written_before written_after : Option (List ℕ)) : Type 0 where
   pub read : List ℕ
   pub consumed : Consumes before after read

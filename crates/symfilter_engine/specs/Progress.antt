@@ -1,8 +1,8 @@
 -- What has been written on the way.
-use Rattle.std.specs.Prelude.{◌≡◌, ◌≢◌, ℕ, suc, ◌-◌, ◌<◌, ◌≤◌, List, [], ◌∷◌, ◌++◌, All, Bool, true, false, Option, length, take, slice_index}
+use Rattle.std.specs.Prelude.{◌≡◌, ◌≢◌, ℕ, suc, ◌-◌, ◌<◌, ◌≤◌, List, ◌++◌, All, Bool, true, false, Option, length, take, slice_index}
 use Rattle.std.specs.Io.KnownBytes.{Appends, Consumes, IsAtEnd}
 use Rattle.symfilter_engine.specs.declared.symbols.Symbols.{Symbols}
-use Rattle.symfilter_engine.specs.Filtered.{line_feed, IsLineAnswer, AreLinesFiltered, WritesBeginning}
+use Rattle.symfilter_engine.specs.Filtered.{line_feed, AreLinesFiltered, WritesBeginning}
 use Rattle.symfilter_engine.specs.Replaced.{is_word_byte, IsReplaced}
 
 -- no byte is this one
@@ -40,7 +40,7 @@ pub record IsFirstPrefix (bytes : List ℕ) (place : ℕ) : Type 0 where
 abbrev pub AreWordBytes : List ℕ → ℕ → ℕ → Type 0
 AreWordBytes bytes low high = (k : ℕ) → low ≤ k → k < high → is_word_byte (slice_index bytes k) ≡ true
 
--- the place is none between two bytes of a word
+-- the place does not stand between two bytes of a word
 abbrev pub IsBoundary : List ℕ → ℕ → Type 0
 IsBoundary bytes place =
     0 < place → is_word_byte (slice_index bytes (place - 1)) ≡ true → is_word_byte (slice_index bytes place) ≡ false
@@ -54,7 +54,7 @@ abbrev pub AppendsReplaced : Bool → List ℕ → List ℕ → List ℕ → Typ
 AppendsReplaced strip bytes before after =
     (text : List ℕ) × IsReplaced strip bytes text × (after ≡ before ++ text)
 
--- these bytes were written but for the rest
+-- these bytes were written up to the rest
 pub record WritesUpTo (bytes rest : List ℕ) (before after : Option (List ℕ)) : Type 0 where
   pub front : List ℕ
   pub bytes_are : bytes ≡ front ++ rest
@@ -63,11 +63,6 @@ pub record WritesUpTo (bytes rest : List ℕ) (before after : Option (List ℕ))
 -- a front of these bytes was written
 abbrev pub WritesFront : List ℕ → Option (List ℕ) → Option (List ℕ) → Type 0
 WritesFront bytes before after = (rest : List ℕ) × WritesUpTo bytes rest before after
-
--- the answer of a line, or the line itself, and a line feed were appended
-abbrev pub AppendsLine : List ℕ → List ℕ → List ℕ → Type 0
-AppendsLine line before after =
-    (answer : List ℕ) × IsLineAnswer line answer × (after ≡ before ++ (answer ++ line_feed ∷ []))
 
 -- the filtered text of the lines was appended
 abbrev pub AppendsLines : Symbols → List ℕ → List ℕ → List ℕ → Type 0
@@ -82,7 +77,7 @@ pub record HasFiltered (symbols : Symbols) (given left : List ℕ) (before after
   pub filtered : AreLinesFiltered symbols lines text
   pub written : Appends before after text
 
--- of the bytes given whole lines were written filtered, and nothing of the next
+-- whole lines of the bytes given were written filtered, and nothing of the next line
 abbrev pub WritesWholeLines : Symbols → List ℕ → Option (List ℕ) → Option (List ℕ) → Type 0
 WritesWholeLines symbols given before after = (left : List ℕ) × HasFiltered symbols given left before after
 
@@ -95,14 +90,14 @@ WritesLines symbols lines before after =
 abbrev pub WritesLinesFront : Symbols → List ℕ → Option (List ℕ) → Option (List ℕ) → Type 0
 WritesLinesFront symbols lines before after = (rest : List ℕ) → WritesBeginning symbols (lines ++ rest) before after
 
--- whole lines of what was read were written filtered, and of the next these bytes were read
+-- whole lines of what was read were written filtered, and these bytes of the next line were read
 pub record HasCopied (symbols : Symbols) (line : List ℕ)
     (before after written_before written_after : Option (List ℕ)) : Type 0 where
   pub read : List ℕ
   pub consumed : Consumes before after read
   pub filtered : HasFiltered symbols read line written_before written_after
 
--- after the bytes kept a chunk holds what was read, up to this end, and no more than before at the end alone
+-- a chunk holds what was read between the bytes kept and this place, and the source is at its end if that is nothing
 pub record ReadsMore (kept end : ℕ) (old new : List ℕ) (before after : Option (List ℕ)) : Type 0 where
   pub piece : List ℕ
   pub low : kept ≤ end

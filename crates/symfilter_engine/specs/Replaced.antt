@@ -1,4 +1,4 @@
--- The replaced text of a list of bytes: symbols that stand in words are replaced by their answers.
+-- The replaced text of a list of bytes: symbols that stand in words are replaced by their demangled names.
 use Rattle.std.specs.Prelude.{◌≡◌, ◌≢◌, ℕ, List, [], ◌∷◌, ◌++◌, All, Bool, false, ◌&&◌, ◌||◌, Option, Some, None, IsTrue, codes, take, drop, if◌then◌else◌}
 use Rattle.itanium_syntax.specs.Bytes.{is, is_between, is_digit, one_of, begins, begins_one_of}
 use Rattle.itanium_grammar.specs.Answer.{IsAnswer}
@@ -24,45 +24,45 @@ ends_in_dot [] = false
 ends_in_dot (byte ∷ []) = is "." byte
 ends_in_dot (byte ∷ next ∷ bytes) = ends_in_dot (next ∷ bytes)
 
--- one dot or `$` that stands in front
+-- the prefix character in front of a word, a dot or `$`, if it has one
 abbrev pub sign_of : List ℕ → List ℕ
 sign_of word = if begins_one_of (codes ".$") word then take 1 word else []
 
--- what follows it
+-- the word without its prefix character
 abbrev pub past_sign : List ℕ → List ℕ
 past_sign word = if begins_one_of (codes ".$") word then drop 1 word else word
 
--- the symbol that the bytes are: they begin with `_Z` or `__Z`; or, where an underscore is stripped, they begin with
--- `___Z`, and the first one is dropped
+-- the symbol that the bytes are: they begin with `_Z` or `__Z`. Where an underscore is stripped, they may begin with
+-- `___Z`, and the first underscore is dropped.
 abbrev pub symbol_at : Bool → List ℕ → Option (List ℕ)
 symbol_at strip bytes =
     if begins (codes "_Z") bytes || begins (codes "__Z") bytes then Some bytes else
     if strip && begins (codes "___Z") bytes then Some (drop 1 bytes) else None
 
--- the symbol in a word without the dots at its end: what follows the sign, if it is one
+-- the symbol in a word without the dots at its end: what follows the prefix character, if that is a symbol
 abbrev pub symbol_in : Bool → List ℕ → Option (List ℕ)
 symbol_in strip word = symbol_at strip (past_sign word)
 
 -- a word without the dots at its end, and what is written for it
 pub data IsWordAnswer (strip : Bool) (word : List ℕ) : List ℕ → Type 0 where
-  -- its sign stays, and the symbol in it has an answer
+  -- its prefix character stays, and its symbol has a demangled name
   answered : {symbol text : List ℕ}
       → symbol_in strip word ≡ Some symbol
       → IsAnswer symbol (Some text)
       → IsWordAnswer strip word (sign_of word ++ text)
-  -- it stays, where the symbol in it has none
+  -- it stays, where its symbol has none
   unanswered : {symbol : List ℕ}
       → symbol_in strip word ≡ Some symbol
       → IsAnswer symbol None
       → IsWordAnswer strip word word
-  -- it stays, where no symbol is in it
+  -- it stays, where it has no symbol
   no_symbol : symbol_in strip word ≡ None → IsWordAnswer strip word word
 
 -- bytes, and their replaced text
 pub data IsReplaced (strip : Bool) : List ℕ → List ℕ → Type 0 where
   -- there are none
   no_byte : IsReplaced strip [] []
-  -- a byte of no word stays; more bytes follow
+  -- a byte that is in no word stays, and more bytes follow
   other : {byte : ℕ} {bytes text : List ℕ}
       → is_word_byte byte ≡ false
       → IsReplaced strip bytes text

@@ -5,15 +5,16 @@ ghost use Rattle.symfilter_engine.specs.Progress.{AreWordBytes, IsBoundary};
 
 use std::simd::prelude::*;
 
-/// How many bytes are looked at at once.
+/// The number of bytes that are tested at once.
 const LANES: usize = 16;
 
-/// By the high nibble of a byte, which is its four high bits, a bit for the bytes of words that have it: 1 for `$` and
-/// `.`, 2 for the digits, 4 for `A` to `O` and `a` to `o`, 8 for `P` to `Z` and `_`, 16 for `p` to `z`.
+/// Each kind of word bytes has a bit: 1 for `$` and `.`, 2 for the digits, 4 for `A` to `O` and `a` to `o`, 8 for `P`
+/// to `Z` and `_`, 16 for `p` to `z`. This table has the bit of the kind by the high nibble of its bytes, their four
+/// high bits.
 const BY_HIGH_NIBBLE: [u8; 16] = [0, 0, 1, 2, 4, 8, 4, 16, 0, 0, 0, 0, 0, 0, 0, 0];
 
-/// By the low nibble of a byte, the bits for all bytes of words that have it. A byte is one of words where its two
-/// entries have a bit in common.
+/// By the low nibble, the bits of all kinds that have a byte with it. A byte is one of words if its two entries have a
+/// bit in common.
 const BY_LOW_NIBBLE: [u8; 16] = [26, 30, 30, 30, 31, 30, 30, 30, 30, 30, 28, 4, 4, 4, 5, 12];
 
 /// Whether the byte is one of words.
@@ -24,7 +25,7 @@ fn is_word_byte(byte: u8) -> bool
     matches!(byte, b'A'..=b'Z' | b'a'..=b'z' | b'0'..=b'9' | b'_' | b'$' | b'.')
 }
 
-/// Where the word begins whose bytes stand before `place`. The place `low` is none between two of its bytes.
+/// Where the word begins whose bytes stand before `place`. It begins at `low` at the earliest.
 #[inline(always)]
 pub(crate) fn word_start(text: &[u8], low: usize, place: usize) -> usize
     requires ordered { low ≤ place }

@@ -1,30 +1,30 @@
-//! The two ends of the filter: where bytes come from, and where they go.
+//! The source that bytes are read from, and the sink that they are written to.
 ghost use Rattle.std.specs.Prelude.{◌≡◌, ℕ, List, Bool, true, false, Option, None, ◌<◌, ◌≤◌, length, take, IsTrue, IfOk, IfSome, OnOk, OnErr};
 ghost use Rattle.std.specs.Io.KnownBytes.{Appends, Consumes, IsAtEnd, Keeps};
 
-/// A source or a sink has failed. Why is not kept.
+/// A source or a sink has failed. The cause is not kept.
 #[derive(Clone, Copy, Debug, PartialEq, Eq)]
 pub struct Failed;
 
 /// Where bytes are read from.
 pub trait Source {
-    // The bytes still to come, where they are known.
+    // The bytes that are left, where they are known.
     ghost remaining: { Self → Option (List ℕ) } = { λ _. None };
 
-    // Whether a read has failed; then for good.
+    // Whether a read has failed. It stays true.
     ghost failed: { Self → Bool };
-    // Whether a call came after one that had failed, where that is told.
+    // Whether a call was made after a failure, where that is recorded.
     ghost called_late: { Self → Option Bool } = { λ _. None };
-    // At most so many calls give a byte from here on.
+    // At most so many further calls give a byte.
     ghost calls_left: { Self → ℕ };
 
     /// Whether a call has failed. A failed call sets this for good.
     fn failed(&self) -> bool
         ensures value { result ≡ failed self.now };
 
-    /// Puts the next bytes at the front of the slice, and answers how many. 0 for a slice that
-    /// isn't empty is the end. A failed call gives no byte.
-    fn read(&mut self, into: &mut [u8]) -> Result<usize, Failed>
+    /// Puts the next bytes at the front of the slice, and returns their number. For a slice that isn't empty, 0 means
+    /// the end. A failed call gives no byte.
+    fn take(&mut self, into: &mut [u8]) -> Result<usize, Failed>
         ensures bound { IfOk result (λ count. count ≤ length into.new) }
         ensures gives { IfOk result (λ count.
             Consumes (remaining self.old) (remaining self.new) (take count into.new)) }
@@ -44,19 +44,19 @@ pub trait Sink {
     // The bytes taken so far, where they are known.
     ghost taken: { Self → Option (List ℕ) } = { λ _. None };
 
-    // Whether a write has failed; then for good.
+    // Whether a write has failed. It stays true.
     ghost failed: { Self → Bool };
 
-    // Whether a call came after one that had failed, where that is told.
+    // Whether a call was made after a failure, where that is recorded.
     ghost called_late: { Self → Option Bool } = { λ _. None };
 
     /// Whether a call has failed. A failed call sets this for good.
     fn failed(&self) -> bool
         ensures value { result ≡ failed self.now };
 
-    /// Takes a beginning of the bytes, at least one where there is one, and answers how many. A
-    /// failed call takes no byte.
-    fn write(&mut self, bytes: &[u8]) -> Result<usize, Failed>
+    /// Takes a beginning of the bytes, and returns its length. It takes at least one byte if there is one. A failed
+    /// call takes no byte.
+    fn put(&mut self, bytes: &[u8]) -> Result<usize, Failed>
         ensures bound { IfOk result (λ count. count ≤ length bytes.now) }
         ensures some { IfOk result (λ count. 0 < length bytes.now → 0 < count) }
         ensures takes { IfOk result (λ count.

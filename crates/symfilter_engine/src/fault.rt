@@ -11,14 +11,24 @@ pub enum FilterFault {
     Read = 1,
     /// The sink has failed.
     Write = 2,
-    /// Memory was refused.
+    /// An allocation has failed.
     Memory = 3,
 }
 
-impl FilterFault {
-    ghost use Rattle.symfilter_engine.specs.Fault.{words_of};
+/// What stands in front of the words of a fault.
+const NAME: &str = "symfilter: ";
 
-    /// The words that the program prints for the fault.
+impl FilterFault {
+    ghost use Rattle.symfilter_engine.specs.Fault.{reason_of, words_of};
+
+    /// The words for the fault, without a program's name in front: `read failed`, `write failed` or `out of memory`.
+    pub fn reason(&self) -> &'static str
+        ensures words { result.now ≡ reason_of self.now }
+    {
+        &self.line()[NAME.len()..]
+    }
+
+    /// The line that the program `symfilter` prints for the fault: its name, and the words.
     pub fn line(&self) -> &'static str
         ensures words { result.now ≡ words_of self.now }
     {

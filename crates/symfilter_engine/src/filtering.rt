@@ -1,5 +1,5 @@
-//! The loop over what is read, and the two that it is run for: the filter and the replacement.
-ghost use Rattle.std.specs.Prelude.{◌≡◌, ◌≤◌, ◌↔◌, ◌<◌, ◌-◌, false, [], length, take, drop, IsTrue, IsErrOf, IfOk, IfSome, Some, OnOk, OnErr};
+//! The filter and the replacement, and the loop over chunks of the input that both run.
+ghost use Rattle.std.specs.Prelude.{◌≡◌, ◌≤◌, ◌↔◌, ◌<◌, false, [], length, take, IsTrue, IsErrOf, IfOk, IfSome, Some, OnOk, OnErr};
 ghost use Rattle.std.specs.Io.KnownBytes.{IsAtEnd, Keeps};
 ghost use Rattle.symfilter_engine.specs.declared.symbols.Symbols.TheVariants.{Lines, Words};
 ghost use Rattle.symfilter_engine.specs.Fault.{IsRunOutcome, IsReadOutcome};
@@ -13,19 +13,19 @@ use super::lines::{write_last, write_lines};
 use super::symbols::Symbols;
 use growing_text::Text;
 use itanium_demangle::Demangler;
-use std::alloc::{AllocError, Global};
+use std::alloc::Global;
 
-/// How many bytes a read asks for, where no line is unended.
+/// The length in bytes of a chunk, and of the bytes by which it grows where a line is longer.
 const CHUNK_LEN: usize = 131072;
 
-/// Reads to the end, and writes for each line its answer by `Demangler::demangle`, or the line's own bytes where it has
-/// none or isn't UTF-8. A line goes up to the next line feed or the end; the line feed is written where there was one.
-/// Whenever it reads, all whole lines that were read before are written.
+/// Reads to the end, and writes each line demangled. A line that `Demangler::demangle` has no result for, or that isn't
+/// UTF-8, is written as it is. A line goes up to the next line feed or the end of the input. Its line feed is written
+/// where there was one. Before each read all whole lines that were read are written.
 ///
-/// It ends at the first fault and calls neither end after it: `Read` where the source failed, `Write` where the sink
-/// did, `Memory` where memory was refused. What was written then is a beginning of what would have been: after `Read`
-/// the text of all whole lines that were read, and after `Memory` that of whole lines, with nothing of the next. That
-/// the next is the one that memory was refused for is so by the code alone, and no clause says it.
+/// It returns at the first fault, and calls neither source nor sink after it. The fault is `Read` if the source has
+/// failed, `Write` if the sink has failed, and `Memory` if an allocation has failed. The sink has then got a beginning
+/// of the filtered text: after `Read` the text of all whole lines that were read, and after `Memory` that of some whole
+/// lines. By the code the next line is then the one that the allocation was for; no clause says so.
 pub fn filter<R: Source, W: Sink>(
     alloc: Global,
     source: &mut R,
@@ -36,11 +36,11 @@ pub fn filter<R: Source, W: Sink>(
     ensures read { IsErrOf result FilterFault.Read ↔ IsTrue (R.failed source.new) }
     ensures write { IsErrOf result FilterFault.Write ↔ IsTrue (W.failed sink.new) }
 
-    // Neither end is called once it has failed: it would tell so.
+    // Neither source nor sink is called after a failure, which `called_late` would record.
     ensures source_in_time { R.called_late source.new ≡ R.called_late source.old }
     ensures sink_in_time { W.called_late sink.new ≡ W.called_late sink.old }
 
-    // What follows holds where the bytes of the source are known, and the sink's.
+    // These clauses hold where the bytes of the source and of the sink are known.
     ensures used_up { OnOk result (IfSome (R.remaining source.old) (λ _.
         R.remaining source.new ≡ Some [])) }
     ensures ok { OnOk result (IfSome (R.remaining source.old) (λ given.
@@ -49,12 +49,12 @@ pub fn filter<R: Source, W: Sink>(
         (R.remaining source.old) (R.remaining source.new)
         (W.taken sink.old) (W.taken sink.new)) }
 
-    // Any call of the source may fail. So whenever it is asked, all whole lines that it gave are written.
+    // Any call of the source may fail. So all whole lines that it gave are written before each call.
     ensures put { IsErrOf result FilterFault.Read → FiltersLines Lines
         (R.remaining source.old) (R.remaining source.new)
         (W.taken sink.old) (W.taken sink.new) }
 
-    // Where memory is refused, whole lines are written, and nothing of the next.
+    // After a failed allocation whole lines have been written, and nothing of the next line.
     ensures memory { IsErrOf result FilterFault.Memory → FiltersWholeLines Lines
         (R.remaining source.old) (R.remaining source.new)
         (W.taken sink.old) (W.taken sink.new) }
@@ -63,10 +63,11 @@ pub fn filter<R: Source, W: Sink>(
     filter_by_chunks(alloc, Symbols::Lines, source, sink, &mut chunk)
 }
 
-/// Reads to the end, and writes the replaced text: symbols are replaced by their answers wherever they stand in words.
-/// A word is a maximal run of ASCII letters, digits, `_`, `$` and `.`; a symbol begins it, after one dot or `$` that
-/// may stand in front, and the dots at its end stay. With `strip` a word may have one more underscore in front of its
-/// symbol, which is dropped with it. Whenever it reads, all whole lines that were read before are written.
+/// Reads to the end, and writes the replaced text: each symbol that stands in a word is replaced by its demangled name.
+/// A word is a maximal run of ASCII letters, digits, `_`, `$` and `.`. Its symbol stands at its front, after at most
+/// one prefix character `.` or `$`. The prefix character and the dots at the word's end stay. With `strip` one more
+/// underscore may stand in front of the symbol, and is dropped. Before each read all whole lines that were read are
+/// written.
 ///
 /// Its faults are those of `filter`.
 pub fn replace<R: Source, W: Sink>(
@@ -80,11 +81,11 @@ pub fn replace<R: Source, W: Sink>(
     ensures read { IsErrOf result FilterFault.Read ↔ IsTrue (R.failed source.new) }
     ensures write { IsErrOf result FilterFault.Write ↔ IsTrue (W.failed sink.new) }
 
-    // Neither end is called once it has failed: it would tell so.
+    // Neither source nor sink is called after a failure, which `called_late` would record.
     ensures source_in_time { R.called_late source.new ≡ R.called_late source.old }
     ensures sink_in_time { W.called_late sink.new ≡ W.called_late sink.old }
 
-    // What follows holds where the bytes of the source are known, and the sink's.
+    // These clauses hold where the bytes of the source and of the sink are known.
     ensures used_up { OnOk result (IfSome (R.remaining source.old) (λ _.
         R.remaining source.new ≡ Some [])) }
     ensures ok { OnOk result (IfSome (R.remaining source.old) (λ given.
@@ -93,12 +94,12 @@ pub fn replace<R: Source, W: Sink>(
         (R.remaining source.old) (R.remaining source.new)
         (W.taken sink.old) (W.taken sink.new)) }
 
-    // Any call of the source may fail. So whenever it is asked, all whole lines that it gave are written.
+    // Any call of the source may fail. So all whole lines that it gave are written before each call.
     ensures put { IsErrOf result FilterFault.Read → FiltersLines (Words strip)
         (R.remaining source.old) (R.remaining source.new)
         (W.taken sink.old) (W.taken sink.new) }
 
-    // Where memory is refused, whole lines are written, and nothing of the next.
+    // After a failed allocation whole lines have been written, and nothing of the next line.
     ensures memory { IsErrOf result FilterFault.Memory → FiltersWholeLines (Words strip)
         (R.remaining source.old) (R.remaining source.new)
         (W.taken sink.old) (W.taken sink.new) }
@@ -107,7 +108,7 @@ pub fn replace<R: Source, W: Sink>(
     filter_by_chunks(alloc, Symbols::Words(strip), source, sink, &mut chunk)
 }
 
-/// Reads into the chunk to the end, and writes each line. The chunk holds what is left of a line that isn't whole yet.
+/// Reads to the end through the chunk, and writes each line. The chunk keeps the beginning of a line that isn't whole.
 fn filter_by_chunks<R: Source, W: Sink>(
     alloc: Global,
     symbols: Symbols,
@@ -139,8 +140,8 @@ fn filter_by_chunks<R: Source, W: Sink>(
     write_last(alloc, &mut demangler, symbols, &chunk[..kept], sink)
 }
 
-/// Writes each line that ends in a line feed, and answers how many bytes of a last one that doesn't are left at the
-/// front of the chunk.
+/// Reads to the end, and writes each line that ends in a line feed. It returns the length in bytes of a last line
+/// without one, which the front of the chunk holds.
 fn copy_lines<R: Source, W: Sink>(
     alloc: Global,
     demangler: &mut Demangler,
@@ -186,25 +187,16 @@ fn copy_lines<R: Source, W: Sink>(
             &mut output,
             sink,
         )?;
-        move_rest(chunk, ended, end);
+        // The beginning of the next line moves to the front.
+        if ended > 0 {
+            chunk.copy_within(ended..end, 0);
+        }
         kept = end - ended;
     }
 }
 
-/// Makes room for more than `kept` bytes in the chunk, whose first `kept` bytes stay.
-fn make_room(chunk: &mut Vec<u8>, kept: usize) -> Result<(), AllocError>
-    requires { kept ≤ length chunk.old.items }
-    ensures room { OnOk result (kept < length chunk.new.items) }
-    ensures stays { OnOk result (take kept chunk.new.items ≡ take kept chunk.old.items) }
-{
-    if kept == chunk.len() {
-        chunk.resize(kept + CHUNK_LEN, 0)?;
-    }
-    Ok(())
-}
-
-/// Reads after the first `kept` bytes of the chunk, which grows where it is full, and answers how many bytes stand
-/// there then: no more than before at the end alone.
+/// Reads more bytes after the first `kept` bytes of the chunk, and returns the number of both. The chunk grows if it is
+/// full. The number is `kept` only at the end of the input.
 fn read_more<R: Source>(
     source: &mut R,
     chunk: &mut Vec<u8>,
@@ -220,21 +212,11 @@ fn read_more<R: Source>(
         kept < end → R.calls_left source.new < R.calls_left source.old) }
     ensures err { OnErr result (Keeps (R.remaining source.old) (R.remaining source.new)) }
 {
-    make_room(chunk, kept)?;
-    match source.read(&mut chunk[kept..]) {
+    if kept == chunk.len() {
+        chunk.resize(kept + CHUNK_LEN, 0)?;
+    }
+    match source.take(&mut chunk[kept..]) {
         Ok(count) => Ok(kept + count),
         Err(Failed) => Err(FilterFault::Read),
-    }
-}
-
-/// Moves the bytes from `from` up to `end` to the front of the chunk.
-fn move_rest(chunk: &mut Vec<u8>, from: usize, end: usize)
-    requires ordered { from ≤ end }
-    requires inside { end ≤ length chunk.old.items }
-    ensures len { length chunk.new.items ≡ length chunk.old.items }
-    ensures moved { take (end - from) chunk.new.items ≡ drop from (take end chunk.old.items) }
-{
-    if from > 0 {
-        chunk.copy_within(from..end, 0);
     }
 }

@@ -1,6 +1,5 @@
-//! The engine of the filter and the replacement, which copy lines from a source to a sink. `filter` writes a line that
-//! is a mangled symbol demangled, and `replace` symbols that stand in words. Whole lines are written before the source
-//! is asked for more.
+//! The engine of the filter and the replacement, which copy lines from a source to a sink. `filter` demangles each line
+//! that is a symbol, and `replace` each symbol that stands in a word. Whole lines are written before each read.
 #![tactic(auto)]
 
 mod bounds;

@@ -16,7 +16,7 @@ pub(crate) fn line_end(bytes: &[u8]) -> Option<usize>
     first_place(bytes, LINE_FEED)
 }
 
-/// How many bytes the whole lines have: up to the last line feed and with it. None is in the first `seen` bytes.
+/// The length in bytes of the whole lines, with the last line feed. The first `seen` bytes have no line feed.
 pub(crate) fn ended_len(bytes: &[u8], seen: usize) -> usize
     requires inside { seen ≤ length bytes.now }
     requires before { HasNoLineFeed (take seen bytes.now) }

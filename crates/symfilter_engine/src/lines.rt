@@ -1,13 +1,13 @@
-//! Lines of a chunk, and what is written for them.
+//! Writing whole lines, and a last line.
 //!
-//! A line is ordinary where lines are symbols and it doesn't begin with an underscore, or where symbols stand in words
-//! and no `_Z` is in it: then it stands for itself.
-ghost use Rattle.std.specs.Prelude.{◌≡◌, ◌<◌, ◌≤◌, ◌↔◌, [], false, length, take, IsTrue, IsErrOf, IsUtf8, IfOk, IfSome, IfNone, OnOk, OnErr};
+//! An ordinary line is written as it is. Where lines are symbols, a line is ordinary if it doesn't begin with an
+//! underscore. Where words hold symbols, a line is ordinary if it has no `_Z`.
+ghost use Rattle.std.specs.Prelude.{◌≡◌, ◌<◌, ◌≤◌, [], false, length, take, IsTrue, IsErrOf, IsUtf8, IfOk, OnOk, OnErr};
 ghost use Rattle.std.specs.Io.KnownBytes.{Keeps};
 ghost use Rattle.symfilter_engine.specs.Fault.{IsWriteOutcome};
 ghost use Rattle.symfilter_engine.specs.declared.symbols.Symbols.TheVariants.{Lines, Words};
 ghost use Rattle.symfilter_engine.specs.Filtered.{HasNoLineFeed, EndsInLineFeed, IsLineAnswer, AreLinesAnswered, AreLinesFiltered, WritesFiltered, WritesBeginning};
-ghost use Rattle.symfilter_engine.specs.Progress.{AppendsLine, AppendsLines, HasFiltered, WritesLines, WritesLinesFront, WritesWholeLines};
+ghost use Rattle.symfilter_engine.specs.Progress.{AppendsLines, HasFiltered, WritesLines, WritesLinesFront, WritesWholeLines};
 
 use super::ends::Sink;
 use super::fault::FilterFault;
@@ -17,91 +17,54 @@ use super::prefixes::unprefixed_len;
 use super::symbols::Symbols;
 use super::words::append_words;
 use growing_text::Text;
-use itanium_demangle::Demangler;
+use itanium_demangle::{Demangler, is_utf8};
 use std::alloc::{AllocError, Global};
 use std::str;
 
-/// So many bytes of output are put without waiting for more.
+/// The output is written once it has so many bytes.
 const OUTPUT_LEN: usize = 32768;
 
-/// So many bytes are reserved for output: more than is waited for.
-const OUTPUT_ROOM: usize = 36864;
+/// The capacity that is reserved for the output, in bytes. It is more than `OUTPUT_LEN`.
+const OUTPUT_CAPACITY: usize = 36864;
 
-/// So many bytes of ordinary lines are put without a copy.
+/// So many bytes of ordinary lines are written without a copy.
 const LONG_LEN: usize = 16384;
 
-/// So many bytes of lines are looked through for words at once.
+/// The words of at most so many bytes of lines are replaced at once.
 const BLOCK_LEN: usize = 4096;
 
 /// The first byte of each symbol.
 const UNDERSCORE: u8 = b'_';
 
-/// How many bytes the first line has with its line feed, where it has one and is ordinary.
-#[inline(always)]
-fn ordinary_line_len(lines: &[u8]) -> Option<usize>
-    ensures some { IfSome result (λ len. 0 < len) }
-    ensures bound { IfSome result (λ len. len ≤ length lines.now) }
-    ensures ordinary { IfSome result (λ len. AreLinesAnswered (take len lines.now) (take len lines.now)) }
-{
-    if lines.is_empty() || lines[0] == UNDERSCORE {
-        return None;
-    }
-    match line_end(lines) {
-        Some(end) => Some(end + 1),
-        None => None,
-    }
-}
-
-/// How many bytes the first whole lines have, as far as they are ordinary.
+/// The length in bytes of the first whole lines, up to one that is not ordinary.
 #[inline(always)]
 fn ordinary_len(symbols: Symbols, lines: &[u8]) -> usize
     ensures bound { result ≤ length lines.now }
     ensures ordinary { AreLinesFiltered symbols (take result lines.now) (take result lines.now) }
 {
     match symbols {
-        Symbols::Lines if lines.is_empty() || lines[0] == UNDERSCORE => 0,
-        Symbols::Lines => ordinary_run_len(lines),
+        Symbols::Lines => unmangled_len(lines),
         Symbols::Words(_) => unprefixed_len(lines),
     }
 }
 
-/// `ordinary_len` where lines are symbols, out of line: it is called where the first line doesn't begin with an
-/// underscore.
-#[inline(never)]
-fn ordinary_run_len(lines: &[u8]) -> usize
+/// The length in bytes of the first whole lines, up to one that begins with an underscore.
+fn unmangled_len(lines: &[u8]) -> usize
     ensures bound { result ≤ length lines.now }
     ensures ordinary { AreLinesAnswered (take result lines.now) (take result lines.now) }
 {
     let mut len = 0;
-    while let Some(more) = ordinary_line_len(&lines[len..]) {
-        len += more;
+    while len < lines.len() && lines[len] != UNDERSCORE {
+        let Some(end) = line_end(&lines[len..]) else {
+            return len;
+        };
+        len += end + 1;
     }
     len
 }
 
-/// Whether the bytes of a line are UTF-8.
-#[inline(never)]
-fn is_utf8_line(bytes: &[u8]) -> bool
-    ensures { IsTrue result ↔ IsUtf8 bytes.now }
-{
-    str::from_utf8(bytes).is_ok()
-}
-
-/// The bytes as a text, or `None` where they aren't UTF-8. `known_utf8` says that they are, and then they aren't asked.
-#[inline(always)]
-fn as_text(bytes: &[u8], known_utf8: bool) -> Option<&str>
-    requires { IsTrue known_utf8 → IsUtf8 bytes.now }
-    ensures some { IfSome result (λ text. (text.now ≡ bytes.now) × IsUtf8 bytes.now) }
-    ensures none { IfNone result (¬ (IsUtf8 bytes.now)) }
-{
-    if known_utf8 || is_utf8_line(bytes) {
-        return Some(unsafe { str::from_utf8_unchecked(bytes) });
-    }
-    None
-}
-
-/// What is written for a line without its line feed: its answer, or the line itself where it has none or isn't UTF-8.
-/// `known_utf8` says that it is UTF-8.
+/// What is written for a line without its line feed: the demangled name, or the line itself where it has none or isn't
+/// UTF-8. Where `known_utf8` is true the line is UTF-8 and isn't tested again.
 #[inline(always)]
 fn line_answer<'a>(
     alloc: Global,
@@ -112,9 +75,10 @@ fn line_answer<'a>(
     requires { IsTrue known_utf8 → IsUtf8 line.now }
     ensures { IfOk result (λ text. IsLineAnswer line.now text.now) }
 {
-    let Some(symbol) = as_text(line, known_utf8) else {
+    if !known_utf8 && !is_utf8(line) {
         return Ok(line);
-    };
+    }
+    let symbol = unsafe { str::from_utf8_unchecked(line) };
     demangler.prepare(alloc, symbol)?;
     match demangler.text() {
         Some(answer) => Ok(answer.as_bytes()),
@@ -122,25 +86,8 @@ fn line_answer<'a>(
     }
 }
 
-/// Appends the answer of a line, or the line itself, and a line feed. After an error nothing is appended.
-#[inline(always)]
-fn append_answer(
-    alloc: Global,
-    demangler: &mut Demangler,
-    line: &[u8],
-    known_utf8: bool,
-    output: &mut Text,
-) -> Result<(), AllocError>
-    requires { IsTrue known_utf8 → IsUtf8 line.now }
-    ensures ok { OnOk result (AppendsLine line.now output.old output.new) }
-    ensures err { OnErr result (output.new ≡ output.old) }
-{
-    let answer = line_answer(alloc, demangler, line, known_utf8)?;
-    output.add_ended(answer, b'\n')
-}
-
-/// Appends what is written for the first of these lines where each is a symbol, and answers how many bytes it has.
-/// After an error nothing is appended.
+/// Appends what is written for the first line, where lines are symbols, and returns the line's length with its line
+/// feed. After an error nothing is appended.
 #[inline(always)]
 fn append_line(
     alloc: Global,
@@ -160,65 +107,34 @@ fn append_line(
     let Some(end) = line_end(lines) else {
         unreachable!()
     };
-    append_answer(alloc, demangler, &lines[..end], known_utf8, output)?;
+    let answer = line_answer(alloc, demangler, &lines[..end], known_utf8)?;
+    output.add_pair(answer, b"\n")?;
     Ok(end + 1)
 }
 
-/// How many bytes the first of these lines has with its line feed.
-fn first_line_len(lines: &[u8]) -> usize
+/// The length in bytes of the first block of lines: as many lines as fit in `most` bytes, and at least one.
+fn block_len(lines: &[u8], most: usize) -> usize
     requires some { 0 < length lines.now }
     requires ended { EndsInLineFeed lines.now }
     ensures some { 0 < result }
     ensures bound { result ≤ length lines.now }
     ensures ended { EndsInLineFeed (take result lines.now) }
 {
+    if lines.len() <= most {
+        return lines.len();
+    }
+    let len = ended_len(&lines[..most], 0);
+    if len > 0 {
+        return len;
+    }
     let Some(end) = line_end(lines) else {
         unreachable!()
     };
     end + 1
 }
 
-/// How many bytes the first of these lines have that make up a block: those that fit it, or the first one.
-fn block_len(lines: &[u8]) -> usize
-    requires some { 0 < length lines.now }
-    requires ended { EndsInLineFeed lines.now }
-    ensures some { 0 < result }
-    ensures bound { result ≤ length lines.now }
-    ensures ended { EndsInLineFeed (take result lines.now) }
-{
-    if lines.len() <= BLOCK_LEN {
-        return lines.len();
-    }
-    let len = ended_len(&lines[..BLOCK_LEN], 0);
-    if len > 0 {
-        return len;
-    }
-    first_line_len(lines)
-}
-
-/// Appends the replaced text of the first of these lines, and answers how many bytes it has. After an error nothing is
-/// appended.
-fn append_first(
-    alloc: Global,
-    demangler: &mut Demangler,
-    strip: bool,
-    lines: &[u8],
-    output: &mut Text,
-) -> Result<usize, AllocError>
-    requires some { 0 < length lines.now }
-    requires ended { EndsInLineFeed lines.now }
-    ensures some { IfOk result (λ len. 0 < len) }
-    ensures bound { IfOk result (λ len. len ≤ length lines.now) }
-    ensures ok { IfOk result (λ len. AppendsLines (Words strip) (take len lines.now) output.old output.new) }
-    ensures err { OnErr result (output.new ≡ output.old) }
-{
-    let len = first_line_len(lines);
-    append_words(alloc, demangler, strip, &lines[..len], output)?;
-    Ok(len)
-}
-
-/// Appends the replaced text of the first of these lines, and answers how many bytes they have: a block of lines, or
-/// one line where memory is refused for a block. After an error nothing is appended.
+/// Appends the replaced text of a block of lines, or of one line if there is no memory for a block, and returns their
+/// length in bytes. After an error nothing is appended.
 fn append_block(
     alloc: Global,
     demangler: &mut Demangler,
@@ -233,48 +149,18 @@ fn append_block(
     ensures ok { IfOk result (λ len. AppendsLines (Words strip) (take len lines.now) output.old output.new) }
     ensures err { OnErr result (output.new ≡ output.old) }
 {
-    let len = block_len(lines);
-    // A line feed is in no word.
-    match append_words(alloc, demangler, strip, &lines[..len], output) {
-        Ok(()) => Ok(len),
-        Err(_) => append_first(alloc, demangler, strip, lines, output),
+    // No word has a line feed, so that the words of a block are those of its lines.
+    let len = block_len(lines, BLOCK_LEN);
+    if append_words(alloc, demangler, strip, &lines[..len], output).is_ok() {
+        return Ok(len);
     }
+    let first = block_len(lines, 1);
+    append_words(alloc, demangler, strip, &lines[..first], output)?;
+    Ok(first)
 }
 
-/// Appends what is written for the first of these lines, and answers how many bytes they have: so many ordinary bytes,
-/// or other lines where these are none. After an error nothing is appended.
-#[inline(always)]
-fn append_front(
-    alloc: Global,
-    demangler: &mut Demangler,
-    symbols: Symbols,
-    lines: &[u8],
-    ordinary: usize,
-    known_utf8: bool,
-    output: &mut Text,
-) -> Result<usize, AllocError>
-    requires some { 0 < length lines.now }
-    requires ended { EndsInLineFeed lines.now }
-    requires inside { ordinary ≤ length lines.now }
-    requires ordinary { AreLinesFiltered symbols (take ordinary lines.now) (take ordinary lines.now) }
-    requires known { IsTrue known_utf8 → IsUtf8 lines.now }
-    ensures some { IfOk result (λ len. 0 < len) }
-    ensures bound { IfOk result (λ len. len ≤ length lines.now) }
-    ensures ok { IfOk result (λ len. AppendsLines symbols (take len lines.now) output.old output.new) }
-    ensures err { OnErr result (output.new ≡ output.old) }
-{
-    if ordinary > 0 {
-        output.add_many(&lines[..ordinary])?;
-        return Ok(ordinary);
-    }
-    match symbols {
-        Symbols::Lines => append_line(alloc, demangler, lines, known_utf8, output),
-        Symbols::Words(strip) => append_block(alloc, demangler, strip, lines, output),
-    }
-}
-
-/// Appends what is written for the first of these lines, a run of ordinary ones or others, and answers how many bytes
-/// they have. After an error nothing is appended.
+/// Appends what is written for the first lines, ordinary ones or others, and returns their length in bytes. After an
+/// error nothing is appended.
 #[inline(always)]
 fn append_next(
     alloc: Global,
@@ -293,45 +179,48 @@ fn append_next(
     ensures err { OnErr result (output.new ≡ output.old) }
 {
     let ordinary = ordinary_len(symbols, lines);
-    append_front(
-        alloc, demangler, symbols, lines, ordinary, known_utf8, output,
-    )
+    if ordinary > 0 {
+        output.add(&lines[..ordinary])?;
+        return Ok(ordinary);
+    }
+    match symbols {
+        Symbols::Lines => append_line(alloc, demangler, lines, known_utf8, output),
+        Symbols::Words(strip) => append_block(alloc, demangler, strip, lines, output),
+    }
 }
 
-/// Appends what is written for more of these lines, until the output has `limit` bytes or memory is refused, and
-/// answers how many bytes all have whose text is in the output. It was so for the first `gathered` bytes, and they are
-/// kept.
-#[inline(never)]
+/// Appends what is written for the first lines to an empty output, and returns their length in bytes. It stops once
+/// the output has `OUTPUT_LEN` bytes, and at a line for which an allocation fails. It returns an error if that is the
+/// first one.
 fn gather_lines(
     alloc: Global,
     demangler: &mut Demangler,
     symbols: Symbols,
     lines: &[u8],
     known_utf8: bool,
-    gathered: usize,
-    limit: usize,
     output: &mut Text,
-) -> usize
-    requires inside { gathered ≤ length lines.now }
-    requires so_far { AreLinesFiltered symbols (take gathered lines.now) output.old }
+) -> Result<usize, AllocError>
+    requires some { 0 < length lines.now }
     requires ended { EndsInLineFeed lines.now }
     requires known { IsTrue known_utf8 → IsUtf8 lines.now }
-    ensures kept { gathered ≤ result }
-    ensures bound { result ≤ length lines.now }
-    ensures filtered { AreLinesFiltered symbols (take result lines.now) output.new }
+    requires empty { output.old ≡ [] }
+    ensures some { IfOk result (λ len. 0 < len) }
+    ensures bound { IfOk result (λ len. len ≤ length lines.now) }
+    ensures filtered { IfOk result (λ len. AreLinesFiltered symbols (take len lines.now) output.new) }
 {
-    let mut rest = &lines[gathered..];
-    while !rest.is_empty() && output.len() < limit {
-        let Ok(more) = append_next(alloc, demangler, symbols, rest, known_utf8, output) else {
-            break;
-        };
-        rest = &rest[more..];
+    let mut rest = lines;
+    while !rest.is_empty() && output.len() < OUTPUT_LEN {
+        match append_next(alloc, demangler, symbols, rest, known_utf8, output) {
+            Ok(more) => rest = &rest[more..],
+            Err(error) if rest.len() == lines.len() => return Err(error),
+            Err(_) => break,
+        }
     }
-    lines.len() - rest.len()
+    Ok(lines.len() - rest.len())
 }
 
-/// Writes what is written for the first of these lines, and answers how many bytes they have: a long run of ordinary
-/// lines is put as it stands, and other lines are gathered in the output.
+/// Writes what is written for the first lines, and returns their length in bytes. A long run of ordinary lines is
+/// written without a copy; other lines are gathered in the output.
 fn write_next<W: Sink>(
     alloc: Global,
     demangler: &mut Demangler,
@@ -361,15 +250,8 @@ fn write_next<W: Sink>(
         return Ok(ordinary);
     }
     output.clear();
-    output.reserve(OUTPUT_ROOM)?;
-    // One append: 0 says that memory was refused for it, and no clause says so.
-    let first = gather_lines(alloc, demangler, symbols, lines, known_utf8, 0, 1, output);
-    if first == 0 {
-        return Err(FilterFault::Memory);
-    }
-    let len = gather_lines(
-        alloc, demangler, symbols, lines, known_utf8, first, OUTPUT_LEN, output,
-    );
+    output.reserve(OUTPUT_CAPACITY)?;
+    let len = gather_lines(alloc, demangler, symbols, lines, known_utf8, output)?;
     write_all(sink, output.as_slice())?;
     Ok(len)
 }
@@ -392,7 +274,7 @@ pub(crate) fn write_lines<W: Sink>(
     ensures memory { IsErrOf result FilterFault.Memory →
         WritesWholeLines symbols lines.now (W.taken sink.old) (W.taken sink.new) }
 {
-    let known_utf8 = matches!(symbols, Symbols::Lines) && str::from_utf8(lines).is_ok();
+    let known_utf8 = matches!(symbols, Symbols::Lines) && is_utf8(lines);
     let mut rest = lines;
     while !rest.is_empty() {
         let len = write_next(alloc, demangler, symbols, rest, known_utf8, output, sink)?;
@@ -401,53 +283,7 @@ pub(crate) fn write_lines<W: Sink>(
     Ok(())
 }
 
-/// Writes the answer of a last line, which has no line feed, or the line itself. There may be no line.
-fn write_last_answer<W: Sink>(
-    alloc: Global,
-    demangler: &mut Demangler,
-    line: &[u8],
-    sink: &mut W,
-) -> Result<(), FilterFault>
-    requires not_failed { W.failed sink.old ≡ false }
-    requires unended { HasNoLineFeed line.now }
-    ensures outcome { IsWriteOutcome result (W.failed sink.new) }
-    ensures in_time { W.called_late sink.new ≡ W.called_late sink.old }
-    ensures ok { OnOk result (WritesFiltered Lines line.now (W.taken sink.old) (W.taken sink.new)) }
-    ensures err { OnErr result (WritesBeginning Lines line.now (W.taken sink.old) (W.taken sink.new)) }
-    ensures memory { IsErrOf result FilterFault.Memory →
-        Keeps (W.taken sink.old) (W.taken sink.new) }
-{
-    if line.is_empty() {
-        return Ok(());
-    }
-    let answer = line_answer(alloc, demangler, line, false)?;
-    write_all(sink, answer)
-}
-
-/// Writes the replaced text of a last line, which has no line feed. There may be no line.
-fn write_last_words<W: Sink>(
-    alloc: Global,
-    demangler: &mut Demangler,
-    strip: bool,
-    line: &[u8],
-    sink: &mut W,
-) -> Result<(), FilterFault>
-    requires not_failed { W.failed sink.old ≡ false }
-    ensures outcome { IsWriteOutcome result (W.failed sink.new) }
-    ensures in_time { W.called_late sink.new ≡ W.called_late sink.old }
-    ensures ok { OnOk result (WritesFiltered (Words strip) line.now
-        (W.taken sink.old) (W.taken sink.new)) }
-    ensures err { OnErr result (WritesBeginning (Words strip) line.now
-        (W.taken sink.old) (W.taken sink.new)) }
-    ensures memory { IsErrOf result FilterFault.Memory →
-        Keeps (W.taken sink.old) (W.taken sink.new) }
-{
-    let mut output = Text::new(alloc);
-    append_words(alloc, demangler, strip, line, &mut output)?;
-    write_all(sink, output.as_slice())
-}
-
-/// Writes what is written for a last line, which has no line feed. There may be none.
+/// Writes what is written for a last line, which has no line feed. It may be empty.
 pub(crate) fn write_last<W: Sink>(
     alloc: Global,
     demangler: &mut Demangler,
@@ -464,8 +300,18 @@ pub(crate) fn write_last<W: Sink>(
     ensures memory { IsErrOf result FilterFault.Memory →
         Keeps (W.taken sink.old) (W.taken sink.new) }
 {
+    if line.is_empty() {
+        return Ok(());
+    }
     match symbols {
-        Symbols::Lines => write_last_answer(alloc, demangler, line, sink),
-        Symbols::Words(strip) => write_last_words(alloc, demangler, strip, line, sink),
+        Symbols::Lines => {
+            let answer = line_answer(alloc, demangler, line, false)?;
+            write_all(sink, answer)
+        }
+        Symbols::Words(strip) => {
+            let mut output = Text::new(alloc);
+            append_words(alloc, demangler, strip, line, &mut output)?;
+            write_all(sink, output.as_slice())
+        }
     }
 }

@@ -18,7 +18,7 @@ pub(crate) fn write_all<W: Sink>(sink: &mut W, bytes: &[u8]) -> Result<(), Filte
 {
     let mut rest = bytes;
     while !rest.is_empty() {
-        match sink.write(rest) {
+        match sink.put(rest) {
             Ok(count) => rest = &rest[count..],
             Err(Failed) => return Err(FilterFault::Write),
         }

@@ -4,7 +4,7 @@ ghost use Rattle.symfilter_engine.specs.Progress.{HasNone, IsFirst};
 
 use std::simd::prelude::*;
 
-/// How many bytes are compared at once.
+/// The number of bytes that are compared at once.
 const LANES: usize = 32;
 
 /// The place of the first such byte, where it is among the 32 bytes from `at` on; none is before them.

@@ -8,7 +8,7 @@ use super::places::first_place;
 
 const UNDERSCORE: u8 = b'_';
 
-/// The second byte of the prefix. It is looked for, since it is the rarer one.
+/// The second byte of the prefix. The search looks for it, since it is the rarer one.
 const PREFIX_END: u8 = b'Z';
 
 /// The place of the first `_Z`, or `None` where there is none.
@@ -27,8 +27,7 @@ pub(crate) fn first_prefix(bytes: &[u8]) -> Option<usize>
     None
 }
 
-/// How many bytes the first whole lines have, as far as no `_Z` is in them.
-#[inline(never)]
+/// The length in bytes of the first whole lines, up to one that has a `_Z`.
 pub(crate) fn unprefixed_len(lines: &[u8]) -> usize
     ensures bound { result ≤ length lines.now }
     ensures ended { EndsInLineFeed (take result lines.now) }

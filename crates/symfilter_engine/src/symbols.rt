@@ -1,10 +1,10 @@
 //! Where symbols stand.
 
-/// What is looked at as a symbol.
+/// What may be a symbol.
 #[derive(Clone, Copy, Debug, PartialEq, Eq)]
 pub(crate) enum Symbols {
     /// Whole lines.
     Lines,
-    /// What stands in words. Where it is true, a word may have one more underscore in front, which is dropped.
+    /// The front of words. If it is true, one more underscore may stand in front of a symbol, and is dropped.
     Words(bool),
 }

@@ -46,7 +46,7 @@ impl<D: Read> Source for Tally<D> {
         self.failed
     }
 
-    fn read(&mut self, into: &mut [u8]) -> Result<usize, Failed>
+    fn take(&mut self, into: &mut [u8]) -> Result<usize, Failed>
         ensures bound { ReadsAtMost result into.new }
         ensures bytes { ReadConsumes
             (D.remaining (inner_of self.old)) (D.remaining (inner_of self.new)) result into.new }
@@ -83,7 +83,7 @@ impl<D: Write> Sink for Tally<D> {
         self.failed
     }
 
-    fn write(&mut self, bytes: &[u8]) -> Result<usize, Failed> {
+    fn put(&mut self, bytes: &[u8]) -> Result<usize, Failed> {
         match self.inner.write(bytes) {
             Ok(count) if count > 0 || bytes.is_empty() => Ok(count),
             _ => {

@@ -1,4 +1,4 @@
-//! What is written for words, and for the text around them.
+//! Replacing the symbols in words.
 ghost use Rattle.std.specs.Prelude.{◌≡◌, ◌≤◌, ◌++◌, false, length, take, drop, All, IfOk, IfSome, IfNone, OnOk, OnErr, option_map};
 ghost use Rattle.symfilter_engine.specs.Replaced as spec;
 ghost use Rattle.symfilter_engine.specs.Replaced.{IsWordByte, IsDot, sign_of, past_sign, ends_in_dot, IsWordAnswer};
@@ -11,22 +11,9 @@ use itanium_demangle::Demangler;
 use std::alloc::{AllocError, Global};
 use std::str;
 
-/// How many bytes the word has without the dots at its end.
+/// The length of the word in bytes, without the dots at its end.
 #[inline(always)]
 fn stem_len(word: &[u8]) -> usize
-    ensures bound { result ≤ length word.now }
-    ensures dots { All IsDot (drop result word.now) }
-    ensures stem { ends_in_dot (take result word.now) ≡ false }
-{
-    if word.is_empty() || word[word.len() - 1] != b'.' {
-        return word.len();
-    }
-    stem_len_elsewhere(word)
-}
-
-/// `stem_len` of a word that ends in a dot, out of line.
-#[inline(never)]
-fn stem_len_elsewhere(word: &[u8]) -> usize
     ensures bound { result ≤ length word.now }
     ensures dots { All IsDot (drop result word.now) }
     ensures stem { ends_in_dot (take result word.now) ≡ false }
@@ -38,11 +25,11 @@ fn stem_len_elsewhere(word: &[u8]) -> usize
     len
 }
 
-/// How many bytes stand in front of what may be a symbol: one where a dot or a `$` stands there, else none.
+/// The length of the prefix character of a word: 1 where a `.` or `$` stands in front, else 0.
 #[inline(always)]
-fn sign_len(word: &[u8]) -> usize
+fn prefix_character_len(word: &[u8]) -> usize
     ensures bound { result ≤ length word.now }
-    ensures sign { take result word.now ≡ sign_of word.now }
+    ensures front { take result word.now ≡ sign_of word.now }
     ensures rest { drop result word.now ≡ past_sign word.now }
 {
     match word {
@@ -51,7 +38,7 @@ fn sign_len(word: &[u8]) -> usize
     }
 }
 
-/// The symbol that the bytes are, or `None` where they begin with no prefix.
+/// The symbol that the bytes are, or `None` where they are none.
 #[inline(always)]
 fn symbol_at(strip: bool, bytes: &[u8]) -> Option<&[u8]>
     ensures value { option_map (λ symbol. symbol.now) result ≡ spec.symbol_at strip bytes.now }
@@ -63,36 +50,8 @@ fn symbol_at(strip: bool, bytes: &[u8]) -> Option<&[u8]>
     }
 }
 
-/// The symbol in a word without the dots at its end, with how many bytes its sign has; or `None` where no symbol is in
-/// it.
-#[inline(always)]
-fn symbol_in(strip: bool, word: &[u8]) -> Option<(usize, &[u8])>
-    ensures bound { IfSome result (λ found. found.0 ≤ length word.now) }
-    ensures sign { IfSome result (λ found. take found.0 word.now ≡ sign_of word.now) }
-    ensures symbol { option_map (λ found. found.1.now) result ≡ spec.symbol_in strip word.now }
-{
-    // Nearly all have no sign, and the usual prefix.
-    if let [b'_', b'Z', ..] = word {
-        return Some((0, word));
-    }
-    let sign = sign_len(word);
-    match symbol_at(strip, &word[sign..]) {
-        Some(symbol) => Some((sign, symbol)),
-        None => None,
-    }
-}
-
-/// The symbol as a text.
-#[inline(always)]
-fn as_text(symbol: &[u8]) -> &str
-    requires { All IsWordByte symbol.now }
-    ensures { result.now ≡ symbol.now }
-{
-    unsafe { str::from_utf8_unchecked(symbol) }
-}
-
-/// The answer of the symbol in a word without the dots at its end, with how many bytes of the word stay in front of it;
-/// or `None` where the word stays.
+/// The demangled name of the symbol in a word without the dots at its end, and the length of what stays before it.
+/// `None` where the word stays as it is.
 #[inline(always)]
 fn word_answer<'a>(
     alloc: Global,
@@ -106,12 +65,14 @@ fn word_answer<'a>(
         IsWordAnswer strip word.now (take answer.0 word.now ++ answer.1.now))) }
     ensures none { IfOk result (λ found. IfNone found (IsWordAnswer strip word.now word.now)) }
 {
-    let Some((sign, symbol)) = symbol_in(strip, word) else {
+    let front = prefix_character_len(word);
+    let Some(symbol) = symbol_at(strip, &word[front..]) else {
         return Ok(None);
     };
-    demangler.prepare(alloc, as_text(symbol))?;
+    let symbol = unsafe { str::from_utf8_unchecked(symbol) };
+    demangler.prepare(alloc, symbol)?;
     match demangler.text() {
-        Some(answer) => Ok(Some((sign, answer))),
+        Some(answer) => Ok(Some((front, answer))),
         None => Ok(None),
     }
 }
@@ -127,7 +88,7 @@ fn append_each_word(
     ensures ok { OnOk result (AppendsReplaced strip text.now output.old output.new) }
     ensures err { OnErr result (Extends output.old output.new) }
 {
-    // The text up to `from` is looked through, and what is written for it up to `done` is appended.
+    // The text up to `from` has been searched, and the replaced text up to `done` has been appended.
     let mut done = 0;
     let mut from = 0;
     while let Some(more) = first_prefix(&text[from..]) {
@@ -136,8 +97,8 @@ fn append_each_word(
         from = word_end(text, place);
         let word = &text[start..from];
         let stem = stem_len(word);
-        if let Some((sign, answer)) = word_answer(alloc, demangler, strip, &word[..stem])? {
-            output.add_pair(&text[done..start + sign], answer.as_bytes())?;
+        if let Some((front, answer)) = word_answer(alloc, demangler, strip, &word[..stem])? {
+            output.add_pair(&text[done..start + front], answer.as_bytes())?;
             done = start + stem;
         }
     }

@@ -1,10 +1,10 @@
-use Rattle.std.proofs.Common.{◌≡◌, ℕ, List, drop, refl, rules, sym, arith, true, Some}
+use Rattle.std.proofs.Common.{◌≡◌, ◌∙◌, ℕ, List, drop, refl, rules, sym, ap, arith, true, Some}
 use Rattle.std.proofs.lemmas.Result.{err_from_is_err_and}
 use Rattle.itanium_syntax.proofs.Fronts.{attached_some}
 use Rattle.demangle_text.specs.State.{shape}
 use Rattle.demangle_text.specs.Shape.{Shape, text_len}
 use Rattle.demangle_quals.specs.declared.quals.Quals.{Quals}
-use Rattle.demangle_edit.specs.Names.{default_arg_shape}
+use Rattle.demangle_edit.specs.Names.{default_arg_opened, default_arg_shape, enclosed}
 use Rattle.itanium_syntax.specs.Scalars.{ordinal}
 use Rattle.itanium_syntax.specs.Encodings.{entity_case}
 use Rattle.itanium_reader.specs.Cases.{DefaultArgumentEntity}
@@ -186,12 +186,20 @@ default_argument_found bare encoding s case counted read built same = rw (case, 
 
 pub encodings::read_entity-returns-in_ok-reader-in-DefaultArgumentEntity-clause-reads : goal.encodings::read_entity-returns-in_ok-reader-in-DefaultArgumentEntity-clause-reads
 encodings::read_entity-returns-in_ok-reader-in-DefaultArgumentEntity-clause-reads t c =
-    let entity = c.framed_bare_name.new.reader in (
+    let entity = c.framed_bare_name.new.reader in
+    let began = (c.in_ok-opened-in-DefaultArgumentEntity.ensures {u = tt}).shape in
+    let kept = (c.in_ok-quals-in-DefaultArgumentEntity.ensures {u = tt}).kept.pieces c.in_ok-opened-in-DefaultArgumentEntity.opened began.living in
+    let closed = rw c.deref_mut-in-DefaultArgumentEntity.ensures.value at (c.in_ok-reader-in-DefaultArgumentEntity.ensures {u = tt}).shape.shape_is in (
       search rules,
       default_argument_found (spec.parse_bare_name c.args.depth c.args.context)
           (shape c.args.reader.now.buffer.value c.args.encoding) (state c.args.reader.now) {number = c.in-Some.number}
           {rest = c.in-Some.rest.now} {entity = shape entity.buffer.value entity.found} {mid = state entity}
-          (search rules) (search rules) (search rules) (search rules) (search rules),
+          (search rules) (search rules) (search rules)
+          (closed ∙ ap (λ (s : Shape). enclosed s (shape entity.buffer.value entity.found))
+          {x = shape entity.buffer.value c.in_ok-opened-in-DefaultArgumentEntity.opened}
+          {y = default_arg_opened (shape c.args.reader.now.buffer.value c.args.encoding) c.in-Some.number}
+          (cc (kept.shape_is, began.shape_is, c.deref_mut.ensures.value)))
+          (search rules),
     )
 
 pub names::read_after_quals-returns-then-begins_source-clause-reads : goal.names::read_after_quals-returns-then-begins_source-clause-reads

@@ -19,21 +19,21 @@ pub set-requires-clause-ends : goal.set-requires-clause-ends
 set-requires-clause-ends c = λ end h. c.in_ok-piece.ensures.ends end (subst (EndsBy end) (sym c.piece_at.ensures.value) (h c.piece_at.result))
 
 pub returns-in_err-piece-clause-lie : goal.returns-in_err-piece-clause-lie
-returns-in_err-piece-clause-lie c = All-extends c.args.main.now c.loop-i.side _ c.evict_alone.ensures.side c.loop-i.pieces c.loop-i.invariant.lie
+returns-in_err-piece-clause-lie c = All-extends c.args.main.now c.loop-i.side _ c.set_aside.ensures.side c.loop-i.pieces c.loop-i.invariant.lie
 
 pub returns-in_err-piece-clause-shapes : goal.returns-in_err-piece-clause-shapes
 returns-in_err-piece-clause-shapes c =
-    shapes-extends c.args.main.now c.loop-i.side _ c.evict_alone.ensures.side c.loop-i.pieces c.loop-i.invariant.lie ∙ c.loop-i.invariant.shapes
+    shapes-extends c.args.main.now c.loop-i.side _ c.set_aside.ensures.side c.loop-i.pieces c.loop-i.invariant.lie ∙ c.loop-i.invariant.shapes
 
 pub loop-i-preserved : goal.loop-i-preserved
 loop-i-preserved c =
     let main = c.args.main.now in
     let side = c.loop-i.side in
-    let new = c.evict_alone.new.side in
+    let new = c.set_aside.new.side in
     let i = c.loop-i.i in
     let q = c.in_ok-piece.piece in
     let there : i < length c.loop-i.pieces = omega (arith, c.loop-i.invariant.long, c.len-i-end.ensures.value, c.loop-i-test.true) in
-    let e = c.evict_alone.ensures.side in
+    let e = c.set_aside.ensures.side in
     rw c.set.ensures.value (record {
       side = Extends-trans _ _ _ c.loop-i.invariant.side e;
       lie = replaced_lie main side new c.loop-i.pieces i q q e c.loop-i.invariant.lie c.in_ok-piece.ensures.lies;

@@ -7,6 +7,3 @@ returns-in-Ok-clause-value c = value_read c.args.bytes.now c.value_len-len.resul
 
 pub returns-in-Err-clause-value : goal.returns-in-Err-clause-value
 returns-in-Err-clause-value c = value_not_text c.args.bytes.now c.value_len-len.result (search rules) (search rules)
-
-pub returns-then-are_ascii-clause-value : goal.returns-then-are_ascii-clause-value
-returns-then-are_ascii-clause-value c = value_read c.args.bytes.now c.value_len-len.result (search rules) (search rules) (search rules) (search rules) (search rules)

@@ -1,10 +1,13 @@
-use Rattle.std.proofs.Common.{◌≤◌, length, take, drop, arith, rules, refl, sym, ap, ◌∙◌}
+use Rattle.std.proofs.Common.{◌≡◌, ◌-◌, ◌≤◌, length, take, drop, arith, rules, refl, sym, ap, subst, ◌∙◌}
 use Rattle.std.proofs.lemmas.List.{length-take, take-take}
 use Rattle.std.proofs.lemmas.List.Elements.{All-same}
+use Rattle.std.proofs.lemmas.Grind.{common_steps}
+use Rattle.symfilter_engine.proofs.Chunks.{front_moved, none_moved}
 use Rattle.symfilter_engine.proofs.FilteredText.{at_fault}
 use Rattle.symfilter_engine.proofs.LineEnds.{is_other}
 use Rattle.symfilter_engine.proofs.Copying.{none_copied, turn_copied, turn_fault, turn_refused, end_copied, read_fault}
 use Rattle.symfilter_engine.proofs.filtering.copy_lines.Goals as goal
+use Rattle.symfilter_engine.proofs.filtering.copy_lines.Goals.{then-ended-gt0, else-ended-gt0}
 
 pub turns-init : goal.turns-init
 turns-init g c = record {
@@ -49,13 +52,23 @@ turns-preserved g c =
     let all = c.read_more.new.chunk.items in
     let within : ended ≤ end = omega (arith, c.ended_len-ended.ensures.bound, length-take end c.deref.result.now) in
     let inside : end ≤ length all = c.in_ok-end.ensures.ok.inside in
+    let same : length c.if-ended-gt0.chunk.items ≡ length all =
+    elim c.if-ended-gt0.branch [
+      | then-ended-gt0 w ↦ subst (λ v. length v.items ≡ length all) (sym w.chunk-is) (grind (arith, common_steps))
+      | else-ended-gt0 w ↦ ap (λ v. length v.items) w.chunk-is
+    ] in
+    let moved : take (end - ended) c.if-ended-gt0.chunk.items ≡ drop ended (take end all) =
+    elim c.if-ended-gt0.branch [
+      | then-ended-gt0 w ↦ subst (λ v. take (end - ended) v.items ≡ drop ended (take end all)) (sym w.chunk-is) (front_moved all _ end ended within inside w.copy_within.ensures.items)
+      | else-ended-gt0 w ↦ ap (λ v. take (end - ended) v.items) w.chunk-is ∙ none_moved all end ended w.if-ended-gt0.false
+    ] in
     record {
       source_not_failed = c.in_ok-end.ensures.outcome;
       sink_not_failed = c.in_ok-write_lines.ensures.outcome;
       source_in_time = c.in_ok-end.ensures.in_time ∙ c.turns.invariant.source_in_time;
       sink_in_time = c.in_ok-write_lines.ensures.in_time ∙ c.turns.invariant.sink_in_time;
-      inside = omega (arith, inside, c.move_rest.ensures.len);
-      unended = All-same is_other _ _ (c.move_rest.ensures.moved ∙ ap (λ l. drop ended (take end l)) (sym c.deref.ensures.value)) c.ended_len-ended.ensures.unended;
+      inside = omega (arith, inside, same);
+      unended = All-same is_other _ _ (moved ∙ ap (λ l. drop ended (take end l)) (sym c.deref.ensures.value)) c.ended_len-ended.ensures.unended;
       so_far = turn_copied c.args.symbols _ end ended _ all _ _ _ _ _ _ _ _ c.turns.invariant.so_far c.in_ok-end.ensures.ok c.in_ok-write_lines.ensures.ok
-          (ap (take ended) c.deref-in-turns.ensures.value ∙ sym (take-take ended end all within)) c.move_rest.ensures.moved;
+          (ap (take ended) c.deref-in-turns.ensures.value ∙ sym (take-take ended end all within)) moved;
     }

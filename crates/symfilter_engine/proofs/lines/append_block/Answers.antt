@@ -1,7 +1,11 @@
-use Rattle.std.proofs.Common.{take}
+use Rattle.std.proofs.Common.{◌≡◌, take, subst, rules}
+use Rattle.symfilter_engine.specs.Progress.{AppendsReplaced}
 use Rattle.symfilter_engine.proofs.LineEnds.{block_appended}
 use Rattle.symfilter_engine.proofs.lines.append_block.Goals as goal
 
-pub returns-in-Ok-clause-ok : goal.returns-in-Ok-clause-ok
-returns-in-Ok-clause-ok c =
-    block_appended c.args.strip (take c.block_len-len.result c.args.lines.now) _ _ c.block_len-len.ensures.ended c.in-Ok.ensures.ok
+pub returns-clause-ok : goal.returns-clause-ok
+returns-clause-ok c =
+    let lines = take c.block_len-first.result c.args.lines.now in
+    let kept : c.append_words.new.output ≡ c.args.output.now = search rules in
+    block_appended c.args.strip lines _ _ c.block_len-first.ensures.ended
+    (subst (λ l. AppendsReplaced c.args.strip lines l c.append_words-2.new.output) kept c.in_ok-append_words.ensures.ok)

@@ -1,11 +1,24 @@
-use Rattle.std.proofs.Common.{◌-◌, length, take, drop, sym, subst}
+use Rattle.std.proofs.Common.{◌≡◌, ℕ, ◌-◌, List, [], length, take, drop, sym, subst, ap, arith, rules}
 use Rattle.std.specs.Prelude.{IsUtf8}
 use Rattle.std.proofs.lemmas.List.{take_rest}
+use Rattle.symfilter_engine.specs.Filtered.{AreLinesFiltered}
+use Rattle.symfilter_engine.proofs.FilteredText.{no_lines}
 use Rattle.symfilter_engine.proofs.LineEnds.{utf8_after, rest_appended}
 use Rattle.symfilter_engine.proofs.lines.gather_lines.Goals as goal
 
-pub append_next-requires-clause-known :
-    goal.append_next-requires-clause-known
+pub loop-output-init : goal.loop-output-init
+loop-output-init c =
+    let lines = c.args.lines.now in
+    let none : 0 ≡ length lines - length lines = omega arith in
+    record {
+      inside = omega arith;
+      left = ap (λ n. drop n lines) none;
+      so_far = subst (λ n. AreLinesFiltered c.args.symbols (take n lines) c.args.output.now) none
+          (subst (λ (t : List ℕ). AreLinesFiltered c.args.symbols [] t) (sym c.requires.empty) (no_lines c.args.symbols));
+      empty = λ _. c.requires.empty;
+    }
+
+pub append_next-requires-clause-known : goal.append_next-requires-clause-known
 append_next-requires-clause-known c =
     let lines = c.args.lines.now in
     let taken = length lines - length c.loop-output.rest.now in
@@ -17,7 +30,7 @@ loop-output-preserved c =
     let rest = c.loop-output.rest.now in
     let more = c.in-Ok.more in
     let left = take (length rest - more) (drop more rest) in
-    let step = rest_appended c.args.symbols c.args.lines.now rest left _ _ c.args.gathered more
-    c.loop-output.invariant.kept c.loop-output.invariant.left c.loop-output.invariant.so_far
+    let step = rest_appended c.args.symbols c.args.lines.now rest left _ _ more
+    c.loop-output.invariant.inside c.loop-output.invariant.left c.loop-output.invariant.so_far
     c.in-Ok.ensures.bound c.in-Ok.ensures.ok (take_rest rest more) in
-    record { kept = step.0; left = step.1; so_far = step.2 }
+    record { inside = step.0; left = step.1; so_far = step.2; empty = search rules }

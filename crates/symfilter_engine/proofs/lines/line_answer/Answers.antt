@@ -1,17 +1,26 @@
 use Rattle.std.proofs.Common.{sym, subst}
+use Rattle.std.specs.Prelude.{IsUtf8}
 use Rattle.itanium_grammar.specs.Answer.{IsAnswer}
 use Rattle.symfilter_engine.proofs.LineAnswers.{not_text, line_without, line_with}
 use Rattle.symfilter_engine.proofs.lines.line_answer.Goals as goal
+use Rattle.symfilter_engine.proofs.lines.line_answer.Goals.{else-not-known_utf8-via-then-not-known_utf8+else-not-is_utf8, else-not-known_utf8-via-else-not-known_utf8}
 
-pub returns-in_default : goal.returns-in_default
-returns-in_default c = not_text c.in_default.ensures.none
+pub returns-then-not-is_utf8 : goal.returns-then-not-is_utf8
+returns-then-not-is_utf8 c = not_text (c.is_utf8.ensures.no c.if-not-is_utf8.true)
 
-pub returns-in-Some-text : goal.returns-in-Some-text
-returns-in-Some-text c =
-    line_with (λ s. s.now) _ _ _ c.text.result c.in-Some-text.answer c.in-Some.ensures.some.0 c.in-Some.ensures.some.1
-    (subst (IsAnswer c.in-Some.symbol.now) (sym c.text.ensures.value) c.in_ok-prepare.ensures.answer) c.in-Some-text.is c.as_bytes.ensures.value
+pub from_utf8_unchecked-symbol-requires : goal.from_utf8_unchecked-symbol-requires
+from_utf8_unchecked-symbol-requires c =
+    elim c.else-not-known_utf8.branch [
+      | else-not-known_utf8-via-then-not-known_utf8+else-not-is_utf8 w ↦ w.is_utf8.ensures.yes w.if-not-is_utf8.false
+      | else-not-known_utf8-via-else-not-known_utf8 w ↦ c.requires w.if-not-known_utf8.false
+    ]
+
+pub returns-in-Some : goal.returns-in-Some
+returns-in-Some c =
+    line_with (λ s. s.now) _ _ _ c.text.result c.in-Some.answer c.from_utf8_unchecked-symbol.ensures (subst IsUtf8 c.from_utf8_unchecked-symbol.ensures c.from_utf8_unchecked-symbol.utf8)
+    (subst (IsAnswer c.from_utf8_unchecked-symbol.result.now) (sym c.text.ensures.value) c.in_ok-prepare.ensures.answer) c.in-Some.is c.as_bytes.ensures.value
 
 pub returns-in-None : goal.returns-in-None
 returns-in-None c =
-    line_without (λ s. s.now) _ _ c.text.result c.in-Some.ensures.some.0 c.in-Some.ensures.some.1
-    (subst (IsAnswer c.in-Some.symbol.now) (sym c.text.ensures.value) c.in_ok-prepare.ensures.answer) c.in-None.is
+    line_without (λ s. s.now) _ _ c.text.result c.from_utf8_unchecked-symbol.ensures (subst IsUtf8 c.from_utf8_unchecked-symbol.ensures c.from_utf8_unchecked-symbol.utf8)
+    (subst (IsAnswer c.from_utf8_unchecked-symbol.result.now) (sym c.text.ensures.value) c.in_ok-prepare.ensures.answer) c.in-None.is

@@ -1,23 +1,39 @@
-use Rattle.std.proofs.Common.{◌++◌, Some, None, sym, subst}
+use Rattle.std.proofs.Common.{◌++◌, Some, None, sym, subst, ap, ◌∙◌}
+use Rattle.std.proofs.lemmas.List.{take_rest}
 use Rattle.itanium_grammar.specs.Answer.{IsAnswer}
-use Rattle.symfilter_engine.specs.Replaced.{IsWordAnswer, no_symbol, answered, unanswered}
-use Rattle.symfilter_engine.proofs.WordPlaces.{symbol_words}
+use Rattle.symfilter_engine.specs.Replaced.{symbol_at, IsWordAnswer, no_symbol, answered, unanswered}
+use Rattle.symfilter_engine.proofs.WordPlaces.{symbol_words, word_utf8}
 use Rattle.symfilter_engine.proofs.words.word_answer.Goals as goal
 
 pub returns-in_default-clause-none : goal.returns-in_default-clause-none
-returns-in_default-clause-none c = no_symbol (sym c.in_default.ensures.symbol)
+returns-in_default-clause-none c =
+    let word = c.args.word.now in
+    let front = c.prefix_character_len-front.result in
+    no_symbol (sym (c.in_default.ensures.value ∙ ap (symbol_at c.args.strip) (take_rest word front ∙ c.prefix_character_len-front.ensures.rest)))
 
-pub as_text-requires : goal.as_text-requires
-as_text-requires c = symbol_words c.args.strip c.args.word.now c.in-Some.symbol.now (sym c.in-Some.ensures.symbol) c.requires
+pub from_utf8_unchecked-symbol-requires : goal.from_utf8_unchecked-symbol-requires
+from_utf8_unchecked-symbol-requires c =
+    let word = c.args.word.now in
+    let front = c.prefix_character_len-front.result in
+    let is = c.in-Some.ensures.value ∙ ap (symbol_at c.args.strip) (take_rest word front ∙ c.prefix_character_len-front.ensures.rest) in
+    word_utf8 c.in-Some.symbol.now (symbol_words c.args.strip word c.in-Some.symbol.now (sym is) c.requires)
 
 pub returns-in-Some-text-clause-some : goal.returns-in-Some-text-clause-some
 returns-in-Some-text-clause-some c =
+    let word = c.args.word.now in
+    let front = c.prefix_character_len-front.result in
     let answer = c.in-Some-text.answer.now in
+    let symbol = c.from_utf8_unchecked-symbol.result.now in
+    let is = c.in-Some.ensures.value ∙ ap (symbol_at c.args.strip) (take_rest word front ∙ c.prefix_character_len-front.ensures.rest) in
     let has : IsAnswer c.in-Some.symbol.now (Some answer) =
-    subst (λ s. IsAnswer s (Some answer)) c.as_text.ensures (subst (IsAnswer c.as_text.result.now) (sym c.in-Some-text.ensures.value) c.in_ok-prepare.ensures.answer) in
-    subst (λ front. IsWordAnswer c.args.strip c.args.word.now (front ++ answer)) (sym c.in-Some.ensures.sign) (answered (sym c.in-Some.ensures.symbol) has)
+    subst (λ s. IsAnswer s (Some answer)) c.from_utf8_unchecked-symbol.ensures (subst (IsAnswer symbol) (sym c.in-Some-text.ensures.value) c.in_ok-prepare.ensures.answer) in
+    subst (λ l. IsWordAnswer c.args.strip word (l ++ answer)) (sym c.prefix_character_len-front.ensures.front) (answered (sym is) has)
 
 pub returns-in-None-clause-none : goal.returns-in-None-clause-none
 returns-in-None-clause-none c =
-    unanswered (sym c.in-Some.ensures.symbol)
-    (subst (λ s. IsAnswer s None) c.as_text.ensures (subst (IsAnswer c.as_text.result.now) (sym c.in-None.ensures.value) c.in_ok-prepare.ensures.answer))
+    let word = c.args.word.now in
+    let front = c.prefix_character_len-front.result in
+    let symbol = c.from_utf8_unchecked-symbol.result.now in
+    let is = c.in-Some.ensures.value ∙ ap (symbol_at c.args.strip) (take_rest word front ∙ c.prefix_character_len-front.ensures.rest) in
+    unanswered (sym is)
+    (subst (λ s. IsAnswer s None) c.from_utf8_unchecked-symbol.ensures (subst (IsAnswer symbol) (sym c.in-None.ensures.value) c.in_ok-prepare.ensures.answer))

@@ -13,7 +13,7 @@ overflow_add-n c =
     let b = c.args.self.now in
     let p = c.args.piece in
     let name = own_text b.main_text b.side_text p in
-    let fits = own-fits b c.splice_own.new.self p (p.to_byte - p.from_byte) (c.args.between.now ++ name) c.in_ok-from.from c.requires.living c.in_ok-from.ensures.splice in
+    let fits = own-fits b c.extend_by_own.new.self p (p.to_byte - p.from_byte) (c.args.between.now ++ name) c.in_ok-from.from c.requires.living c.in_ok-from.ensures.splice in
     omega (arith, fits, length-append c.args.between.now name, length-own b p c.requires.living, c.len-to.ensures.value, c.len-to.type_inv, ap (λ (s : Store). length s.main_text) c.self.view_is)
 
 pub with_bytes-requires-clause-own_fits : goal.with_bytes-requires-clause-own_fits
@@ -21,7 +21,7 @@ with_bytes-requires-clause-own_fits c =
     let b = c.args.self.now in
     let p = c.args.piece in
     let name = own_text b.main_text b.side_text p in
-    let fits = own-fits b c.splice_own.new.self p (p.to_byte - p.from_byte) (c.args.between.now ++ name) c.in_ok-from.from c.requires.living c.in_ok-from.ensures.splice in
+    let fits = own-fits b c.extend_by_own.new.self p (p.to_byte - p.from_byte) (c.args.between.now ++ name) c.in_ok-from.from c.requires.living c.in_ok-from.ensures.splice in
     omega (arith, fits, length-append c.args.between.now name, length-own b p c.requires.living, c.len-to.ensures.value, c.len-to.type_inv, ap (λ (s : Store). length s.main_text) c.self.view_is)
 
 pub with_bytes-requires-clause-layout_fits : goal.with_bytes-requires-clause-layout_fits
@@ -29,13 +29,13 @@ with_bytes-requires-clause-layout_fits c =
     let b = c.args.self.now in
     let p = c.args.piece in
     let name = own_text b.main_text b.side_text p in
-    let fits = layout-fits b c.splice_own.new.self p (p.to_byte - p.from_byte) (c.args.between.now ++ name) c.in_ok-from.from c.requires.living c.in_ok-from.ensures.splice in
+    let fits = layout-fits b c.extend_by_own.new.self p (p.to_byte - p.from_byte) (c.args.between.now ++ name) c.in_ok-from.from c.requires.living c.in_ok-from.ensures.splice in
     omega (arith, fits, length-append c.args.between.now name, length-own b p c.requires.living, c.len-to.ensures.value, c.len-to.type_inv, ap (λ (s : Store). length s.main_text) c.self.view_is)
 
 pub returns-clause-shape : goal.returns-clause-shape
 returns-clause-shape c =
     let b = c.args.self.now in
-    let n = c.splice_own.new.self in
+    let n = c.extend_by_own.new.self in
     let p = c.args.piece in
     let q = c.with_bytes.result in
     let from = c.in_ok-from.from in
@@ -56,7 +56,7 @@ returns-clause-shape c =
 pub returns-clause-edit_of : goal.returns-clause-edit_of
 returns-clause-edit_of c =
     let b = c.args.self.now in
-    let n = c.splice_own.new.self in
+    let n = c.extend_by_own.new.self in
     let p = c.args.piece in
     let q = c.with_bytes.result in
     let from = c.in_ok-from.from in

@@ -13,20 +13,20 @@ pub with_bytes-requires-clause-own_fits : goal.with_bytes-requires-clause-own_fi
 with_bytes-requires-clause-own_fits c =
     let p = c.args.piece in
     let both = c.args.first.now ++ c.args.second.now in
-    let fits = own-fits c.args.self.now c.splice_pair.new.self p (p.to_byte - p.from_byte) both c.in_ok-from.from c.requires.living c.in_ok-from.ensures.splice in
+    let fits = own-fits c.args.self.now c.extend.new.self p (p.to_byte - p.from_byte) both c.in_ok-from.from c.requires.living c.in_ok-from.ensures.splice in
     omega (arith, fits, length-append c.args.first.now c.args.second.now, c.len.ensures.value, ap (λ (b : Store). length b.main_text) c.self.view_is)
 
 pub with_bytes-requires-clause-layout_fits : goal.with_bytes-requires-clause-layout_fits
 with_bytes-requires-clause-layout_fits c =
     let p = c.args.piece in
     let both = c.args.first.now ++ c.args.second.now in
-    let fits = layout-fits c.args.self.now c.splice_pair.new.self p (p.to_byte - p.from_byte) both c.in_ok-from.from c.requires.living c.in_ok-from.ensures.splice in
+    let fits = layout-fits c.args.self.now c.extend.new.self p (p.to_byte - p.from_byte) both c.in_ok-from.from c.requires.living c.in_ok-from.ensures.splice in
     omega (arith, fits, length-append c.args.first.now c.args.second.now, c.len.ensures.value, ap (λ (b : Store). length b.main_text) c.self.view_is)
 
 pub returns-clause-shape : goal.returns-clause-shape
 returns-clause-shape c =
     let b = c.args.self.now in
-    let n = c.splice_pair.new.self in
+    let n = c.extend.new.self in
     let p = c.args.piece in
     let q = c.with_bytes.result in
     let from = c.in_ok-from.from in

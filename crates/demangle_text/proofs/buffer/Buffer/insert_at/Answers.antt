@@ -10,28 +10,28 @@ put-requires c =
     let b = c.args.self.now in
     let at = c.args.at in
     let k = length c.args.bytes.now in
-    let g = IsGap-same b _ (store_of c.self-2.inside) at k c.self-2.view_is c.in_ok-open_gap.ensures.gap in
-    let n = length-gap b.main_text c.self-2.inside.main at k c.requires.within g.room in
+    let g = IsGap-same b _ (store_of c.self.inside) at k c.self.view_is c.in_ok-open_gap.ensures.gap in
+    let n = length-gap b.main_text c.self.inside.main at k c.requires.within g.room in
     record { within = omega (arith, n, c.requires.within) }
 
-gap : (c : goal.After-put) → IsGap c.args.self.now (store_of c.self-2.inside) c.args.at (length c.args.bytes.now)
+gap : (c : goal.After-put) → IsGap c.args.self.now (store_of c.self.inside) c.args.at (length c.args.bytes.now)
 gap c =
-    IsGap-same c.args.self.now _ (store_of c.self-2.inside) c.args.at (length c.args.bytes.now) c.self-2.view_is
+    IsGap-same c.args.self.now _ (store_of c.self.inside) c.args.at (length c.args.bytes.now) c.self.view_is
     c.in_ok-open_gap.ensures.gap
 
 main : (c : goal.After-put) → c.put.new.self
     ≡ take c.args.at c.args.self.now.main_text ++ (c.args.bytes.now ++ drop c.args.at c.args.self.now.main_text)
 main c =
-    one-put c.args.self.now.main_text c.self-2.inside.main c.args.bytes.now c.put.new.self c.args.at c.requires.within
+    one-put c.args.self.now.main_text c.self.inside.main c.args.bytes.now c.put.new.self c.args.at c.requires.within
     (gap c).room c.put.ensures.value
 
 pub invariant_of-self : goal.invariant_of-self
 invariant_of-self c =
-    IsStore-filled c.args.self.now (store_of c.self-2.inside) c.args.at (length c.args.bytes.now) (gap c) _ _ refl (main c)
+    IsStore-filled c.args.self.now (store_of c.self.inside) c.args.at (length c.args.bytes.now) (gap c) _ _ refl (main c)
 
 pub returns-clause-edit : goal.returns-clause-edit
 returns-clause-edit c =
-    IsEdit-filled c.args.self.now (store_of c.self-2.inside) c.args.at (length c.args.bytes.now) (gap c) _ _ refl (main c)
+    IsEdit-filled c.args.self.now (store_of c.self.inside) c.args.at (length c.args.bytes.now) (gap c) _ _ refl (main c)
 
 pub returns-clause-main : goal.returns-clause-main
 returns-clause-main c = main c

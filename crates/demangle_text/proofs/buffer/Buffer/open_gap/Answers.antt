@@ -1,5 +1,5 @@
 -- What would be torn is set aside, and then the rest moves on.
-use Rattle.std.proofs.Common.{◌≡◌, ◌≤◌, ◌+◌, ◌-◌, List, ℕ, length, take, drop, ap, arith}
+use Rattle.std.proofs.Common.{◌≡◌, ◌≤◌, ◌+◌, ◌-◌, List, ℕ, length, take, drop, ap, ◌∙◌, arith}
 use Rattle.demangle_text.specs.Pieces.{Store}
 use Rattle.growing_text.specs.Room.{HasRoom}
 use Rattle.demangle_text.specs.View.{store_of}
@@ -12,14 +12,14 @@ use Rattle.demangle_text.proofs.buffer.Buffer.open_gap.Goals as goal
 pub returns-in_err-set_apart-clause-err : goal.returns-in_err-set_apart-clause-err
 returns-in_err-set_apart-clause-err c =
     let same : KeepsAll c.args.self.now _ =
-    rw (← c.self.view_is)
+    rw (← (c.self.view_is ∙ c.reserve_gap.ensures.same))
     (KeepsAll-aside (store_of c.self.inside) _ _ _ _ c.as_slice.ensures.value c.set_apart.ensures.aside) in
-    on_err_from c.from_residual.result same
+    on_err_from c.from_residual-in_err-set_apart.result same
 
 pub returns-in_err-open_room-clause-err : goal.returns-in_err-open_room-clause-err
 returns-in_err-open_room-clause-err c =
     let same : KeepsAll c.args.self.now _ =
-    rw (← c.self.view_is, c.in_err-open_room.ensures.err)
+    rw (← (c.self.view_is ∙ c.reserve_gap.ensures.same), c.in_err-open_room.ensures.err)
     (KeepsAll-aside (store_of c.self.inside) _ _ _ _ c.as_slice.ensures.value c.set_apart.ensures.aside) in
     on_err_from c.from_residual-in_err-open_room.result same
 
@@ -38,25 +38,25 @@ longer s b main at n same within room = length-gap s.main_text main at n (place 
 pub overflow_sub-dest : goal.overflow_sub-dest
 overflow_sub-dest c =
     let s = store_of c.self.inside in
-    let n = longer s _ _ c.args.at _ c.self.view_is c.requires.within c.in_ok-open_room.ensures.ok in
+    let n = longer s _ _ c.args.at _ (c.self.view_is ∙ c.reserve_gap.ensures.same) c.requires.within c.in_ok-open_room.ensures.ok in
     omega (arith, n, c.len-len.ensures.value, c.len.ensures.value)
 
 pub overflow_add-dest : goal.overflow_add-dest
 overflow_add-dest c =
     let s = store_of c.self.inside in
-    omega (arith, place s _ c.args.at c.self.view_is c.requires.within, c.len-len.ensures.value, c.len.type_inv)
+    omega (arith, place s _ c.args.at (c.self.view_is ∙ c.reserve_gap.ensures.same) c.requires.within, c.len-len.ensures.value, c.len.type_inv)
 
 pub carry-requires-clause-fits : goal.carry-requires-clause-fits
 carry-requires-clause-fits c =
     let s = store_of c.self.inside in
-    let n = longer s _ _ c.args.at _ c.self.view_is c.requires.within c.in_ok-open_room.ensures.ok in
-    let within = place s _ c.args.at c.self.view_is c.requires.within in
+    let n = longer s _ _ c.args.at _ (c.self.view_is ∙ c.reserve_gap.ensures.same) c.requires.within c.in_ok-open_room.ensures.ok in
+    let within = place s _ c.args.at (c.self.view_is ∙ c.reserve_gap.ensures.same) c.requires.within in
     omega (arith, n, within, c.len-len.ensures.value, c.len.ensures.value, c.len.type_inv)
 
 moved_by : (c : goal.After-carry) → c.args.at + (c.len.result - c.len-len.result) ≡ c.args.at + c.args.n
 moved_by c =
     let s = store_of c.self.inside in
-    let n = longer s _ _ c.args.at _ c.self.view_is c.requires.within c.in_ok-open_room.ensures.ok in
+    let n = longer s _ _ c.args.at _ (c.self.view_is ∙ c.reserve_gap.ensures.same) c.requires.within c.in_ok-open_room.ensures.ok in
     omega (arith, n, c.len-len.ensures.value, c.len.ensures.value)
 
 pub invariant_of-self-2 : goal.invariant_of-self-2
@@ -68,7 +68,7 @@ invariant_of-self-2 c =
     rw e.side
     (IsStore-opened s _ _ _ _ _ _ at c.args.n _ _ c.as_slice.ensures.value c.set_apart.ensures.aside
     a.saved_apart a.args_apart e.saved e.args
-    c.self.invariant (low s _ at c.self.view_is c.requires.inner) (place s _ at c.self.view_is c.requires.within)
+    c.self.invariant (low s _ at (c.self.view_is ∙ c.reserve_gap.ensures.same) c.requires.inner) (place s _ at (c.self.view_is ∙ c.reserve_gap.ensures.same) c.requires.within)
     c.len-len.ensures.value (moved_by c) _ c.in_ok-open_room.ensures.ok)
 
 pub returns-clause-gap : goal.returns-clause-gap
@@ -77,8 +77,8 @@ returns-clause-gap c =
     let at = c.args.at in
     let a = c.in_ok-set_apart.ensures in
     let e = c.carry.ensures in
-    rw (← c.self.view_is, e.side)
+    rw (← (c.self.view_is ∙ c.reserve_gap.ensures.same), e.side)
     (IsGap-opened s _ _ _ _ _ _ at c.args.n _ _ c.as_slice.ensures.value c.set_apart.ensures.aside
     a.saved_apart a.args_apart e.saved e.args
-    c.self.invariant (low s _ at c.self.view_is c.requires.inner) (place s _ at c.self.view_is c.requires.within)
+    c.self.invariant (low s _ at (c.self.view_is ∙ c.reserve_gap.ensures.same) c.requires.inner) (place s _ at (c.self.view_is ∙ c.reserve_gap.ensures.same) c.requires.within)
     c.len-len.ensures.value (moved_by c) _ c.in_ok-open_room.ensures.ok)

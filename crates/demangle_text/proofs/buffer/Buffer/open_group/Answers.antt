@@ -29,21 +29,21 @@ slice_bounds-group_opening-end c =
 pub with_group-requires-clause-own_fits : goal.with_group-requires-clause-own_fits
 with_group-requires-clause-own_fits c =
     let front = c.group_opening-front.result.now in
-    let fits = own-fits c.args.self.now c.splice_three.new.self c.args.piece c.place-at.result
+    let fits = own-fits c.args.self.now c.splice_group.new.self c.args.piece c.place-at.result
     (front ++ (c.args.bytes.now ++ 41 ∷ [])) c.in_ok-from.from c.requires.living c.in_ok-from.ensures.splice in
     omega (arith, fits, length-three front c.args.bytes.now, c.len.ensures.value, c.len.type_inv, ap (λ (b : Store). length b.main_text) c.self.view_is)
 
 pub with_group-requires-clause-layout_fits : goal.with_group-requires-clause-layout_fits
 with_group-requires-clause-layout_fits c =
     let front = c.group_opening-front.result.now in
-    let fits = layout-fits c.args.self.now c.splice_three.new.self c.args.piece c.place-at.result
+    let fits = layout-fits c.args.self.now c.splice_group.new.self c.args.piece c.place-at.result
     (front ++ (c.args.bytes.now ++ 41 ∷ [])) c.in_ok-from.from c.requires.living c.in_ok-from.ensures.splice in
     omega (arith, fits, length-three front c.args.bytes.now, c.len.ensures.value, c.len.type_inv, ap (λ (b : Store). length b.main_text) c.self.view_is)
 
 pub returns-clause-shape : goal.returns-clause-shape
 returns-clause-shape c =
     let b = c.args.self.now in
-    let n = c.splice_three.new.self in
+    let n = c.splice_group.new.self in
     let p = c.args.piece in
     let q = c.with_group.result in
     let from = c.in_ok-from.from in
@@ -70,7 +70,7 @@ returns-clause-shape c =
 pub returns-clause-edit_of : goal.returns-clause-edit_of
 returns-clause-edit_of c =
     let b = c.args.self.now in
-    let n = c.splice_three.new.self in
+    let n = c.splice_group.new.self in
     let p = c.args.piece in
     let q = c.with_group.result in
     let from = c.in_ok-from.from in

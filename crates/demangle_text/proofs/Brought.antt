@@ -1,0 +1,208 @@
+-- A text that was brought to the end of the main text, and what is put after it or into it there.
+use Rattle.std.proofs.Common.{◌≡◌, ℕ, ◌+◌, ◌-◌, ◌≤◌, Bool, true, false, List, ◌++◌, length, take, drop, slice_range, refl, sym, ap, ◌∙◌, subst, arith, append_assoc}
+use Rattle.std.proofs.lemmas.List.{length-append, length-drop, length-take-le, take_at, drop_at, take_all, drop_all, append-nil, take-append-le, drop-append-le, take-append-drop}
+use Rattle.demangle_text.specs.declared.shape.Piece.{Piece}
+use Rattle.growing_text.specs.Room.{HasRoom}
+use Rattle.growing_text.proofs.Parts.{part-append}
+use Rattle.demangle_text.specs.Pieces.{Store, IsStore, IsTail, IsTailAt, IsBrought, IsSplice, IsAdjacent, IsJoint, EndsBy, Extends, home_bytes, piece_text, own_text}
+use Rattle.demangle_text.specs.State.{IsLiving, KeepsAll, IsEdit}
+use Rattle.demangle_text.specs.Gaps.{IsGap, IsOpen, with_gap_filled}
+use Rattle.demangle_text.proofs.Laws.{IsEdit-keeps}
+use Rattle.demangle_text.proofs.States.{KeepsAll-longer, IsStore-longer, Extends-same, unchanged}
+use Rattle.demangle_text.proofs.Texts.{part-part}
+use Rattle.demangle_text.proofs.Tails.{IsSplice-inserted, IsSplice-copied, length-text}
+
+-- one that ends it already
+pub IsBrought-stays : (main side : List ℕ) (mark : ℕ) (p : Piece) → p.from_byte ≤ p.to_byte → IsTailAt mark (length main) p → IsBrought main side mark p main p.from_byte
+IsBrought-stays main side mark p ordered h = record {
+  begins = omega (arith, h.ends);
+  text =
+      let here = ap (λ (home : Bool). slice_range (home_bytes main side home) p.from_byte p.to_byte) h.in_main in
+      let whole = take_all (p.to_byte - p.from_byte) (drop p.from_byte main) (omega (arith, h.ends, length-drop p.from_byte main)) in
+      sym (here ∙ whole);
+  inner = h.inner;
+  front = refl;
+  longer = Extends-same main;
+  in_place = λ _. (refl, refl);
+}
+
+-- a copy of one that doesn't
+pub IsBrought-copied : (main side new : List ℕ) (mark : ℕ) (p : Piece) (from : ℕ) → (IsTailAt mark (length main) p → ⊥) → mark ≤ length main
+    → length (piece_text main side p) ≡ p.to_byte - p.from_byte → from ≡ length main → new ≡ main ++ piece_text main side p → IsBrought main side mark p new from
+IsBrought-copied main side new mark p from apart inner long starts is = record {
+  begins = omega (arith, starts, long, ap length is, length-append main (piece_text main side p));
+  text = ap (drop from) is ∙ drop_at main (piece_text main side p) from (sym starts);
+  inner = omega (arith, inner, starts);
+  front = ap (take from) is ∙ take-append-le from main (piece_text main side p) (omega (arith, starts));
+  longer = record { more = piece_text main side p; all = is };
+  in_place = λ h. absurd (apart h);
+}
+
+-- what was added after it goes again
+pub taken-back : (main mid new : List ℕ) (len : ℕ) → len ≡ length main → Extends main mid → new ≡ take len mid → new ≡ main
+taken-back main mid new len long e is = is ∙ ap (take len) e.all ∙ take_at main e.more len (sym long)
+
+-- bytes after it
+module _ (s : Store) (mid bytes main : List ℕ) (i : IsStore s) (e : Extends s.main_text mid) (is : main ≡ mid ++ bytes) where
+  all : main ≡ s.main_text ++ (e.more ++ bytes)
+  all = is ∙ ap (λ (v : List ℕ). v ++ bytes) e.all ∙ append_assoc s.main_text e.more bytes
+
+  pub IsStore-extended : IsStore (record s { main_text = main })
+  IsStore-extended = subst (λ (v : List ℕ). IsStore (record s { main_text = v })) (sym all) (IsStore-longer s (e.more ++ bytes) i)
+
+  pub IsEdit-extended : IsEdit s (record s { main_text = main })
+  IsEdit-extended = subst (λ (v : List ℕ). IsEdit s (record s { main_text = v })) (sym all) (IsEdit-keeps s _ (KeepsAll-longer s (e.more ++ bytes) i))
+
+pub IsSplice-extended : (s t : Store) (p : Piece) (mid bytes : List ℕ) (from : ℕ) → IsLiving s p → IsBrought s.main_text s.side_text s.frame_main p mid from
+    → t.main_text ≡ mid ++ bytes → IsSplice s t p (p.to_byte - p.from_byte) bytes from
+unfolding IsLiving
+IsSplice-extended s t p mid bytes from lies b is =
+    let text = piece_text s.main_text s.side_text p in
+    let k = p.to_byte - p.from_byte in
+    let within : from ≤ length mid = omega (arith, b.begins) in
+    let whole : length text ≤ k = omega (arith, length-text s p lies) in
+    let longer = ap length is ∙ length-append mid bytes in
+    record {
+      within = omega (arith, longer, within);
+      text = ap (drop from) is ∙ drop-append-le from mid bytes within ∙ ap (λ (v : List ℕ). v ++ bytes) b.text
+          ∙ ap (λ (v : List ℕ). text ++ v) (sym (append-nil bytes))
+          ∙ ap (λ (v : List ℕ). text ++ (bytes ++ v)) (sym (drop_all k text whole))
+          ∙ ap (λ (v : List ℕ). v ++ (bytes ++ drop k text)) (sym (take_all k text whole));
+      inner = b.inner;
+      front = ap (take from) is ∙ take-append-le from mid bytes within ∙ b.front;
+      in_place = λ h.
+          let stays = b.in_place h in
+          (stays.0, longer ∙ ap (λ (v : List ℕ). length v + length bytes) stays.1);
+    }
+
+-- a part stays when the main text grows
+part-longer : (main side more : List ℕ) (h : Bool) (a b : ℕ) → a ≤ b → b ≤ length (home_bytes main side h)
+    → slice_range (home_bytes (main ++ more) side h) a b ≡ slice_range (home_bytes main side h) a b
+part-longer main side more false a b ordered within = part-append main more a b ordered within
+part-longer main side more true a b ordered within = refl
+
+within-longer : (main side more : List ℕ) (h : Bool) (b : ℕ) → b ≤ length (home_bytes main side h) → b ≤ length (home_bytes (main ++ more) side h)
+within-longer main side more false b within = omega (arith, length-append main more, within)
+within-longer main side more true b within = within
+
+pub text-brought : (s : Store) (mid : List ℕ) (p : Piece) → IsLiving s p → Extends s.main_text mid → piece_text mid s.side_text p ≡ piece_text s.main_text s.side_text p
+unfolding IsLiving
+text-brought s mid p lies e =
+    ap (λ (v : List ℕ). piece_text v s.side_text p) e.all ∙ part-longer s.main_text s.side_text e.more p.aside p.from_byte p.to_byte lies.ordered lies.within
+
+pub within-brought : (s : Store) (mid : List ℕ) (p : Piece) → IsLiving s p → Extends s.main_text mid → p.to_byte ≤ length (home_bytes mid s.side_text p.aside)
+unfolding IsLiving
+within-brought s mid p lies e =
+    subst (λ (v : List ℕ). p.to_byte ≤ length (home_bytes v s.side_text p.aside)) (sym e.all) (within-longer s.main_text s.side_text e.more p.aside p.to_byte lies.within)
+
+-- bytes and another text after it
+pub IsJoint-extended : (s t : Store) (first : Piece) (bytes : List ℕ) (second : Piece) (mid : List ℕ) (from : ℕ) → (IsAdjacent s first second → ⊥)
+    → (IsTail s second → EndsBy second.from_byte first → ⊥) → IsLiving s second → IsBrought s.main_text s.side_text s.frame_main first mid from
+    → t.main_text ≡ mid ++ (bytes ++ piece_text mid s.side_text second) → IsJoint s t first bytes second from
+IsJoint-extended s t first bytes second mid from apart later lies b is_mid =
+    let one = piece_text s.main_text s.side_text first in
+    let two = piece_text s.main_text s.side_text second in
+    let more = bytes ++ two in
+    let is : t.main_text ≡ mid ++ more = is_mid ∙ ap (λ (v : List ℕ). mid ++ (bytes ++ v)) (text-brought s mid second lies b.longer) in
+    let within : from ≤ length mid = omega (arith, b.begins) in
+    let longer = ap length is ∙ length-append mid more in
+    record {
+      within = omega (arith, longer, within);
+      text = ap (drop from) is ∙ drop-append-le from mid more within ∙ ap (λ (v : List ℕ). v ++ more) b.text ∙ sym (append_assoc one bytes two);
+      inner = b.inner;
+      front = ap (take from) is ∙ take-append-le from mid more within ∙ b.front;
+      in_place = λ h. absurd (apart h);
+      in_front = λ tail before _. absurd (later tail before);
+      after = λ h.
+          let stays = b.in_place h in
+          (stays.0, longer ∙ ap (λ (v : List ℕ). length v + length more) stays.1 ∙ ap (λ (k : ℕ). length s.main_text + k) (length-append bytes two));
+    }
+
+-- the last own name of a text that was brought there
+pub own-brought : (s : Store) (mid : List ℕ) (p : Piece) (from : ℕ) → IsLiving s p → IsBrought s.main_text s.side_text s.frame_main p mid from
+    → slice_range mid (from + p.own_start) (from + p.own_end) ≡ own_text s.main_text s.side_text p
+unfolding IsLiving
+own-brought s mid p from lies b =
+    let k = p.to_byte - p.from_byte in
+    let within : p.own_end ≤ k = omega (arith, lies.outlined.own_within, length-text s p lies) in
+    part-part mid from (from + k) p.own_start p.own_end lies.outlined.own_ordered (omega arith)
+    ∙ ap (λ (v : List ℕ). slice_range v p.own_start p.own_end) (take_all (from + k - from) (drop from mid) (omega (arith, b.begins, length-drop from mid)) ∙ b.text)
+
+-- a gap in a text that ends the main text
+pub IsOpen-tail : (s t : Store) (p : Piece) (at n : ℕ) → IsTail s p → p.from_byte ≤ p.to_byte → at ≤ p.to_byte - p.from_byte → IsGap s t (p.from_byte + at) n → IsOpen s t p at n p.from_byte
+IsOpen-tail s t p at n h ordered place gap = record {
+  main = s.main_text;
+  within = omega (arith, h.ends);
+  room = gap.room;
+  consistent = gap.consistent;
+  edit = gap.edit;
+  splice = λ bytes long. IsSplice-inserted s (with_gap_filled s.main_text (p.from_byte + at) bytes t) p at bytes h ordered place refl;
+}
+
+-- bytes in the copy of a text
+in-copy : (main text bytes : List ℕ) (from at : ℕ) → from ≡ length main → at ≤ length text
+    → take (from + at) (main ++ text) ++ (bytes ++ drop (from + at) (main ++ text)) ≡ main ++ (take at text ++ (bytes ++ drop at text))
+in-copy main text bytes from at starts within =
+    let split : main ++ text ≡ (main ++ take at text) ++ drop at text =
+    ap (λ (v : List ℕ). main ++ v) (sym (take-append-drop at text)) ∙ sym (append_assoc main (take at text) (drop at text)) in
+    let front : length (main ++ take at text) ≡ from + at = omega (arith, length-append main (take at text), length-take-le at text within, starts) in
+    let low = ap (take (from + at)) split ∙ take_at (main ++ take at text) (drop at text) (from + at) front in
+    let high = ap (drop (from + at)) split ∙ drop_at (main ++ take at text) (drop at text) (from + at) front in
+    ap (λ (v : List ℕ). v ++ (bytes ++ drop (from + at) (main ++ text))) low ∙ ap (λ (v : List ℕ). (main ++ take at text) ++ (bytes ++ v)) high
+    ∙ append_assoc main (take at text) (bytes ++ drop at text)
+
+-- a gap in a copy
+module _ (s : Store) (p : Piece) (mid all : List ℕ) (at n from : ℕ) (i : IsStore s) (lies : IsLiving s p) (apart : IsTail s p → ⊥)
+    (starts : from ≡ length s.main_text) (place : at ≤ p.to_byte - p.from_byte) (copied : mid ≡ s.main_text ++ piece_text s.main_text s.side_text p)
+    (room : HasRoom (take (from + at) mid) (drop (from + at) mid) all n) where
+  abbrev text : List ℕ
+  text = piece_text s.main_text s.side_text p
+
+  abbrev filled : List ℕ → List ℕ
+  filled bytes = take (from + at) mid ++ (bytes ++ drop (from + at) mid)
+
+  filled-is : (bytes : List ℕ) → filled bytes ≡ s.main_text ++ (take at text ++ (bytes ++ drop at text))
+  filled-is bytes =
+      ap (λ (v : List ℕ). take (from + at) v ++ (bytes ++ drop (from + at) v)) copied
+      ∙ in-copy s.main_text text bytes from at starts (omega (arith, length-text s p lies))
+
+  pub IsOpen-copied : IsOpen s (record s { main_text = all }) p at n from
+  IsOpen-copied = record {
+    main = mid;
+    within = omega (arith, ap length copied, length-append s.main_text text, length-text s p lies, starts, place);
+    room = room;
+    consistent = λ bytes long. subst (λ (v : List ℕ). IsStore (record s { main_text = v })) (sym (filled-is bytes)) (IsStore-longer s _ i);
+    edit = λ bytes long. subst (λ (v : List ℕ). IsEdit s (record s { main_text = v })) (sym (filled-is bytes)) (IsEdit-keeps s _ (KeepsAll-longer s _ i));
+    splice = λ bytes long. IsSplice-copied s (record s { main_text = filled bytes }) p at bytes from apart i.main_frame starts (filled-is bytes);
+  }
+
+  -- it is consistent whatever stands in the gap
+  pub IsStore-copied : IsStore (record s { main_text = all })
+  IsStore-copied =
+      subst (λ (v : List ℕ). IsStore (record s { main_text = v })) (sym (room.parts ∙ filled-is room.room)) (IsStore-longer s _ i)
+
+-- the same store has the gap
+pub IsOpen-same : (old s new : Store) (p : Piece) (at n from : ℕ) → s ≡ new → IsOpen old new p at n from → IsOpen old s p at n from
+IsOpen-same old s new p at n from same open_gap = subst (λ (b : Store). IsOpen old b p at n from) (sym same) open_gap
+
+-- the gap is filled
+module _ (old s : Store) (p : Piece) (at n from : ℕ) (o : IsOpen old s p at n from) (bytes main : List ℕ) (long : length bytes ≡ n)
+    (is : main ≡ take (from + at) o.main ++ (bytes ++ drop (from + at) o.main)) where
+  pub IsStore-put : IsStore (record s { main_text = main })
+  IsStore-put = subst (λ (v : List ℕ). IsStore (record s { main_text = v })) (sym is) (o.consistent bytes long)
+
+  pub IsEdit-put : IsEdit old (record s { main_text = main })
+  IsEdit-put = subst (λ (v : List ℕ). IsEdit old (record s { main_text = v })) (sym is) (o.edit bytes long)
+
+  pub IsSplice-put : IsSplice old (record s { main_text = main }) p at bytes from
+  IsSplice-put = subst (λ (v : List ℕ). IsSplice old (record s { main_text = v }) p at bytes from) (sym is) (o.splice bytes long)
+
+-- what failed after it left nothing
+pub nothing-left : (main mid done new : List ℕ) (len : ℕ) → len ≡ length main → Extends main mid → done ≡ mid → new ≡ take len done → new ≡ main
+nothing-left main mid done new len long e failed is = taken-back main mid new len long e (is ∙ ap (take len) failed)
+
+-- so all is as it was
+pub KeepsAll-left : (s : Store) (mid done new : List ℕ) (len : ℕ) → len ≡ length s.main_text → Extends s.main_text mid → done ≡ mid → new ≡ take len done
+    → KeepsAll s (record s { main_text = new })
+KeepsAll-left s mid done new len long e failed is =
+    unchanged s (record s { main_text = new }) (nothing-left s.main_text mid done new len long e failed is) refl refl refl refl refl
