@@ -62,9 +62,12 @@ static void try_all() {
 }
 
 int main() {
+    // The standard output has a buffer here, so that it asks for none: what is refused is refused to a value.
+    static char room[BUFSIZ];
+    std::setvbuf(stdout, room, _IOFBF, sizeof room);
     const long live = refuse_live ? refuse_live() : 0;
     again(try_all);
-    holds(!refuse_live || refuse_live() - live <= 1, "all memory is freed, but for what the standard output took");
+    holds(!refuse_live || refuse_live() == live, "all memory is freed");
     std::printf("%d passed, %d failed\n", passed, failed);
     return failed != 0 ? 1 : thrown != 0 ? 2 : 0;
 }

@@ -68,7 +68,7 @@ pub fn answer_after<'a>(
         (λ _. last ≡ no_run))) }
 {
     let len = match ask(demangler, alloc, before) {
-        Ok(()) => Ok(demangler.text().map(str::len)),
+        Ok(_) => Ok(demangler.text().map(str::len)),
         Err(error) => Err(error),
     };
     (len, demangler.demangle(alloc, symbol))

@@ -140,6 +140,7 @@ pub(crate) fn read_encoding(reader: &mut Reader, depth: usize, context: Context)
 /// qualifiers are answered.
 #[tactic(auto, using(itanium_reader::proofs::Rules::entities))]
 #[cycle(reader)]
+#[inline(never)]
 pub(crate) fn read_entity(
     reader: &mut Reader,
     depth: usize,
