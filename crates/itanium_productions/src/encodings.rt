@@ -8,7 +8,7 @@ ghost use Rattle.itanium_reader.specs.Outcome.{state, Gives, GivesBareName, Leav
 
 use crate::names::read_bare_name;
 use crate::specials::read_special;
-use crate::types::{read_type, read_typed_params};
+use crate::types::{read_params, read_type};
 use demangle_edit::{
     Quals, apply_name_qualifiers, close_opened, close_params, open_default_arg, open_params,
     open_parent,
@@ -110,7 +110,7 @@ pub(crate) fn end_encoding(
         }
         SignatureCase::SomeSignature => {
             let list = open_params(&mut reader.buffer, name)?;
-            read_typed_params(reader, depth, context, false, list)?;
+            read_params(reader, depth, context, false, list)?;
             reader.found = close_params(&mut reader.buffer, reader.found, quals)?;
             Ok(())
         }

@@ -16,7 +16,7 @@ ghost use Rattle.itanium_reader.specs.Outcome.{OptionalBounds, SavedBounds, Save
 
 use crate::args::read_attached;
 use crate::encodings::read_local;
-use crate::types::{read_type, read_typed_params};
+use crate::types::{read_params, read_type};
 use demangle_edit::Quals;
 use demangle_text::Piece;
 use itanium_reader::{Reader, Stop};
@@ -40,7 +40,7 @@ pub(crate) fn read_lambda(reader: &mut Reader, depth: usize, context: Context) -
     ensures saved { SavedBounds 1 result (state reader.old) (state reader.new) }
 {
     let list = reader.buffer.push(b"{lambda(")?;
-    read_typed_params(reader, depth, context, false, list)?;
+    read_params(reader, depth, context, false, list)?;
     reader.end_lambda(reader.found)
 }
 

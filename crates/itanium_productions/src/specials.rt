@@ -1,13 +1,11 @@
 //! Special names, and what follows the prefix of a symbol (Itanium C++ ABI 5.1.4, "Other Special Functions and
 //! Entities").
-ghost use Rattle.std.specs.Prelude.{◌≡◌, ◌<◌, OnOk, length, true};
+ghost use Rattle.std.specs.Prelude.{◌≡◌, ◌<◌, OnOk, length};
 ghost use Rattle.demangle_text.specs.State.{IsRun};
-ghost use Rattle.itanium_syntax.specs.Names.{symbol_case, name_case};
-ghost use Rattle.itanium_reader.specs.Cases.{NameSymbol, NestedName};
 ghost use Rattle.itanium_reader.specs.Parser as spec;
 ghost use Rattle.itanium_reader.specs.Outcome.{state, Gives, HasRoom, Bounds, SavedBounds};
 
-use crate::names::{framed_name, read_any_nested, read_name};
+use crate::names::{framed_name, read_name};
 use crate::types::{framed_type, read_type};
 use itanium_reader::{Reader, Stop};
 use itanium_syntax::context::Context;
@@ -164,38 +162,12 @@ pub(crate) fn read_special(reader: &mut Reader, depth: usize, context: Context) 
     }
 }
 
-/// Whether `N` and a byte after it stand there: then what follows the prefix of a symbol is a `<nested-name>`.
-#[inline(always)]
-fn begins_nested_symbol(bytes: &[u8]) -> bool
-    ensures symbol { result ≡ true → symbol_case bytes.now ≡ NameSymbol }
-    ensures nested { result ≡ true → name_case bytes.now ≡ NestedName }
-{
-    matches!(bytes, [b'N', _, ..])
-}
-
 /// What follows the prefix of a symbol, within `depth` open productions: a special name, or a name without its
 /// parameters. Mostly it is a `<nested-name>`.
 #[tactic(auto, using(itanium_reader::proofs::Rules::symbols))]
 #[cycle(reader)]
 #[inline(always)]
 pub fn read_symbol(reader: &mut Reader, depth: usize, context: Context) -> Result<(), Stop>
-    requires room { HasRoom 1 (state reader.old) }
-    ensures reads { Gives result reader.new (spec.parse_symbol depth context (state reader.old)) }
-    ensures run { OnOk result (IsRun reader.old.buffer.value reader.new.buffer.value) }
-    ensures bounds { Bounds 1 result (state reader.old) (state reader.new) }
-    ensures saved { SavedBounds 1 result (state reader.old) (state reader.new) }
-{
-    if begins_nested_symbol(reader.rest) {
-        return read_any_nested(reader, depth, context);
-    }
-    read_other_symbol(reader, depth, context)
-}
-
-/// `read_symbol` of any symbol.
-#[tactic(auto, using(itanium_reader::proofs::Rules::symbols))]
-#[cycle(reader)]
-#[inline(never)]
-fn read_other_symbol(reader: &mut Reader, depth: usize, context: Context) -> Result<(), Stop>
     requires room { HasRoom 1 (state reader.old) }
     ensures reads { Gives result reader.new (spec.parse_symbol depth context (state reader.old)) }
     ensures run { OnOk result (IsRun reader.old.buffer.value reader.new.buffer.value) }

@@ -1,16 +1,13 @@
 //! Types (Itanium C++ ABI 5.1.5).
-ghost use Rattle.std.specs.Prelude.{◌≡◌, ◌<◌, OnOk, length, option_and_then, true, false};
+ghost use Rattle.std.specs.Prelude.{◌≡◌, ◌<◌, OnOk, length, false};
 ghost use Rattle.demangle_text.specs.State.{IsLiving, shape, IsRun, SameFrame, Stands, main_bytes};
-ghost use Rattle.demangle_quals.specs.Quals.{no_quals};
 ghost use Rattle.itanium_syntax.specs.Args.{attached_case};
-ghost use Rattle.itanium_syntax.specs.Names.{name_case};
-ghost use Rattle.itanium_syntax.specs.Types.{params_case, past_cv, type_case};
-ghost use Rattle.itanium_reader.specs.Cases.{NameType, NestedName, SubstitutionType};
+ghost use Rattle.itanium_syntax.specs.Types.{params_case, past_cv};
 ghost use Rattle.itanium_reader.specs.Parser as spec;
 ghost use Rattle.itanium_reader.specs.Outcome.{state, Gives, HasRoom, Bounds, OptionalBounds, ListBounds, SavedBounds};
 
 use crate::args::read_attached;
-use crate::names::{read_any_nested, read_name};
+use crate::names::read_name;
 use demangle_edit::{Pointer, Quals, list_next, open_function};
 use demangle_text::Piece;
 use itanium_reader::{Reader, Stop};
@@ -48,40 +45,7 @@ pub(crate) fn read_type_attached(
     }
 }
 
-/// Whether `N` stands there: then a `<type>` is a `<nested-name>`.
-#[inline(always)]
-fn begins_nested_type(bytes: &[u8]) -> bool
-    ensures case { result ≡ true → type_case bytes.now ≡ NameType }
-    ensures nested { result ≡ true → name_case bytes.now ≡ NestedName }
-{
-    matches!(bytes, [b'N', ..])
-}
-
-/// Whether `1` to `9` or `St` stands there: then a `<type>` is a `<name>`. Some names that are types begin otherwise.
-#[inline(always)]
-fn begins_name_type(bytes: &[u8]) -> bool
-    ensures case { result ≡ true → type_case bytes.now ≡ NameType }
-{
-    match bytes {
-        [b'1'..=b'9', ..] => true,
-        [b'S', b't', ..] => true,
-        _ => false,
-    }
-}
-
-/// Whether `S` stands there and no `t` after it: then a `<type>` is a `<substitution>`.
-#[inline(always)]
-fn begins_substitution_type(bytes: &[u8]) -> bool
-    ensures case { result ≡ true → type_case bytes.now ≡ SubstitutionType }
-{
-    match bytes {
-        [b'S', b't', ..] => false,
-        [b'S', ..] => true,
-        _ => false,
-    }
-}
-
-/// `<type>`, within `depth` open productions: a name or a substitution goes straight to its reader.
+/// `<type>`, within `depth` open productions.
 #[tactic(auto, using(itanium_reader::proofs::Rules::types))]
 #[cycle(reader)]
 pub(crate) fn read_type(reader: &mut Reader, depth: usize, context: Context) -> Result<(), Stop>
@@ -96,55 +60,37 @@ pub(crate) fn read_type(reader: &mut Reader, depth: usize, context: Context) -> 
         return Err(Stop::Unread);
     }
     reader.entered += 1;
-    let inside = context.inside_type();
-    if begins_nested_type(reader.rest) {
-        return read_nested_type(reader, depth - 1, inside);
-    }
-    if begins_name_type(reader.rest) {
-        return read_name_type(reader, depth - 1, inside);
-    }
-    if begins_substitution_type(reader.rest) {
-        return read_substitution_type(reader, depth - 1, inside);
-    }
-    read_other_type(reader, depth - 1, inside)
-}
-
-/// Any `<type>`, which is counted already.
-#[tactic(auto, using(itanium_reader::proofs::Rules::builtin_literals))]
-#[cycle(reader)]
-#[inline(never)]
-pub(crate) fn read_other_type(
-    reader: &mut Reader,
-    depth: usize,
-    context: Context,
-) -> Result<(), Stop>
-    requires room { HasRoom 1 (state reader.old) }
-    ensures reads { Gives result reader.new
-        (option_and_then spec.fitting (spec.type_as (type_case reader.old.rest.now)
-        (spec.parse_type depth context) (spec.parse_name depth context)
-        (spec.parse_args depth context false) context (state reader.old))) }
-    ensures run { OnOk result (IsRun reader.old.buffer.value reader.new.buffer.value) }
-    ensures bounds { Bounds 1 result (state reader.old) (state reader.new) }
-    ensures saved { SavedBounds 0 result (state reader.old) (state reader.new) }
-{
-    // A builtin type is short, and a name or a substitution is measured by its own reader.
+    let depth = depth - 1;
+    let context = context.inside_type();
     match type_case(reader.rest) {
-        TypeCase::BuiltinType => {
-            reader.read_builtin()?;
-            return Ok(());
+        TypeCase::NameType => {
+            read_name(reader, depth, context)?;
+            reader.save_found()?;
         }
-        TypeCase::NameType => return read_name_type(reader, depth, context),
-        TypeCase::SubstitutionType => return read_substitution_type(reader, depth, context),
-        TypeCase::UnreadType => return Err(Stop::Unread),
-        TypeCase::ExpansionType => read_expansion(reader, depth, context)?,
-        TypeCase::VendorType => reader.read_vendor()?,
-        TypeCase::ArrayType => read_array(reader, depth, context)?,
-        TypeCase::FunctionType => read_function_type(reader, depth, context)?,
-        TypeCase::MemberType => read_member(reader, depth, context)?,
+        TypeCase::BuiltinType => reader.read_builtin()?,
+        TypeCase::SubstitutionType => {
+            reader.read_substitution()?;
+            read_type_attached(reader, depth, context)?;
+        }
+        TypeCase::ParameterType => {
+            reader.read_saved_parameter(context)?;
+            read_type_attached(reader, depth, context)?;
+        }
         TypeCase::PointerType(kind) => read_pointer(reader, depth, context, kind)?,
-        TypeCase::CvType => read_cv_type(reader, depth, context)?,
+        TypeCase::CvType => {
+            read_cv(reader, depth, context)?;
+            reader.save_found()?;
+        }
+        TypeCase::FunctionType => {
+            read_function(reader, depth, context, Quals::none())?;
+            reader.save_found()?;
+        }
+        TypeCase::ArrayType => read_array(reader, depth, context)?,
+        TypeCase::MemberType => read_member(reader, depth, context)?,
+        TypeCase::ExpansionType => read_expansion(reader, depth, context)?,
         TypeCase::ElaboratedType => read_elaborated(reader, depth, context)?,
-        TypeCase::ParameterType => read_parameter_type(reader, depth, context)?,
+        TypeCase::VendorType => reader.read_vendor()?,
+        TypeCase::UnreadType => return Err(Stop::Unread),
     }
     if reader.is_wide(reader.found) {
         return Err(Stop::Unread);
@@ -217,44 +163,6 @@ pub(crate) fn read_pointer(
     Ok(())
 }
 
-/// A `<function-type>` without qualifiers, which is saved.
-#[tactic(auto, using(itanium_reader::proofs::Rules::buffers))]
-#[cycle(reader)]
-pub(crate) fn read_function_type(
-    reader: &mut Reader,
-    depth: usize,
-    context: Context,
-) -> Result<(), Stop>
-    requires room { HasRoom 1 (state reader.old) }
-    requires some { 0 < length reader.old.rest.now }
-    ensures reads { Gives result reader.new
-        (spec.saved_by (spec.parse_function (spec.parse_type depth context) no_quals) (state reader.old)) }
-    ensures run { OnOk result (IsRun reader.old.buffer.value reader.new.buffer.value) }
-    ensures bounds { Bounds 2 result (state reader.old) (state reader.new) }
-    ensures saved { SavedBounds 0 result (state reader.old) (state reader.new) }
-{
-    read_function(reader, depth, context, Quals::none())?;
-    reader.save_found()?;
-    Ok(())
-}
-
-/// A `<qualified-type>`, which is saved once.
-#[tactic(auto, using(itanium_reader::proofs::Rules::buffers))]
-#[cycle(reader)]
-pub(crate) fn read_cv_type(reader: &mut Reader, depth: usize, context: Context) -> Result<(), Stop>
-    requires room { HasRoom 1 (state reader.old) }
-    requires some { length (past_cv reader.old.rest.now) < length reader.old.rest.now }
-    ensures reads { Gives result reader.new
-        (spec.saved_by (spec.parse_cv (spec.parse_type depth context)) (state reader.old)) }
-    ensures run { OnOk result (IsRun reader.old.buffer.value reader.new.buffer.value) }
-    ensures bounds { Bounds 2 result (state reader.old) (state reader.new) }
-    ensures saved { SavedBounds 0 result (state reader.old) (state reader.new) }
-{
-    read_cv(reader, depth, context)?;
-    reader.save_found()?;
-    Ok(())
-}
-
 /// `<class-enum-type> ::= Ts <name> | Tu <name> | Te <name>`
 #[tactic(auto, using(itanium_reader::proofs::Rules::buffers))]
 #[cycle(reader)]
@@ -273,93 +181,6 @@ pub(crate) fn read_elaborated(
     reader.skip(2);
     read_name(reader, depth, context)?;
     reader.save_elaborated(word)?;
-    Ok(())
-}
-
-/// `<template-param> [<template-args>]`: saved without and with its arguments.
-#[tactic(auto, using(itanium_reader::proofs::Rules::buffers))]
-#[cycle(reader)]
-pub(crate) fn read_parameter_type(
-    reader: &mut Reader,
-    depth: usize,
-    context: Context,
-) -> Result<(), Stop>
-    requires room { HasRoom 1 (state reader.old) }
-    ensures reads { Gives result reader.new
-        (spec.parameter_type (spec.parse_args depth context false) context (state reader.old)) }
-    ensures run { OnOk result (IsRun reader.old.buffer.value reader.new.buffer.value) }
-    ensures bounds { Bounds 1 result (state reader.old) (state reader.new) }
-    ensures saved { SavedBounds 0 result (state reader.old) (state reader.new) }
-{
-    reader.read_saved_parameter(context)?;
-    read_type_attached(reader, depth, context)
-}
-
-/// `<substitution> [<template-args>]`: saved with its arguments alone, and measured.
-#[tactic(auto, using(itanium_reader::proofs::Rules::buffers))]
-#[cycle(reader)]
-#[inline(never)]
-pub(crate) fn read_substitution_type(
-    reader: &mut Reader,
-    depth: usize,
-    context: Context,
-) -> Result<(), Stop>
-    requires room { HasRoom 1 (state reader.old) }
-    ensures reads { Gives result reader.new
-        (option_and_then spec.fitting (spec.substitution_type (spec.parse_args depth context false)
-        (state reader.old))) }
-    ensures run { OnOk result (IsRun reader.old.buffer.value reader.new.buffer.value) }
-    ensures bounds { Bounds 1 result (state reader.old) (state reader.new) }
-    ensures saved { SavedBounds 0 result (state reader.old) (state reader.new) }
-{
-    reader.read_substitution()?;
-    read_type_attached(reader, depth, context)?;
-    if reader.is_wide(reader.found) {
-        return Err(Stop::Unread);
-    }
-    Ok(())
-}
-
-/// `<class-enum-type> ::= <nested-name>`, which is saved.
-#[tactic(auto, using(itanium_reader::proofs::Rules::buffers))]
-#[cycle(reader)]
-#[inline(never)]
-pub(crate) fn read_nested_type(
-    reader: &mut Reader,
-    depth: usize,
-    context: Context,
-) -> Result<(), Stop>
-    requires room { HasRoom 1 (state reader.old) }
-    requires nested { name_case reader.old.rest.now ≡ NestedName }
-    ensures reads { Gives result reader.new (spec.saved_by (spec.parse_name depth context) (state reader.old)) }
-    ensures fits { OnOk result (spec.is_wide (shape reader.new.buffer.value reader.new.found) ≡ false) }
-    ensures run { OnOk result (IsRun reader.old.buffer.value reader.new.buffer.value) }
-    ensures bounds { Bounds 1 result (state reader.old) (state reader.new) }
-    ensures saved { SavedBounds 0 result (state reader.old) (state reader.new) }
-{
-    read_any_nested(reader, depth, context)?;
-    reader.save_found()?;
-    Ok(())
-}
-
-/// `<class-enum-type> ::= <name>`, which is saved.
-#[tactic(auto, using(itanium_reader::proofs::Rules::buffers))]
-#[cycle(reader)]
-#[inline(never)]
-pub(crate) fn read_name_type(
-    reader: &mut Reader,
-    depth: usize,
-    context: Context,
-) -> Result<(), Stop>
-    requires room { HasRoom 1 (state reader.old) }
-    ensures reads { Gives result reader.new (spec.saved_by (spec.parse_name depth context) (state reader.old)) }
-    ensures fits { OnOk result (spec.is_wide (shape reader.new.buffer.value reader.new.found) ≡ false) }
-    ensures run { OnOk result (IsRun reader.old.buffer.value reader.new.buffer.value) }
-    ensures bounds { Bounds 1 result (state reader.old) (state reader.new) }
-    ensures saved { SavedBounds 0 result (state reader.old) (state reader.new) }
-{
-    read_name(reader, depth, context)?;
-    reader.save_found()?;
     Ok(())
 }
 
@@ -449,16 +270,17 @@ pub(crate) fn read_function(
             let Some(list) = open_function(&mut reader.buffer, reader.found)? else {
                 return Err(Stop::Unread);
             };
-            read_typed_params(reader, depth, context, true, list)?;
+            read_params(reader, depth, context, true, list)?;
             reader.end_function(front, quals)
         }
     }
 }
 
-/// Types up to `E`, or of a function type to a `<ref-qualifier>` in front of it, put onto a list as they are read.
+/// Types up to `E`, or of a function type to a `<ref-qualifier>` in front of it, put onto a list as they are read: `v`
+/// right in front of their end stands for none.
 #[tactic(auto, using(itanium_reader::proofs::Rules::typed_lists))]
 #[cycle(reader)]
-pub(crate) fn read_typed(
+pub(crate) fn read_params(
     reader: &mut Reader,
     depth: usize,
     context: Context,
@@ -467,12 +289,17 @@ pub(crate) fn read_typed(
 ) -> Result<(), Stop>
     requires room { HasRoom 2 (state reader.old) }
     requires living { IsLiving reader.old.buffer.value list }
-    ensures reads { Gives result reader.new (spec.parse_typed of_function (spec.parse_type depth context)
-        (shape reader.old.buffer.value list) (state reader.old)) }
+    ensures reads { Gives result reader.new (spec.typed_params_as (params_case reader.old.rest.now) of_function
+        (spec.parse_type depth context) (shape reader.old.buffer.value list) (state reader.old)) }
     ensures run { OnOk result (IsRun reader.old.buffer.value reader.new.buffer.value) }
     ensures bounds { ListBounds result (state reader.old) (state reader.new) }
     ensures saved { SavedBounds 0 result (state reader.old) (state reader.new) }
 {
+    if let ParamsCase::NoParams = params_case(reader.rest) {
+        reader.skip(1);
+        reader.found = list;
+        return Ok(());
+    }
     let mut list = list;
     let mut first = true;
     loop {
@@ -491,33 +318,5 @@ pub(crate) fn read_typed(
                 first = false;
             }
         }
-    }
-}
-
-/// Such parameters, put onto a list as they are read: `v` right in front of their end stands for none.
-#[tactic(auto, using(itanium_reader::proofs::Rules::fronts))]
-#[cycle(reader)]
-pub(crate) fn read_typed_params(
-    reader: &mut Reader,
-    depth: usize,
-    context: Context,
-    of_function: bool,
-    list: Piece,
-) -> Result<(), Stop>
-    requires room { HasRoom 2 (state reader.old) }
-    requires living { IsLiving reader.old.buffer.value list }
-    ensures reads { Gives result reader.new (spec.typed_params_as (params_case reader.old.rest.now) of_function
-        (spec.parse_type depth context) (shape reader.old.buffer.value list) (state reader.old)) }
-    ensures run { OnOk result (IsRun reader.old.buffer.value reader.new.buffer.value) }
-    ensures bounds { ListBounds result (state reader.old) (state reader.new) }
-    ensures saved { SavedBounds 0 result (state reader.old) (state reader.new) }
-{
-    match params_case(reader.rest) {
-        ParamsCase::NoParams => {
-            reader.skip(1);
-            reader.found = list;
-            Ok(())
-        }
-        ParamsCase::SomeParams => read_typed(reader, depth, context, of_function, list),
     }
 }

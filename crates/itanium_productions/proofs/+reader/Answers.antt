@@ -136,25 +136,25 @@ args::read_pack-loop-reader-preserved t c = record {
   most = search rules;
 }
 
-pub types::read_typed-returns-in-EndOfTypes-clause-reads : goal.types::read_typed-returns-in-EndOfTypes-clause-reads
-types::read_typed-returns-in-EndOfTypes-clause-reads t c =
+pub types::read_params-returns-in-EndOfTypes-clause-reads : goal.types::read_params-returns-in-EndOfTypes-clause-reads
+types::read_params-returns-in-EndOfTypes-clause-reads t c =
     (c.loop-list.invariant.living, typed_end _ _ c.loop-list.invariant.reads (sym c.in-EndOfTypes.ensures.case))
 
-pub types::read_typed-returns-in_err-framed_type-in-NextType-clause-reads : goal.types::read_typed-returns-in_err-framed_type-in-NextType-clause-reads
-types::read_typed-returns-in_err-framed_type-in-NextType-clause-reads t c =
+pub types::read_params-returns-in_err-framed_type-in-NextType-clause-reads : goal.types::read_params-returns-in_err-framed_type-in-NextType-clause-reads
+types::read_params-returns-in_err-framed_type-in-NextType-clause-reads t c =
     let r = c.from_residual-in_err-framed_type-in-NextType in
     let e = err_from_is_err_and r.result r.ensures.1 in
     rw (e.1, e.2) (stops _ _ (c.in_err-framed_type-in-NextType.ensures {u = tt}).reads
     (λ none. typed_fail _ _ c.loop-list.invariant.reads (sym c.in-NextType.ensures.case) (search rules)))
 
-pub types::read_typed-returns-then-is_wide-clause-reads : goal.types::read_typed-returns-then-is_wide-clause-reads
-types::read_typed-returns-then-is_wide-clause-reads t c =
+pub types::read_params-returns-then-is_wide-clause-reads : goal.types::read_params-returns-then-is_wide-clause-reads
+types::read_params-returns-then-is_wide-clause-reads t c =
     typed_wide _ _ c.loop-list.invariant.reads {next = shape c.framed_type.new.reader.buffer.value c.framed_type.new.reader.found}
     {found = shape c.list_next.new.buf c.in_ok-list-in-NextType-2.list} {after = state c.framed_type.new.reader}
     (sym c.in-NextType.ensures.case) (search rules) (search rules) (search rules)
 
-pub types::read_typed-loop-list-preserved : goal.types::read_typed-loop-list-preserved
-types::read_typed-loop-list-preserved t c = record {
+pub types::read_params-loop-list-preserved : goal.types::read_params-loop-list-preserved
+types::read_params-loop-list-preserved t c = record {
   reads = typed_more _ _ c.loop-list.invariant.reads
       {next = shape c.framed_type.new.reader.buffer.value c.framed_type.new.reader.found}
       (sym c.in-NextType.ensures.case) (search rules) (search rules) (search rules) (search rules);

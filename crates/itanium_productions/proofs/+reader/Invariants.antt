@@ -5,6 +5,7 @@ use Rattle.demangle_text.specs.Calls.{IsLast}
 use Rattle.itanium_reader.specs.Parser as spec
 use Rattle.itanium_reader.specs.Outcome.{state, LoopSoFar}
 use Rattle.itanium_syntax.specs.Context.{inside_lambda}
+use Rattle.itanium_syntax.specs.Types.{params_case}
 use Rattle.itanium_grammar.specs.Answer.{max_text}
 use Rattle.itanium_reader.proofs.Loops.{ListSoFar}
 use Rattle.itanium_reader.proofs.Unfold.{AttachedSoFar, front_len, pack_end, Waits}
@@ -54,9 +55,6 @@ decreases-encodings::read_local l = 16 * l.depth + 7
 
 abbrev pub decreases-types::read_type : goal.decreases-types::read_type
 decreases-types::read_type l = 16 * l.depth
-
-abbrev pub decreases-types::read_other_type : goal.decreases-types::read_other_type
-decreases-types::read_other_type l = 16 * l.depth + 7
 
 abbrev pub decreases-args::read_argument : goal.decreases-args::read_argument
 decreases-args::read_argument l = 16 * l.depth + 8
@@ -167,32 +165,11 @@ decreases-types::read_array l = 16 * l.depth + 1
 abbrev pub decreases-types::read_pointer : goal.decreases-types::read_pointer
 decreases-types::read_pointer l = 16 * l.depth + 1
 
-abbrev pub decreases-types::read_function_type : goal.decreases-types::read_function_type
-decreases-types::read_function_type l = 16 * l.depth + 5
-
-abbrev pub decreases-types::read_cv_type : goal.decreases-types::read_cv_type
-decreases-types::read_cv_type l = 16 * l.depth + 6
-
 abbrev pub decreases-types::read_elaborated : goal.decreases-types::read_elaborated
 decreases-types::read_elaborated l = 16 * l.depth + 3
 
-abbrev pub decreases-types::read_parameter_type : goal.decreases-types::read_parameter_type
-decreases-types::read_parameter_type l = 16 * l.depth + 4
-
-abbrev pub decreases-types::read_substitution_type : goal.decreases-types::read_substitution_type
-decreases-types::read_substitution_type l = 16 * l.depth + 4
-
-abbrev pub decreases-types::read_nested_type : goal.decreases-types::read_nested_type
-decreases-types::read_nested_type l = 16 * l.depth + 3
-
-abbrev pub decreases-types::read_name_type : goal.decreases-types::read_name_type
-decreases-types::read_name_type l = 16 * l.depth + 3
-
-abbrev pub decreases-types::read_typed : goal.decreases-types::read_typed
-decreases-types::read_typed l = 16 * l.depth + 2
-
-abbrev pub decreases-types::read_typed_params : goal.decreases-types::read_typed_params
-decreases-types::read_typed_params l = 16 * l.depth + 3
+abbrev pub decreases-types::read_params : goal.decreases-types::read_params
+decreases-types::read_params l = 16 * l.depth + 2
 
 abbrev pub decreases-names::read_lambda : goal.decreases-names::read_lambda
 decreases-names::read_lambda l = 16 * l.depth + 4
@@ -254,9 +231,10 @@ invariant-args::read_pack-loop-reader l = record {
 abbrev pub decreases-args::read_pack-loop-reader : goal.decreases-args::read_pack-loop-reader
 decreases-args::read_pack-loop-reader l = length l.reader.rest.now
 
-abbrev pub invariant-types::read_typed-loop-list : goal.invariant-types::read_typed-loop-list
-invariant-types::read_typed-loop-list l = record {
-  reads : LoopSoFar (spec.parse_typed l.of_function (spec.parse_type l.depth l.context) (shape l.fn.reader.buffer.value l.fn.list) (state l.fn.reader))
+abbrev pub invariant-types::read_params-loop-list : goal.invariant-types::read_params-loop-list
+invariant-types::read_params-loop-list l = record {
+  reads : LoopSoFar (spec.typed_params_as (params_case l.fn.reader.rest.now) l.of_function (spec.parse_type l.depth l.context)
+      (shape l.fn.reader.buffer.value l.fn.list) (state l.fn.reader))
       (spec.typed_turn l.of_function (spec.parse_type l.depth l.context)) (l.first, shape l.reader.buffer.value l.list) (state l.reader);
   living : IsLiving l.reader.buffer.value l.list;
   run : IsRun l.fn.reader.buffer.value l.reader.buffer.value;
@@ -267,8 +245,8 @@ invariant-types::read_typed-loop-list l = record {
   most : (state l.reader).most_saved ≤ max (state l.fn.reader).most_saved (length (saved l.fn.reader.buffer.value) + length l.fn.reader.rest.now);
 }
 
-abbrev pub decreases-types::read_typed-loop-list : goal.decreases-types::read_typed-loop-list
-decreases-types::read_typed-loop-list l = length l.reader.rest.now
+abbrev pub decreases-types::read_params-loop-list : goal.decreases-types::read_params-loop-list
+decreases-types::read_params-loop-list l = length l.reader.rest.now
 
 abbrev pub decreases-expressions::read_expression : goal.decreases-expressions::read_expression
 decreases-expressions::read_expression l = 16 * l.depth
@@ -338,6 +316,3 @@ decreases-specials::read_special l = 16 * l.depth + 5
 
 abbrev pub decreases-specials::read_symbol : goal.decreases-specials::read_symbol
 decreases-specials::read_symbol l = 16 * l.depth + 7
-
-abbrev pub decreases-specials::read_other_symbol : goal.decreases-specials::read_other_symbol
-decreases-specials::read_other_symbol l = 16 * l.depth + 6
