@@ -227,7 +227,7 @@ fn texts_at_the_end_go_on_there(rt: HostRuntime) {
     let list = buf.push(b"A, ").expect(&rt, "no memory");
     let next = buf.push(b"B").expect(&rt, "no memory");
     let joined = buf.join_adjacent(list, next);
-    let ended = buf.append_last(joined, b">").expect(&rt, "no memory");
+    let ended = buf.append(joined, b">").expect(&rt, "no memory");
     assert_text(&rt, &buf, ended, b"A, B>");
     assert_main(&rt, &buf, b"A, B>");
     drop(buf);

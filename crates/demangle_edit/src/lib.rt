@@ -12,10 +12,9 @@
 //! its parent, and `open_parent` before the leaf is read and `close_opened` after it.
 //!
 //! A list after a name is put together from pieces (`attach_template_args`, `format_params`), or built as it is
-//! read: what opens it, then `separate` before each text but the first (`separate_last` where the list is known to
-//! stand at the end), and `list_next` after each (`join` or `join_adjacent` of the buffer in a list that
-//! `begin_arguments` began), then what closes it. Both give the same shape. So it is with a function type:
-//! `function_type`, or `open_function` and `close_function`.
+//! read: what opens it, then `, ` before each text but the first, and each text by `list_next` (`join` or
+//! `join_adjacent` of the buffer in a list that `begin_arguments` began), then what closes it. Both give the same
+//! shape. So it is with a function type: `function_type`, or `open_function` and `close_function`.
 #![tactic(auto)]
 
 mod appends;
@@ -31,12 +30,11 @@ pub use crate::expressions::{
 };
 pub use crate::lists::{
     append_number, begin_arguments, close_lambda, close_params, end_arguments, glue, list_next,
-    open_params, separate, separate_last,
+    open_params,
 };
 pub use crate::names::{
     apply_name_qualifiers, attach_template_args, close_opened, default_arg, format_params,
-    open_default_arg, open_parent, qualify, qualify_ctor, qualify_text, qualify_text_in_place,
-    qualify_text_last, tag,
+    open_default_arg, open_parent, qualify, qualify_ctor, qualify_text, qualify_text_in_place, tag,
 };
 pub use crate::parts::Glue;
 pub use crate::types::{

@@ -3,12 +3,9 @@ ghost use Rattle.std.specs.Prelude.{◌≡◌, ◌≤◌, ◌++◌, All, map, de
 ghost use Rattle.demangle_text.specs.Shape.{text, text_len, plain_shape, appended};
 ghost use Rattle.demangle_text.specs.State.{IsLiving, shape, Lives, IsEdit, KeepsAll};
 ghost use Rattle.demangle_text.specs.State.{StaysInPlace, JoinsInPlace, Appends};
-ghost use Rattle.demangle_text.specs.Calls.{IsLast};
 ghost use Rattle.demangle_edit.specs.Lists.{glued, arguments_closed, pack_shape};
 ghost use Rattle.demangle_edit.specs.Calls.{part_text, IsLivingPart};
-ghost use Rattle.demangle_edit.specs.Built.{separator, separated, followed, listed_more};
-ghost use Rattle.demangle_edit.specs.Built.{arguments_opened};
-ghost use Rattle.demangle_edit.specs.Built.{arguments_begun, arguments_ended};
+ghost use Rattle.demangle_edit.specs.Built.{followed, listed_more, arguments_opened, arguments_begun, arguments_ended};
 ghost use Rattle.demangle_edit.specs.Built.{params_opened, params_closed, lambda_closed};
 
 use crate::appends::{append_piece, range_before};
@@ -73,13 +70,6 @@ pub(crate) fn list_pieces(buf: &mut Buffer, pieces: &[Piece]) -> Result<Piece, A
     buf.close(mark, whole)
 }
 
-// What stands in front of a text of a list.
-fn separator_bytes(first: bool) -> &'static [u8]
-    ensures value { result.now ≡ separator first }
-{
-    if first { b"" } else { b", " }
-}
-
 // A list with one text more, that of the piece, and what stands in front of it.
 #[tactic(auto, using(demangle_text::proofs::Laws::laws))]
 pub(crate) fn list_more(
@@ -94,41 +84,7 @@ pub(crate) fn list_more(
         (listed_more first (shape buf.old list) (shape buf.old next))) }
     ensures edit { OnOk result (IsEdit buf.old buf.new) }
 {
-    append_piece(buf, list, separator_bytes(first), next)
-}
-
-/// A list that is built as it is read, before a text that isn't its first: `, ` at its end. A plain
-/// piece with the last own name and the flags that the list had.
-///
-/// The list is what `begin_arguments` or `open_params` answers, or a piece of the bytes that open it:
-/// `{lambda(` for a lambda, none for a pack. Of each text but the first `separate` comes before it is
-/// read, and of each `list_next` after it; after `begin_arguments` it is `join` or `join_adjacent` of the
-/// buffer that comes after it. A pack needs no end but `whole` of the buffer.
-#[inline(always)]
-#[tactic(auto, using(demangle_text::proofs::Laws::laws))]
-pub fn separate(buf: &mut Buffer, list: Piece) -> Result<Piece, AllocError>
-    requires list { IsLiving buf.old list }
-    ensures shape { IfOk result (λ p. Lives buf.new p (separated false (shape buf.old list))) }
-    ensures edit { OnOk result (IsEdit buf.old buf.new) }
-    ensures in_place { IfOk result (λ p. StaysInPlace buf.old buf.new list p) }
-{
-    let plain = buf.plain(list);
-    buf.append(plain, b", ")
-}
-
-/// As `separate`, of a list that stands up to the end of the main text, from the innermost mark or later: it stays
-/// there.
-#[inline(always)]
-#[tactic(auto, using(demangle_text::proofs::Laws::laws, demangle_text::proofs::Laws::lasts))]
-pub fn separate_last(buf: &mut Buffer, list: Piece) -> Result<Piece, AllocError>
-    requires list { IsLiving buf.old list }
-    requires last { IsLast buf.old list }
-    ensures shape { IfOk result (λ p. Lives buf.new p (separated false (shape buf.old list))) }
-    ensures edit { OnOk result (IsEdit buf.old buf.new) }
-    ensures in_place { IfOk result (λ p. StaysInPlace buf.old buf.new list p) }
-{
-    let plain = buf.plain(list);
-    buf.append_last(plain, b", ")
+    append_piece(buf, list, if first { b"" } else { b", " }, next)
 }
 
 /// A list that is built as it is read, with the text of the piece at its end. A plain piece with the
@@ -186,9 +142,8 @@ fn close_arguments(buf: &mut Buffer, list: Piece) -> Result<Piece, AllocError>
 
 /// The text of the name with the `<` of its template arguments, after a space where it ends in `<`, as a plain piece.
 ///
-/// The list is built as a text: `separate` before each argument but the first, and `join` of the buffer after each, or
-/// `separate_last` and `join_adjacent`.
-/// `end_arguments` gives it what the name was.
+/// The list is built as a text: `, ` before each argument but the first, and `join` of the buffer after each, or
+/// `join_adjacent`. `end_arguments` gives it what the name was.
 #[inline(always)]
 #[tactic(auto, using(demangle_text::proofs::Laws::laws, crate::proofs::Built::begun_text))]
 pub fn begin_arguments(buf: &mut Buffer, name: Piece) -> Result<Piece, AllocError>
@@ -233,7 +188,7 @@ pub fn end_arguments(
 /// The name with the `(` of its parameters. A plain piece with the last own name and the flag `ctor`
 /// of the name; `templ` doesn't hold.
 ///
-/// With `separate` before each parameter but the first, `list_next` after each and then `close_params` it is what
+/// With `, ` before each parameter but the first, the text of each and then `close_params` it is what
 /// `format_params` makes of the name, the parameters and the qualifiers.
 #[tactic(auto, using(demangle_text::proofs::Laws::laws))]
 pub fn open_params(buf: &mut Buffer, name: Piece) -> Result<Piece, AllocError>

@@ -4,7 +4,6 @@ ghost use Rattle.demangle_quals.specs.Quals.{has_quals};
 ghost use Rattle.demangle_text.specs.Shape.{plain_shape};
 ghost use Rattle.demangle_text.specs.State.{IsLiving, shape, Lives, IsEdit};
 ghost use Rattle.demangle_text.specs.State.{StaysInPlace, IsLeftOrStays, JoinsInPlace, Appends};
-ghost use Rattle.demangle_text.specs.Calls.{IsLast};
 ghost use Rattle.demangle_edit.specs.Names.{qualified, qualified_ctor, angle_gap, attached, tagged};
 ghost use Rattle.demangle_edit.specs.Names.{encoding_shape, with_name_qualifiers};
 ghost use Rattle.demangle_edit.specs.Names.{default_arg_opened, default_arg_shape};
@@ -69,23 +68,6 @@ pub fn qualify_text_in_place(
     ensures piece_err { OnErr result (name.new ≡ name.old) }
 {
     buf.append_name_in_place(name, b"::", text)?;
-    Ok(())
-}
-
-/// As `qualify_text_in_place`, of a parent that stands up to the end of the main text, from the innermost mark or
-/// later: it stays there.
-#[inline(always)]
-#[tactic(auto, using(demangle_text::proofs::Laws::laws))]
-pub fn qualify_text_last(buf: &mut Buffer, name: &mut Piece, text: &[u8]) -> Result<(), AllocError>
-    requires parent { IsLiving buf.old name.old }
-    requires last { IsLast buf.old name.old }
-    ensures shape { OnOk result (Lives buf.new name.new
-        (qualified (shape buf.old name.old) (plain_shape text.now))) }
-    ensures edit { OnOk result (IsEdit buf.old buf.new) }
-    ensures in_place { OnOk result (StaysInPlace buf.old buf.new name.old name.new) }
-    ensures piece_err { OnErr result (name.new ≡ name.old) }
-{
-    buf.append_name_last(name, b"::", text)?;
     Ok(())
 }
 
@@ -180,14 +162,6 @@ pub fn qualify_ctor(buf: &mut Buffer, parent: Piece, destructor: bool) -> Result
     Ok(buf.with_flags(named, false, true))
 }
 
-// What stands between a name's text and its template arguments.
-#[inline(always)]
-fn gap_before_args(name: &[u8]) -> &'static [u8]
-    ensures value { result.now ≡ angle_gap name.now }
-{
-    if name.ends_with(b"<") { b" " } else { b"" }
-}
-
 /// The name with the list of its template arguments after it, and a space between them where the
 /// name ends in `<`. A plain piece with the last own name and the flag `ctor` of the name; `templ`
 /// holds. It is offered to others: the readers here build the list on the name (`begin_arguments`).
@@ -202,7 +176,11 @@ pub fn attach_template_args(buf: &mut Buffer, name: Piece, args: Piece) -> Resul
     ensures in_place { IfOk result (λ p. JoinsInPlace buf.old buf.new name args p) }
 {
     let ctor = buf.ctor(name);
-    let gap = gap_before_args(buf.bytes(name));
+    let gap: &[u8] = if buf.bytes(name).ends_with(b"<") {
+        b" "
+    } else {
+        b""
+    };
     let whole = append_piece(buf, name, gap, args)?;
     Ok(buf.with_flags(whole, true, ctor))
 }

@@ -406,7 +406,7 @@ pub fn function_type(
 /// What a function returns with the ` (` of its parameters, as a plain piece whose last own name is the whole, with no
 /// flag set.
 ///
-/// With `separate` before each parameter but the first, `list_next` after each and then `close_function` it is what
+/// With `, ` before each parameter but the first, the text of each and then `close_function` it is what
 /// `function_type` makes of what is returned, the parameters and the qualifiers.
 ///
 /// `None`, and all stays, where what is returned is a declarator.
@@ -427,13 +427,6 @@ pub fn open_function(buf: &mut Buffer, ret: Piece) -> Result<Option<Piece>, Allo
     Ok(None)
 }
 
-// Where the parameters begin in a text of this length, after `front` bytes and a space.
-fn after_start(front: usize, len: usize) -> usize
-    ensures value { result ≡ min (front + 1) len }
-{
-    if front < len { front + 1 } else { len }
-}
-
 /// The function type whose parameters are this list: the list with its `)` and the qualifiers, the words and then the
 /// reference. What it returns has `front` bytes, and `after` begins one byte later, at the parenthesis; where the list
 /// is no longer than that all of it is `before`. Its last own name is its whole text, and no flag holds.
@@ -451,7 +444,8 @@ pub fn close_function(
 {
     let plain = buf.plain(list);
     let closed = close_params(buf, plain, quals)?;
-    let at = after_start(front, buf.len(closed));
+    let len = buf.len(closed);
+    let at = if front < len { front + 1 } else { len };
     let declared = buf.declare(closed, Kind::Function, at);
     Ok(buf.with_flags(declared, false, false))
 }

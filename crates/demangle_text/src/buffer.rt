@@ -203,23 +203,7 @@ impl Buffer {
         ensures main_err { OnErr result (main_bytes self.new ≡ main_bytes self.old) }
     {
         let from = self.extend(piece, bytes, b"")?;
-        let at = piece.place(Place::End);
-        Ok(piece.with_bytes(Place::End, at, bytes.len(), from, self.main.len()))
-    }
-
-    /// As `append`, of a piece that stands up to the end of the main text, from the innermost mark or later: it isn't
-    /// asked whether it does, and it stays there.
-    #[inline(always)]
-    pub fn append_last(&mut self, piece: Piece, bytes: &[u8]) -> Result<Piece, AllocError>
-        requires living { IsLiving self.old piece }
-        requires last { IsLast self.old piece }
-        ensures shape { IfOk result (λ p. Lives self.new p (appended bytes.now (shape self.old piece))) }
-        ensures edit { OnOk result (IsEdit self.old self.new) }
-        ensures err { OnErr result (KeepsAll self.old self.new) }
-        ensures edit_of { IfOk result (λ p. IsEditOf self.old self.new piece p (length bytes.now)) }
-        ensures main_err { OnErr result (main_bytes self.new ≡ main_bytes self.old) }
-    {
-        self.insert(piece, Place::End, bytes)
+        Ok(piece.extended(bytes.len(), from, self.main.len()))
     }
 
     /// The piece with both texts at the end of its text, one after the other. Ends pieces, copies a
@@ -274,28 +258,6 @@ impl Buffer {
         Ok(())
     }
 
-    /// As `append_name_in_place`, of a piece that stands up to the end of the main text, from the innermost mark or
-    /// later: it isn't asked whether it does, and it stays there.
-    #[inline(always)]
-    pub fn append_name_last(
-        &mut self,
-        piece: &mut Piece,
-        between: &[u8],
-        name: &[u8],
-    ) -> Result<(), AllocError>
-        requires living { IsLiving self.old piece.old }
-        requires last { IsLast self.old piece.old }
-        ensures shape { OnOk result (Lives self.new piece.new (named between.now name.now (shape self.old piece.old))) }
-        ensures edit { OnOk result (IsEdit self.old self.new) }
-        ensures err { OnErr result (KeepsAll self.old self.new) }
-        ensures piece_err { OnErr result (piece.new ≡ piece.old) }
-        ensures edit_of { OnOk result (IsEditOf self.old self.new piece.old piece.new
-            (length between.now + length name.now)) }
-        ensures main_err { OnErr result (main_bytes self.new ≡ main_bytes self.old) }
-    {
-        self.append_name_in_place(piece, between, name)
-    }
-
     /// The piece with the bytes and then its own last own name at the end of its text. Ends pieces,
     /// copies a text, and keeps all after `AllocError`, as `append` does.
     #[inline(always)]
@@ -312,8 +274,7 @@ impl Buffer {
         let from = self.extend_by_own(piece, between)?;
         let to = self.main.len();
         let n = between.len() + (piece.own_end - piece.own_start);
-        let at = piece.place(Place::End);
-        Ok(piece.with_bytes(Place::End, at, n, from, to))
+        Ok(piece.extended(n, from, to))
     }
 
     /// The piece with the bytes at a place of its text: `Close` asks for a group, `Suffix` for a

@@ -34,20 +34,7 @@ impl Buffer {
         ensures main { main_bytes self.new ≡ main_bytes self.old }
         ensures err { OnErr result (KeepsAll self.old self.new) }
     {
-        self.save_in_place(&piece)
-    }
-
-    /// As `save`, of a piece that stays where it is kept.
-    #[inline(always)]
-    pub fn save_in_place(&mut self, piece: &Piece) -> Result<(), AllocError>
-        requires living { IsLiving self.old piece.now }
-        ensures saved { OnOk result (saved self.new ≡ saved self.old ++ shape self.old piece.now ∷ []) }
-        ensures scopes { scopes self.new ≡ scopes self.old }
-        ensures kept { SameFrame self.old self.new }
-        ensures main { main_bytes self.new ≡ main_bytes self.old }
-        ensures err { OnErr result (KeepsAll self.old self.new) }
-    {
-        self.lists.saved.push(piece, self.main.len())?;
+        self.lists.saved.push(&piece, self.main.len())?;
         Ok(())
     }
 
@@ -97,7 +84,8 @@ impl Buffer {
     }
 
     /// Adds the shape of the piece to the end of the last scope. After `AllocError` all is as it
-    /// was. It is offered to others: nothing here calls it.
+    /// was.
+    #[inline(always)]
     pub fn push_arg(&mut self, piece: Piece) -> Result<(), AllocError>
         requires living { IsLiving self.old piece }
         requires open { 0 < length (scopes self.old) }
@@ -107,21 +95,7 @@ impl Buffer {
         ensures main { main_bytes self.new ≡ main_bytes self.old }
         ensures err { OnErr result (KeepsAll self.old self.new) }
     {
-        self.push_arg_in_place(&piece)
-    }
-
-    /// As `push_arg`, of a piece that stays where it is kept.
-    #[inline(always)]
-    pub fn push_arg_in_place(&mut self, piece: &Piece) -> Result<(), AllocError>
-        requires living { IsLiving self.old piece.now }
-        requires open { 0 < length (scopes self.old) }
-        ensures scopes { OnOk result (scopes self.new ≡ with_arg (shape self.old piece.now) (scopes self.old)) }
-        ensures saved { saved self.new ≡ saved self.old }
-        ensures kept { SameFrame self.old self.new }
-        ensures main { main_bytes self.new ≡ main_bytes self.old }
-        ensures err { OnErr result (KeepsAll self.old self.new) }
-    {
-        self.lists.args.push(piece, self.main.len())?;
+        self.lists.args.push(&piece, self.main.len())?;
         Ok(())
     }
 

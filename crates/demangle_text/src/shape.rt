@@ -200,6 +200,34 @@ impl Piece {
         }
     }
 
+    // The piece after n bytes were put at the end of its text, when that lies at these bytes of the output: a base name
+    // of no bytes at the end moves on.
+    #[inline(always)]
+    pub(crate) fn extended(self, n: usize, from: usize, to: usize) -> Piece
+        requires text { from ≤ to }
+        requires long { self.from_byte ≤ self.to_byte }
+        requires ordered { self.own_start ≤ self.own_end }
+        requires within { self.own_end ≤ self.to_byte - self.from_byte }
+        requires own_fits { self.own_end + n < 2 ^ 64 }
+        ensures stands { IsAt result from to }
+        ensures layout { (outline_of result).layout ≡ (outline_of self).layout }
+        ensures own { (outline_of result).own ≡ own_at (outline_of self).layout (to - from)
+            (moved (self.to_byte - self.from_byte) n (outline_of self).own) }
+        ensures templ { result.templ ≡ self.templ }
+        ensures ctor { result.ctor ≡ self.ctor }
+    {
+        let (own_start, own_end) = match self.kind {
+            Some(Kind::Function) => (0, to - from),
+            _ if self.own_start == self.text_len() => (self.own_start + n, self.own_end + n),
+            _ => (self.own_start, self.own_end),
+        };
+        Piece {
+            own_start,
+            own_end,
+            ..self.moved_to(from, to)
+        }
+    }
+
     // Where the group and `after` begin after n bytes were inserted at a place.
     #[inline(always)]
     fn parts_moved(self, place: Place, n: usize) -> (usize, usize)

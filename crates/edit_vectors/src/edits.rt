@@ -10,7 +10,7 @@ use demangle_edit::{
     attach_template_args, begin_arguments, close_function, close_lambda, close_opened,
     close_params, collapse_ref, default_arg, end_arguments, expand, format_params, function_type,
     glue, list_next, open_default_arg, open_function, open_params, qualify, qualify_ctor,
-    qualify_text, separate, subexpr, tag, wrap_array, wrap_cv, wrap_member_pointer, wrap_pointer,
+    qualify_text, subexpr, tag, wrap_array, wrap_cv, wrap_member_pointer, wrap_pointer,
     write_literal, write_literal_of, write_opened_literal,
 };
 use demangle_text::{Buffer, Kind, Piece};
@@ -468,7 +468,7 @@ fn with_text(rt: &impl Abort, buf: &mut Buffer, list: Piece, text: &[u8]) -> Pie
     requires living { IsLiving buf.old list }
     ensures living { IsLiving buf.new result }
 {
-    let list = separate(buf, list).expect(rt, "no memory");
+    let list = buf.append(list, b", ").expect(rt, "no memory");
     with_first(rt, buf, list, text)
 }
 
@@ -495,7 +495,7 @@ fn arguments_built_as_a_text(rt: HostRuntime) {
     let opened = begin_arguments(&mut buf, name).expect(&rt, "no memory");
     let first = push(&rt, &mut buf, b"A");
     let one = buf.join(opened, b"", first).expect(&rt, "no memory");
-    let list = separate(&mut buf, one).expect(&rt, "no memory");
+    let list = buf.append(one, b", ").expect(&rt, "no memory");
     let second = push(&rt, &mut buf, b"B<A, A>");
     let two = buf.join(list, b"", second).expect(&rt, "no memory");
     let whole = end_arguments(&mut buf, two, len, own, ctor).expect(&rt, "no memory");

@@ -1,5 +1,5 @@
 -- What the check may use for the readers: the laws of the buffer, and what unfolds each.
-use Rattle.demangle_text.proofs.Laws.{laws, runs}
+use Rattle.demangle_text.proofs.Laws.{laws, runs, StaysInPlace-edit}
 pub use Rattle.demangle_text.proofs.Laws.{lasts}
 use Rattle.itanium_syntax.proofs.Fronts.{cases, names_some, entities_some, expressions_some, arguments_some, specials_some}
 use Rattle.itanium_reader.proofs.Unfold.{builtin_fits, bare_name_opens, no_bare_name, name_opens, encoding_opens}
@@ -30,7 +30,7 @@ pub ruleset first_segments = (fronts, source_opens)
 
 pub ruleset lists = (buffers, nothing_in_front)
 
-pub ruleset last_lists = (lists, lasts)
+pub ruleset last_lists = (lists, lasts, StaysInPlace-edit)
 
 pub ruleset words = (buffers, lasts, words_joined)
 

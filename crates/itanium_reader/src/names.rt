@@ -16,7 +16,7 @@ use crate::reader::Reader;
 use crate::stop::Stop;
 use demangle_edit::{
     Quals, append_number, apply_name_qualifiers, close_lambda, close_opened, open_parent,
-    qualify_ctor, qualify_text_in_place, qualify_text_last, tag,
+    qualify_ctor, qualify_text_in_place, tag,
 };
 use demangle_text::{Piece, Place};
 use itanium_syntax::names::{TagCase, source_text, tag_case, untagged_source};
@@ -169,9 +169,9 @@ impl<'a> Reader<'a> {
         let Some((name, rest)) = untagged_source(self.rest) else {
             return Ok(false);
         };
-        let text = source_text(name);
+        let segment = source_text(name);
         self.save_found()?;
-        qualify_text_last(&mut self.buffer, &mut self.found, text)?;
+        qualify_text_in_place(&mut self.buffer, &mut self.found, segment)?;
         self.rest = rest;
         Ok(true)
     }

@@ -12,7 +12,6 @@ ghost use Rattle.itanium_reader.specs.Parser as spec;
 ghost use Rattle.itanium_reader.specs.Outcome.{state, Gives, OnlyTakes, Bounds, SavedBounds};
 
 use crate::stop::Stop;
-use demangle_edit::{separate, separate_last};
 use demangle_text::{Buffer, Piece};
 use itanium_syntax::abbreviations::{abbreviation_of, abbreviation_own_len, abbreviation_text};
 use itanium_syntax::context::Context;
@@ -113,7 +112,6 @@ impl<'a> Reader<'a> {
     }
 
     /// Saves what was found for substitutions: it stays found, and the main text stays.
-    #[inline(always)]
     pub fn save_found(&mut self) -> Result<(), AllocError>
         requires living { IsLiving self.old.buffer.value self.old.found }
         ensures shape { OnOk result (Lives self.new.buffer.value self.new.found
@@ -127,7 +125,7 @@ impl<'a> Reader<'a> {
         ensures found { self.new.found ≡ self.old.found }
         ensures kept { OnOk result (SameFrame self.old.buffer.value self.new.buffer.value) }
     {
-        self.buffer.save_in_place(&self.found)?;
+        self.buffer.save(self.found)?;
         Ok(())
     }
 
@@ -351,10 +349,12 @@ impl<'a> Reader<'a> {
         ensures state { OnOk result (state self.new ≡ state self.old) }
         ensures run { OnOk result (IsRun self.old.buffer.value self.new.buffer.value) }
     {
+        let plain = self.buffer.plain(list);
         if first {
-            return Ok(self.buffer.plain(list));
+            return Ok(plain);
         }
-        separate(&mut self.buffer, list)
+        let separated = self.buffer.append(plain, b", ")?;
+        Ok(separated)
     }
 
     /// As `separate_list`, of a list that stands up to the end of the main text, from the innermost mark or later: so
@@ -370,10 +370,12 @@ impl<'a> Reader<'a> {
         ensures state { OnOk result (state self.new ≡ state self.old) }
         ensures run { OnOk result (IsRun self.old.buffer.value self.new.buffer.value) }
     {
+        let plain = self.buffer.plain(list);
         if first {
-            return Ok(self.buffer.plain(list));
+            return Ok(plain);
         }
-        separate_last(&mut self.buffer, list)
+        let longer = self.buffer.append(plain, b", ")?;
+        Ok(longer)
     }
 
     /// A list begins, and opens a scope where it is to.
@@ -406,7 +408,7 @@ impl<'a> Reader<'a> {
     {
         self.buffer.keep_scopes(n);
         if opens {
-            self.buffer.push_arg_in_place(&self.found)?;
+            self.buffer.push_arg(self.found)?;
         }
         Ok(())
     }

@@ -110,7 +110,7 @@ impl<'a> Reader<'a> {
         ensures run { OnOk result (IsRun self.old.buffer.value self.new.buffer.value) }
     {
         let worded = self.buffer.join_adjacent(words, self.found);
-        let closed = self.buffer.append_last(worded, close)?;
+        let closed = self.buffer.append(worded, close)?;
         self.found = self.buffer.whole(closed);
         Ok(())
     }

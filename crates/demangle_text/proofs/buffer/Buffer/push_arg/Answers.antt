@@ -4,16 +4,16 @@ use Rattle.demangle_text.specs.Pieces.{Store}
 use Rattle.demangle_text.specs.View.{store_of}
 use Rattle.demangle_text.specs.State.{IsLiving, scopes}
 use Rattle.demangle_text.proofs.Scopes.{scopes-arg, IsStore-arg}
-use Rattle.demangle_text.proofs.buffer.Buffer.push_arg_in_place.Goals as goal
+use Rattle.demangle_text.proofs.buffer.Buffer.push_arg.Goals as goal
 
 pub invariant_of-self-2 : goal.invariant_of-self-2
 invariant_of-self-2 c =
     let s = store_of c.self.inside in
-    let lies = subst (λ (b : Store). IsLiving b c.args.piece.now) (sym c.self.view_is) c.requires.living in
-    IsStore-arg s _ refl refl refl c.self.invariant c.args.piece.now lies refl c.in_ok-push.ensures.ok refl
+    let lies = subst (λ (b : Store). IsLiving b c.args.piece) (sym c.self.view_is) c.requires.living in
+    IsStore-arg s _ refl refl refl c.self.invariant c.args.piece lies refl c.in_ok-push.ensures.ok refl
 
 pub returns-clause-scopes : goal.returns-clause-scopes
 returns-clause-scopes c =
     let s = store_of c.self.inside in
     let some : 0 < length (scopes s) = omega (arith, ap (λ (b : Store). length (scopes b)) c.self.view_is) in
-    rw (← c.self.view_is) (scopes-arg s _ refl refl refl c.self.invariant c.args.piece.now c.in_ok-push.ensures.ok refl some)
+    rw (← c.self.view_is) (scopes-arg s _ refl refl refl c.self.invariant c.args.piece c.in_ok-push.ensures.ok refl some)
