@@ -432,9 +432,8 @@ fn two_texts_after_a_name(rt: HostRuntime) {
     let mut buf = Buffer::new(rt.alloc());
     let name = buf.push(b"A").expect(&rt, "no memory");
     buf.save(name).expect(&rt, "no memory");
-    let scoped = buf
-        .append_pair(name, b"::", b"value")
-        .expect(&rt, "no memory");
+    let opened = buf.append(name, b"::").expect(&rt, "no memory");
+    let scoped = buf.append(opened, b"value").expect(&rt, "no memory");
     assert_text(&rt, &buf, scoped, b"A::value");
     assert_own(&rt, &buf, scoped, 0, 1);
     assert_main(&rt, &buf, b"A::value");
@@ -448,26 +447,11 @@ fn two_texts_after_a_function(rt: HostRuntime) {
     let mut buf = Buffer::new(rt.alloc());
     let text = buf.push(b"int ()").expect(&rt, "no memory");
     let function = buf.declare(text, Kind::Function, 4);
-    let worded = buf
-        .append_pair(function, b" const", b" &")
-        .expect(&rt, "no memory");
+    let constant = buf.append(function, b" const").expect(&rt, "no memory");
+    let worded = buf.append(constant, b" &").expect(&rt, "no memory");
     assert_function(&rt, &buf, worded, b"int () const &", false);
     assert_own(&rt, &buf, worded, 0, 14);
     assert_after(&rt, &buf, worded, 4);
-    drop(buf);
-}
-
-#[test]
-#[tactic(auto, using(demangle_text::proofs::Laws::laws, demangle_text::proofs::Laws::runs))]
-fn two_texts_after_a_text_before_a_mark(rt: HostRuntime) {
-    let mut buf = Buffer::new(rt.alloc());
-    let older = buf.push(b"A").expect(&rt, "no memory");
-    let mark = buf.open();
-    let scoped = buf.append_pair(older, b"::", b"B").expect(&rt, "no memory");
-    assert_main(&rt, &buf, b"AA::B");
-    let answer = buf.close(mark, scoped).expect(&rt, "no memory");
-    assert_text(&rt, &buf, answer, b"A::B");
-    assert_text(&rt, &buf, older, b"A");
     drop(buf);
 }
 
@@ -624,12 +608,12 @@ fn text_before_a_mark_is_what_closes_it(rt: HostRuntime) {
 
 #[test]
 #[tactic(auto, using(demangle_text::proofs::Laws::laws, demangle_text::proofs::Laws::runs))]
-fn piece_at_its_mark_is_closed_where_it_is_kept(rt: HostRuntime) {
+fn piece_at_its_mark_stays_there(rt: HostRuntime) {
     let mut buf = Buffer::new(rt.alloc());
     let older = buf.push(b"A").expect(&rt, "no memory");
     let mark = buf.open();
-    let mut kept = buf.push(b"BC").expect(&rt, "no memory");
-    buf.close_in_place(mark, &mut kept).expect(&rt, "no memory");
+    let piece = buf.push(b"BC").expect(&rt, "no memory");
+    let kept = buf.close(mark, piece).expect(&rt, "no memory");
     assert_text(&rt, &buf, kept, b"BC");
     assert_main(&rt, &buf, b"ABC");
     assert_text(&rt, &buf, older, b"A");
@@ -638,14 +622,13 @@ fn piece_at_its_mark_is_closed_where_it_is_kept(rt: HostRuntime) {
 
 #[test]
 #[tactic(auto, using(demangle_text::proofs::Laws::laws, demangle_text::proofs::Laws::runs))]
-fn older_piece_is_closed_where_it_is_kept(rt: HostRuntime) {
+fn older_piece_is_closed_after_a_saved_one(rt: HostRuntime) {
     let mut buf = Buffer::new(rt.alloc());
     let older = buf.push(b"A").expect(&rt, "no memory");
     let mark = buf.open();
     let name = buf.push(b"BC").expect(&rt, "no memory");
     buf.save(name).expect(&rt, "no memory");
-    let mut kept = older;
-    buf.close_in_place(mark, &mut kept).expect(&rt, "no memory");
+    let kept = buf.close(mark, older).expect(&rt, "no memory");
     assert_text(&rt, &buf, kept, b"A");
     assert_main(&rt, &buf, b"AA");
     assert_saved(&rt, &buf, 0, b"BC");

@@ -52,30 +52,6 @@ fn literal_form(ty: &[u8], minus: bool) -> LiteralForm
     LiteralForm::Cast
 }
 
-// Whether a literal of this form has this value.
-fn has_value(form: LiteralForm, value: &[u8]) -> bool
-    ensures value { result ≡ spec.has_value form value.now }
-{
-    match form {
-        LiteralForm::Boolean => value == b"0".as_slice() || value == b"1".as_slice(),
-        LiteralForm::Null => true,
-        LiteralForm::Integer => true,
-        LiteralForm::Float => true,
-        LiteralForm::Cast => true,
-    }
-}
-
-// The word of a boolean value.
-fn boolean_bytes(value: &[u8]) -> &'static [u8]
-    ensures value { result.now ≡ spec.boolean_text value.now }
-{
-    if value == b"0".as_slice() {
-        b"false"
-    } else {
-        b"true"
-    }
-}
-
 // The sign of a value, `-` or nothing.
 fn sign_bytes(value: &[u8]) -> &'static [u8]
     ensures value { result.now ≡ spec.sign_text value.now }
@@ -151,73 +127,6 @@ fn print_cast(buf: &mut Buffer, paren: Piece, ty: Piece, value: &[u8]) -> Result
     append_value(buf, cast, value)
 }
 
-// A literal of a form that doesn't show its type.
-#[tactic(auto, using(demangle_text::proofs::Laws::laws))]
-#[inline(always)]
-fn print_untyped(buf: &mut Buffer, form: LiteralForm, value: &[u8]) -> Result<Piece, AllocError>
-    requires untyped { form ≡ LiteralForm.Cast → ⊥ }
-    ensures shape { IfOk result (λ p. Lives buf.new p (plain_shape (spec.literal_text form [] value.now))) }
-    ensures edit { OnOk result (IsEdit buf.old buf.new) }
-    ensures appends { IfOk result (λ p. Appends buf.old buf.new p) }
-{
-    match form {
-        LiteralForm::Boolean => buf.push(boolean_bytes(value)),
-        LiteralForm::Null => buf.push(b"nullptr"),
-        LiteralForm::Integer => {
-            let empty = buf.push(b"")?;
-            append_value(buf, empty, value)
-        }
-        LiteralForm::Float => push_float(buf, value),
-        LiteralForm::Cast => unreachable!(),
-    }
-}
-
-// A literal of this form.
-#[tactic(auto, using(demangle_text::proofs::Laws::laws, crate::proofs::Literals::untyped))]
-fn print_literal(
-    buf: &mut Buffer,
-    ty: Piece,
-    form: LiteralForm,
-    value: &[u8],
-) -> Result<Piece, AllocError>
-    requires ty { IsLiving buf.old ty }
-    ensures shape { IfOk result (λ p. Lives buf.new p
-        (plain_shape (spec.literal_text form (text (shape buf.old ty)) value.now))) }
-    ensures edit { OnOk result (IsEdit buf.old buf.new) }
-    ensures put { IfOk result (calls.IsPut form buf.old buf.new ty) }
-{
-    match form {
-        LiteralForm::Cast => {
-            let cast = parenthesize(buf, ty)?;
-            append_value(buf, cast, value)
-        }
-        _ => print_untyped(buf, form, value),
-    }
-}
-
-// A literal of this form, of a type with this text.
-#[tactic(auto, using(demangle_text::proofs::Laws::laws, crate::proofs::Literals::untyped))]
-fn print_literal_of(
-    buf: &mut Buffer,
-    ty: &[u8],
-    form: LiteralForm,
-    value: &[u8],
-) -> Result<Piece, AllocError>
-    ensures shape { IfOk result (λ p. Lives buf.new p (plain_shape (spec.literal_text form ty.now value.now))) }
-    ensures edit { OnOk result (IsEdit buf.old buf.new) }
-    ensures appends { IfOk result (λ p. Appends buf.old buf.new p) }
-{
-    match form {
-        LiteralForm::Cast => {
-            let opened = buf.push(b"(")?;
-            let typed = buf.append_pair(opened, ty, b")")?;
-            let cast = buf.whole(typed);
-            append_value(buf, cast, value)
-        }
-        _ => print_untyped(buf, form, value),
-    }
-}
-
 /// The literal of a type with this value, in which one leading `n` is the minus and the rest are the
 /// digits, printed as they stand. By the text of the type: of `bool` without minus `false` for `0`
 /// and `true` for `1`; of `std::nullptr_t` `nullptr`, whatever the value; of `int` the digits; of
@@ -238,33 +147,22 @@ pub fn write_literal(buf: &mut Buffer, ty: Piece, value: &str) -> Result<Option<
 {
     let bytes = value.as_bytes();
     let form = literal_form(buf.bytes(ty), is_minus(bytes));
-    if !has_value(form, bytes) {
-        return Ok(None);
-    }
-    let literal = print_literal(buf, ty, form, bytes)?;
+    let literal = match form {
+        LiteralForm::Boolean if value == "0" => buf.push(b"false")?,
+        LiteralForm::Boolean if value == "1" => buf.push(b"true")?,
+        LiteralForm::Boolean => return Ok(None),
+        LiteralForm::Null => buf.push(b"nullptr")?,
+        LiteralForm::Integer => {
+            let empty = buf.push(b"")?;
+            append_value(buf, empty, bytes)?
+        }
+        LiteralForm::Float => push_float(buf, bytes)?,
+        LiteralForm::Cast => {
+            let cast = parenthesize(buf, ty)?;
+            append_value(buf, cast, bytes)?
+        }
+    };
     Ok(Some(literal))
-}
-
-/// As `write_literal`, of a type with this text, which needn't be the text of a piece.
-#[tactic(auto, using(demangle_text::proofs::Laws::laws))]
-pub fn write_literal_of(
-    buf: &mut Buffer,
-    ty: &[u8],
-    value: &str,
-) -> Result<Option<Piece>, AllocError>
-    ensures shape { Answers result buf.new (calls.literal_step (plain_shape ty.now) value.now) }
-    ensures edit { OnOk result (IsEdit buf.old buf.new) }
-    ensures none { OnNone result (KeepsAll buf.old buf.new) }
-    ensures none_main { OnNone result (main_bytes buf.new ≡ main_bytes buf.old) }
-    ensures appends { IfFound result (λ p. Appends buf.old buf.new p) }
-{
-    let bytes = value.as_bytes();
-    let form = literal_form(ty, is_minus(bytes));
-    if has_value(form, bytes) {
-        let literal = print_literal_of(buf, ty, form, bytes)?;
-        return Ok(Some(literal));
-    }
-    Ok(None)
 }
 
 /// As `write_literal`, where a piece of the text `(` lives: a literal with its type in parentheses begins with it, so

@@ -12,7 +12,7 @@
 //! its parent, and `open_parent` before the leaf is read and `close_opened` after it.
 //!
 //! A list after a name is put together from pieces (`attach_template_args`, `format_params`), or built as it is
-//! read: what opens it, then `, ` before each text but the first, and each text by `list_next` (`join` or
+//! read: what opens it, then `, ` before each text but the first, and each text by `append_piece` (`join` or
 //! `join_adjacent` of the buffer in a list that `begin_arguments` began), then what closes it. Both give the same
 //! shape. So it is with a function type: `function_type`, or `open_function` and `close_function`.
 #![tactic(auto)]
@@ -25,12 +25,10 @@ mod names;
 mod parts;
 mod types;
 
-pub use crate::expressions::{
-    address, subexpr, write_literal, write_literal_of, write_opened_literal,
-};
+pub use crate::appends::append_piece;
+pub use crate::expressions::{address, subexpr, write_literal, write_opened_literal};
 pub use crate::lists::{
-    append_number, begin_arguments, close_lambda, close_params, end_arguments, glue, list_next,
-    open_params,
+    append_number, begin_arguments, close_lambda, close_params, end_arguments, glue, open_params,
 };
 pub use crate::names::{
     apply_name_qualifiers, attach_template_args, close_opened, default_arg, format_params,

@@ -5,7 +5,7 @@ ghost use Rattle.demangle_text.specs.State.{IsLiving, shape, Lives, IsEdit, Keep
 ghost use Rattle.demangle_text.specs.State.{StaysInPlace, JoinsInPlace, Appends};
 ghost use Rattle.demangle_edit.specs.Lists.{glued, arguments_closed, pack_shape};
 ghost use Rattle.demangle_edit.specs.Calls.{part_text, IsLivingPart};
-ghost use Rattle.demangle_edit.specs.Built.{followed, listed_more, arguments_opened, arguments_begun, arguments_ended};
+ghost use Rattle.demangle_edit.specs.Built.{listed_more, arguments_opened, arguments_begun, arguments_ended};
 ghost use Rattle.demangle_edit.specs.Built.{params_opened, params_closed, lambda_closed};
 
 use crate::appends::{append_piece, range_before};
@@ -85,21 +85,6 @@ pub(crate) fn list_more(
     ensures edit { OnOk result (IsEdit buf.old buf.new) }
 {
     append_piece(buf, list, if first { b"" } else { b", " }, next)
-}
-
-/// A list that is built as it is read, with the text of the piece at its end. A plain piece with the
-/// last own name and the flags that the list had.
-#[inline(always)]
-#[tactic(auto, using(demangle_text::proofs::Laws::laws))]
-pub fn list_next(buf: &mut Buffer, list: Piece, next: Piece) -> Result<Piece, AllocError>
-    requires list { IsLiving buf.old list }
-    requires next { IsLiving buf.old next }
-    ensures shape { IfOk result (λ p. Lives buf.new p
-        (followed (shape buf.old list) (shape buf.old next))) }
-    ensures edit { OnOk result (IsEdit buf.old buf.new) }
-    ensures in_place { IfOk result (λ p. JoinsInPlace buf.old buf.new list next p) }
-{
-    append_piece(buf, list, b"", next)
 }
 
 // The name with the `<` of its template arguments, after a space where the name ends in `<`. A

@@ -128,24 +128,9 @@ impl Buffer {
         ensures stands { IfOk result (λ p. Stands p (frame_start (inside mark)) (length (main_bytes self.new))) }
     {
         let mut piece = piece;
-        self.close_in_place(mark, &mut piece)?;
-        Ok(piece)
-    }
-
-    /// As `close`, of a piece that is changed where it is kept.
-    #[inline(always)]
-    pub fn close_in_place(&mut self, mark: Mark, piece: &mut Piece) -> Result<(), AllocError>
-        requires innermost { frame self.old ≡ inside mark }
-        requires living { IsLiving self.old piece.old }
-        ensures shape { OnOk result (Lives self.new piece.new (shape self.old piece.old)) }
-        ensures closed { OnOk result (Closes self.old self.new mark) }
-        ensures main { OnOk result (main_bytes self.new
-            ≡ take (frame_start (inside mark)) (main_bytes self.old) ++ text (shape self.old piece.old)) }
-        ensures stands { OnOk result (Stands piece.new (frame_start (inside mark)) (length (main_bytes self.new))) }
-    {
-        self.keep_only(mark.inside_main, piece)?;
+        self.keep_only(mark.inside_main, &mut piece)?;
         self.frame_main = mark.outside_main;
-        Ok(())
+        Ok(piece)
     }
 
     /// A plain piece of the bytes, which go to the end of the main text. Its last own name is the
@@ -204,30 +189,6 @@ impl Buffer {
     {
         let from = self.extend(piece, bytes, b"")?;
         Ok(piece.extended(bytes.len(), from, self.main.len()))
-    }
-
-    /// The piece with both texts at the end of its text, one after the other. Ends pieces, copies a
-    /// text, and keeps all after `AllocError`, as `append` does.
-    #[inline(always)]
-    pub fn append_pair(
-        &mut self,
-        piece: Piece,
-        first: &[u8],
-        second: &[u8],
-    ) -> Result<Piece, AllocError>
-        requires living { IsLiving self.old piece }
-        ensures shape { IfOk result (λ p. Lives self.new p
-            (appended second.now (appended first.now (shape self.old piece)))) }
-        ensures edit { OnOk result (IsEdit self.old self.new) }
-        ensures err { OnErr result (KeepsAll self.old self.new) }
-        ensures edit_of { IfOk result (λ p. IsEditOf self.old self.new piece p
-            (length first.now + length second.now)) }
-        ensures main_err { OnErr result (main_bytes self.new ≡ main_bytes self.old) }
-    {
-        let from = self.extend(piece, first, second)?;
-        let n = first.len() + second.len();
-        let at = piece.place(Place::End);
-        Ok(piece.with_bytes(Place::End, at, n, from, self.main.len()))
     }
 
     /// The piece, which is changed where it is kept, as a plain one with both texts at the end of its text, one after

@@ -6,12 +6,12 @@ use crate::pieces::{
     declared, grouped, made, named, push,
 };
 use demangle_edit::{
-    Glue, Pointer, Quals, Reference, address, append_number, apply_name_qualifiers,
+    Glue, Pointer, Quals, Reference, address, append_number, append_piece, apply_name_qualifiers,
     attach_template_args, begin_arguments, close_function, close_lambda, close_opened,
     close_params, collapse_ref, default_arg, end_arguments, expand, format_params, function_type,
-    glue, list_next, open_default_arg, open_function, open_params, qualify, qualify_ctor,
-    qualify_text, subexpr, tag, wrap_array, wrap_cv, wrap_member_pointer, wrap_pointer,
-    write_literal, write_literal_of, write_opened_literal,
+    glue, open_default_arg, open_function, open_params, qualify, qualify_ctor, qualify_text,
+    subexpr, tag, wrap_array, wrap_cv, wrap_member_pointer, wrap_pointer, write_literal,
+    write_opened_literal,
 };
 use demangle_text::{Buffer, Kind, Piece};
 use std::alloc::Global;
@@ -119,16 +119,7 @@ fn assert_literal_put(rt: &impl Abort, alloc: Global, ty: &str, value: &str, exp
     drop(buf);
 }
 
-// So it is after the literal of a type that is a text and no piece, of which nothing stood there.
-#[tactic(auto, using(demangle_text::proofs::Laws::laws))]
-fn assert_literal_of_put(rt: &impl Abort, alloc: Global, ty: &str, value: &str, expected: &str) {
-    let mut buf = Buffer::new(alloc);
-    made(rt, write_literal_of(&mut buf, ty.as_bytes(), value));
-    assert_eq!(rt; buf.main_bytes(), expected.as_bytes());
-    drop(buf);
-}
-
-// And after that of a type that stood after its parenthesis.
+// So it is after the literal of a type that stood after its parenthesis.
 #[tactic(auto, using(demangle_text::proofs::Laws::laws))]
 fn assert_opened_literal_put(
     rt: &impl Abort,
@@ -162,7 +153,6 @@ fn literals_go_to_the_end_of_the_main_text(rt: HostRuntime) {
     ];
     for (ty, value, typed, of_text, opened) in rows {
         assert_literal_put(&rt, rt.alloc(), ty, value, typed);
-        assert_literal_of_put(&rt, rt.alloc(), ty, value, of_text);
         assert_opened_literal_put(&rt, rt.alloc(), ty, value, opened);
     }
 }
@@ -459,7 +449,7 @@ fn with_first(rt: &impl Abort, buf: &mut Buffer, list: Piece, text: &[u8]) -> Pi
     ensures living { IsLiving buf.new result }
 {
     let next = push(rt, buf, text);
-    list_next(buf, list, next).expect(rt, "no memory")
+    append_piece(buf, list, b"", next).expect(rt, "no memory")
 }
 
 /// The list with one text more.
@@ -810,17 +800,7 @@ fn assert_literal(rt: &impl Abort, alloc: Global, ty: &str, value: &str, expecte
     drop(buf);
 }
 
-// So has the literal of a type that is a text and no piece.
-#[tactic(auto, using(demangle_text::proofs::Laws::laws))]
-fn assert_literal_of(rt: &impl Abort, alloc: Global, ty: &str, value: &str, expected: &str) {
-    let mut buf = Buffer::new(alloc);
-    let literal = made(rt, write_literal_of(&mut buf, ty.as_bytes(), value));
-    assert_named(rt, &buf, literal, expected.as_bytes(), 0, expected.len());
-    assert_flags(rt, &buf, literal, false, false);
-    drop(buf);
-}
-
-// And that of a type that stands after its parenthesis.
+// So has the literal of a type that stands after its parenthesis.
 #[tactic(auto, using(demangle_text::proofs::Laws::laws))]
 fn assert_opened_literal(rt: &impl Abort, alloc: Global, ty: &str, value: &str, expected: &str) {
     let mut buf = Buffer::new(alloc);
@@ -853,7 +833,6 @@ fn literals(rt: HostRuntime) {
     ];
     for (ty, value, expected) in rows {
         assert_literal(&rt, rt.alloc(), ty, value, expected);
-        assert_literal_of(&rt, rt.alloc(), ty, value, expected);
         assert_opened_literal(&rt, rt.alloc(), ty, value, expected);
     }
 }

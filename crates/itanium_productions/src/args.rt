@@ -6,7 +6,7 @@ ghost use Rattle.itanium_reader.specs.Outcome.{state, Gives, HasRoom, Bounds, Sa
 
 use crate::expressions::{read_expression, read_primary};
 use crate::types::read_type;
-use demangle_edit::{begin_arguments, end_arguments, list_next};
+use demangle_edit::{append_piece, begin_arguments, end_arguments};
 use itanium_reader::{Reader, Stop, text_limit};
 use itanium_syntax::args::{ArgsCase, ArgumentCase, args_case, argument_case};
 use itanium_syntax::context::Context;
@@ -59,7 +59,7 @@ pub(crate) fn read_attached(
                 return Ok(());
             }
             ArgsCase::NextArgument => {
-                list = reader.separate_last(list, first)?;
+                list = reader.separate_list(list, first)?;
                 framed_argument(reader, depth - 1, context)?;
                 reader.add_argument(opens, scopes)?;
                 list = reader.buffer.join_adjacent(list, reader.found);
@@ -107,7 +107,7 @@ pub(crate) fn read_pack(reader: &mut Reader, depth: usize, context: Context) -> 
             ArgsCase::NextArgument => {
                 list = reader.separate_list(list, first)?;
                 framed_argument(reader, depth - 1, inside)?;
-                list = list_next(&mut reader.buffer, list, reader.found)?;
+                list = append_piece(&mut reader.buffer, list, b"", reader.found)?;
                 if reader.is_wide(list) {
                     return Err(Stop::Unread);
                 }
@@ -180,6 +180,6 @@ pub(crate) fn framed_argument(
 {
     let mark = reader.buffer.open();
     read_argument(reader, depth, context)?;
-    reader.buffer.close_in_place(mark, &mut reader.found)?;
+    reader.close_found(mark)?;
     Ok(())
 }

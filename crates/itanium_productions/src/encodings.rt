@@ -38,7 +38,7 @@ pub(crate) fn framed_bare_name(
 {
     let mark = reader.buffer.open();
     let quals = read_bare_name(reader, depth, context)?;
-    reader.buffer.close_in_place(mark, &mut reader.found)?;
+    reader.close_found(mark)?;
     Ok(quals)
 }
 

@@ -1,13 +1,11 @@
 //! Literals, external names and expressions (Itanium C++ ABI 5.1, "Expressions").
 ghost use Rattle.std.specs.Prelude.{◌≡◌, ◌<◌, OnOk, length};
 ghost use Rattle.demangle_text.specs.State.{IsLiving, shape, IsRun, SameFrame};
-ghost use Rattle.itanium_reader.specs.Cases.{BuiltinType};
-ghost use Rattle.itanium_syntax.specs.Types.{type_case};
 ghost use Rattle.itanium_reader.specs.Parser as spec;
 ghost use Rattle.itanium_reader.specs.Outcome.{state, Gives, HasRoom, Bounds, SavedBounds};
 
 use crate::encodings::read_encoding;
-use crate::types::{framed_type, read_type};
+use crate::types::framed_type;
 use demangle_edit::{address, subexpr};
 use demangle_text::Piece;
 use itanium_reader::{Reader, Stop};
@@ -15,7 +13,6 @@ use itanium_syntax::context::Context;
 use itanium_syntax::expressions::{
     ExpressionCase, LiteralCase, expression_case, expression_text, is_external, literal_case,
 };
-use itanium_syntax::types::{TypeCase, type_case};
 
 /// `<expr-primary> ::= L <type> <value> E | L _Z <encoding> E`
 #[tactic(auto, using(itanium_reader::proofs::Rules::primaries))]
@@ -53,51 +50,10 @@ pub(crate) fn read_literal(reader: &mut Reader, depth: usize, context: Context) 
     ensures bounds { Bounds 0 result (state reader.old) (state reader.new) }
     ensures saved { SavedBounds 0 result (state reader.old) (state reader.new) }
 {
-    if let TypeCase::BuiltinType = type_case(reader.rest) {
-        return read_builtin_literal(reader, depth, context);
-    }
-    read_other_literal(reader, depth, context)
-}
-
-/// `read_literal` of a type that isn't builtin.
-#[tactic(auto, using(itanium_reader::proofs::Rules::buffers))]
-#[cycle(reader)]
-pub(crate) fn read_other_literal(
-    reader: &mut Reader,
-    depth: usize,
-    context: Context,
-) -> Result<(), Stop>
-    requires room { HasRoom 2 (state reader.old) }
-    ensures reads { Gives result reader.new (spec.literal_by (spec.parse_type depth context) (state reader.old)) }
-    ensures run { OnOk result (IsRun reader.old.buffer.value reader.new.buffer.value) }
-    ensures bounds { Bounds 0 result (state reader.old) (state reader.new) }
-    ensures saved { SavedBounds 0 result (state reader.old) (state reader.new) }
-{
-    if let [b'N', ..] = reader.rest {
-        // The enumerators of a class or a namespace have their type in parentheses.
-        let paren = reader.buffer.push(b"(")?;
-        framed_type(reader, depth, context)?;
-        return reader.end_opened_literal(paren);
-    }
-    read_type(reader, depth, context)?;
-    reader.end_literal()
-}
-
-/// `read_literal` of a builtin type.
-#[tactic(auto, using(itanium_reader::proofs::Rules::builtin_literals))]
-fn read_builtin_literal(reader: &mut Reader, depth: usize, context: Context) -> Result<(), Stop>
-    requires room { HasRoom 2 (state reader.old) }
-    requires builtin { type_case reader.old.rest.now ≡ BuiltinType }
-    ensures reads { Gives result reader.new (spec.literal_by (spec.parse_type depth context) (state reader.old)) }
-    ensures run { OnOk result (IsRun reader.old.buffer.value reader.new.buffer.value) }
-    ensures bounds { Bounds 0 result (state reader.old) (state reader.new) }
-    ensures saved { SavedBounds 0 result (state reader.old) (state reader.new) }
-{
-    if depth == 0 {
-        return Err(Stop::Unread);
-    }
-    reader.entered += 1;
-    reader.end_builtin_literal()
+    // Most literals have their type in parentheses, the first of which goes in front of it.
+    let paren = reader.buffer.push(b"(")?;
+    framed_type(reader, depth, context)?;
+    reader.end_literal(paren)
 }
 
 /// `pp_ <expression>` and `mm_ <expression>`
@@ -239,7 +195,7 @@ pub(crate) fn read_alternatives(
     let then = reader.found;
     framed_operand(reader, depth, context)?;
     reader.print_binary(then, " : ")?;
-    reader.buffer.close_in_place(mark, &mut reader.found)?;
+    reader.close_found(mark)?;
     reader.print_binary(condition, "?")?;
     Ok(())
 }
@@ -336,7 +292,7 @@ pub(crate) fn framed_operand(
 {
     let mark = reader.buffer.open();
     read_operand(reader, depth, context)?;
-    reader.buffer.close_in_place(mark, &mut reader.found)?;
+    reader.close_found(mark)?;
     Ok(())
 }
 
@@ -356,6 +312,6 @@ pub(crate) fn framed_expression(
 {
     let mark = reader.buffer.open();
     read_expression(reader, depth, context)?;
-    reader.buffer.close_in_place(mark, &mut reader.found)?;
+    reader.close_found(mark)?;
     Ok(())
 }

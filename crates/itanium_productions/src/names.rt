@@ -102,7 +102,7 @@ pub(crate) fn framed_free_name(
     let mark = reader.buffer.open();
     read_free_name(reader, depth, context)?;
     reader.read_found_tags()?;
-    reader.buffer.close_in_place(mark, &mut reader.found)?;
+    reader.close_found(mark)?;
     Ok(())
 }
 
@@ -739,6 +739,6 @@ pub(crate) fn framed_name(reader: &mut Reader, depth: usize, context: Context) -
 {
     let mark = reader.buffer.open();
     read_name(reader, depth, context)?;
-    reader.buffer.close_in_place(mark, &mut reader.found)?;
+    reader.close_found(mark)?;
     Ok(())
 }

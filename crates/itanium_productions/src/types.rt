@@ -8,7 +8,7 @@ ghost use Rattle.itanium_reader.specs.Outcome.{state, Gives, HasRoom, Bounds, Op
 
 use crate::args::read_attached;
 use crate::names::read_name;
-use demangle_edit::{Pointer, Quals, list_next, open_function};
+use demangle_edit::{Pointer, Quals, append_piece, open_function};
 use demangle_text::Piece;
 use itanium_reader::{Reader, Stop};
 use itanium_syntax::args::{AttachedCase, attached_case};
@@ -199,7 +199,7 @@ pub(crate) fn framed_type(reader: &mut Reader, depth: usize, context: Context) -
 {
     let mark = reader.buffer.open();
     read_type(reader, depth, context)?;
-    reader.buffer.close_in_place(mark, &mut reader.found)?;
+    reader.close_found(mark)?;
     Ok(())
 }
 
@@ -311,7 +311,7 @@ pub(crate) fn read_params(
             TypesCase::NextType => {
                 list = reader.separate_list(list, first)?;
                 framed_type(reader, depth, context)?;
-                list = list_next(&mut reader.buffer, list, reader.found)?;
+                list = append_piece(&mut reader.buffer, list, b"", reader.found)?;
                 if reader.is_wide(list) {
                     return Err(Stop::Unread);
                 }

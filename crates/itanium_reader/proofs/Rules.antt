@@ -2,7 +2,7 @@
 use Rattle.demangle_text.proofs.Laws.{laws, runs, StaysInPlace-edit}
 pub use Rattle.demangle_text.proofs.Laws.{lasts}
 use Rattle.itanium_syntax.proofs.Fronts.{cases, names_some, entities_some, expressions_some, arguments_some, specials_some}
-use Rattle.itanium_reader.proofs.Unfold.{builtin_fits, bare_name_opens, no_bare_name, name_opens, encoding_opens}
+use Rattle.itanium_reader.proofs.Unfold.{bare_name_opens, no_bare_name, name_opens, encoding_opens}
 use Rattle.itanium_reader.proofs.Unfold.{local_opens, expression_opens, no_expression, primary_opens, argument_opens}
 use Rattle.itanium_reader.proofs.Unfold.{thunk_opens, no_thunk, special_opens, no_attached, pack_opens, no_pack}
 use Rattle.itanium_reader.proofs.Unfold.{type_opens, no_type, substitution_opens, parameter_opens, unqualified_opens}
@@ -28,9 +28,7 @@ pub ruleset segments = (buffers, source_opens)
 
 pub ruleset first_segments = (fronts, source_opens)
 
-pub ruleset lists = (buffers, nothing_in_front)
-
-pub ruleset last_lists = (lists, lasts, StaysInPlace-edit)
+pub ruleset lists = (buffers, lasts, nothing_in_front, StaysInPlace-edit)
 
 pub ruleset words = (buffers, lasts, words_joined)
 
@@ -71,5 +69,3 @@ pub ruleset packs = (buffers, pack_opens, no_pack)
 pub ruleset typed_lists = (fronts)
 
 pub ruleset types = (fronts, type_opens, no_type)
-
-pub ruleset builtin_literals = (types, builtin_fits)

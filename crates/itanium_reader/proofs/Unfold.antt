@@ -22,7 +22,7 @@ use Rattle.itanium_syntax.specs.Names.{past_internal, past_name_quals, name_qual
 use Rattle.itanium_syntax.specs.Expressions.{expression_case}
 use Rattle.itanium_syntax.specs.Encodings.{entity_case}
 use Rattle.itanium_syntax.specs.Args.{args_case}
-use Rattle.itanium_syntax.specs.Types.{types_case, type_case, letter_text, two_letter_text, builtin_text}
+use Rattle.itanium_syntax.specs.Types.{types_case, type_case}
 use Rattle.itanium_reader.specs.declared.reader.Reader.{Reader}
 use Rattle.itanium_reader.specs.declared.stop.Stop.{Stop}
 use Rattle.itanium_reader.specs.declared.stop.Stop.TheVariants.{Unread, Memory}
@@ -220,58 +220,6 @@ not_wide t short = not_longer short
 
 wide_by : (t : Shape) → max_text < text_len t → is_wide t ≡ true
 wide_by t long = longer long
-
--- the text of a builtin type is short
-pick : (b : Bool) (xs ys : List ℕ) → length xs ≤ 40 → length ys ≤ 40 → length (if b then xs else ys) ≤ 40
-pick true xs ys here there = here
-pick false xs ys here there = there
-
-letter_short : (letter : ℕ) → length (letter_text letter) ≤ 40
-letter_short letter =
-    pick (letter == 118) _ _ (omega arith) (
-    pick (letter == 119) _ _ (omega arith) (
-    pick (letter == 98) _ _ (omega arith) (
-    pick (letter == 99) _ _ (omega arith) (
-    pick (letter == 97) _ _ (omega arith) (
-    pick (letter == 104) _ _ (omega arith) (
-    pick (letter == 115) _ _ (omega arith) (
-    pick (letter == 116) _ _ (omega arith) (
-    pick (letter == 105) _ _ (omega arith) (
-    pick (letter == 106) _ _ (omega arith) (
-    pick (letter == 108) _ _ (omega arith) (
-    pick (letter == 109) _ _ (omega arith) (
-    pick (letter == 120) _ _ (omega arith) (
-    pick (letter == 121) _ _ (omega arith) (
-    pick (letter == 110) _ _ (omega arith) (
-    pick (letter == 111) _ _ (omega arith) (
-    pick (letter == 102) _ _ (omega arith) (
-    pick (letter == 100) _ _ (omega arith) (
-    pick (letter == 101) _ _ (omega arith) (
-    pick (letter == 103) _ _ (omega arith) (
-    pick (letter == 122) _ _ (omega arith) (
-    omega arith)))))))))))))))))))))
-
-two_letters_short : (letter : ℕ) → length (two_letter_text letter) ≤ 40
-two_letters_short letter =
-    pick (letter == 115) _ _ (omega arith) (
-    pick (letter == 105) _ _ (omega arith) (
-    pick (letter == 117) _ _ (omega arith) (
-    pick (letter == 110) _ _ (omega arith) (
-    pick (letter == 97) _ _ (omega arith) (
-    pick (letter == 99) _ _ (omega arith) (
-    pick (letter == 104) _ _ (omega arith) (
-    pick (letter == 100) _ _ (omega arith) (
-    pick (letter == 101) _ _ (omega arith) (
-    pick (letter == 102) _ _ (omega arith) (
-    omega arith))))))))))
-
-builtin_short : (bytes : List ℕ) → length (builtin_text bytes) ≤ 40
-builtin_short [] = omega arith
-builtin_short (first ∷ []) = letter_short first
-builtin_short (first ∷ second ∷ bytes) = pick (first == 68) _ _ (two_letters_short second) (letter_short first)
-
-pub builtin_fits : (bytes : List ℕ) → is_wide (plain_shape (builtin_text bytes)) ≡ false
-builtin_fits bytes = not_wide (plain_shape (builtin_text bytes)) (omega (arith, builtin_short bytes, max_text_is))
 
 -- a call that hands on why what it called has stopped: then the whole isn't parsed either
 pub stops : (after : Reader) {inner whole : Option (Shape × ParserState)} (e : Stop) → Gives (Err e) after inner → (inner ≡ None → whole ≡ None) → Gives (Err e) after whole

@@ -3,17 +3,14 @@ ghost use Rattle.std.specs.Prelude.{◌≡◌, ◌<◌, codes, OnOk};
 ghost use Rattle.demangle_text.specs.Shape.{plain_shape, text};
 ghost use Rattle.demangle_text.specs.State.{IsLiving, Lives, shape, IsRun, SameFrame};
 ghost use Rattle.itanium_grammar.specs.Tree.{pre_shape, post_shape, binary_shape, greater_shape};
-ghost use Rattle.itanium_reader.specs.Cases.{BuiltinType};
-ghost use Rattle.itanium_syntax.specs.Types.{type_case, builtin_text, past_builtin};
 ghost use Rattle.itanium_reader.specs.Parser as spec;
 ghost use Rattle.itanium_reader.specs.Outcome.{state, Gives, Bounds, SavedBounds};
 
 use crate::reader::Reader;
 use crate::stop::Stop;
-use demangle_edit::{Glue, glue, write_literal, write_literal_of, write_opened_literal};
+use demangle_edit::{Glue, glue, write_opened_literal};
 use demangle_text::{Piece, Place};
 use itanium_syntax::expressions::literal_value;
-use itanium_syntax::types::{builtin_text, past_builtin};
 use std::alloc::AllocError;
 
 #[tactic(auto, using(crate::proofs::Rules::buffers))]
@@ -37,50 +34,9 @@ impl<'a> Reader<'a> {
         }
     }
 
-    /// The value of a literal of the type that was found, up to the `E` after it.
-    pub fn end_literal(&mut self) -> Result<(), Stop>
-        requires living { IsLiving self.old.buffer.value self.old.found }
-        ensures reads { Gives result self.new
-            (spec.literal_end (shape self.old.buffer.value self.old.found) (state self.old)) }
-        ensures run { OnOk result (IsRun self.old.buffer.value self.new.buffer.value) }
-        ensures bounds { Bounds 2 result (state self.old) (state self.new) }
-        ensures saved { SavedBounds 1 result (state self.old) (state self.new) }
-    {
-        let Some((value, rest)) = literal_value(self.rest) else {
-            return Err(Stop::Unread);
-        };
-        let Some(literal) = write_literal(&mut self.buffer, self.found, value)? else {
-            return Err(Stop::Unread);
-        };
-        self.found = literal;
-        self.rest = rest;
-        Ok(())
-    }
-
-    /// A literal of the builtin type that stands there, whose text isn't put into the buffer, up to the `E` after
-    /// its value.
-    pub fn end_builtin_literal(&mut self) -> Result<(), Stop>
-        requires builtin { type_case self.old.rest.now ≡ BuiltinType }
-        ensures reads { Gives result self.new (spec.literal_end (plain_shape (builtin_text self.old.rest.now))
-            (spec.with_rest (past_builtin self.old.rest.now) (state self.old))) }
-        ensures run { OnOk result (IsRun self.old.buffer.value self.new.buffer.value) }
-        ensures bounds { Bounds 2 result (state self.old) (state self.new) }
-        ensures saved { SavedBounds 1 result (state self.old) (state self.new) }
-    {
-        let ty = builtin_text(self.rest);
-        let Some((value, rest)) = literal_value(past_builtin(self.rest)) else {
-            return Err(Stop::Unread);
-        };
-        let Some(whole) = write_literal_of(&mut self.buffer, ty, value)? else {
-            return Err(Stop::Unread);
-        };
-        self.found = whole;
-        self.rest = rest;
-        Ok(())
-    }
-
-    /// As `end_literal`, after a `(` that stands in front of the type, for a literal with its type in parentheses.
-    pub fn end_opened_literal(&mut self, paren: Piece) -> Result<(), Stop>
+    /// The value of a literal of the type that was found, up to the `E` after it. A `(` stands in front of the type,
+    /// for a literal with its type in parentheses.
+    pub fn end_literal(&mut self, paren: Piece) -> Result<(), Stop>
         requires paren { Lives self.old.buffer.value paren (plain_shape (codes "(")) }
         requires living { IsLiving self.old.buffer.value self.old.found }
         ensures reads { Gives result self.new
@@ -92,10 +48,10 @@ impl<'a> Reader<'a> {
         let Some((value, rest)) = literal_value(self.rest) else {
             return Err(Stop::Unread);
         };
-        let Some(printed) = write_opened_literal(&mut self.buffer, paren, self.found, value)? else {
+        let Some(literal) = write_opened_literal(&mut self.buffer, paren, self.found, value)? else {
             return Err(Stop::Unread);
         };
-        self.found = printed;
+        self.found = literal;
         self.rest = rest;
         Ok(())
     }

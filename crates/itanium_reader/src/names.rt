@@ -190,7 +190,7 @@ impl<'a> Reader<'a> {
         let mark = self.buffer.open();
         self.read_source()?;
         self.read_found_tags()?;
-        self.buffer.close_in_place(mark, &mut self.found)?;
+        self.close_found(mark)?;
         Ok(())
     }
 

@@ -1,6 +1,7 @@
 //! What the readers share: the bytes that are left, the buffer with what was saved, and the piece that was found.
-ghost use Rattle.std.specs.Prelude.{◌≡◌, ◌<◌, ◌≤◌, ◌+◌, ◌^◌, IfOk, OnOk, [], length, max, true, false};
-ghost use Rattle.demangle_text.specs.Shape.{plain_shape};
+ghost use Rattle.std.specs.Prelude.{◌≡◌, ◌<◌, ◌≤◌, ◌+◌, ◌^◌, ◌++◌, IfOk, OnOk, [], length, take, max, true, false};
+ghost use Rattle.demangle_text.specs.Shape.{plain_shape, text};
+ghost use Rattle.demangle_text.specs.State.{Closes, Stands, frame_start, inside};
 ghost use Rattle.demangle_text.specs.State.{IsLiving, Lives, shape, IsRun, SameFrame, saved, scopes, main_bytes, frame, outermost};
 ghost use Rattle.demangle_text.specs.Calls.{IsLast};
 ghost use Rattle.demangle_edit.specs.Built.{separated};
@@ -12,7 +13,7 @@ ghost use Rattle.itanium_reader.specs.Parser as spec;
 ghost use Rattle.itanium_reader.specs.Outcome.{state, Gives, OnlyTakes, Bounds, SavedBounds};
 
 use crate::stop::Stop;
-use demangle_text::{Buffer, Piece};
+use demangle_text::{Buffer, Mark, Piece};
 use itanium_syntax::abbreviations::{abbreviation_of, abbreviation_own_len, abbreviation_text};
 use itanium_syntax::context::Context;
 use itanium_syntax::names::{SubstitutionCase, source_text, substitution_case};
@@ -126,6 +127,24 @@ impl<'a> Reader<'a> {
         ensures kept { OnOk result (SameFrame self.old.buffer.value self.new.buffer.value) }
     {
         self.buffer.save(self.found)?;
+        Ok(())
+    }
+
+    /// Takes the innermost mark back: what was found becomes all of the main text since then.
+    pub fn close_found(&mut self, mark: Mark) -> Result<(), AllocError>
+        requires innermost { frame self.old.buffer.value ≡ inside mark }
+        requires living { IsLiving self.old.buffer.value self.old.found }
+        ensures shape { OnOk result (Lives self.new.buffer.value self.new.found
+            (shape self.old.buffer.value self.old.found)) }
+        ensures state { OnOk result (state self.new ≡ state self.old) }
+        ensures closed { OnOk result (Closes self.old.buffer.value self.new.buffer.value mark) }
+        ensures main { OnOk result (main_bytes self.new.buffer.value
+            ≡ take (frame_start (inside mark)) (main_bytes self.old.buffer.value)
+            ++ text (shape self.old.buffer.value self.old.found)) }
+        ensures stands { OnOk result (Stands self.new.found (frame_start (inside mark))
+            (length (main_bytes self.new.buffer.value))) }
+    {
+        self.found = self.buffer.close(mark, self.found)?;
         Ok(())
     }
 
@@ -339,13 +358,15 @@ impl<'a> Reader<'a> {
         Ok(())
     }
 
-    /// What stands in front of a list's next text: nothing in front of the first.
+    /// What stands in front of a list's next text: nothing in front of the first. A list that stands up to the end of
+    /// the main text, from the innermost mark or later, stays there.
     #[tactic(auto, using(crate::proofs::Rules::lists))]
     #[inline(always)]
     pub fn separate_list(&mut self, list: Piece, first: bool) -> Result<Piece, AllocError>
         requires living { IsLiving self.old.buffer.value list }
         ensures shape { IfOk result (λ p. Lives self.new.buffer.value p
             (separated first (shape self.old.buffer.value list))) }
+        ensures last { IsLast self.old.buffer.value list → IfOk result (IsLast self.new.buffer.value) }
         ensures state { OnOk result (state self.new ≡ state self.old) }
         ensures run { OnOk result (IsRun self.old.buffer.value self.new.buffer.value) }
     {
@@ -355,27 +376,6 @@ impl<'a> Reader<'a> {
         }
         let separated = self.buffer.append(plain, b", ")?;
         Ok(separated)
-    }
-
-    /// As `separate_list`, of a list that stands up to the end of the main text, from the innermost mark or later: so
-    /// does the answer.
-    #[tactic(auto, using(crate::proofs::Rules::last_lists))]
-    #[inline(always)]
-    pub fn separate_last(&mut self, list: Piece, first: bool) -> Result<Piece, AllocError>
-        requires living { IsLiving self.old.buffer.value list }
-        requires last { IsLast self.old.buffer.value list }
-        ensures shape { IfOk result (λ p. Lives self.new.buffer.value p
-            (separated first (shape self.old.buffer.value list))) }
-        ensures last { IfOk result (IsLast self.new.buffer.value) }
-        ensures state { OnOk result (state self.new ≡ state self.old) }
-        ensures run { OnOk result (IsRun self.old.buffer.value self.new.buffer.value) }
-    {
-        let plain = self.buffer.plain(list);
-        if first {
-            return Ok(plain);
-        }
-        let longer = self.buffer.append(plain, b", ")?;
-        Ok(longer)
     }
 
     /// A list begins, and opens a scope where it is to.

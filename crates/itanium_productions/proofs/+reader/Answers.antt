@@ -150,7 +150,7 @@ types::read_params-returns-in_err-framed_type-in-NextType-clause-reads t c =
 pub types::read_params-returns-then-is_wide-clause-reads : goal.types::read_params-returns-then-is_wide-clause-reads
 types::read_params-returns-then-is_wide-clause-reads t c =
     typed_wide _ _ c.loop-list.invariant.reads {next = shape c.framed_type.new.reader.buffer.value c.framed_type.new.reader.found}
-    {found = shape c.list_next.new.buf c.in_ok-list-in-NextType-2.list} {after = state c.framed_type.new.reader}
+    {found = shape c.append_piece.new.buf c.in_ok-list-in-NextType-2.list} {after = state c.framed_type.new.reader}
     (sym c.in-NextType.ensures.case) (search rules) (search rules) (search rules)
 
 pub types::read_params-loop-list-preserved : goal.types::read_params-loop-list-preserved
@@ -175,7 +175,7 @@ args::read_pack-returns-then-is_wide-clause-reads t c =
 pub args::read_pack-returns-then-is_wide-2-clause-reads : goal.args::read_pack-returns-then-is_wide-2-clause-reads
 args::read_pack-returns-then-is_wide-2-clause-reads t c =
     items_wide _ _ _ c.loop-reader.invariant.reads {next = shape c.framed_argument.new.reader.buffer.value c.framed_argument.new.reader.found}
-    {found = shape c.list_next.new.buf c.in_ok-list-in-NextArgument-2.list} {mid = state c.framed_argument.new.reader}
+    {found = shape c.append_piece.new.buf c.in_ok-list-in-NextArgument-2.list} {mid = state c.framed_argument.new.reader}
     (sym c.in-NextArgument.ensures.case) (search rules) (search rules) (search rules)
 
 -- an entity in a default argument is found

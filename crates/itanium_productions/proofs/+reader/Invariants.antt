@@ -284,9 +284,6 @@ decreases-expressions::read_conditional l = 16 * l.depth + 4
 abbrev pub decreases-expressions::read_primary : goal.decreases-expressions::read_primary
 decreases-expressions::read_primary l = 16 * l.depth + 7
 
-abbrev pub decreases-expressions::read_other_literal : goal.decreases-expressions::read_other_literal
-decreases-expressions::read_other_literal l = 16 * l.depth + 2
-
 abbrev pub decreases-expressions::read_literal : goal.decreases-expressions::read_literal
 decreases-expressions::read_literal l = 16 * l.depth + 3
 
