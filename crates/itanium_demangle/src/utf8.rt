@@ -76,7 +76,6 @@ fn is_long_ascii(bytes: &[u8]) -> bool
 }
 
 /// Whether the bytes are UTF-8, as those of a symbol have to be.
-#[inline(always)]
 pub fn is_utf8(bytes: &[u8]) -> bool
     ensures yes { result ≡ true → IsUtf8 bytes.now }
     ensures no { result ≡ false → ¬ (IsUtf8 bytes.now) }
