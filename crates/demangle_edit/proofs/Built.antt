@@ -37,6 +37,11 @@ from_listed (t ∷ next ∷ rest) =
 pub appended_twice : (a b : List ℕ) (s : Shape) → appended b (appended a s) ≡ appended (a ++ b) s
 appended_twice a b s = inserted_twice End a b s (λ e. cc) tt
 
+-- a text after a list and what stands between them
+pub listed_as : (between : List ℕ) (first : Bool) (list next : Shape) → between ≡ separator first → appended (between ++ text next) (flattened list) ≡ listed_more first list next
+listed_as between first list next by =
+    ap (λ (v : List ℕ). appended (v ++ text next) (flattened list)) by ∙ sym (appended_twice (separator first) (text next) (flattened list))
+
 -- a range stays where nothing is put
 nothing_moved : (at : ℕ) (own : ℕ × ℕ) → moved at 0 own ≡ own
 nothing_moved at (from, to) = grind (arith, nat_tests)
@@ -186,7 +191,7 @@ module _ (old mid new : Buffer) (m : Mark) (pieces : List Piece) (i : ℕ) (d li
   first_at [] e = e ∙ refl
   first_at (x ∷ xs) e = e ∙ grind (arith, nat_tests)
 
-  pub piece_more : Opens old mid m → All (IsLiving old) pieces → i < length pieces
+  piece_more : Opens old mid m → All (IsLiving old) pieces → i < length pieces
       → Lives mid list (listed_each true begun (map (shape old) (take i pieces)))
       → Lives new next (listed_more first (shape mid list) (shape mid (get_or pieces i d)))
       → first ≡ (i == 0)
@@ -201,3 +206,12 @@ module _ (old mid new : Buffer) (m : Mark) (pieces : List Piece) (i : ℕ) (d li
       ∙ ap (λ (b : Bool). listed_more b (listed_each true begun before) (shape old p)) first_is ∙ sym (each_more begun before (shape old p))
       ∙ ap (listed_each true begun) (sym (map_more (shape old) pieces i d there)) in
       subst (λ (s : Shape). Lives new next s) is joins
+
+  -- the same of the call that puts it there, after these bytes
+  pub piece_put : (between : List ℕ) → Opens old mid m → All (IsLiving old) pieces → i < length pieces
+      → Lives mid list (listed_each true begun (map (shape old) (take i pieces)))
+      → Lives new next (appended (between ++ text (shape mid (get_or pieces i d))) (flattened (shape mid list)))
+      → first ≡ (i == 0) → between ≡ separator first
+      → Lives new next (listed_each true begun (map (shape old) (take (i + 1) pieces)))
+  piece_put between run living there so_far joins by_first by =
+      piece_more run living there so_far (subst (λ (s : Shape). Lives new next s) (listed_as between first (shape mid list) (shape mid (get_or pieces i d)) by) joins) by_first

@@ -6,7 +6,7 @@ use Rattle.std.proofs.lemmas.List.Elements.{All-get_or}
 use Rattle.demangle_text.specs.declared.shape.Piece.{Piece}
 use Rattle.demangle_text.specs.declared.shape.Mark.{Mark}
 use Rattle.demangle_text.specs.declared.buffer.Buffer.{Buffer}
-use Rattle.demangle_text.specs.Shape.{text, plain_shape}
+use Rattle.demangle_text.specs.Shape.{Shape, text, plain_shape, whole_shape, appended}
 use Rattle.demangle_text.specs.State.{shape, Lives, Opens}
 use Rattle.demangle_edit.specs.declared.parts.Glue.{Glue}
 use Rattle.demangle_edit.specs.declared.parts.Glue.TheVariants.{Text, Piece as Part}
@@ -22,6 +22,15 @@ concat_more (s ∷ ts) t = ap (λ (v : List ℕ). s ++ v) (concat_more ts t) ∙
 part_same : (old mid : Buffer) (m : Mark) → Opens old mid m → (part : Glue) → IsLivingPart old part → part_text (shape mid) part ≡ part_text (shape old) part
 part_same old mid m run (Text bytes) living = refl
 part_same old mid m run (Part piece) living = ap text (run.pieces piece living).shape_is
+
+-- bytes after a plain text, all of which is the base name then
+pub text_put : (mid new : Buffer) (all longer next : Piece) (t bytes : List ℕ) → shape mid all ≡ plain_shape t → Lives new longer (appended bytes (shape mid all))
+    → Lives new next (whole_shape (shape new longer)) → Lives new next (plain_shape (text (shape mid all) ++ bytes))
+text_put mid new all longer next t bytes flat long whole = record {
+  living = whole.living;
+  shape_is = whole.shape_is ∙ ap whole_shape long.shape_is ∙ ap (λ (s : Shape). whole_shape (appended bytes s)) flat
+      ∙ sym (ap (λ (s : Shape). plain_shape (text s ++ bytes)) flat);
+}
 
 -- one more part is put after the text
 pub part_more : (old mid new : Buffer) (m : Mark) (parts : List Glue) (i : ℕ) (d : Glue) (all next : Piece)

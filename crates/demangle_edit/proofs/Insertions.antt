@@ -1,5 +1,5 @@
 -- One insertion after another.
-use Rattle.std.proofs.Common.{◌≡◌, ℕ, ◌+◌, ◌-◌, List, [], ◌++◌, length, ap, ◌∙◌, refl, arith, append_assoc, Bool, None, Some}
+use Rattle.std.proofs.Common.{◌≡◌, ℕ, ◌+◌, ◌-◌, ◌<◌, ◌≤◌, List, [], ◌++◌, length, ap, ◌∙◌, refl, arith, append_assoc, Bool, None, Some}
 use Rattle.std.proofs.lemmas.Bool.Decides.{nat_tests}
 use Rattle.std.proofs.lemmas.List.{length-append}
 use Rattle.demangle_text.specs.declared.shape.Kind.TheVariants.{Array, Function}
@@ -11,6 +11,13 @@ use Rattle.demangle_text.specs.Calls.{joined, CanInsert}
 -- the last own name, when bytes are inserted at a place and then more of them after these
 moved_twice : (at next n m all : ℕ) (own : ℕ × ℕ) → next ≡ at + n → all ≡ n + m → moved next m (moved at n own) ≡ moved at all own
 moved_twice at next n m all (from, to) follows both = grind (arith, nat_tests)
+
+-- a range of a text, when n bytes are put after the text: it moves on only from the end
+pub moved_from_end : (len n k : ℕ) (own : ℕ × ℕ) → len ≤ own.0 → k ≡ n → (own.0 + k, own.1 + k) ≡ moved len n own
+moved_from_end len n k (from, to) ends by = grind (arith, nat_tests)
+
+pub moved_inside : (len n k : ℕ) (own : ℕ × ℕ) → own.0 < len → own.1 ≤ len → k ≡ 0 → (own.0 + k, own.1 + k) ≡ moved len n own
+moved_inside len n k (from, to) begins within by = grind (arith, nat_tests)
 
 module _ (a b : List ℕ) (own : ℕ × ℕ) (templ ctor : Bool) where
   abbrev of : Form → Shape

@@ -1,10 +1,15 @@
 -- A declarator, cut in two and put together again with a group.
-use Rattle.std.proofs.Common.{◌≡◌, ℕ, ◌+◌, ◌-◌, Bool, Option, Some, List, [], ◌∷◌, ◌++◌, length, take, drop, codes, sym, ap, ◌∙◌, refl, arith, append_assoc}
+use Rattle.std.proofs.Common.{◌≡◌, ℕ, ◌+◌, ◌-◌, ◌<◌, Bool, Option, Some, List, [], ◌∷◌, ◌++◌, length, take, drop, codes, sym, ap, ◌∙◌, refl, arith, append_assoc}
 use Rattle.std.specs.Prelude.{slice_range, slice_index}
 use Rattle.std.proofs.lemmas.List.{length-append, append-nil, get_or_at}
 use Rattle.demangle_text.specs.declared.shape.Kind.TheVariants.{Array, Function}
 use Rattle.demangle_text.specs.Shape.{Form, Plain, Declared, Shape, form_text, text, text_len, plain_shape, appended, flattened, grouped, gap_after, flagged}
-use Rattle.demangle_text.specs.Calls.{IsDeclared, IsPlain, front_text, kind_of, after_of, declared_group}
+use Rattle.demangle_text.specs.declared.shape.Piece.{Piece}
+use Rattle.demangle_text.specs.declared.shape.Mark.{Mark}
+use Rattle.demangle_text.specs.declared.buffer.Buffer.{Buffer}
+use Rattle.demangle_text.specs.State.{shape, IsLiving, IsEdit, Opens}
+use Rattle.demangle_text.proofs.Laws.{Opens-edit}
+use Rattle.demangle_text.specs.Calls.{joined, IsDeclared, IsPlain, front_text, kind_of, after_of, declared_group}
 use Rattle.demangle_edit.specs.Types.{member_gap, member_pointer_shape}
 use Rattle.demangle_edit.specs.Calls.{after_text}
 use Rattle.demangle_text.specs.declared.shape.Place.TheVariants.{End}
@@ -80,6 +85,35 @@ closes_at front class after all len n is by_len by_n =
     let text_is : all ≡ (front ++ class ++ codes "::*") ++ 41 ∷ after = is ∙ simp append_assoc in
     let long : length (front ++ class ++ codes "::*") ≡ len - n - 1 = omega (arith, by_len, by_n, ap length text_is, length-append (front ++ class ++ codes "::*") (41 ∷ after)) in
     ap (λ (v : List ℕ). slice_index v (len - n - 1)) text_is ∙ get_or_at (front ++ class ++ codes "::*") 41 after 0 (len - n - 1) long
+
+-- and the one that opens it stands before the class
+pub opens_at : (front gap class after all : List ℕ) (len n k : ℕ) → all ≡ front ++ (gap ++ codes "(") ++ class ++ codes "::*)" ++ after → len ≡ length all
+    → n ≡ length after → k ≡ length class → slice_index all (len - n - 5 - k) ≡ 40
+opens_at front gap class after all len n k is by_len by_n by_k =
+    let rest = class ++ codes "::*)" ++ after in
+    let text_is : all ≡ (front ++ gap) ++ 40 ∷ rest = is ∙ simp append_assoc in
+    let ends : length rest ≡ k + 4 + n = omega (arith, by_n, by_k, length-append (class ++ codes "::*)") after, length-append class (codes "::*)")) in
+    let long : length (front ++ gap) ≡ len - n - 5 - k = omega (arith, by_len, ends, ap length text_is, length-append (front ++ gap) (40 ∷ rest)) in
+    ap (λ (v : List ℕ). slice_index v (len - n - 5 - k)) text_is ∙ get_or_at (front ++ gap) 40 rest 0 (len - n - 5 - k) long
+
+-- and it is before the one that closes it
+pub opens_before : (front gap class after all : List ℕ) (len n k : ℕ) → all ≡ front ++ (gap ++ codes "(") ++ class ++ codes "::*)" ++ after → len ≡ length all
+    → n ≡ length after → k ≡ length class → len - n - 5 - k + 1 < len - n
+opens_before front gap class after all len n k is by_len by_n by_k =
+    omega (arith, by_len, by_n, by_k, ap length is, length-append {A = ℕ})
+
+-- the class joined to what stands before the group, and what stands after it joined to both
+pub member_joined : (old mid one two : Buffer) (m : Mark) (front class after begun whole : Piece) (opening : List ℕ)
+    → Opens old mid m → IsEdit mid one → IsLiving old front → IsLiving old class → IsLiving old after
+    → opening ≡ gap_after (text (shape old front)) ++ codes "(" → shape one begun ≡ joined (shape mid front) opening (shape mid class)
+    → shape two whole ≡ joined (shape one begun) (codes "::*)") (shape one after)
+    → shape two whole ≡ plain_shape (text (shape old front) ++ (gap_after (text (shape old front)) ++ codes "(") ++ text (shape old class) ++ codes "::*)" ++ text (shape old after))
+member_joined old mid one two m front class after begun whole opening opens edit f c a by is_begun is_whole =
+    let of_front = ap text (opens.pieces front f).shape_is in
+    let of_class = ap text (opens.pieces class c).shape_is in
+    let of_after = ap text ((Opens-edit old mid one m opens edit).pieces after a).shape_is in
+    is_whole ∙ ap (λ (s : Shape). joined s (codes "::*)") (shape one after)) is_begun
+    ∙ (λ j. plain_shape (of_front j ++ by j ++ of_class j ++ codes "::*)" ++ of_after j))
 
 -- a pointer to a member function, put together step by step
 pub member_pointer_shape_is : (class member whole declared : Shape) (templ ctor : Bool) (class_len after_len from at : ℕ) → kind_of member.form ≡ Some Function

@@ -1,25 +1,10 @@
 //! A text with another after it.
-ghost use Rattle.std.specs.Prelude.{◌≡◌, ◌+◌, ◌^◌, ◌<◌, ◌≤◌, ◌++◌, IfOk, OnOk};
-ghost use Rattle.demangle_text.specs.Shape.{text, moved, appended, flattened};
+ghost use Rattle.std.specs.Prelude.{◌≡◌, ◌+◌, ◌++◌, IfOk, OnOk};
+ghost use Rattle.demangle_text.specs.Shape.{text, appended, flattened};
 ghost use Rattle.demangle_text.specs.State.{IsLiving, shape, Lives, IsEdit, JoinsInPlace};
 
 use demangle_text::{Buffer, Piece};
 use std::alloc::AllocError;
-
-// A range of a text of this length, when n bytes are put after the text.
-#[inline(always)]
-pub(crate) fn range_before(own: (usize, usize), len: usize, n: usize) -> (usize, usize)
-    requires ordered { own.0 ≤ own.1 }
-    requires within { own.1 ≤ len }
-    requires fits { len + n < 2 ^ 64 }
-    ensures value { result ≡ moved len n own }
-{
-    if len <= own.0 {
-        (own.0 + n, own.1 + n)
-    } else {
-        own
-    }
-}
 
 /// A plain piece: the text of the first piece, the bytes, and the text of the second. The last own
 /// name and the flags are those of the first.
@@ -39,11 +24,11 @@ pub fn append_piece(
     ensures in_place { IfOk result (λ p. JoinsInPlace buf.old buf.new first second p) }
 {
     let before = buf.len(first);
-    let own = buf.own_range(first);
+    let (from, to) = buf.own_range(first);
     let (templ, ctor) = (buf.templ(first), buf.ctor(first));
     let whole = buf.join(first, between, second)?;
     let len = buf.len(whole);
-    let (from, to) = range_before(own, before, len - before);
-    let named = buf.own_at(whole, from, to);
+    let n = if before <= from { len - before } else { 0 };
+    let named = buf.own_at(whole, from + n, to + n);
     Ok(buf.with_flags(named, templ, ctor))
 }

@@ -1,15 +1,14 @@
 //! The digits of numbers, and of an array's dimension.
-ghost use Rattle.std.specs.Prelude.{◌≡◌, ◌≤◌, drop, length, decimal};
+ghost use Rattle.std.specs.Prelude.{◌≡◌, ◌≤◌, length, decimal};
 ghost use Rattle.demangle_edit.specs.Types.{dimension_digits};
 
 /// The most digits that a number below 2^64 has.
 pub const MOST_DIGITS: usize = 20;
 
-// Writes the digits of the number at the end of the room, and answers the place of the first.
-fn put_digits(room: &mut [u8], number: u64) -> usize
+/// The digits of a number, without leading zeros, written into the room.
+pub fn number_bytes(room: &mut [u8], number: u64) -> &[u8]
     requires room { MOST_DIGITS ≤ length room.old }
-    ensures value { drop result room.new ≡ decimal number }
-    ensures within { result ≤ length room.new }
+    ensures value { result.now ≡ decimal number }
 {
     let mut left = number;
     let mut at = room.len();
@@ -20,15 +19,6 @@ fn put_digits(room: &mut [u8], number: u64) -> usize
     }
     at -= 1;
     room[at] = b'0' + left as u8;
-    at
-}
-
-/// The digits of a number, without leading zeros, written into the room.
-pub fn number_bytes(room: &mut [u8], number: u64) -> &[u8]
-    requires room { MOST_DIGITS ≤ length room.old }
-    ensures value { result.now ≡ decimal number }
-{
-    let at = put_digits(room, number);
     &room[at..]
 }
 

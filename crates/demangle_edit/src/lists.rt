@@ -2,37 +2,18 @@
 ghost use Rattle.std.specs.Prelude.{◌≡◌, ◌≤◌, ◌++◌, All, map, decimal, IfOk, OnOk, false};
 ghost use Rattle.demangle_text.specs.Shape.{text, text_len, plain_shape, appended};
 ghost use Rattle.demangle_text.specs.State.{IsLiving, shape, Lives, IsEdit, KeepsAll};
-ghost use Rattle.demangle_text.specs.State.{StaysInPlace, JoinsInPlace, Appends};
+ghost use Rattle.demangle_text.specs.State.{StaysInPlace, Appends};
 ghost use Rattle.demangle_edit.specs.Lists.{glued, arguments_closed, pack_shape};
 ghost use Rattle.demangle_edit.specs.Calls.{part_text, IsLivingPart};
-ghost use Rattle.demangle_edit.specs.Built.{listed_more, arguments_opened, arguments_begun, arguments_ended};
+ghost use Rattle.demangle_edit.specs.Built.{arguments_opened, arguments_begun, arguments_ended};
 ghost use Rattle.demangle_edit.specs.Built.{params_opened, params_closed, lambda_closed};
 
-use crate::appends::{append_piece, range_before};
+use crate::appends::append_piece;
 use crate::dimensions::{MOST_DIGITS, number_bytes};
 use crate::parts::Glue;
 use demangle_quals::{Quals, reference_bytes};
 use demangle_text::{Buffer, Piece};
 use std::alloc::AllocError;
-
-// A plain text with a part after it.
-#[tactic(auto, using(demangle_text::proofs::Laws::laws))]
-fn with_part(buf: &mut Buffer, all: Piece, part: &Glue) -> Result<Piece, AllocError>
-    requires all { IsLiving buf.old all }
-    requires plain { shape buf.old all ≡ plain_shape (text (shape buf.old all)) }
-    requires part { IsLivingPart buf.old part.now }
-    ensures shape { IfOk result (λ p. Lives buf.new p
-        (plain_shape (text (shape buf.old all) ++ part_text (shape buf.old) part.now))) }
-    ensures edit { OnOk result (IsEdit buf.old buf.new) }
-{
-    match part {
-        Glue::Text(bytes) => {
-            let longer = buf.append(all, bytes)?;
-            Ok(buf.whole(longer))
-        }
-        Glue::Piece(piece) => buf.join(all, b"", *piece),
-    }
-}
 
 /// The parts, one after the other, as a plain piece whose last own name is the whole, with no flag
 /// set. Of no parts it is empty.
@@ -47,7 +28,13 @@ pub fn glue(buf: &mut Buffer, parts: &[Glue]) -> Result<Piece, AllocError>
     let mark = buf.open();
     let mut all = buf.push(b"")?;
     for part in parts {
-        all = with_part(buf, all, part)?;
+        all = match part {
+            Glue::Text(bytes) => {
+                let longer = buf.append(all, bytes)?;
+                buf.whole(longer)
+            }
+            Glue::Piece(piece) => buf.join(all, b"", *piece)?,
+        };
     }
     buf.close(mark, all)
 }
@@ -64,27 +51,11 @@ pub(crate) fn list_pieces(buf: &mut Buffer, pieces: &[Piece]) -> Result<Piece, A
     let mark = buf.open();
     let mut list = buf.push(b"")?;
     for (i, piece) in pieces.iter().enumerate() {
-        list = list_more(buf, i == 0, list, *piece)?;
+        let between: &[u8] = if i == 0 { b"" } else { b", " };
+        list = append_piece(buf, list, between, *piece)?;
     }
     let whole = buf.whole(list);
     buf.close(mark, whole)
-}
-
-// A list with one text more, that of the piece, and what stands in front of it.
-#[tactic(auto, using(demangle_text::proofs::Laws::laws))]
-pub(crate) fn list_more(
-    buf: &mut Buffer,
-    first: bool,
-    list: Piece,
-    next: Piece,
-) -> Result<Piece, AllocError>
-    requires list { IsLiving buf.old list }
-    requires next { IsLiving buf.old next }
-    ensures shape { IfOk result (λ p. Lives buf.new p
-        (listed_more first (shape buf.old list) (shape buf.old next))) }
-    ensures edit { OnOk result (IsEdit buf.old buf.new) }
-{
-    append_piece(buf, list, if first { b"" } else { b", " }, next)
 }
 
 // The name with the `<` of its template arguments, after a space where the name ends in `<`. A
@@ -165,8 +136,8 @@ pub fn end_arguments(
 {
     let closed = close_arguments(buf, list)?;
     let all = buf.len(closed);
-    let (from, to) = range_before(own, len, all - len);
-    let named = buf.own_at(closed, from, to);
+    let n = if len <= own.0 { all - len } else { 0 };
+    let named = buf.own_at(closed, own.0 + n, own.1 + n);
     Ok(buf.with_flags(named, true, ctor))
 }
 

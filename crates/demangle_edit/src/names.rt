@@ -10,7 +10,7 @@ ghost use Rattle.demangle_edit.specs.Names.{default_arg_opened, default_arg_shap
 ghost use Rattle.demangle_edit.specs.Names.{parent_opened, enclosed};
 
 use crate::appends::append_piece;
-use crate::lists::{append_number, close_params, list_more, open_params};
+use crate::lists::{append_number, close_params, open_params};
 use demangle_quals::{Quals, reference_bytes};
 use demangle_text::{Buffer, Piece};
 use std::alloc::AllocError;
@@ -206,7 +206,8 @@ pub fn format_params(
     let mark = buf.open();
     let mut list = open_params(buf, name)?;
     for (i, param) in params.iter().enumerate() {
-        list = list_more(buf, i == 0, list, *param)?;
+        let between: &[u8] = if i == 0 { b"" } else { b", " };
+        list = append_piece(buf, list, between, *param)?;
     }
     let whole = close_params(buf, list, quals)?;
     buf.close(mark, whole)

@@ -1,19 +1,16 @@
 //! Edits that make a type out of types: pointers, references, qualifiers, arrays and functions
 //! (Itanium C++ ABI 5.1.5).
-ghost use Rattle.std.specs.Prelude.{◌≡◌, ◌≢◌, ◌+◌, ◌++◌, min, All, map, codes, is_some, true, false, IfOk, OnOk};
+ghost use Rattle.std.specs.Prelude.{◌≡◌, ◌≢◌, ◌+◌, ◌++◌, All, map, codes, is_some, true, false, IfOk, OnOk};
 ghost use Rattle.demangle_text.specs.Shape.{text, plain_shape, inserted};
 ghost use Rattle.demangle_text.specs.Calls.{CanInsert, IsPlain, IsDeclared, kind_of, group_of, front_text};
-ghost use Rattle.demangle_text.specs.Shape.{gap_after};
 ghost use Rattle.demangle_text.specs.State.{IsLiving, shape, Lives, IsEdit, KeepsAll, main_bytes};
 ghost use Rattle.demangle_text.specs.State.{StaysInPlace, IsLeftOrStays, JoinsInPlace, Appends, StandsShortened};
 ghost use Rattle.demangle_edit.specs.Answers.{Answers, IfFound, OnNone};
 ghost use Rattle.demangle_edit.specs.Types.{pointed, collapse_step, pointer_shape, cv_place, cv_shape};
 ghost use Rattle.demangle_edit.specs.Built.{function_closed};
-ghost use Rattle.demangle_edit.specs.Calls.{is_cut, is_shortened, is_kept, is_left, function_step, opening_step, array_step, after_text};
-ghost use Rattle.demangle_edit.specs.Calls.{member_pointer_step};
-ghost use Rattle.demangle_edit.specs.Types.{expansion_shape};
-ghost use Rattle.demangle_edit.specs.Types.{dimension_digits, array_shape};
-ghost use Rattle.demangle_edit.specs.Types.{member_gap, member_pointer_shape};
+ghost use Rattle.demangle_edit.specs.Calls.{is_cut, is_shortened, is_kept, is_left};
+ghost use Rattle.demangle_edit.specs.Calls.{function_step, opening_step, array_step, after_text, member_pointer_step};
+ghost use Rattle.demangle_edit.specs.Types.{expansion_shape, dimension_digits, array_shape, member_pointer_shape};
 
 use crate::appends::append_piece;
 use crate::dimensions::{MOST_DIGITS, dimension_bytes};
@@ -241,17 +238,6 @@ pub fn wrap_array(
     }
 }
 
-// What stands between the text of a plain type and the class of a member pointer.
-fn gap_before_member(member: &[u8]) -> &'static [u8]
-    ensures value { result.now ≡ member_gap member.now }
-{
-    if member.ends_with(b"(") || member.ends_with(b" ") {
-        b""
-    } else {
-        b" "
-    }
-}
-
 // A pointer to a member of a plain type.
 #[tactic(auto, using(demangle_text::proofs::Laws::laws, crate::proofs::Insertions::insertions))]
 fn append_member(buf: &mut Buffer, class: Piece, member: Piece) -> Result<Piece, AllocError>
@@ -263,7 +249,12 @@ fn append_member(buf: &mut Buffer, class: Piece, member: Piece) -> Result<Piece,
     ensures edit { OnOk result (IsEdit buf.old buf.new) }
     ensures in_place { IfOk result (λ p. JoinsInPlace buf.old buf.new member class p) }
 {
-    let gap = gap_before_member(buf.bytes(member));
+    let bytes = buf.bytes(member);
+    let gap: &[u8] = if bytes.ends_with(b"(") || bytes.ends_with(b" ") {
+        b""
+    } else {
+        b" "
+    };
     let begun = append_piece(buf, member, gap, class)?;
     buf.append(begun, b"::*")
 }
@@ -284,30 +275,6 @@ fn cut_declarator(buf: &Buffer, piece: Piece) -> (Piece, Piece)
     (buf.own(front), buf.own(after))
 }
 
-// The class of a member in a group between two texts, as one plain text.
-#[tactic(auto, using(demangle_text::proofs::Laws::laws))]
-fn join_member(
-    buf: &mut Buffer,
-    front: Piece,
-    class: Piece,
-    after: Piece,
-) -> Result<Piece, AllocError>
-    requires front { IsLiving buf.old front }
-    requires class { IsLiving buf.old class }
-    requires after { IsLiving buf.old after }
-    ensures shape { IfOk result (λ p. Lives buf.new p (plain_shape
-        (text (shape buf.old front) ++ (gap_after (text (shape buf.old front)) ++ codes "(")
-        ++ text (shape buf.old class) ++ codes "::*)" ++ text (shape buf.old after)))) }
-    ensures kept { OnOk result (KeepsAll buf.old buf.new) }
-    ensures appends { IfOk result (λ p. Appends buf.old buf.new p) }
-{
-    let opening = Buffer::group_opening(buf.bytes(front));
-    let mark = buf.open();
-    let begun = buf.join(front, opening, class)?;
-    let whole = buf.join(begun, b"::*)", after)?;
-    buf.close(mark, whole)
-}
-
 // A pointer to a member function: the class stands in a new group.
 #[tactic(auto, using(demangle_text::proofs::Laws::laws, crate::proofs::Members::members))]
 fn open_member(buf: &mut Buffer, class: Piece, member: Piece) -> Result<Piece, AllocError>
@@ -323,7 +290,11 @@ fn open_member(buf: &mut Buffer, class: Piece, member: Piece) -> Result<Piece, A
     let class_len = buf.len(class);
     let (front, after) = cut_declarator(buf, member);
     let after_len = buf.len(after);
-    let whole = join_member(buf, front, class, after)?;
+    let opening = Buffer::group_opening(buf.bytes(front));
+    let mark = buf.open();
+    let begun = buf.join(front, opening, class)?;
+    let joined = buf.join(begun, b"::*)", after)?;
+    let whole = buf.close(mark, joined)?;
     let at = buf.len(whole) - after_len;
     let from = at - 5 - class_len;
     let declared = buf.declare_group(whole, Kind::Function, from, at);

@@ -4,13 +4,19 @@ use Rattle.std.proofs.lemmas.List.{length-append, length-drop, length-take-le, t
 use Rattle.demangle_text.specs.declared.shape.Piece.{Piece}
 use Rattle.growing_text.specs.Room.{HasRoom}
 use Rattle.growing_text.proofs.Parts.{part-append}
-use Rattle.demangle_text.specs.Pieces.{Store, IsStore, IsTail, IsTailAt, IsBrought, IsSplice, IsAdjacent, IsJoint, EndsBy, Extends, home_bytes, piece_text, own_text}
+use Rattle.demangle_text.specs.Pieces.{Store, IsStore, IsTail, IsTailAt, IsBrought, IsSplice, IsAdjacent, IsJoint, EndsBy, Extends, home_bytes, piece_text}
 use Rattle.demangle_text.specs.State.{IsLiving, KeepsAll, IsEdit}
 use Rattle.demangle_text.specs.Gaps.{IsGap, IsOpen, with_gap_filled}
 use Rattle.demangle_text.proofs.Laws.{IsEdit-keeps}
-use Rattle.demangle_text.proofs.States.{KeepsAll-longer, IsStore-longer, Extends-same, unchanged}
-use Rattle.demangle_text.proofs.Texts.{part-part}
+use Rattle.demangle_text.proofs.States.{KeepsAll-longer, IsStore-longer, Extends-same, Extends-trans, unchanged}
 use Rattle.demangle_text.proofs.Tails.{IsSplice-inserted, IsSplice-copied, length-text}
+
+-- whether a piece ends the output is asked by the output's length
+pub tail-is : (s b : Store) (p : Piece) (len : ℕ) → s ≡ b → len ≡ length s.main_text → IsTailAt s.frame_main len p → IsTail b p
+tail-is s b p len same by h = subst (λ (v : Store). IsTail v p) same (subst (λ (k : ℕ). IsTailAt s.frame_main k p) by h)
+
+pub is-tail : (s b : Store) (p : Piece) (len : ℕ) → s ≡ b → len ≡ length s.main_text → IsTail b p → IsTailAt s.frame_main len p
+is-tail s b p len same by h = subst (λ (k : ℕ). IsTailAt s.frame_main k p) (sym by) (subst (λ (v : Store). IsTail v p) (sym same) h)
 
 -- one that ends it already
 pub IsBrought-stays : (main side : List ℕ) (mark : ℕ) (p : Piece) → p.from_byte ≤ p.to_byte → IsTailAt mark (length main) p → IsBrought main side mark p main p.from_byte
@@ -95,38 +101,38 @@ unfolding IsLiving
 within-brought s mid p lies e =
     subst (λ (v : List ℕ). p.to_byte ≤ length (home_bytes v s.side_text p.aside)) (sym e.all) (within-longer s.main_text s.side_text e.more p.aside p.to_byte lies.within)
 
--- bytes and another text after it
-pub IsJoint-extended : (s t : Store) (first : Piece) (bytes : List ℕ) (second : Piece) (mid : List ℕ) (from : ℕ) → (IsAdjacent s first second → ⊥)
-    → (IsTail s second → EndsBy second.from_byte first → ⊥) → IsLiving s second → IsBrought s.main_text s.side_text s.frame_main first mid from
-    → t.main_text ≡ mid ++ (bytes ++ piece_text mid s.side_text second) → IsJoint s t first bytes second from
-IsJoint-extended s t first bytes second mid from apart later lies b is_mid =
+-- bytes and another text after it, put there one after the other
+pub Extends-more : (old mid new bytes : List ℕ) → Extends old mid → new ≡ mid ++ bytes → Extends old new
+Extends-more old mid new bytes e is = Extends-trans old mid new e (record { more = bytes; all = is })
+
+pub both-added : (s : Store) (mid bytes one two : List ℕ) (other : Piece) → IsLiving s other → Extends s.main_text mid → one ≡ mid ++ bytes
+    → two ≡ one ++ piece_text one s.side_text other → two ≡ mid ++ (bytes ++ piece_text s.main_text s.side_text other)
+both-added s mid bytes one two other lies e is_one is_two =
+    let same = text-brought s one other lies (Extends-more s.main_text mid one bytes e is_one) in
+    is_two ∙ ap (λ (v : List ℕ). one ++ v) same ∙ ap (λ (v : List ℕ). v ++ piece_text s.main_text s.side_text other) is_one
+    ∙ append_assoc mid bytes (piece_text s.main_text s.side_text other)
+
+-- bytes and another text after it join both
+pub IsJoint-spliced : (s t : Store) (first : Piece) (bytes : List ℕ) (second : Piece) (from : ℕ) → (IsAdjacent s first second → ⊥)
+    → (IsTail s second → EndsBy second.from_byte first → ⊥) → IsLiving s first
+    → IsSplice s t first (first.to_byte - first.from_byte) (bytes ++ piece_text s.main_text s.side_text second) from → IsJoint s t first bytes second from
+IsJoint-spliced s t first bytes second from apart later lies h =
     let one = piece_text s.main_text s.side_text first in
     let two = piece_text s.main_text s.side_text second in
-    let more = bytes ++ two in
-    let is : t.main_text ≡ mid ++ more = is_mid ∙ ap (λ (v : List ℕ). mid ++ (bytes ++ v)) (text-brought s mid second lies b.longer) in
-    let within : from ≤ length mid = omega (arith, b.begins) in
-    let longer = ap length is ∙ length-append mid more in
+    let k = first.to_byte - first.from_byte in
+    let whole : length one ≤ k = omega (arith, length-text s first lies) in
     record {
-      within = omega (arith, longer, within);
-      text = ap (drop from) is ∙ drop-append-le from mid more within ∙ ap (λ (v : List ℕ). v ++ more) b.text ∙ sym (append_assoc one bytes two);
-      inner = b.inner;
-      front = ap (take from) is ∙ take-append-le from mid more within ∙ b.front;
-      in_place = λ h. absurd (apart h);
+      within = h.within;
+      text = h.text ∙ ap (λ (v : List ℕ). v ++ ((bytes ++ two) ++ drop k one)) (take_all k one whole) ∙ ap (λ (v : List ℕ). one ++ ((bytes ++ two) ++ v)) (drop_all k one whole)
+          ∙ ap (λ (v : List ℕ). one ++ v) (append-nil (bytes ++ two)) ∙ sym (append_assoc one bytes two);
+      inner = h.inner;
+      front = h.front;
+      in_place = λ meet. absurd (apart meet);
       in_front = λ tail before _. absurd (later tail before);
-      after = λ h.
-          let stays = b.in_place h in
-          (stays.0, longer ∙ ap (λ (v : List ℕ). length v + length more) stays.1 ∙ ap (λ (k : ℕ). length s.main_text + k) (length-append bytes two));
+      after = λ tail.
+          let stays = h.in_place tail in
+          (stays.0, stays.1 ∙ ap (λ (n : ℕ). length s.main_text + n) (length-append bytes two));
     }
-
--- the last own name of a text that was brought there
-pub own-brought : (s : Store) (mid : List ℕ) (p : Piece) (from : ℕ) → IsLiving s p → IsBrought s.main_text s.side_text s.frame_main p mid from
-    → slice_range mid (from + p.own_start) (from + p.own_end) ≡ own_text s.main_text s.side_text p
-unfolding IsLiving
-own-brought s mid p from lies b =
-    let k = p.to_byte - p.from_byte in
-    let within : p.own_end ≤ k = omega (arith, lies.outlined.own_within, length-text s p lies) in
-    part-part mid from (from + k) p.own_start p.own_end lies.outlined.own_ordered (omega arith)
-    ∙ ap (λ (v : List ℕ). slice_range v p.own_start p.own_end) (take_all (from + k - from) (drop from mid) (omega (arith, b.begins, length-drop from mid)) ∙ b.text)
 
 -- a gap in a text that ends the main text
 pub IsOpen-tail : (s t : Store) (p : Piece) (at n : ℕ) → IsTail s p → p.from_byte ≤ p.to_byte → at ≤ p.to_byte - p.from_byte → IsGap s t (p.from_byte + at) n → IsOpen s t p at n p.from_byte

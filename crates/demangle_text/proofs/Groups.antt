@@ -1,6 +1,7 @@
 -- What a new group makes of a declarator's text and its outline.
-use Rattle.std.proofs.Common.{◌≡◌, ℕ, ◌+◌, ◌-◌, ◌≤◌, List, [], ◌∷◌, ◌++◌, length, take, drop, Some, None, refl, sym, ap, ◌∙◌, arith, append_assoc}
+use Rattle.std.proofs.Common.{◌≡◌, ℕ, ◌+◌, ◌-◌, ◌≤◌, List, [], ◌∷◌, ◌++◌, length, take, drop, Option, Some, None, refl, sym, ap, ◌∙◌, arith, append_assoc}
 use Rattle.std.proofs.lemmas.List.{length-append, take_at, drop_at, append-nil}
+use Rattle.demangle_text.specs.declared.shape.Kind.{Kind}
 use Rattle.demangle_text.specs.declared.shape.Kind.TheVariants.{Array, Function}
 use Rattle.demangle_text.specs.declared.shape.Place.TheVariants.{Suffix}
 use Rattle.demangle_text.specs.Pieces.{Layout}
@@ -8,7 +9,7 @@ use Rattle.demangle_text.specs.Pieces.{Flat, Cut}
 use Rattle.demangle_text.specs.Pieces.{Outline}
 use Rattle.demangle_text.specs.Shape.{Form, Plain, Declared, form_text, grouped, gap_after, own_in, moved, opened_form, opened_own, opened_group}
 use Rattle.demangle_text.specs.Calls.{front_text, IsDeclared}
-use Rattle.demangle_text.specs.Pieces.{form_of, shape_of, IsOutlined, IsLayout, layout_end, place_at, layout_opened, own_at}
+use Rattle.demangle_text.specs.Pieces.{form_of, shape_of, IsOutlined, IsLayout, layout_end, layout_by, layout_with, place_at, layout_opened, own_at}
 use Rattle.demangle_text.proofs.Forms.{layout_for, layout_for-form_of, text-form_of}
 use Rattle.demangle_text.proofs.Inserts.{outline_for, shape_of-outline_for, IsOutlined-outline_for, moved_ordered, moved_within, length-inserted}
 
@@ -162,3 +163,13 @@ module _ (bytes t u : List ℕ) (m w : Outline) (at : ℕ) (h : IsOutlined t m) 
       let inside = moved_within (after_place f) n (length t) m.own h.own_within in
       let within : (opened_own bytes f m.own).1 ≤ length (form_text (opened_form bytes f)) = rw own (omega (arith, long, ap length text_is, inside)) in
       rw (text_is, outline_is) (IsOutlined-outline_for (opened_form bytes f) (opened_own bytes f m.own) m.templ m.ctor ordered within)
+
+-- what is inserted in front of `after` and ends in the new group
+pub layout_grouped : (kind : Option Kind) (group : Option ℕ) (at n m : ℕ) (t : List ℕ) (l : Layout) → IsDeclared (form_of t l) → layout_by kind group at ≡ layout_with Suffix n l
+    → (n ≤ at) × (layout_by kind (Some (at - m)) at ≡ layout_opened n m l)
+layout_grouped kind group at n m t Flat declared is = absurd declared
+layout_grouped None group at n m t (Cut k g a) declared is = let no : ⊥ = cc in absurd no
+layout_grouped (Some k') group at n m t (Cut k g a) declared is =
+    let same : k' ≡ k = cc in
+    let ends : at ≡ a + n = cc in
+    (omega arith, λ j. Cut (same j) (Some (ends j - m)) (ends j))

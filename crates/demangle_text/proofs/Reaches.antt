@@ -47,6 +47,19 @@ reached-set_kept ps rs i p end h room all last = record {
   ];
 }
 
+-- lists that begin with the first pieces and their bytes
+pub reached-front : (ps qs : List Piece) (rs ts : List ℕ) (n : ℕ) → take n qs ≡ take n ps → take n ts ≡ take n rs → n ≤ length ts → length ts ≤ length qs
+    → AreReached ps rs n → AreReached qs ts n
+reached-front ps qs rs ts n pieces reaches within room h = record {
+  within = within;
+  room = room;
+  ends = λ i lt k d a b.
+      let there : k < n = omega (arith, b, lt) in
+      let piece = sym (get_or-take n ps k d there) ∙ ap (λ v. get_or v k d) (sym pieces) ∙ get_or-take n qs k d there in
+      let reach = sym (get_or-take n rs i 0 lt) ∙ ap (λ v. get_or v i 0) (sym reaches) ∙ get_or-take n ts i 0 lt in
+      subst (EndsBy (get_or ts i 0)) piece (subst (λ m. EndsBy m (get_or ps k d)) reach (h.ends i lt k d a b));
+}
+
 -- a piece in the place of one, that ends by each byte by which that one ends
 pub reached-set : (ps : List Piece) (rs : List ℕ) (c i : ℕ) (p : Piece) → AreReached ps rs c → i < length ps → ((end : ℕ) → HoldsAt (EndsBy end) ps i → EndsBy end p) → AreReached (set ps i p) rs c
 reached-set ps rs c i p h there ends = record {

@@ -10,6 +10,12 @@ use Rattle.demangle_text.specs.State.{IsLiving, shape, scopes, parts_at, last_ar
 use Rattle.growing_text.proofs.Parts.{part-append, part-take}
 use Rattle.demangle_text.proofs.Texts.{slice_get-All}
 
+-- the elements from a place on
+pub slice_get_from : {X : Type 0} (n i : ℕ) (xs : List X) → slice_get (drop n xs) i ≡ slice_get xs (n + i)
+slice_get_from zero i xs = let same : i ≡ 0 + i = omega arith in ap (λ (k : ℕ). slice_get xs k) same
+slice_get_from (suc n) i [] = refl
+slice_get_from (suc n) i (x ∷ xs) = let next : suc (n + i) ≡ suc n + i = omega arith in slice_get_from n i xs ∙ ap (λ (k : ℕ). slice_get (x ∷ xs) k) next
+
 -- there are as many parts as places
 pub length-parts_at : {X : Type 0} (starts : List ℕ) (xs : List X) → length (parts_at starts xs) ≡ length starts
 length-parts_at [] xs = refl

@@ -61,6 +61,27 @@ module _ (main side new : List ℕ) (e : Extends side new) where
   pub shapes-extends : (ps : List Piece) → All (IsPiece main side) ps → map (shape_in main new) ps ≡ map (shape_in main side) ps
   shapes-extends ps h = map_same (IsPiece main side) (shape_in main new) (shape_in main side) shape_in-extends ps h
 
+-- a piece of the main text, whose text was put at the end of the side text
+module _ (main side new : List ℕ) (p : Piece) (from to : ℕ) (lies : IsPiece main side p) (home : p.aside ≡ false)
+    (is : new ≡ side ++ slice_range main p.from_byte p.to_byte) (starts : from ≡ length side) (ends : to ≡ length new) where
+  abbrev pub set_aside : Piece
+  set_aside = record p { from_byte = from; to_byte = to; aside = true }
+
+  text-aside : slice_range new from to ≡ piece_text main side p
+  text-aside =
+      take_all (to - from) (drop from new) (omega (arith, ends, length-drop from new)) ∙ ap (drop from) is ∙ drop_at side (slice_range main p.from_byte p.to_byte) from (sym starts)
+      ∙ sym (ap (λ (h : Bool). slice_range (home_bytes main side h) p.from_byte p.to_byte) home)
+
+  pub IsPiece-aside : IsPiece main new set_aside
+  IsPiece-aside = record {
+    ordered = omega (arith, starts, ends, ap length is, length-append side (slice_range main p.from_byte p.to_byte));
+    within = omega (arith, ends);
+    outlined = rw text-aside lies.outlined;
+  }
+
+  pub shape-aside : shape_in main new set_aside ≡ shape_in main side p
+  shape-aside = ap (λ (t : List ℕ). shape_of t (outline_of p)) text-aside
+
 -- one piece is replaced by one of the same shape
 module _ (main side new : List ℕ) (ps : List Piece) (i : ℕ) (d q : Piece) where
   pub replaced_lie : Extends side new → All (IsPiece main side) ps → IsPiece main new q → All (IsPiece main new) (set ps i q)

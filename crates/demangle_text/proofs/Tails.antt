@@ -374,6 +374,13 @@ pub own_text-is : (b : Store) (p : Piece) → IsLiving b p → own_text b.main_t
 unfolding IsLiving shape
 own_text-is b p lies = ap (λ (v : List ℕ). slice_range v p.own_start p.own_end) (sym (text_is b p lies))
 
+-- so a text with that after it has the last own name after it
+pub own-spliced : (b n : Store) (p q : Piece) (between : List ℕ) (at from : ℕ) → IsLiving b p → Lives b q (own_shape (shape b p))
+    → IsSplice b n p at (between ++ piece_text b.main_text b.side_text q) from → IsSplice b n p at (between ++ own_text b.main_text b.side_text p) from
+own-spliced b n p q between at from lies name h =
+    let same = sym (text_is b q name.living) ∙ ap text name.shape_is ∙ sym (own_text-is b p lies) in
+    subst (λ (v : List ℕ). IsSplice b n p at (between ++ v) from) same h
+
 -- how long it is
 pub length-own : (b : Store) (p : Piece) → IsLiving b p → length (own_text b.main_text b.side_text p) ≡ p.own_end - p.own_start
 unfolding IsLiving

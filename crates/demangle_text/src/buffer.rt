@@ -4,6 +4,7 @@ ghost use Rattle.std.specs.Prelude.{OnOk, OnErr, slice_range, slice_index, is_so
 ghost use Rattle.demangle_text.specs.Shape.{gap_after};
 
 use crate::moves::Lists;
+use crate::parts::add_text;
 use crate::ranges::Ranges;
 use crate::shape::{Kind, Mark, Piece, Place};
 use growing_text::Text;
@@ -57,9 +58,7 @@ impl Buffer {
     ghost use Rattle.demangle_text.specs.Shape.{shortened, flagged, with_own, flattened, whole_shape, own_shape};
     ghost use Rattle.demangle_text.specs.Shape.{declared_at};
     ghost use Rattle.demangle_text.specs.Calls.{joined, named, CanInsert, IsPlain, IsDeclared, IsNotFunction, kind_of};
-    ghost use Rattle.demangle_text.specs.Calls.{IsLast, AreAdjacent};
-    ghost use Rattle.demangle_text.specs.Pieces.{IsTail};
-    ghost use Rattle.demangle_text.specs.Calls.{group_of, after_of, declared_group};
+    ghost use Rattle.demangle_text.specs.Calls.{group_of, after_of, declared_group, IsLast, AreAdjacent};
 
     /// An empty buffer, with no mark open. It takes no memory.
     pub fn new(alloc: Global) -> Self
@@ -90,8 +89,8 @@ impl Buffer {
         ensures no_bytes { main_bytes self.new ≡ [] }
         ensures from_start { frame_start (frame self.new) ≡ 0 }
     {
-        self.lists.saved.clear();
-        self.lists.args.clear();
+        self.lists.saved.truncate(0);
+        self.lists.args.truncate(0);
         self.starts.clear();
         self.main.clear();
         self.lists.side.clear();
@@ -128,9 +127,24 @@ impl Buffer {
         ensures stands { IfOk result (λ p. Stands p (frame_start (inside mark)) (length (main_bytes self.new))) }
     {
         let mut piece = piece;
-        self.keep_only(mark.inside_main, &mut piece)?;
-        self.frame_main = mark.outside_main;
+        self.close_in_place(mark, &mut piece)?;
         Ok(piece)
+    }
+
+    /// As `close`, of a piece that is changed where it is kept.
+    #[inline(always)]
+    pub fn close_in_place(&mut self, mark: Mark, piece: &mut Piece) -> Result<(), AllocError>
+        requires innermost { frame self.old ≡ inside mark }
+        requires living { IsLiving self.old piece.old }
+        ensures shape { OnOk result (Lives self.new piece.new (shape self.old piece.old)) }
+        ensures closed { OnOk result (Closes self.old self.new mark) }
+        ensures main { OnOk result (main_bytes self.new
+            ≡ take (frame_start (inside mark)) (main_bytes self.old) ++ text (shape self.old piece.old)) }
+        ensures stands { OnOk result (Stands piece.new (frame_start (inside mark)) (length (main_bytes self.new))) }
+    {
+        self.keep_only(mark.inside_main, piece)?;
+        self.frame_main = mark.outside_main;
+        Ok(())
     }
 
     /// A plain piece of the bytes, which go to the end of the main text. Its last own name is the
@@ -170,7 +184,8 @@ impl Buffer {
         ensures main_err { OnErr result (main_bytes self.new ≡ main_bytes self.old) }
         ensures stands { IfOk result (λ p. Stands p (length (main_bytes self.old)) (length (main_bytes self.new))) }
     {
-        let from = self.copy_text(piece)?;
+        let from = self.main.len();
+        add_text(&mut self.main, &self.lists.side, piece)?;
         Ok(piece.moved_to(from, self.main.len()))
     }
 
@@ -232,7 +247,7 @@ impl Buffer {
             (length between.now + text_len (own_shape (shape self.old piece)))) }
         ensures main_err { OnErr result (main_bytes self.new ≡ main_bytes self.old) }
     {
-        let from = self.extend_by_own(piece, between)?;
+        let from = self.extend_by(piece, between, self.own(piece))?;
         let to = self.main.len();
         let n = between.len() + (piece.own_end - piece.own_start);
         Ok(piece.extended(n, from, to))
@@ -256,7 +271,8 @@ impl Buffer {
             return self.append(piece, bytes);
         }
         let at = piece.place(place);
-        let from = self.splice(piece, at, bytes)?;
+        let from = self.open_in(piece, at, bytes.len())?;
+        self.main.put(from + at, bytes);
         Ok(piece.with_bytes(place, at, bytes.len(), from, self.main.len()))
     }
 
@@ -285,9 +301,17 @@ impl Buffer {
     {
         let at = piece.place(Place::Suffix);
         let front = Buffer::group_opening(&self.bytes(piece)[..at]);
-        let from = self.splice_group(piece, at, front, bytes)?;
         let n = front.len() + bytes.len() + 1;
-        Ok(piece.with_group(at, n, bytes.len() + 2, from, self.main.len()))
+        let from = self.open_in(piece, at, n)?;
+        let middle = self.main.put(from + at, front);
+        let end = self.main.put(middle, bytes);
+        self.main.put(end, b")");
+        let moved = piece.with_bytes(Place::Suffix, at, n, from, self.main.len());
+        Ok(Piece {
+            group_start: moved.after_start - (bytes.len() + 2),
+            grouped: true,
+            ..moved
+        })
     }
 
     /// The plain piece without its last n bytes. Its last own name is what is left of it. The main
@@ -306,7 +330,14 @@ impl Buffer {
         ensures stands { IfOk result (λ p. StandsShortened n piece p) }
         ensures main_err { OnErr result (main_bytes self.new ≡ main_bytes self.old) }
     {
-        Ok(piece.cut(n))
+        let left = piece.text_len() - n;
+        Ok(Piece {
+            to_byte: piece.to_byte - n,
+            own_start: piece.own_start.min(left),
+            own_end: piece.own_end.min(left),
+            kind: None,
+            ..piece
+        })
     }
 
     /// A plain piece: the text of the first piece, the bytes, and the text of the second. Its last
@@ -328,7 +359,17 @@ impl Buffer {
         ensures join_of { IfOk result (λ p. IsJoinOf self.old self.new first second p (length bytes.now)) }
         ensures main_err { OnErr result (main_bytes self.new ≡ main_bytes self.old) }
     {
-        let from = self.join_texts(first, bytes, second)?;
+        if self.are_adjacent(first, second) {
+            self.insert_at(second.from_byte, bytes)?;
+            return Ok(Piece::whole_at(first.from_byte, self.main.len()));
+        }
+        if second.is_tail(self.frame_main, self.main.len())
+            && (first.aside || first.to_byte <= second.from_byte)
+        {
+            self.insert_piece(second.from_byte, first, bytes)?;
+            return Ok(Piece::whole_at(second.from_byte, self.main.len()));
+        }
+        let from = self.extend_by(first, bytes, second)?;
         Ok(Piece::whole_at(from, self.main.len()))
     }
 
@@ -509,7 +550,12 @@ impl Buffer {
         ensures shape { Lives self.now result (own_shape (shape self.now piece)) }
         ensures age { IsAsOld piece result }
     {
-        piece.own_name()
+        let from = piece.from_byte + piece.own_start;
+        let to = piece.from_byte + piece.own_end;
+        Piece {
+            aside: piece.aside,
+            ..Piece::whole_at(from, to)
+        }
     }
 
     /// The plain piece as a declarator of this kind, with no group: its `after` begins at the byte

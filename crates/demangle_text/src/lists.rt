@@ -1,6 +1,6 @@
 //! The list of saved shapes, and the list of scopes.
-ghost use Rattle.std.specs.Prelude.{◌≡◌, ◌+◌, ◌-◌, ◌^◌, ◌<◌, ◌≤◌, [], ◌∷◌, ◌++◌, length, take, OnOk, OnErr, IfSome, option_map};
-ghost use Rattle.std.specs.Prelude.{slice_get};
+ghost use Rattle.std.specs.Prelude.{◌≡◌, ◌+◌, ◌-◌, ◌^◌, ◌<◌, ◌≤◌, [], ◌∷◌, ◌++◌, length, take, OnOk, OnErr};
+ghost use Rattle.std.specs.Prelude.{IfSome, option_map, slice_get};
 
 use crate::buffer::Buffer;
 use crate::shape::Piece;
@@ -34,7 +34,20 @@ impl Buffer {
         ensures main { main_bytes self.new ≡ main_bytes self.old }
         ensures err { OnErr result (KeepsAll self.old self.new) }
     {
-        self.lists.saved.push(&piece, self.main.len())?;
+        self.save_in_place(&piece)
+    }
+
+    /// As `save`, of a piece that stays where it is kept.
+    #[inline(always)]
+    pub fn save_in_place(&mut self, piece: &Piece) -> Result<(), AllocError>
+        requires living { IsLiving self.old piece.now }
+        ensures saved { OnOk result (saved self.new ≡ saved self.old ++ shape self.old piece.now ∷ []) }
+        ensures scopes { scopes self.new ≡ scopes self.old }
+        ensures kept { SameFrame self.old self.new }
+        ensures main { main_bytes self.new ≡ main_bytes self.old }
+        ensures err { OnErr result (KeepsAll self.old self.new) }
+    {
+        self.lists.saved.push(piece, self.main.len())?;
         Ok(())
     }
 
@@ -111,7 +124,12 @@ impl Buffer {
             return None;
         }
         let start = self.starts[count - 1];
-        self.lists.args.get_from(start, i)
+        let args = &self.lists.args;
+        if i < args.len() - start {
+            args.get(start + i)
+        } else {
+            None
+        }
     }
 
     /// How many scopes are open.

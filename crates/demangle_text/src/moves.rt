@@ -1,10 +1,8 @@
 //! What a move of bytes in the output does to the pieces that are kept.
-ghost use Rattle.std.specs.Prelude.{◌≡◌, ℕ, ◌+◌, ◌-◌, ◌^◌, ◌<◌, ◌≤◌, ◌++◌, length, slice_range, All, map, IfOk, OnOk};
-ghost use Rattle.std.specs.Prelude.{OnErr, true, false};
-ghost use Rattle.std.specs.List.{AllWithin};
-ghost use Rattle.demangle_text.specs.Pieces.{IsPiece, IsApart, IsAside, EndsBy, Extends, shape_in, outline_of, carried};
+ghost use Rattle.std.specs.Prelude.{◌≡◌, ◌<◌, ◌≤◌, length, All, map, OnOk, true, false};
+ghost use Rattle.demangle_text.specs.Pieces.{IsPiece, IsApart, IsAside, Extends, shape_in};
 
-use crate::ranges::{Block, Move, Ranges};
+use crate::ranges::{Block, Ranges};
 use crate::shape::Piece;
 use growing_text::Text;
 use std::alloc::AllocError;
@@ -29,24 +27,6 @@ impl Lists {
     {
         evict(main, &mut self.side, &mut self.saved, block)?;
         evict(main, &mut self.side, &mut self.args, block)
-    }
-
-    // Carries all pieces of both lists that lie in the block, which was moved to `dest`.
-    #[inline(always)]
-    pub(crate) fn carry(&mut self, block: Block, dest: usize)
-        requires saved_ordered { All (λ p. p.from_byte ≤ p.to_byte) self.old.saved }
-        requires args_ordered { All (λ p. p.from_byte ≤ p.to_byte) self.old.args }
-        requires ordered { block.from ≤ block.end }
-        requires saved_apart { All (IsApart block.low block.from block.end) self.old.saved }
-        requires args_apart { All (IsApart block.low block.from block.end) self.old.args }
-        requires fits { dest + (block.end - block.from) < 2 ^ 64 }
-        ensures saved { self.new.saved ≡ map (carried block.low block.from dest) self.old.saved }
-        ensures args { self.new.args ≡ map (carried block.low block.from dest) self.old.args }
-        ensures side { self.new.side ≡ self.old.side }
-    {
-        let by = Move { block, dest };
-        self.saved.carry(by);
-        self.args.carry(by);
     }
 }
 
@@ -74,28 +54,6 @@ pub(crate) fn torn_len(pieces: &Ranges, block: Block) -> usize
     n
 }
 
-// A kept piece before a block is moved: one that would be torn has its text at the end of the spill.
-fn set_aside(main: &[u8], side: &mut Text, piece: Piece, block: Block) -> Result<Piece, AllocError>
-    requires lies { IsPiece main.now side.old piece }
-    ensures side { Extends side.old side.new }
-    ensures lies { IfOk result (IsPiece main.now side.new) }
-    ensures shape { IfOk result (λ p. shape_in main.now side.new p ≡ shape_in main.now side.old piece) }
-    ensures apart { IfOk result (IsApart block.low block.from block.end) }
-    ensures ends { IfOk result (λ p. (end : ℕ) → EndsBy end piece → EndsBy end p) }
-{
-    if !is_torn(piece, block) {
-        return Ok(piece);
-    }
-    let from = side.len();
-    side.add(&main[piece.from_byte..piece.to_byte])?;
-    Ok(Piece {
-        from_byte: from,
-        to_byte: side.len(),
-        aside: true,
-        ..piece
-    })
-}
-
 // Sets aside the texts of all pieces of a list that would be torn: none of them lies before the first that a move can
 // reach.
 #[inline(always)]
@@ -109,8 +67,18 @@ fn evict(main: &[u8], side: &mut Text, pieces: &mut Ranges, block: Block) -> Res
 {
     let first = pieces.count_by(block.low);
     for i in first..pieces.len() {
-        let piece = set_aside(main, side, pieces.piece_at(i), block)?;
-        pieces.set(i, piece);
+        let piece = pieces.piece_at(i);
+        if is_torn(piece, block) {
+            let from = side.len();
+            side.add(&main[piece.from_byte..piece.to_byte])?;
+            let moved = Piece {
+                from_byte: from,
+                to_byte: side.len(),
+                aside: true,
+                ..piece
+            };
+            pieces.set(i, moved);
+        }
     }
     Ok(())
 }

@@ -1,30 +1,24 @@
-//! Texts of pieces, put at the end of the output or at a place in it.
-ghost use Rattle.std.specs.Prelude.{◌≡◌, ℕ, ◌+◌, ◌-◌, ◌<◌, ◌≤◌, ◌++◌, length, take, drop, slice_range, IfOk, OnOk};
+//! Texts of pieces, put at the end of the output.
+ghost use Rattle.std.specs.Prelude.{◌≡◌, ◌≤◌, ◌++◌, length, take, IfOk, OnOk};
 ghost use Rattle.std.specs.Prelude.{OnErr};
-ghost use Rattle.demangle_text.specs.Pieces.{home_bytes, piece_text, EndsBy, IsBrought};
+ghost use Rattle.demangle_text.specs.Pieces.{home_bytes, piece_text, IsBrought};
 
 use crate::shape::Piece;
 use growing_text::Text;
 use std::alloc::AllocError;
 
-// Some bytes of the output or the spill.
+// Copies the text of a piece to the end of the output.
 #[inline(always)]
-pub(crate) fn add_part(
-    main: &mut Text,
-    side: &Text,
-    in_side: bool,
-    from: usize,
-    to: usize,
-) -> Result<(), AllocError>
-    requires ordered { from ≤ to }
-    requires within { to ≤ length (home_bytes main.old side.now in_side) }
-    ensures ok { OnOk result (main.new ≡ main.old ++ slice_range (home_bytes main.old side.now in_side) from to) }
+pub(crate) fn add_text(main: &mut Text, side: &Text, piece: Piece) -> Result<(), AllocError>
+    requires ordered { piece.from_byte ≤ piece.to_byte }
+    requires within { piece.to_byte ≤ length (home_bytes main.old side.now piece.aside) }
+    ensures ok { OnOk result (main.new ≡ main.old ++ piece_text main.old side.now piece) }
     ensures err { OnErr result (main.new ≡ main.old) }
 {
-    if in_side {
-        main.add(side.part(from, to))
+    if piece.aside {
+        main.add(side.part(piece.from_byte, piece.to_byte))
     } else {
-        main.repeat(from, to)
+        main.repeat(piece.from_byte, piece.to_byte)
     }
 }
 
@@ -68,43 +62,6 @@ pub(crate) fn at_end(
         return Ok(piece.from_byte);
     }
     let from = main.len();
-    add_part(main, side, piece.aside, piece.from_byte, piece.to_byte)?;
+    add_text(main, side, piece)?;
     Ok(from)
-}
-
-// Bytes and the text of a piece after them. After an error the output is as it was.
-pub(crate) fn add_before_text(
-    main: &mut Text,
-    side: &Text,
-    bytes: &[u8],
-    piece: Piece,
-) -> Result<(), AllocError>
-    requires ordered { piece.from_byte ≤ piece.to_byte }
-    requires within { piece.to_byte ≤ length (home_bytes main.old side.now piece.aside) }
-    ensures ok { OnOk result (main.new ≡ main.old ++ (bytes.now ++ piece_text main.old side.now piece)) }
-    ensures err { OnErr result (main.new ≡ main.old) }
-{
-    let len = main.len();
-    main.add(bytes)?;
-    let added = add_part(main, side, piece.aside, piece.from_byte, piece.to_byte);
-    taken_back(main, len, added)
-}
-
-// The text of a piece at a place of the output, by which it ends if it lies there, over the bytes that stood there:
-// where it ends.
-#[inline(always)]
-pub(crate) fn put_text(main: &mut Text, side: &Text, at: usize, piece: Piece) -> usize
-    requires ordered { piece.from_byte ≤ piece.to_byte }
-    requires within { piece.to_byte ≤ length (home_bytes main.old side.now piece.aside) }
-    requires before { EndsBy at piece }
-    requires room { at + (piece.to_byte - piece.from_byte) ≤ length main.old }
-    ensures value { main.new ≡ take at main.old ++ (piece_text main.old side.now piece
-        ++ drop (at + (piece.to_byte - piece.from_byte)) main.old) }
-    ensures ends { result ≡ at + (piece.to_byte - piece.from_byte) }
-{
-    if piece.aside {
-        main.put(at, side.part(piece.from_byte, piece.to_byte))
-    } else {
-        main.put_part(at, piece.from_byte, piece.to_byte)
-    }
 }

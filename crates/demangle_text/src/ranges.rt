@@ -1,6 +1,6 @@
 //! A list of pieces that grows: the front of a vector that is as long as what is reserved.
 ghost use Rattle.std.specs.Prelude.{◌≡◌, ℕ, ◌+◌, ◌-◌, ◌^◌, ◌<◌, ◌≤◌, List, [], ◌∷◌, ◌++◌, length, take, slice_get};
-ghost use Rattle.std.specs.Prelude.{OnOk, OnErr, All, map, drop, slice_set, slice_index_or};
+ghost use Rattle.std.specs.Prelude.{OnOk, OnErr, All, map, slice_set, slice_index_or};
 ghost use Rattle.std.specs.List.{AllWithin, HoldsAt};
 ghost use Rattle.demangle_text.specs.Pieces.{EndsBy, IsApart, AreReached, carried, pieces_of, reaches_of};
 
@@ -32,13 +32,6 @@ pub(crate) struct Block {
     pub(crate) end: usize,
 }
 
-// A block of the output, and where it goes.
-#[derive(Clone, Copy)]
-pub(crate) struct Move {
-    pub(crate) block: Block,
-    pub(crate) dest: usize,
-}
-
 impl Model for Ranges {
     ghost use Rattle.std.specs.Prelude.{List, take};
     ghost use Rattle.demangle_text.specs.declared.shape.Piece.{Piece};
@@ -68,14 +61,6 @@ impl Ranges {
         ensures fits { result + 1 < 2 ^ 64 }
     {
         self.count
-    }
-
-    // What was reserved stays.
-    #[inline(always)]
-    pub(crate) fn clear(&mut self)
-        ensures empty { self.new ≡ [] }
-    {
-        self.count = 0;
     }
 
     // A byte of the output by which the first n pieces end.
@@ -129,19 +114,6 @@ impl Ranges {
         }
     }
 
-    // The piece with an index, counted from a place on.
-    #[inline(always)]
-    pub(crate) fn get_from(&self, start: usize, i: usize) -> Option<Piece>
-        requires within { start ≤ length self.now }
-        ensures value { result ≡ slice_get (drop start self.now) i }
-    {
-        if i < self.count - start {
-            Some(self.kept[start + i].piece)
-        } else {
-            None
-        }
-    }
-
     // A piece in the place of one. It ends by each byte by which that one ends.
     pub(crate) fn set(&mut self, i: usize, piece: Piece)
         requires within { i < length self.old }
@@ -151,7 +123,7 @@ impl Ranges {
         self.kept[i].piece = piece;
     }
 
-    // A piece at the end. It is read where it is kept, once there is room. All end by a byte of the output.
+    // A piece at the end. All end by a byte of the output.
     #[inline(always)]
     pub(crate) fn push(&mut self, piece: &Piece, end: usize) -> Result<(), AllocError>
         requires ends { All (EndsBy end) self.old }
@@ -163,96 +135,78 @@ impl Ranges {
         if at == self.kept.len() {
             more(&mut self.kept)?;
         }
-        set_kept(&mut self.kept, at, piece, end);
+        self.kept[at] = Kept {
+            piece: *piece,
+            reach: end,
+        };
         self.count = at + 1;
         Ok(())
     }
 
     // Carries the pieces that lie in a block that is moved.
     #[inline(always)]
-    pub(crate) fn carry(&mut self, by: Move)
+    pub(crate) fn carry(&mut self, block: Block, dest: usize)
         requires ordered { All (λ p. p.from_byte ≤ p.to_byte) self.old }
-        requires block { by.block.from ≤ by.block.end }
-        requires apart { All (IsApart by.block.low by.block.from by.block.end) self.old }
-        requires fits { by.dest + (by.block.end - by.block.from) < 2 ^ 64 }
-        ensures value { self.new ≡ map (carried by.block.low by.block.from by.dest) self.old }
+        requires block { block.from ≤ block.end }
+        requires apart { All (IsApart block.low block.from block.end) self.old }
+        requires fits { dest + (block.end - block.from) < 2 ^ 64 }
+        ensures value { self.new ≡ map (carried block.low block.from dest) self.old }
     {
-        let first = self.count_by(by.block.low);
+        let first = self.count_by(block.low);
         if first == self.count {
             return;
         }
         let reach = self.reach(first);
-        carry_each(&mut self.kept, first, self.count, reach, by);
+        carry_each(&mut self.kept, first, self.count, reach, block, dest);
     }
 }
 
 // Carries the pieces from the first that a move can reach, and says anew by what they end.
-fn carry_each(kept: &mut Vec<Kept>, first: usize, count: usize, reach: usize, by: Move)
+fn carry_each(
+    kept: &mut Vec<Kept>,
+    first: usize,
+    count: usize,
+    reach: usize,
+    block: Block,
+    dest: usize,
+)
     requires first { first ≤ count }
     requires reached { AreReached (pieces_of kept.old.items) (reaches_of kept.old.items) count }
-    requires below { AllWithin (EndsBy by.block.low) (pieces_of kept.old.items) 0 first }
+    requires below { AllWithin (EndsBy block.low) (pieces_of kept.old.items) 0 first }
     requires ends { AllWithin (EndsBy reach) (pieces_of kept.old.items) 0 first }
     requires ordered { All (λ p. p.from_byte ≤ p.to_byte) (take count (pieces_of kept.old.items)) }
-    requires block { by.block.from ≤ by.block.end }
-    requires apart { All (IsApart by.block.low by.block.from by.block.end) (take count (pieces_of kept.old.items)) }
-    requires fits { by.dest + (by.block.end - by.block.from) < 2 ^ 64 }
+    requires block { block.from ≤ block.end }
+    requires apart { All (IsApart block.low block.from block.end) (take count (pieces_of kept.old.items)) }
+    requires fits { dest + (block.end - block.from) < 2 ^ 64 }
     ensures reached { AreReached (pieces_of kept.new.items) (reaches_of kept.new.items) count }
     ensures value { take count (pieces_of kept.new.items)
-        ≡ map (carried by.block.low by.block.from by.dest) (take count (pieces_of kept.old.items)) }
+        ≡ map (carried block.low block.from dest) (take count (pieces_of kept.old.items)) }
 {
     let mut reach = reach;
     for i in first..count {
-        let piece = carry_alone(kept[i].piece, &by);
-        reach = reached(reach, &piece);
-        set_kept(kept, i, &piece, reach);
+        let piece = carry_alone(kept[i].piece, block, dest);
+        if !piece.aside {
+            reach = reach.max(piece.to_byte);
+        }
+        kept[i] = Kept { piece, reach };
     }
-}
-
-// Puts a piece after the first ones. It and all before it end by a byte of the output.
-#[inline(always)]
-fn set_kept(kept: &mut Vec<Kept>, at: usize, piece: &Piece, end: usize)
-    requires reached { AreReached (pieces_of kept.old.items) (reaches_of kept.old.items) at }
-    requires room { at < length kept.old.items }
-    requires ends { AllWithin (EndsBy end) (pieces_of kept.old.items) 0 at }
-    requires last { EndsBy end piece.now }
-    ensures reached { AreReached (pieces_of kept.new.items) (reaches_of kept.new.items) (at + 1) }
-    ensures value { pieces_of kept.new.items ≡ slice_set (pieces_of kept.old.items) at piece.now }
-    ensures long { length kept.new.items ≡ length kept.old.items }
-{
-    kept[at] = Kept {
-        piece: *piece,
-        reach: end,
-    };
 }
 
 // A kept piece after the block was moved.
-fn carry_alone(piece: Piece, by: &Move) -> Piece
+fn carry_alone(piece: Piece, block: Block, dest: usize) -> Piece
     requires ordered { piece.from_byte ≤ piece.to_byte }
-    requires block { by.now.block.from ≤ by.now.block.end }
-    requires apart { IsApart by.now.block.low by.now.block.from by.now.block.end piece }
-    requires fits { by.now.dest + (by.now.block.end - by.now.block.from) < 2 ^ 64 }
-    ensures value { result ≡ carried by.now.block.low by.now.block.from by.now.dest piece }
+    requires block { block.from ≤ block.end }
+    requires apart { IsApart block.low block.from block.end piece }
+    requires fits { dest + (block.end - block.from) < 2 ^ 64 }
+    ensures value { result ≡ carried block.low block.from dest piece }
 {
-    if piece.aside || piece.to_byte <= by.block.low {
+    if piece.aside || piece.to_byte <= block.low {
         return piece;
     }
     Piece {
-        from_byte: by.dest + (piece.from_byte - by.block.from),
-        to_byte: by.dest + (piece.to_byte - by.block.from),
+        from_byte: dest + (piece.from_byte - block.from),
+        to_byte: dest + (piece.to_byte - block.from),
         ..piece
-    }
-}
-
-// An end for all that ends by a byte, and for a piece.
-#[inline(always)]
-fn reached(end: usize, piece: &Piece) -> usize
-    ensures more { end ≤ result }
-    ensures ends { EndsBy result piece.now }
-{
-    if !piece.aside && end < piece.to_byte {
-        piece.to_byte
-    } else {
-        end
     }
 }
 

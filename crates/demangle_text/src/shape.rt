@@ -1,8 +1,7 @@
 //! Pieces: where their texts lie, how these are cut into the parts of a shape, and where the base name lies.
-ghost use Rattle.std.specs.Prelude.{◌≡◌, ℕ, ◌+◌, ◌-◌, ◌^◌, ◌<◌, ◌≤◌, true, if◌then◌else◌};
-ghost use Rattle.demangle_text.specs.Pieces.{place_at, layout_with, layout_opened, layout_end, own_at, own_of};
-ghost use Rattle.demangle_text.specs.Pieces.{whole_outline, cut_outline, outline_of, IsAt, EndsBy, Layout, layout_by, group_from};
-ghost use Rattle.demangle_text.specs.Pieces.{IsTailAt};
+ghost use Rattle.std.specs.Prelude.{◌≡◌, ◌+◌, ◌-◌, ◌^◌, ◌<◌, ◌≤◌, true};
+ghost use Rattle.demangle_text.specs.Pieces.{place_at, layout_with, layout_end, own_at, own_of};
+ghost use Rattle.demangle_text.specs.Pieces.{whole_outline, outline_of, IsAt, IsTailAt, Layout};
 ghost use Rattle.demangle_text.specs.Shape.{moved};
 
 /// What a declarator declares.
@@ -83,25 +82,6 @@ impl Piece {
         }
     }
 
-    // A plain piece of its base name, in the same text.
-    #[inline(always)]
-    pub(crate) fn own_name(self) -> Piece
-        requires ordered { self.own_start ≤ self.own_end }
-        requires fits { self.from_byte + self.own_end < 2 ^ 64 }
-        ensures home { result.aside ≡ self.aside }
-        ensures begins { result.from_byte ≡ self.from_byte + self.own_start }
-        ensures ends { result.to_byte ≡ self.from_byte + self.own_end }
-        ensures outline { outline_of result
-            ≡ whole_outline (self.from_byte + self.own_end - (self.from_byte + self.own_start)) }
-    {
-        let from = self.from_byte + self.own_start;
-        let to = self.from_byte + self.own_end;
-        Piece {
-            aside: self.aside,
-            ..Piece::whole_at(from, to)
-        }
-    }
-
     // Its outline over other bytes of the output.
     #[inline(always)]
     pub(crate) fn moved_to(self, from: usize, to: usize) -> Piece
@@ -132,15 +112,6 @@ impl Piece {
         ensures other { IsTailAt mark end self → result ≡ true }
     {
         !self.aside && mark <= self.from_byte && self.to_byte == end
-    }
-
-    // Whether it lies in the spill, or ends by a byte of the output.
-    #[inline(always)]
-    pub(crate) fn ends_by(self, at: usize) -> bool
-        ensures ends { result ≡ true → EndsBy at self }
-        ensures other { EndsBy at self → result ≡ true }
-    {
-        self.aside || self.to_byte <= at
     }
 
     // Where a place lies in its text.
@@ -186,17 +157,24 @@ impl Piece {
         ensures templ { result.templ ≡ self.templ }
         ensures ctor { result.ctor ≡ self.ctor }
     {
-        let (own_start, own_end) = self.own_moved(at, n, to - from);
-        let (group_start, after_start) = self.parts_moved(place, n);
+        let (own_start, own_end) = match self.kind {
+            Some(Kind::Function) => (0, to - from),
+            _ if at <= self.own_start => (self.own_start + n, self.own_end + n),
+            _ if self.own_end <= at => (self.own_start, self.own_end),
+            _ => (self.own_start, self.own_end + n),
+        };
+        let (group_start, after_start) = match place {
+            _ if self.kind.is_none() => (self.group_start, self.after_start),
+            Place::End => (self.group_start, self.after_start),
+            Place::Start if self.grouped => (self.group_start + n, self.after_start + n),
+            _ => (self.group_start, self.after_start + n),
+        };
         Piece {
-            from_byte: from,
-            to_byte: to,
             own_start,
             own_end,
             group_start,
             after_start,
-            aside: false,
-            ..self
+            ..self.moved_to(from, to)
         }
     }
 
@@ -228,81 +206,6 @@ impl Piece {
         }
     }
 
-    // Where the group and `after` begin after n bytes were inserted at a place.
-    #[inline(always)]
-    fn parts_moved(self, place: Place, n: usize) -> (usize, usize)
-        requires fits { layout_end (outline_of self).layout + n < 2 ^ 64 }
-        ensures value { layout_by self.kind (group_from self.grouped result.0) result.1
-            ≡ layout_with place n (outline_of self).layout }
-    {
-        if self.kind.is_none() {
-            return (self.group_start, self.after_start);
-        }
-        match place {
-            Place::End => (self.group_start, self.after_start),
-            Place::Close | Place::Suffix => (self.group_start, self.after_start + n),
-            Place::Start if self.grouped => (self.group_start + n, self.after_start + n),
-            Place::Start => (self.group_start, self.after_start + n),
-        }
-    }
-
-    // The declarator after n bytes were inserted at the byte `at`, where `after` began, which end in a group of m bytes
-    // with its parentheses, when its text lies at these bytes of the output.
-    #[inline(always)]
-    pub(crate) fn with_group(self, at: usize, n: usize, m: usize, from: usize, to: usize) -> Piece
-        requires text { from ≤ to }
-        requires ordered { self.own_start ≤ self.own_end }
-        requires own_fits { self.own_end + n < 2 ^ 64 }
-        requires layout_fits { layout_end (outline_of self).layout + n < 2 ^ 64 }
-        requires within { m ≤ n }
-        ensures stands { IsAt result from to }
-        ensures layout { (outline_of result).layout ≡ layout_opened n m (outline_of self).layout }
-        ensures own { (outline_of result).own
-            ≡ own_at (outline_of self).layout (to - from) (moved at n (outline_of self).own) }
-        ensures templ { result.templ ≡ self.templ }
-        ensures ctor { result.ctor ≡ self.ctor }
-    {
-        let (own_start, own_end) = self.own_moved(at, n, to - from);
-        if self.kind.is_none() {
-            return Piece {
-                own_start,
-                own_end,
-                ..self.moved_to(from, to)
-            };
-        }
-        Piece {
-            from_byte: from,
-            to_byte: to,
-            own_start,
-            own_end,
-            group_start: self.after_start + n - m,
-            after_start: self.after_start + n,
-            grouped: true,
-            aside: false,
-            ..self
-        }
-    }
-
-    // The piece without its last n bytes, as a plain one.
-    #[inline(always)]
-    pub(crate) fn cut(self, n: usize) -> Piece
-        requires ordered { self.from_byte ≤ self.to_byte }
-        requires within { n ≤ self.to_byte - self.from_byte }
-        ensures home { result.aside ≡ self.aside }
-        ensures begins { result.from_byte ≡ self.from_byte }
-        ensures ends { result.to_byte + n ≡ self.to_byte }
-        ensures outline { outline_of result ≡ cut_outline (self.to_byte - self.from_byte - n) (outline_of self) }
-    {
-        let left = self.text_len() - n;
-        Piece {
-            to_byte: self.to_byte - n,
-            own_start: self.own_start.min(left),
-            own_end: self.own_end.min(left),
-            kind: None,
-            ..self
-        }
-    }
-
     // The text as a declarator.
     #[inline(always)]
     pub(crate) fn declared(self, kind: Kind, group: Option<usize>, at: usize) -> Piece
@@ -327,21 +230,6 @@ impl Piece {
             kind: Some(kind),
             grouped: group.is_some(),
             ..self
-        }
-    }
-
-    // The base name after n bytes were inserted at the byte `at` of its text, which has `len` bytes then.
-    #[inline(always)]
-    fn own_moved(self, at: usize, n: usize, len: usize) -> (usize, usize)
-        requires ordered { self.own_start ≤ self.own_end }
-        requires fits { self.own_end + n < 2 ^ 64 }
-        ensures value { result ≡ own_at (outline_of self).layout len (moved at n (self.own_start, self.own_end)) }
-    {
-        match self.kind {
-            Some(Kind::Function) => (0, len),
-            _ if at <= self.own_start => (self.own_start + n, self.own_end + n),
-            _ if self.own_end <= at => (self.own_start, self.own_end),
-            _ => (self.own_start, self.own_end + n),
         }
     }
 }

@@ -1,10 +1,9 @@
 -- Room between two texts, which is filled from its front on.
-use Rattle.std.proofs.Common.{◌≡◌, ℕ, ◌+◌, ◌-◌, ◌≤◌, List, [], ◌++◌, length, take, drop, slice_range, refl, sym, ap, ◌∙◌, arith, append_assoc}
+use Rattle.std.proofs.Common.{◌≡◌, ℕ, ◌+◌, ◌-◌, ◌≤◌, List, [], ◌++◌, length, take, drop, refl, sym, ap, ◌∙◌, subst, arith, append_assoc}
 use Rattle.std.proofs.lemmas.List.{length-append, length-drop, length-take-le, take_at, drop_at, drop-append-le, take-append-drop, drop-drop, nil_from_length, append-nil}
 use Rattle.std.specs.List.{copy_within}
 use Rattle.growing_text.specs.Room.{HasRoom}
 use Rattle.growing_text.proofs.Fronts.{front-inserted}
-use Rattle.growing_text.proofs.Parts.{part-append}
 
 -- how long the whole is
 pub length-HasRoom : (front back all : List ℕ) (n : ℕ) → HasRoom front back all n → length all ≡ length front + (n + length back)
@@ -94,7 +93,7 @@ HasRoom-opened ys len at n within fits =
     }
 
 -- room after the front of a vector
-pub HasRoom-after : (ys : List ℕ) (len n : ℕ) → len + n ≤ length ys → HasRoom (take len ys) [] (take (len + n) ys) n
+HasRoom-after : (ys : List ℕ) (len n : ℕ) → len + n ≤ length ys → HasRoom (take len ys) [] (take (len + n) ys) n
 HasRoom-after ys len n fits =
     let room = take n (drop len ys) in
     let l = take len ys in
@@ -110,6 +109,11 @@ HasRoom-after ys len n fits =
       parts = ap (take (len + n)) all ∙ take_at (l ++ room) (drop n r) (len + n) front ∙ ap (λ (v : List ℕ). l ++ v) (sym (append-nil room));
     }
 
+-- room after a text, where what is reserved begins with it
+pub HasRoom-made : (xs ys old : List ℕ) (len n : ℕ) → take len ys ≡ take len xs → take len xs ≡ old → len + n ≤ length ys → HasRoom old [] (take (len + n) ys) n
+HasRoom-made xs ys old len n front is room =
+    subst (λ (v : List ℕ). HasRoom v [] (take (len + n) ys) n) (front ∙ is) (HasRoom-after ys len n room)
+
 -- two texts, one after the other, in room for both at the end
 pub pair-put : (old all one two mid new : List ℕ) (n at middle : ℕ) → HasRoom old [] all n → at ≡ length old → n ≡ length one + length two
     → mid ≡ take at all ++ (one ++ drop (at + length one) all) → middle ≡ at + length one → new ≡ take middle mid ++ (two ++ drop (middle + length two) mid)
@@ -118,11 +122,3 @@ pair-put old all one two mid new n at middle h by_at by_n is_mid by_middle is_ne
     let done : new ≡ take (at + length one) mid ++ (two ++ drop (at + length one + length two) mid) =
     is_new ∙ ap (λ (i : ℕ). take i mid ++ (two ++ drop (i + length two) mid)) by_middle in
     both-put old [] all one two mid new n at (length one) h by_at refl by_n is_mid done ∙ ap (λ (v : List ℕ). old ++ v) (append-nil (one ++ two))
-
--- a part of what stood before the room
-pub part-put : (old all one mid : List ℕ) (n at from to : ℕ) → HasRoom old [] all n → at ≡ length old → mid ≡ take at all ++ (one ++ drop (at + length one) all)
-    → from ≤ to → to ≤ length old → slice_range mid from to ≡ slice_range old from to
-part-put old all one mid n at from to h by_at is ordered within =
-    let low : take at all ≡ old = ap (take at) h.parts ∙ take_at old (h.room ++ []) at (sym by_at) in
-    let rest = one ++ drop (at + length one) all in
-    ap (λ (v : List ℕ). slice_range v from to) (is ∙ ap (λ (v : List ℕ). v ++ rest) low) ∙ part-append old rest from to ordered within

@@ -103,52 +103,18 @@ impl Text {
         Ok(())
     }
 
-    /// As `add`, out of line.
-    #[inline(never)]
-    pub fn add_many(&mut self, bytes: &[u8]) -> Result<(), AllocError>
-        ensures ok { OnOk result (self.new ≡ self.old ++ bytes.now) }
-        ensures err { OnErr result (self.new ≡ self.old) }
-    {
-        self.add(bytes)
-    }
-
-    /// Puts bytes at the end, and one byte after them.
-    #[inline(always)]
-    pub fn add_ended(&mut self, bytes: &[u8], end: u8) -> Result<(), AllocError>
-        ensures ok { OnOk result (self.new ≡ self.old ++ (bytes.now ++ end ∷ [])) }
-        ensures err { OnErr result (self.new ≡ self.old) }
-    {
-        self.add_pair(bytes, &[end])
-    }
-
     /// Puts two texts at the end, one after the other.
     #[inline(always)]
     pub fn add_pair(&mut self, first: &[u8], second: &[u8]) -> Result<(), AllocError>
         ensures ok { OnOk result (self.new ≡ self.old ++ (first.now ++ second.now)) }
         ensures err { OnErr result (self.new ≡ self.old) }
     {
-        let from = self.len();
-        self.add_room(first.len() + second.len())?;
-        let middle = self.put(from, first);
+        let end = self.len;
+        let n = first.len() + second.len();
+        make_room(&mut self.bytes, self.len, n)?;
+        self.len = end + n;
+        let middle = self.put(end, first);
         self.put(middle, second);
-        Ok(())
-    }
-
-    /// Puts bytes at the end, and a part of the text once more after them.
-    #[inline(always)]
-    pub fn add_with_part(&mut self, bytes: &[u8], from: usize, to: usize) -> Result<(), AllocError>
-        requires ordered { from ≤ to }
-        requires within { to ≤ length self.old }
-        ensures ok { OnOk result (self.new ≡ self.old ++ (bytes.now ++ slice_range self.old from to)) }
-        ensures err { OnErr result (self.new ≡ self.old) }
-    {
-        let Some(n) = bytes.len().checked_add(to - from) else {
-            return Err(AllocError);
-        };
-        let end = self.len();
-        self.add_room(n)?;
-        let middle = self.put(end, bytes);
-        self.put_part(middle, from, to);
         Ok(())
     }
 
@@ -160,20 +126,11 @@ impl Text {
         ensures ok { OnOk result (self.new ≡ self.old ++ slice_range self.old from to) }
         ensures err { OnErr result (self.new ≡ self.old) }
     {
-        let end = self.len();
-        self.add_room(to - from)?;
-        self.put_part(end, from, to);
-        Ok(())
-    }
-
-    /// Puts n bytes at the end, which are to be put over: nothing is said of them.
-    #[inline(always)]
-    pub fn add_room(&mut self, n: usize) -> Result<(), AllocError>
-        ensures ok { OnOk result (HasRoom self.old [] self.new n) }
-        ensures err { OnErr result (self.new ≡ self.old) }
-    {
+        let end = self.len;
+        let n = to - from;
         make_room(&mut self.bytes, self.len, n)?;
-        self.len += n;
+        self.len = end + n;
+        self.put_part(end, from, to);
         Ok(())
     }
 

@@ -22,7 +22,7 @@ pub fn laws_of_readers()
 {}
 
 /// The limits of the definition of an answer are the public constants.
-#[tactic(auto, using(itanium_reader::proofs::Unfold::max_text_is))]
+#[tactic(auto, using(itanium_reader::proofs::Texts::max_text_is))]
 pub fn laws_of_limits()
     ensures depth { MAX_DEPTH ≡ max_depth }
     ensures text { MAX_TEXT ≡ max_text }

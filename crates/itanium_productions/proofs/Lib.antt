@@ -1,1 +1,1 @@
-pub mod NestedNames
+pub mod OwnQualifiers

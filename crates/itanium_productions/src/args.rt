@@ -32,11 +32,8 @@ pub(crate) fn read_attached(
     ensures bounds { Bounds 1 result (state reader.old) (state reader.new) }
     ensures saved { SavedBounds 2 result (state reader.old) (state reader.new) }
 {
-    if depth == 0 {
-        return Err(Stop::Unread);
-    }
-    reader.entered += 1;
-    reader.skip_one();
+    let depth = reader.enter(depth)?;
+    reader.skip(1);
     let opens = context.opens_scope(of_name);
     reader.begin_list(opens)?;
     let scopes = reader.buffer.scopes();
@@ -60,7 +57,7 @@ pub(crate) fn read_attached(
             }
             ArgsCase::NextArgument => {
                 list = reader.separate_list(list, first)?;
-                framed_argument(reader, depth - 1, context)?;
+                framed_argument(reader, depth, context)?;
                 reader.add_argument(opens, scopes)?;
                 list = reader.buffer.join_adjacent(list, reader.found);
                 if reader.buffer.len(list) > widest {
@@ -86,10 +83,7 @@ pub(crate) fn read_pack(reader: &mut Reader, depth: usize, context: Context) -> 
     ensures bounds { Bounds 1 result (state reader.old) (state reader.new) }
     ensures saved { SavedBounds 1 result (state reader.old) (state reader.new) }
 {
-    if depth == 0 {
-        return Err(Stop::Unread);
-    }
-    reader.entered += 1;
+    let depth = reader.enter(depth)?;
     reader.skip(1);
     let inside = context.inside_pack();
     let mut list = reader.buffer.push(b"")?;
@@ -99,14 +93,12 @@ pub(crate) fn read_pack(reader: &mut Reader, depth: usize, context: Context) -> 
             ArgsCase::EndOfArguments => {
                 reader.skip(1);
                 reader.found = reader.buffer.whole(list);
-                if reader.is_wide(reader.found) {
-                    return Err(Stop::Unread);
-                }
+                reader.measure()?;
                 return Ok(());
             }
             ArgsCase::NextArgument => {
                 list = reader.separate_list(list, first)?;
-                framed_argument(reader, depth - 1, inside)?;
+                framed_argument(reader, depth, inside)?;
                 list = append_piece(&mut reader.buffer, list, b"", reader.found)?;
                 if reader.is_wide(list) {
                     return Err(Stop::Unread);
@@ -115,28 +107,6 @@ pub(crate) fn read_pack(reader: &mut Reader, depth: usize, context: Context) -> 
             }
         }
     }
-}
-
-/// `X <expression> E`
-#[tactic(auto, using(itanium_reader::proofs::Rules::buffers))]
-#[cycle(reader)]
-#[inline(never)]
-pub(crate) fn read_expression_argument(
-    reader: &mut Reader,
-    depth: usize,
-    context: Context,
-) -> Result<(), Stop>
-    requires room { HasRoom 2 (state reader.old) }
-    requires some { 0 < length reader.old.rest.now }
-    ensures reads { Gives result reader.new
-        (spec.ended (spec.parse_expression depth context (spec.skip 1 (state reader.old)))) }
-    ensures run { OnOk result (IsRun reader.old.buffer.value reader.new.buffer.value) }
-    ensures bounds { Bounds 0 result (state reader.old) (state reader.new) }
-    ensures saved { SavedBounds 0 result (state reader.old) (state reader.new) }
-{
-    reader.skip(1);
-    read_expression(reader, depth, context)?;
-    reader.read_end()
 }
 
 /// `<template-arg> ::= <type> | X <expression> E | <expr-primary> | J <template-arg>* E`
@@ -153,7 +123,11 @@ pub(crate) fn read_argument(reader: &mut Reader, depth: usize, context: Context)
 {
     match argument_case(reader.rest) {
         ArgumentCase::PackArgument => read_pack(reader, depth, context),
-        ArgumentCase::ExpressionArgument => read_expression_argument(reader, depth, context),
+        ArgumentCase::ExpressionArgument => {
+            reader.skip(1);
+            read_expression(reader, depth, context)?;
+            reader.read_end()
+        }
         ArgumentCase::LiteralArgument => read_primary(reader, depth, context),
         ArgumentCase::ConstraintArgument => Err(Stop::Unread),
         ArgumentCase::TypeArgument => read_type(reader, depth, context),

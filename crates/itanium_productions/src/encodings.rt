@@ -1,12 +1,14 @@
 //! Encodings and local names (Itanium C++ ABI 5.1, "General Structure" and "Scope Encoding").
 ghost use Rattle.std.specs.Prelude.{OnOk};
+ghost use Rattle.std.specs.Option.{unwrap_or};
+ghost use Rattle.demangle_quals.specs.Quals.{no_quals};
 ghost use Rattle.demangle_text.specs.State.{IsLiving, shape, IsRun, SameFrame};
 ghost use Rattle.itanium_syntax.specs.Context.{inside_encoding, inside_local};
 ghost use Rattle.itanium_syntax.specs.Encodings.{return_case, entity_case};
 ghost use Rattle.itanium_reader.specs.Parser as spec;
 ghost use Rattle.itanium_reader.specs.Outcome.{state, Gives, GivesBareName, Leaves, HasRoom, Bounds, ListBounds, SavedBounds};
 
-use crate::names::read_bare_name;
+use crate::names::{framed_name, read_name};
 use crate::specials::read_special;
 use crate::types::{read_params, read_type};
 use demangle_edit::{
@@ -21,26 +23,6 @@ use itanium_syntax::encodings::{
 };
 use itanium_syntax::names::{SymbolCase, symbol_case};
 use itanium_syntax::numerals::ordinal;
-
-/// A `<name>` without its own qualifiers, which are answered, in a frame of its own: what lived keeps its shape.
-#[tactic(auto, using(itanium_reader::proofs::Rules::buffers))]
-#[cycle(reader)]
-pub(crate) fn framed_bare_name(
-    reader: &mut Reader,
-    depth: usize,
-    context: Context,
-) -> Result<Quals, Stop>
-    requires room { HasRoom 1 (state reader.old) }
-    ensures reads { GivesBareName result reader.new (spec.parse_bare_name depth context (state reader.old)) }
-    ensures kept { OnOk result (SameFrame reader.old.buffer.value reader.new.buffer.value) }
-    ensures bounds { Bounds 1 result (state reader.old) (state reader.new) }
-    ensures saved { SavedBounds 1 result (state reader.old) (state reader.new) }
-{
-    let mark = reader.buffer.open();
-    let quals = read_bare_name(reader, depth, context)?;
-    reader.close_found(mark)?;
-    Ok(quals)
-}
 
 /// A `<type>` that isn't printed: what it saved and the scopes that it left stay, and it leaves no text.
 #[tactic(auto, using(itanium_reader::proofs::Rules::buffers))]
@@ -82,7 +64,8 @@ pub(crate) fn read_return(
     }
 }
 
-/// What is after the name of an `<encoding>`: its return type, its parameters, and then the name's own qualifiers.
+/// What is after the name of an `<encoding>`: its return type, its parameters, and then the name's own qualifiers,
+/// which wait in `quals`.
 #[tactic(auto, using(itanium_reader::proofs::Rules::buffers))]
 #[cycle(reader)]
 pub(crate) fn end_encoding(
@@ -90,16 +73,16 @@ pub(crate) fn end_encoding(
     depth: usize,
     context: Context,
     name: Piece,
-    quals: Quals,
 ) -> Result<(), Stop>
     requires room { HasRoom 2 (state reader.old) }
     requires living { IsLiving reader.old.buffer.value name }
     ensures reads { Gives result reader.new (spec.encoding_end (spec.parse_type depth context)
-        (shape reader.old.buffer.value name, quals) (state reader.old)) }
+        (shape reader.old.buffer.value name, unwrap_or reader.old.quals no_quals) (state reader.old)) }
     ensures run { OnOk result (IsRun reader.old.buffer.value reader.new.buffer.value) }
     ensures bounds { ListBounds result (state reader.old) (state reader.new) }
     ensures saved { SavedBounds 0 result (state reader.old) (state reader.new) }
 {
+    let quals = reader.quals.unwrap_or(Quals::none());
     let templ = reader.buffer.templ(name);
     let ctor = reader.buffer.ctor(name);
     read_return(reader, depth, context, templ, ctor)?;
@@ -130,14 +113,14 @@ pub(crate) fn read_encoding(reader: &mut Reader, depth: usize, context: Context)
     match symbol_case(reader.rest) {
         SymbolCase::SpecialSymbol => read_special(reader, depth, context),
         SymbolCase::NameSymbol => {
-            let quals = read_bare_name(reader, depth, context)?;
-            end_encoding(reader, depth, context, reader.found, quals)
+            read_name(reader, depth, context, true)?;
+            end_encoding(reader, depth, context, reader.found)
         }
     }
 }
 
 /// What follows the `<encoding>` of a `<local-name>`: `E s`, `E d [<number>] _ <name>` or `E <name>`. A name's own
-/// qualifiers are answered.
+/// qualifiers wait.
 #[tactic(auto, using(itanium_reader::proofs::Rules::entities))]
 #[cycle(reader)]
 #[inline(never)]
@@ -146,7 +129,7 @@ pub(crate) fn read_entity(
     depth: usize,
     context: Context,
     encoding: Piece,
-) -> Result<Quals, Stop>
+) -> Result<(), Stop>
     requires room { HasRoom 0 (state reader.old) }
     requires living { IsLiving reader.old.buffer.value encoding }
     ensures reads { GivesBareName result reader.new (spec.entity_as (entity_case reader.old.rest.now)
@@ -159,7 +142,8 @@ pub(crate) fn read_entity(
         EntityCase::StringLiteralEntity => {
             reader.skip(2);
             reader.print_string_literal(encoding)?;
-            Ok(Quals::none())
+            reader.quals = None;
+            Ok(())
         }
         EntityCase::DefaultArgumentEntity => {
             reader.skip(2);
@@ -168,26 +152,26 @@ pub(crate) fn read_entity(
             };
             reader.rest = rest;
             let opened = open_default_arg(&mut reader.buffer, encoding, number)?;
-            let quals = framed_bare_name(reader, depth, context)?;
+            framed_name(reader, depth, context, true)?;
             reader.found = close_opened(&mut reader.buffer, opened, reader.found)?;
-            Ok(quals)
+            Ok(())
         }
         EntityCase::NameEntity => {
             reader.skip(1);
             let opened = open_parent(&mut reader.buffer, encoding)?;
-            let quals = framed_bare_name(reader, depth, context)?;
+            framed_name(reader, depth, context, true)?;
             reader.found = close_opened(&mut reader.buffer, opened, reader.found)?;
-            Ok(quals)
+            Ok(())
         }
         EntityCase::NoEntity => Err(Stop::Unread),
     }
 }
 
 /// `<local-name> ::= Z <encoding> E <name> | Z <encoding> E s | Z <encoding> E d [<number>] _ <name>`, after its
-/// `Z`: the own qualifiers of its entity are answered.
+/// `Z`: the own qualifiers of its entity wait.
 #[tactic(auto, using(itanium_reader::proofs::Rules::local_names))]
 #[cycle(reader)]
-pub(crate) fn read_local(reader: &mut Reader, depth: usize, context: Context) -> Result<Quals, Stop>
+pub(crate) fn read_local(reader: &mut Reader, depth: usize, context: Context) -> Result<(), Stop>
     requires room { HasRoom 2 (state reader.old) }
     ensures reads { GivesBareName result reader.new (spec.parse_local
         (spec.parse_encoding depth (inside_encoding context))

@@ -1,12 +1,12 @@
 //! Literals, external names and expressions (Itanium C++ ABI 5.1, "Expressions").
 ghost use Rattle.std.specs.Prelude.{◌≡◌, ◌<◌, OnOk, length};
-ghost use Rattle.demangle_text.specs.State.{IsLiving, shape, IsRun, SameFrame};
+ghost use Rattle.demangle_text.specs.State.{IsLiving, shape, IsRun, SameFrame, Stands, main_bytes};
 ghost use Rattle.itanium_reader.specs.Parser as spec;
 ghost use Rattle.itanium_reader.specs.Outcome.{state, Gives, HasRoom, Bounds, SavedBounds};
 
 use crate::encodings::read_encoding;
 use crate::types::framed_type;
-use demangle_edit::{address, subexpr};
+use demangle_edit::address;
 use demangle_text::Piece;
 use itanium_reader::{Reader, Stop};
 use itanium_syntax::context::Context;
@@ -32,7 +32,7 @@ pub(crate) fn read_primary(reader: &mut Reader, depth: usize, context: Context) 
             reader.read_end()
         }
         LiteralCase::ValueLiteral => {
-            reader.skip_one();
+            reader.skip(1);
             read_literal(reader, depth, context)
         }
         LiteralCase::NoLiteral => Err(Stop::Unread),
@@ -57,7 +57,7 @@ pub(crate) fn read_literal(reader: &mut Reader, depth: usize, context: Context) 
 }
 
 /// `pp_ <expression>` and `mm_ <expression>`
-#[tactic(auto, using(itanium_reader::proofs::Rules::buffers))]
+#[tactic(auto, using(itanium_reader::proofs::Rules::words))]
 #[cycle(reader)]
 pub(crate) fn read_pre(reader: &mut Reader, depth: usize, context: Context) -> Result<(), Stop>
     requires room { HasRoom 0 (state reader.old) }
@@ -72,7 +72,7 @@ pub(crate) fn read_pre(reader: &mut Reader, depth: usize, context: Context) -> R
     let front = reader.buffer.push(expression_text(reader.rest).as_bytes())?;
     reader.skip(3);
     framed_expression(reader, depth, context)?;
-    reader.print_pre(front)?;
+    reader.print_worded(front, b"")?;
     Ok(())
 }
 
@@ -95,7 +95,7 @@ pub(crate) fn read_address(reader: &mut Reader, depth: usize, context: Context) 
 }
 
 /// An operator in front of its operand.
-#[tactic(auto, using(itanium_reader::proofs::Rules::buffers))]
+#[tactic(auto, using(itanium_reader::proofs::Rules::words))]
 #[cycle(reader)]
 pub(crate) fn read_unary(reader: &mut Reader, depth: usize, context: Context) -> Result<(), Stop>
     requires room { HasRoom 0 (state reader.old) }
@@ -109,7 +109,7 @@ pub(crate) fn read_unary(reader: &mut Reader, depth: usize, context: Context) ->
     let front = reader.buffer.push(expression_text(reader.rest).as_bytes())?;
     reader.skip(2);
     framed_operand(reader, depth, context)?;
-    reader.print_pre(front)?;
+    reader.print_worded(front, b"")?;
     Ok(())
 }
 
@@ -236,25 +236,20 @@ pub(crate) fn read_expression(
     ensures bounds { Bounds 1 result (state reader.old) (state reader.new) }
     ensures saved { SavedBounds 1 result (state reader.old) (state reader.new) }
 {
-    if depth == 0 {
-        return Err(Stop::Unread);
-    }
-    reader.entered += 1;
+    let depth = reader.enter(depth)?;
     match expression_case(reader.rest) {
-        ExpressionCase::PreExpression => read_pre(reader, depth - 1, context)?,
-        ExpressionCase::AddressExpression => read_address(reader, depth - 1, context)?,
-        ExpressionCase::UnaryExpression => read_unary(reader, depth - 1, context)?,
-        ExpressionCase::PostExpression => read_post(reader, depth - 1, context)?,
-        ExpressionCase::BinaryExpression => read_binary(reader, depth - 1, context)?,
-        ExpressionCase::GreaterExpression => read_greater(reader, depth - 1, context)?,
-        ExpressionCase::ConditionalExpression => read_conditional(reader, depth - 1, context)?,
+        ExpressionCase::PreExpression => read_pre(reader, depth, context)?,
+        ExpressionCase::AddressExpression => read_address(reader, depth, context)?,
+        ExpressionCase::UnaryExpression => read_unary(reader, depth, context)?,
+        ExpressionCase::PostExpression => read_post(reader, depth, context)?,
+        ExpressionCase::BinaryExpression => read_binary(reader, depth, context)?,
+        ExpressionCase::GreaterExpression => read_greater(reader, depth, context)?,
+        ExpressionCase::ConditionalExpression => read_conditional(reader, depth, context)?,
         ExpressionCase::ParameterExpression => reader.read_parameter(context)?,
-        ExpressionCase::LiteralExpression => read_primary(reader, depth - 1, context)?,
+        ExpressionCase::LiteralExpression => read_primary(reader, depth, context)?,
         ExpressionCase::NoExpression => return Err(Stop::Unread),
     }
-    if reader.is_wide(reader.found) {
-        return Err(Stop::Unread);
-    }
+    reader.measure()?;
     Ok(())
 }
 
@@ -271,11 +266,11 @@ pub(crate) fn read_operand(reader: &mut Reader, depth: usize, context: Context) 
 {
     let paren = !is_external(reader.rest);
     read_expression(reader, depth, context)?;
-    reader.found = subexpr(&mut reader.buffer, reader.found, paren)?;
+    reader.print_operand(paren)?;
     Ok(())
 }
 
-/// An operand in a frame of its own: what lived keeps its shape.
+/// An operand in a frame of its own: what lived keeps its shape. It stands right after all that was there.
 #[tactic(auto, using(itanium_reader::proofs::Rules::buffers))]
 #[cycle(reader)]
 pub(crate) fn framed_operand(
@@ -287,6 +282,8 @@ pub(crate) fn framed_operand(
     ensures reads { Gives result reader.new
         (spec.operand_by (spec.parse_expression depth context) (state reader.old)) }
     ensures kept { OnOk result (SameFrame reader.old.buffer.value reader.new.buffer.value) }
+    ensures stands { OnOk result (Stands reader.new.found (length (main_bytes reader.old.buffer.value))
+        (length (main_bytes reader.new.buffer.value))) }
     ensures bounds { Bounds 1 result (state reader.old) (state reader.new) }
     ensures saved { SavedBounds 1 result (state reader.old) (state reader.new) }
 {
@@ -296,7 +293,7 @@ pub(crate) fn framed_operand(
     Ok(())
 }
 
-/// `<expression>` in a frame of its own: what lived keeps its shape.
+/// `<expression>` in a frame of its own: what lived keeps its shape. It stands right after all that was there.
 #[tactic(auto, using(itanium_reader::proofs::Rules::buffers))]
 #[cycle(reader)]
 pub(crate) fn framed_expression(
@@ -307,6 +304,8 @@ pub(crate) fn framed_expression(
     requires room { HasRoom 1 (state reader.old) }
     ensures reads { Gives result reader.new (spec.parse_expression depth context (state reader.old)) }
     ensures kept { OnOk result (SameFrame reader.old.buffer.value reader.new.buffer.value) }
+    ensures stands { OnOk result (Stands reader.new.found (length (main_bytes reader.old.buffer.value))
+        (length (main_bytes reader.new.buffer.value))) }
     ensures bounds { Bounds 1 result (state reader.old) (state reader.new) }
     ensures saved { SavedBounds 1 result (state reader.old) (state reader.new) }
 {

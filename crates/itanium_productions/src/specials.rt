@@ -10,7 +10,7 @@ use crate::types::{framed_type, read_type};
 use itanium_reader::{Reader, Stop};
 use itanium_syntax::context::Context;
 use itanium_syntax::names::{SymbolCase, symbol_case};
-use itanium_syntax::offsets::{past_base_offset, thunk_offsets};
+use itanium_syntax::offsets::past_base_offset;
 use itanium_syntax::specials::{SpecialCase, special_case, special_close, special_text};
 
 /// `TV <type>`, `TT <type>`, `TI <type>`, `TS <type>` and `TF <type>`
@@ -58,7 +58,7 @@ pub(crate) fn read_name_special(
     let close = special_close(reader.rest);
     reader.skip(2);
     let begun = reader.buffer.push(words)?;
-    framed_name(reader, depth, context)?;
+    framed_name(reader, depth, context, false)?;
     reader.print_worded(begun, close)?;
     Ok(())
 }
@@ -80,12 +80,12 @@ pub(crate) fn read_temporary(
     ensures saved { SavedBounds 1 result (state reader.old) (state reader.new) }
 {
     reader.skip(2);
-    read_name(reader, depth, context)?;
+    framed_name(reader, depth, context, false)?;
     reader.end_temporary()
 }
 
 /// `TC <type> <offset number> _ <base type>`
-#[tactic(auto, using(itanium_reader::proofs::Rules::buffers))]
+#[tactic(auto, using(itanium_reader::proofs::Rules::words))]
 #[cycle(reader)]
 pub(crate) fn read_construction(
     reader: &mut Reader,
@@ -107,8 +107,10 @@ pub(crate) fn read_construction(
         return Err(Stop::Unread);
     };
     reader.rest = rest;
+    let begun = reader.buffer.push(b"construction vtable for ")?;
     framed_type(reader, depth, context)?;
-    reader.print_construction(class)?;
+    let whole = reader.buffer.join_adjacent(begun, reader.found);
+    reader.found = reader.buffer.join(whole, b"-in-", class)?;
     Ok(())
 }
 
@@ -124,20 +126,14 @@ pub(crate) fn read_thunk(reader: &mut Reader, depth: usize, context: Context) ->
     ensures bounds { Bounds 1 result (state reader.old) (state reader.new) }
     ensures saved { SavedBounds 1 result (state reader.old) (state reader.new) }
 {
-    if depth == 0 {
-        return Err(Stop::Unread);
-    }
-    reader.entered += 1;
-    reader.skip(1);
-    let Some((offsets, rest)) = thunk_offsets(reader.rest) else {
-        return Err(Stop::Unread);
-    };
-    reader.rest = rest;
-    read_symbol(reader, depth - 1, context)?;
-    reader.print_thunk(offsets)?;
-    if reader.is_wide(reader.found) {
-        return Err(Stop::Unread);
-    }
+    let depth = reader.enter(depth)?;
+    reader.open_thunk()?;
+    let begun = reader.found;
+    let mark = reader.buffer.open();
+    read_symbol(reader, depth, context)?;
+    reader.close_found(mark)?;
+    reader.print_worded(begun, b")}")?;
+    reader.measure()?;
     Ok(())
 }
 
@@ -176,6 +172,6 @@ pub fn read_symbol(reader: &mut Reader, depth: usize, context: Context) -> Resul
 {
     match symbol_case(reader.rest) {
         SymbolCase::SpecialSymbol => read_special(reader, depth, context),
-        SymbolCase::NameSymbol => read_name(reader, depth, context),
+        SymbolCase::NameSymbol => read_name(reader, depth, context, false),
     }
 }

@@ -7,7 +7,7 @@ ghost use Rattle.itanium_reader.specs.Parser as spec;
 ghost use Rattle.itanium_reader.specs.Outcome.{state, Gives, HasRoom, Bounds, OptionalBounds, ListBounds, SavedBounds};
 
 use crate::args::read_attached;
-use crate::names::read_name;
+use crate::names::{framed_name, read_name};
 use demangle_edit::{Pointer, Quals, append_piece, open_function};
 use demangle_text::Piece;
 use itanium_reader::{Reader, Stop};
@@ -56,15 +56,11 @@ pub(crate) fn read_type(reader: &mut Reader, depth: usize, context: Context) -> 
     ensures bounds { Bounds 0 result (state reader.old) (state reader.new) }
     ensures saved { SavedBounds 0 result (state reader.old) (state reader.new) }
 {
-    if depth == 0 {
-        return Err(Stop::Unread);
-    }
-    reader.entered += 1;
-    let depth = depth - 1;
+    let depth = reader.enter(depth)?;
     let context = context.inside_type();
     match type_case(reader.rest) {
         TypeCase::NameType => {
-            read_name(reader, depth, context)?;
+            read_name(reader, depth, context, false)?;
             reader.save_found()?;
         }
         TypeCase::BuiltinType => reader.read_builtin()?,
@@ -73,7 +69,8 @@ pub(crate) fn read_type(reader: &mut Reader, depth: usize, context: Context) -> 
             read_type_attached(reader, depth, context)?;
         }
         TypeCase::ParameterType => {
-            reader.read_saved_parameter(context)?;
+            reader.read_parameter(context)?;
+            reader.save_found()?;
             read_type_attached(reader, depth, context)?;
         }
         TypeCase::PointerType(kind) => read_pointer(reader, depth, context, kind)?,
@@ -92,9 +89,7 @@ pub(crate) fn read_type(reader: &mut Reader, depth: usize, context: Context) -> 
         TypeCase::VendorType => reader.read_vendor()?,
         TypeCase::UnreadType => return Err(Stop::Unread),
     }
-    if reader.is_wide(reader.found) {
-        return Err(Stop::Unread);
-    }
+    reader.measure()?;
     Ok(())
 }
 
@@ -164,7 +159,7 @@ pub(crate) fn read_pointer(
 }
 
 /// `<class-enum-type> ::= Ts <name> | Tu <name> | Te <name>`
-#[tactic(auto, using(itanium_reader::proofs::Rules::buffers))]
+#[tactic(auto, using(itanium_reader::proofs::Rules::words))]
 #[cycle(reader)]
 pub(crate) fn read_elaborated(
     reader: &mut Reader,
@@ -177,10 +172,11 @@ pub(crate) fn read_elaborated(
     ensures bounds { Bounds 1 result (state reader.old) (state reader.new) }
     ensures saved { SavedBounds 0 result (state reader.old) (state reader.new) }
 {
-    let word = elaborated_text(reader.rest);
+    let word = reader.buffer.push(elaborated_text(reader.rest))?;
     reader.skip(2);
-    read_name(reader, depth, context)?;
-    reader.save_elaborated(word)?;
+    framed_name(reader, depth, context, false)?;
+    reader.print_worded(word, b"")?;
+    reader.save_found()?;
     Ok(())
 }
 

@@ -1,13 +1,16 @@
 -- What the check may use for the readers: the laws of the buffer, and what unfolds each.
+use Rattle.std.proofs.lemmas.List.{append-nil}
 use Rattle.demangle_text.proofs.Laws.{laws, runs, StaysInPlace-edit}
 pub use Rattle.demangle_text.proofs.Laws.{lasts}
 use Rattle.itanium_syntax.proofs.Fronts.{cases, names_some, entities_some, expressions_some, arguments_some, specials_some}
-use Rattle.itanium_reader.proofs.Unfold.{bare_name_opens, no_bare_name, name_opens, encoding_opens}
-use Rattle.itanium_reader.proofs.Unfold.{local_opens, expression_opens, no_expression, primary_opens, argument_opens}
-use Rattle.itanium_reader.proofs.Unfold.{thunk_opens, no_thunk, special_opens, no_attached, pack_opens, no_pack}
-use Rattle.itanium_reader.proofs.Unfold.{type_opens, no_type, substitution_opens, parameter_opens, unqualified_opens}
-use Rattle.itanium_reader.proofs.Unfold.{symbol_opens, nested_opens, source_opens, outer_opens, no_tags}
-use Rattle.itanium_reader.proofs.Unfold.{nothing_in_front, words_joined}
+use Rattle.itanium_reader.proofs.Unfold.{bare_name_opens, no_bare_name, name_opens, encoding_opens, local_opens}
+use Rattle.itanium_reader.proofs.Unfold.{expression_opens, no_expression, primary_opens, argument_opens, thunk_opens}
+use Rattle.itanium_reader.proofs.Unfold.{no_thunk, special_opens, pack_opens, no_pack, type_opens, no_type}
+use Rattle.itanium_reader.proofs.Unfold.{substitution_opens, parameter_opens, unqualified_opens, symbol_opens}
+use Rattle.itanium_reader.proofs.Unfold.{nested_opens, internal_source_opens, outer_source_opens}
+use Rattle.itanium_reader.proofs.Texts.{waiting_back, nothing_in_front, words_joined, signed_printed, plain_printed}
+use Rattle.itanium_reader.proofs.Texts.{virtual_printed}
+use Rattle.itanium_reader.proofs.Turns.{no_attached, no_tags}
 use Rattle.itanium_reader.proofs.Loops.{loop_start}
 
 pub ruleset buffers = (laws, runs)
@@ -20,23 +23,25 @@ pub ruleset parameters = (buffers, parameter_opens)
 
 pub ruleset tags = (buffers, loop_start)
 
-pub ruleset source_names = (buffers, no_tags)
+pub ruleset tagged_names = (buffers, no_tags)
 
-pub ruleset last_source_names = (source_names, lasts)
+pub ruleset segments = (fronts)
 
-pub ruleset segments = (buffers, source_opens)
+pub ruleset waiting_segments = (buffers, waiting_back)
 
-pub ruleset first_segments = (fronts, source_opens)
+pub ruleset first_segments = (fronts)
 
 pub ruleset lists = (buffers, lasts, nothing_in_front, StaysInPlace-edit)
 
-pub ruleset words = (buffers, lasts, words_joined)
+pub ruleset words = (buffers, lasts, words_joined, append-nil)
+
+pub ruleset endings = (buffers, lasts, StaysInPlace-edit, append-nil, signed_printed, plain_printed, virtual_printed)
 
 pub ruleset free_names = (fronts, names_some)
 
-pub ruleset outer_names = (buffers, outer_opens)
+pub ruleset unqualified_names = (fronts, unqualified_opens, internal_source_opens)
 
-pub ruleset unqualified_names = (fronts, unqualified_opens)
+pub ruleset outer_names = (buffers, unqualified_opens, outer_source_opens)
 
 pub ruleset nested_names = (buffers, nested_opens)
 
@@ -52,7 +57,7 @@ pub ruleset local_names = (buffers, local_opens)
 
 pub ruleset symbols = (buffers, symbol_opens)
 
-pub ruleset thunks = (fronts, thunk_opens, no_thunk)
+pub ruleset thunks = (words, thunk_opens, no_thunk)
 
 pub ruleset specials = (fronts, specials_some, special_opens)
 

@@ -1,11 +1,14 @@
 -- What a reader says of a call.
-use Rattle.std.specs.Prelude.{◌≡◌, ◌≤◌, ℕ, ◌+◌, ◌*◌, ◌^◌, ◌<◌, ◌-◌, max, length, true, Option, Some, None}
+use Rattle.std.specs.Prelude.{◌≡◌, ◌≤◌, ℕ, ◌+◌, ◌*◌, ◌^◌, ◌<◌, ◌-◌, max, length, Bool, true, false, Option, Some, None}
 use Rattle.std.specs.Prelude.{Result, Ok, Err}
 use Rattle.demangle_text.specs.Shape.{Shape}
 use Rattle.demangle_text.specs.State.{IsLiving, shape, saved, scopes}
+use Rattle.std.specs.Option.{unwrap_or}
 use Rattle.demangle_quals.specs.declared.quals.Quals.{Quals}
-use Rattle.itanium_syntax.specs.Names.{begins_source}
-use Rattle.itanium_reader.specs.Parser.{ParserState, Parses, Turn, loop, with_rest, save, parse_source_in}
+use Rattle.demangle_quals.specs.Quals.{no_quals}
+use Rattle.itanium_syntax.specs.declared.context.Context.{Context}
+use Rattle.itanium_reader.specs.Parser.{ParserState, Parses, Turn, loop, enter, with_rest, waiting, is_wide}
+use Rattle.itanium_reader.specs.Parser.{parse_bare_name, parse_name}
 use Rattle.itanium_reader.specs.declared.reader.Reader.{Reader}
 use Rattle.itanium_reader.specs.declared.stop.Stop.{Stop}
 use Rattle.itanium_reader.specs.declared.stop.Stop.TheVariants.{Unread, Memory}
@@ -30,19 +33,46 @@ Gives (Ok u) after parsed =
 Gives (Err Unread) after parsed = parsed ≡ None
 Gives (Err Memory) after parsed = Unit {0}
 
--- the same of a name without its own qualifiers, which the call answers
-abbrev pub GivesBareName : Result Quals Stop → Reader → Option ((Shape × Quals) × ParserState) → Type 0
-GivesBareName (Ok quals) after parsed =
+-- the same of a name without its own qualifiers, which wait in the reader
+abbrev pub GivesBareName : Result (Unit {0}) Stop → Reader → Option ((Shape × Quals) × ParserState) → Type 0
+GivesBareName (Ok u) after parsed =
     IsLiving after.buffer.value after.found
-    × (parsed ≡ Some ((shape after.buffer.value after.found, quals), state after))
+    × (parsed ≡ Some ((shape after.buffer.value after.found, unwrap_or after.quals no_quals), state after))
 GivesBareName (Err Unread) after parsed = parsed ≡ None
 GivesBareName (Err Memory) after parsed = Unit {0}
+
+-- the same of a <name>, whose own qualifiers wait, or are printed
+abbrev pub GivesName : Bool → Result (Unit {0}) Stop → Reader → ℕ → Context → ParserState → Type 0
+GivesName true result after d x s = GivesBareName result after (parse_bare_name d x s)
+GivesName false result after d x s = Gives result after (parse_name d x s)
+
+-- the same of the first segment of a <nested-name>: the call answers whether it waits to be saved
+abbrev pub GivesWaiting : Result Bool Stop → Reader → Option (Shape × ParserState) → Type 0
+GivesWaiting (Ok waits) after parsed =
+    IsLiving after.buffer.value after.found
+    × (parsed ≡ Some (
+      shape after.buffer.value after.found,
+      waiting waits (shape after.buffer.value after.found) (state after),
+    ))
+GivesWaiting (Err Unread) after parsed = parsed ≡ None
+GivesWaiting (Err Memory) after parsed = Unit {0}
 
 -- the same of a call that finds no piece: it leaves the state that the parser leaves
 abbrev pub Leaves : Result (Unit {0}) Stop → Reader → Option ParserState → Type 0
 Leaves (Ok u) after parsed = parsed ≡ Some (state after)
 Leaves (Err Unread) after parsed = parsed ≡ None
 Leaves (Err Memory) after parsed = Unit {0}
+
+-- a counted production is entered where at most d may be open, and as many less one in it; or none may be open
+abbrev pub Enters : Result ℕ Stop → ℕ → ParserState → ParserState → Type 0
+Enters (Ok inner) d before after = (0 < d) × (inner ≡ d - 1) × (after ≡ enter before)
+Enters (Err Unread) d before after = (d ≡ 0) × (after ≡ before)
+Enters (Err Memory) d before after = ⊥
+
+-- the shape isn't too long, or it isn't read
+abbrev pub Measures : Result (Unit {0}) Stop → Shape → Type 0
+Measures (Ok u) t = is_wide t ≡ false
+Measures (Err e) t = (e ≡ Unread) × (is_wide t ≡ true)
 
 -- there is room to count what a reading or a failing run can enter
 abbrev pub HasRoom : ℕ → ParserState → Type 0
@@ -100,15 +130,6 @@ SavedBounds slack (Ok a) before after =
 SavedBounds slack (Err Unread) before after = MostSaved (slack - 1) before after
 SavedBounds slack (Err Memory) before after = Unit {0}
 
--- the same of a call before which a shape waits to be saved
-abbrev pub SavedBoundsWaiting : {A : Type 0} → Result A Stop → ParserState → ParserState → Type 0
-SavedBoundsWaiting (Ok a) before after =
-    (length after.saved + length after.rest ≤ length before.saved + length before.rest)
-    × (after.most_saved ≤ max before.most_saved (length before.saved + 1 + length before.rest))
-SavedBoundsWaiting (Err Unread) before after =
-    after.most_saved ≤ max before.most_saved (length before.saved + 1 + length before.rest)
-SavedBoundsWaiting (Err Memory) before after = Unit {0}
-
 -- one shape more is saved, or none
 abbrev pub SavesOne : {A : Type 0} → Result A Stop → ParserState → ParserState → Type 0
 SavesOne (Ok a) before after =
@@ -116,19 +137,6 @@ SavesOne (Ok a) before after =
     × (after.most_saved ≡ max before.most_saved (length before.saved + 1))
 SavesOne (Err Unread) before after = after.most_saved ≡ before.most_saved
 SavesOne (Err Memory) before after = Unit {0}
-
--- a source name was read as the next segment of a <nested-name>, in what was found, which was saved first. What this
--- does to the lists and the counts is said for the callers, in the last five fields
-pub record IsNextSource (old new : Reader) : Type 0 where
-  pub begins : begins_source old.rest.now ≡ true
-  pub living : IsLiving new.buffer.value new.found
-  pub reads : parse_source_in (Some (shape old.buffer.value old.found))
-      (save (shape old.buffer.value old.found) (state old)) ≡ Some (shape new.buffer.value new.found, state new)
-  pub shorter : length new.rest.now + 2 ≤ length old.rest.now
-  pub longer : length (saved new.buffer.value) ≡ length (saved old.buffer.value) + 1
-  pub most : (state new).most_saved ≡ max (state old).most_saved (length (saved old.buffer.value) + 1)
-  pub scopes_same : scopes new.buffer.value ≡ scopes old.buffer.value
-  pub entered_same : new.entered ≡ old.entered
 
 -- a loop has come this far: the whole is what the rest of its turns give
 pub record LoopSoFar {L A : Type 0} (whole : Option (A × ParserState)) (turn : L → Parses (Turn L A)) (so_far : L)

@@ -16,6 +16,8 @@ use Rattle.demangle_edit.specs.Built.{listed_more, lambda_closed, params_opened,
 use Rattle.demangle_edit.specs.Lists.{arguments_closed}
 use Rattle.itanium_syntax.specs.declared.context.Context.{Context}
 use Rattle.itanium_syntax.specs.declared.numerals.Radix.TheVariants.{Decimal, Base36}
+use Rattle.itanium_syntax.specs.declared.offsets.ThunkOffsets.{ThunkOffsets}
+use Rattle.itanium_syntax.specs.declared.offsets.ThunkOffsets.TheVariants.{Single, Covariant}
 use Rattle.itanium_syntax.specs.Scalars.{source_name, index_of, ordinal, optional_number}
 use Rattle.itanium_syntax.specs.Operators.{operator_here}
 use Rattle.itanium_syntax.specs.Abbreviations.{abbreviation_of}
@@ -31,7 +33,7 @@ use Rattle.itanium_syntax.specs.Encodings.{return_case, signature_case, entity_c
 use Rattle.itanium_syntax.specs.Args.{attached_case, args_case, argument_case}
 use Rattle.itanium_syntax.specs.Types.{type_case, builtin_text, past_builtin, cv_quals, past_cv, with_reference, past_reference, cv_case, function_case, params_case, types_case, elaborated_text}
 use Rattle.itanium_grammar.specs.Answer.{max_text}
-use Rattle.itanium_grammar.specs.Tree.{worded_shape, temporary_shape, construction_shape, thunk_shape, pre_shape}
+use Rattle.itanium_grammar.specs.Tree.{offset_text, worded_shape, temporary_shape, construction_shape, thunk_shape, pre_shape}
 use Rattle.itanium_grammar.specs.Tree.{post_shape, binary_shape, greater_shape, conditional_shape, abbreviation_shape}
 use Rattle.itanium_grammar.specs.Tree.{conversion_shape, elaborated_shape, unnamed_text, literal_operator_text}
 use Rattle.itanium_reader.specs.Cases.{SymbolCase, SpecialSymbol, NameSymbol, SpecialCase, TypeSpecial, NameSpecial}
@@ -97,9 +99,12 @@ enter s = record s { entered = s.entered + 1 }
 abbrev pub taken_back : Bool → ParserState → ParserState
 taken_back takes s = record s { saved = if takes then take (length s.saved - 1) s.saved else s.saved }
 
--- a shape was saved and taken back
-abbrev pub saved_once : ParserState → ParserState
-saved_once s = record s { most_saved = max s.most_saved (length s.saved + 1) }
+-- the state once a shape is saved, where it waits for that
+abbrev pub waiting : Bool → Shape → ParserState → ParserState
+waiting waits t s = record s {
+  saved = if waits then s.saved ++ t ∷ [] else s.saved;
+  most_saved = if waits then max s.most_saved (length s.saved + 1) else s.most_saved;
+}
 
 -- the text of the shape is longer than the limit
 abbrev pub is_wide : Shape → Bool
@@ -307,6 +312,18 @@ unqualified_as DestructorName type param parent s = ctor_dtor_as true parent s
 unqualified_as FreeName type param parent s =
     parse_free type param s >>= λ name. Some (in_parent parent name.0, name.1)
 
+-- a constructor or a destructor of the parent, without its tags
+abbrev pub untagged_ctor : Bool → Option Shape → Parses Shape
+untagged_ctor destructor None s = None
+untagged_ctor destructor (Some parent) s = Some (qualified_ctor parent destructor, skip 2 s)
+
+-- <unqualified-name> without its tags: in its parent, where it has one
+abbrev pub untagged_as : UnqualifiedCase → Parses Shape → Parses Shape → Option Shape → Parses Shape
+untagged_as ConstructorName type param parent s = untagged_ctor false parent s
+untagged_as DestructorName type param parent s = untagged_ctor true parent s
+untagged_as FreeName type param parent s =
+    free_as (free_case s.rest) type param s >>= λ name. Some (in_parent parent name.0, name.1)
+
 -- [L] <unqualified-name>
 unfoldable pub parse_unqualified : Parses Shape → Parses Shape → Option Shape → Parses Shape
 parse_unqualified type param parent s =
@@ -468,6 +485,17 @@ symbol_as NameSymbol special name s = name s
 abbrev pub symbol_by : Parses Shape → ParsesBareName → Parses Shape → Context → Parses Shape
 symbol_by type bare thunk x s =
     symbol_as (symbol_case s.rest) (special_by type (qualified_by bare x) thunk) (qualified_by bare x) s
+
+-- the words in front of the encoding of a thunk
+abbrev pub thunk_words : ThunkOffsets → List ℕ
+thunk_words (Single o) = codes "{virtual override thunk(" ++ (offset_text o ++ codes ", ")
+thunk_words (Covariant o p) =
+    codes "{virtual override thunk(" ++ ((offset_text o ++ codes ", ") ++ (offset_text p ++ codes ", "))
+
+-- T and the offsets of a thunk, as these words
+unfoldable pub thunk_front : Parses Shape
+thunk_front s =
+    thunk_offsets (drop 1 s.rest) >>= λ found. Some (plain_shape (thunk_words found.0), with_rest found.1 s)
 
 -- the offsets of a thunk, and its encoding without parameters
 abbrev pub thunk_by : Parses Shape → Parses Shape
@@ -789,6 +817,10 @@ unfoldable mutual
   parse_thunk zero x s = None
   parse_thunk (suc d) x s =
       thunk_by (symbol_by (parse_type d x) (parse_bare_name d x) (parse_thunk d x) x) (enter s) >>= fitting
+
+-- <unqualified-name>, whose types nest at most d productions
+abbrev pub unqualified_name : ℕ → Context → ParsesName
+unqualified_name d x = parse_unqualified (parse_type d x) (parse_type d (inside_lambda x))
 
 -- <name>
 unfoldable pub parse_name : ℕ → Context → Parses Shape

@@ -3,15 +3,13 @@ ghost use Rattle.std.specs.Prelude.{◌≡◌, OnOk};
 ghost use Rattle.demangle_text.specs.State.{IsLiving, shape, Lives, IsRun, SameFrame, scopes};
 ghost use Rattle.demangle_edit.specs.Types.{pointer_shape, cv_shape};
 ghost use Rattle.itanium_syntax.specs.Args.{attached_case};
-ghost use Rattle.itanium_grammar.specs.Tree.{elaborated_shape};
 ghost use Rattle.itanium_reader.specs.Parser as spec;
 ghost use Rattle.itanium_reader.specs.Outcome.{state, Gives, Bounds, OptionalBounds, SavedBounds, SavesOne};
 
 use crate::reader::Reader;
 use crate::stop::Stop;
 use demangle_edit::{
-    Glue, Pointer, Quals, close_function, expand, glue, wrap_array, wrap_cv, wrap_member_pointer,
-    wrap_pointer,
+    Pointer, Quals, close_function, expand, wrap_array, wrap_cv, wrap_member_pointer, wrap_pointer,
 };
 use demangle_text::Piece;
 use itanium_syntax::args::{AttachedCase, attached_case};
@@ -98,6 +96,7 @@ impl<'a> Reader<'a> {
 
     /// The function type whose list of parameters was found, and what is after them: `[<ref-qualifier>] E`. What it
     /// returns has `front` bytes.
+    #[inline(never)]
     pub fn end_function(&mut self, front: usize, quals: Quals) -> Result<(), Stop>
         requires living { IsLiving self.old.buffer.value self.old.found }
         ensures reads { Gives result self.new (spec.function_end front quals
@@ -112,20 +111,6 @@ impl<'a> Reader<'a> {
         self.rest = rest;
         self.skip(1);
         Ok(())
-    }
-
-    /// The word of an elaborated type in front of the name that was found.
-    pub fn save_elaborated(&mut self, word: &[u8]) -> Result<(), AllocError>
-        requires living { IsLiving self.old.buffer.value self.old.found }
-        ensures shape { OnOk result (Lives self.new.buffer.value self.new.found (elaborated_shape word.now
-            (shape self.old.buffer.value self.old.found))) }
-        ensures state { OnOk result (state self.new ≡ spec.save (elaborated_shape word.now
-            (shape self.old.buffer.value self.old.found)) (state self.old)) }
-        ensures run { OnOk result (IsRun self.old.buffer.value self.new.buffer.value) }
-    {
-        let parts = [Glue::Text(word), Glue::Piece(self.found)];
-        self.found = glue(&mut self.buffer, &parts)?;
-        self.save_found()
     }
 
     /// `u <source-name>`, which no `<template-args>` follow.

@@ -1,14 +1,15 @@
 //! Literals, external names and expressions (Itanium C++ ABI 5.1, "Expressions").
 ghost use Rattle.std.specs.Prelude.{◌≡◌, ◌<◌, codes, OnOk};
-ghost use Rattle.demangle_text.specs.Shape.{plain_shape, text};
+ghost use Rattle.demangle_text.specs.Shape.{plain_shape};
 ghost use Rattle.demangle_text.specs.State.{IsLiving, Lives, shape, IsRun, SameFrame};
-ghost use Rattle.itanium_grammar.specs.Tree.{pre_shape, post_shape, binary_shape, greater_shape};
+ghost use Rattle.demangle_edit.specs.Expressions.{operand_shape};
+ghost use Rattle.itanium_grammar.specs.Tree.{post_shape, binary_shape, greater_shape};
 ghost use Rattle.itanium_reader.specs.Parser as spec;
 ghost use Rattle.itanium_reader.specs.Outcome.{state, Gives, Bounds, SavedBounds};
 
 use crate::reader::Reader;
 use crate::stop::Stop;
-use demangle_edit::{Glue, glue, write_opened_literal};
+use demangle_edit::{Glue, glue, subexpr, write_opened_literal};
 use demangle_text::{Piece, Place};
 use itanium_syntax::expressions::literal_value;
 use std::alloc::AllocError;
@@ -56,17 +57,16 @@ impl<'a> Reader<'a> {
         Ok(())
     }
 
-    /// An operator's text, the piece `front`, in front of what was found. Nothing moves where the two stand one after
-    /// the other at the end of the main text.
-    pub fn print_pre(&mut self, front: Piece) -> Result<(), AllocError>
-        requires front { IsLiving self.old.buffer.value front }
+    /// What was found, as an operand: in parentheses where it is to be.
+    #[inline(never)]
+    pub fn print_operand(&mut self, paren: bool) -> Result<(), AllocError>
         requires living { IsLiving self.old.buffer.value self.old.found }
         ensures shape { OnOk result (Lives self.new.buffer.value self.new.found
-            (pre_shape (text (shape self.old.buffer.value front)) (shape self.old.buffer.value self.old.found))) }
+            (operand_shape paren (shape self.old.buffer.value self.old.found))) }
         ensures state { OnOk result (state self.new ≡ state self.old) }
         ensures run { OnOk result (IsRun self.old.buffer.value self.new.buffer.value) }
     {
-        self.found = self.buffer.join(front, b"", self.found)?;
+        self.found = subexpr(&mut self.buffer, self.found, paren)?;
         Ok(())
     }
 

@@ -1,25 +1,20 @@
 //! Names (Itanium C++ ABI 5.1.2).
-ghost use Rattle.std.specs.Prelude.{◌≡◌, ◌<◌, ◌≤◌, codes, option_map, None, Some, IfOk, IfSome, OnOk, Ok, true, false};
-ghost use Rattle.std.specs.Prelude.{drop, length, slice_range};
-ghost use Rattle.demangle_text.specs.Calls.{IsLast};
+ghost use Rattle.std.specs.Prelude.{◌≡◌, codes, Some, OnOk};
 ghost use Rattle.demangle_text.specs.Shape.{appended};
-ghost use Rattle.demangle_text.specs.State.{IsLiving, shape, Lives, IsEdit, IsRun, SameFrame, saved};
-ghost use Rattle.demangle_edit.specs.Names.{parent_opened, enclosed, with_name_qualifiers};
+ghost use Rattle.demangle_text.specs.State.{IsLiving, shape, Lives, IsEdit, IsRun};
+ghost use Rattle.demangle_edit.specs.Names.{qualified_ctor, with_name_qualifiers};
 ghost use Rattle.itanium_grammar.specs.Tree.{conversion_shape};
 ghost use Rattle.itanium_reader.specs.Parser as spec;
-ghost use Rattle.itanium_syntax.specs.Names.{begins_source, tag_case};
-ghost use Rattle.itanium_syntax.specs.Scalars.{source_name};
-ghost use Rattle.itanium_reader.specs.Cases.{NextTag, NoTag};
-ghost use Rattle.itanium_reader.specs.Outcome.{state, Gives, IsNextSource, Bounds, OptionalBounds, SavedBounds};
+ghost use Rattle.itanium_reader.specs.Outcome.{state, Gives, Bounds, OptionalBounds, SavedBounds};
 
 use crate::reader::Reader;
 use crate::stop::Stop;
 use demangle_edit::{
-    Quals, append_number, apply_name_qualifiers, close_lambda, close_opened, open_parent,
-    qualify_ctor, qualify_text_in_place, tag,
+    Quals, append_number, apply_name_qualifiers, close_lambda, qualify_ctor, qualify_text_in_place,
+    tag,
 };
 use demangle_text::{Piece, Place};
-use itanium_syntax::names::{TagCase, source_text, tag_case, untagged_source};
+use itanium_syntax::names::{TagCase, source_text, tag_case};
 use itanium_syntax::numerals::ordinal;
 use itanium_syntax::operators::operator_here;
 use itanium_syntax::scalar::source_name;
@@ -39,196 +34,48 @@ impl<'a> Reader<'a> {
         Ok(())
     }
 
-    /// What was found as the parent of the name that is read next, with the `::` after it.
-    pub fn open_parent(&mut self) -> Result<Piece, AllocError>
+    /// `<source-name>` and its tags, in the parent that was found. The parent is saved first, where it waits for that.
+    #[inline(always)]
+    pub fn read_source_segment(&mut self, waits: bool) -> Result<(), Stop>
         requires living { IsLiving self.old.buffer.value self.old.found }
-        ensures shape { IfOk result (λ p. Lives self.new.buffer.value p
-            (parent_opened (shape self.old.buffer.value self.old.found))) }
-        ensures state { OnOk result (state self.new ≡ state self.old) }
-        ensures edit { OnOk result (IsEdit self.old.buffer.value self.new.buffer.value) }
+        ensures reads { Gives result self.new (spec.parse_source_in
+            (Some (shape self.old.buffer.value self.old.found))
+            (spec.waiting waits (shape self.old.buffer.value self.old.found) (state self.old))) }
+        ensures run { OnOk result (IsRun self.old.buffer.value self.new.buffer.value) }
+        ensures bounds { Bounds 2 result (state self.old) (state self.new) }
+        ensures saved { SavedBounds 1 result
+            (spec.waiting waits (shape self.old.buffer.value self.old.found) (state self.old)) (state self.new) }
     {
-        open_parent(&mut self.buffer, self.found)
+        let bytes = self.rest;
+        let Some((from, to)) = source_name(bytes, 0) else {
+            // The parent counts as saved, although nothing follows it.
+            self.save_waiting(waits)?;
+            return Err(Stop::Unread);
+        };
+        self.save_waiting(waits)?;
+        let text = source_text(&bytes[from..to]);
+        qualify_text_in_place(&mut self.buffer, &mut self.found, text)?;
+        self.rest = &bytes[to..];
+        self.read_tags()
     }
 
-    /// The name that was found, in the parent that was opened for it.
-    pub fn close_parent(&mut self, opened: Piece) -> Result<(), AllocError>
-        requires opened { IsLiving self.old.buffer.value opened }
+    /// A constructor or a destructor of what was found, without its tags.
+    pub fn read_ctor_dtor(&mut self, destructor: bool) -> Result<(), AllocError>
         requires living { IsLiving self.old.buffer.value self.old.found }
         ensures shape { OnOk result (Lives self.new.buffer.value self.new.found
-            (enclosed (shape self.old.buffer.value opened) (shape self.old.buffer.value self.old.found))) }
-        ensures state { OnOk result (state self.new ≡ state self.old) }
-        ensures edit { OnOk result (IsEdit self.old.buffer.value self.new.buffer.value) }
-    {
-        self.found = close_opened(&mut self.buffer, opened, self.found)?;
-        Ok(())
-    }
-
-    /// `<abi-tags> ::= (B <source-name>)*` after a name.
-    #[tactic(auto, using(crate::proofs::Rules::tags))]
-    pub fn read_tags(&mut self, name: Piece) -> Result<(), Stop>
-        requires living { IsLiving self.old.buffer.value name }
-        ensures reads { Gives result self.new (spec.parse_tags (shape self.old.buffer.value name) (state self.old)) }
+            (qualified_ctor (shape self.old.buffer.value self.old.found) destructor)) }
+        ensures state { OnOk result (state self.new ≡ spec.skip 2 (state self.old)) }
         ensures run { OnOk result (IsRun self.old.buffer.value self.new.buffer.value) }
-        ensures bounds { OptionalBounds result (state self.old) (state self.new) }
-        ensures saved { SavedBounds 0 result (state self.old) (state self.new) }
-    {
-        let mut name = name;
-        loop {
-            match tag_case(self.rest) {
-                TagCase::NoTag => {
-                    self.found = name;
-                    return Ok(());
-                }
-                TagCase::NextTag => {
-                    self.skip(1);
-                    let Some((from, to)) = source_name(self.rest, 0) else {
-                        return Err(Stop::Unread);
-                    };
-                    let text = source_text(&self.rest[from..to]);
-                    name = tag(&mut self.buffer, name, text)?;
-                    self.rest = &self.rest[to..];
-                }
-            }
-        }
-    }
-
-    /// A `<source-name>` in no parent, and `<abi-tags>` after it. It stands up to the end of the main text, from the
-    /// innermost mark or later.
-    #[tactic(auto, using(crate::proofs::Rules::last_source_names))]
-    #[inline(always)]
-    pub fn read_source_name(&mut self) -> Result<(), Stop>
-        ensures reads { Gives result self.new (spec.parse_source_in None (state self.old)) }
-        ensures last { OnOk result (IsLast self.new.buffer.value self.new.found) }
-        ensures kept { OnOk result (SameFrame self.old.buffer.value self.new.buffer.value) }
-        ensures bounds { Bounds 2 result (state self.old) (state self.new) }
-        ensures saved { SavedBounds 1 result (state self.old) (state self.new) }
-    {
-        let Some((name, rest)) = untagged_source(self.rest) else {
-            return self.framed_tagged_source();
-        };
-        self.found = self.buffer.push(source_text(name))?;
-        self.rest = rest;
-        Ok(())
-    }
-
-    /// A `<source-name>` in the parent that was found, and `<abi-tags>` after it.
-    #[tactic(auto, using(crate::proofs::Rules::source_names))]
-    #[inline(always)]
-    pub fn read_source_segment(&mut self) -> Result<(), Stop>
-        requires living { IsLiving self.old.buffer.value self.old.found }
-        ensures reads { Gives result self.new
-            (spec.parse_source_in (Some (shape self.old.buffer.value self.old.found)) (state self.old)) }
-        ensures run { OnOk result (IsRun self.old.buffer.value self.new.buffer.value) }
-        ensures bounds { Bounds 2 result (state self.old) (state self.new) }
-        ensures saved { SavedBounds 1 result (state self.old) (state self.new) }
-    {
-        let Some((name, rest)) = untagged_source(self.rest) else {
-            return self.read_tagged_segment();
-        };
-        qualify_text_in_place(&mut self.buffer, &mut self.found, source_text(name))?;
-        self.rest = rest;
-        Ok(())
-    }
-
-    /// A `<source-name>` without `<abi-tags>` as the next segment of a `<nested-name>`, in what was found, which is
-    /// saved. Whether one stands there; else nothing changes.
-    #[tactic(auto, using(crate::proofs::Rules::source_names))]
-    #[inline(always)]
-    pub fn read_next_source(&mut self) -> Result<bool, AllocError>
-        requires living { IsLiving self.old.buffer.value self.old.found }
-        ensures next { result ≡ Ok true → IsNextSource self.old self.new }
-        ensures other { result ≡ Ok false → self.new ≡ self.old }
-        ensures none { result ≡ Ok false → begins_source self.old.rest.now ≡ true
-            → IfSome (source_name self.old.rest.now) (λ found. tag_case found.1 ≡ NextTag) }
-        ensures run { OnOk result (IsRun self.old.buffer.value self.new.buffer.value) }
-    {
-        let Some((name, rest)) = untagged_source(self.rest) else {
-            return Ok(false);
-        };
-        let text = source_text(name);
-        self.save_found()?;
-        qualify_text_in_place(&mut self.buffer, &mut self.found, text)?;
-        self.rest = rest;
-        Ok(true)
-    }
-
-    /// As `read_next_source`, in what stands up to the end of the main text, from the innermost mark or later: so does
-    /// what is found.
-    #[tactic(auto, using(crate::proofs::Rules::last_source_names))]
-    #[inline(always)]
-    pub fn read_next_source_last(&mut self) -> Result<bool, AllocError>
-        requires living { IsLiving self.old.buffer.value self.old.found }
-        requires last { IsLast self.old.buffer.value self.old.found }
-        ensures next { result ≡ Ok true → IsNextSource self.old self.new }
-        ensures last { result ≡ Ok true → IsLast self.new.buffer.value self.new.found }
-        ensures other { result ≡ Ok false → self.new ≡ self.old }
-        ensures none { result ≡ Ok false → begins_source self.old.rest.now ≡ true
-            → IfSome (source_name self.old.rest.now) (λ found. tag_case found.1 ≡ NextTag) }
-        ensures run { OnOk result (IsRun self.old.buffer.value self.new.buffer.value) }
-    {
-        let Some((name, rest)) = untagged_source(self.rest) else {
-            return Ok(false);
-        };
-        let segment = source_text(name);
-        self.save_found()?;
-        qualify_text_in_place(&mut self.buffer, &mut self.found, segment)?;
-        self.rest = rest;
-        Ok(true)
-    }
-
-    /// A `<source-name>` and `<abi-tags>` after it, in a frame of their own: what lived keeps its shape. It stands up
-    /// to the end of the main text, from the innermost mark or later.
-    #[cold]
-    #[inline(never)]
-    fn framed_tagged_source(&mut self) -> Result<(), Stop>
-        ensures reads { Gives result self.new (spec.parse_tagged_source (state self.old)) }
-        ensures last { OnOk result (IsLast self.new.buffer.value self.new.found) }
-        ensures kept { OnOk result (SameFrame self.old.buffer.value self.new.buffer.value) }
-        ensures bounds { Bounds 2 result (state self.old) (state self.new) }
-        ensures saved { SavedBounds 1 result (state self.old) (state self.new) }
-    {
-        let mark = self.buffer.open();
-        self.read_source()?;
-        self.read_found_tags()?;
-        self.close_found(mark)?;
-        Ok(())
-    }
-
-    /// `read_source_segment` of a name with tags.
-    #[cold]
-    #[inline(never)]
-    fn read_tagged_segment(&mut self) -> Result<(), Stop>
-        requires living { IsLiving self.old.buffer.value self.old.found }
-        ensures reads { Gives result self.new
-            (spec.parse_source_in (Some (shape self.old.buffer.value self.old.found)) (state self.old)) }
-        ensures run { OnOk result (IsRun self.old.buffer.value self.new.buffer.value) }
-        ensures bounds { Bounds 2 result (state self.old) (state self.new) }
-        ensures saved { SavedBounds 1 result (state self.old) (state self.new) }
-    {
-        let opened = self.open_parent()?;
-        self.framed_tagged_source()?;
-        self.close_parent(opened)?;
-        Ok(())
-    }
-
-    /// A constructor or a destructor of what was found, and `<abi-tags>` after it.
-    pub fn read_ctor_dtor(&mut self, destructor: bool) -> Result<(), Stop>
-        requires living { IsLiving self.old.buffer.value self.old.found }
-        ensures reads { Gives result self.new (spec.ctor_dtor_as destructor
-            (Some (shape self.old.buffer.value self.old.found)) (state self.old)) }
-        ensures run { OnOk result (IsRun self.old.buffer.value self.new.buffer.value) }
-        ensures bounds { OptionalBounds result (spec.skip 2 (state self.old)) (state self.new) }
-        ensures saved { SavedBounds 0 result (spec.skip 2 (state self.old)) (state self.new) }
     {
         self.skip(2);
         self.found = qualify_ctor(&mut self.buffer, self.found, destructor)?;
-        self.read_found_tags()
+        Ok(())
     }
 
     /// `<abi-tags> ::= (B <source-name>)*` after the name that was found. Mostly there is none.
-    #[tactic(auto, using(crate::proofs::Rules::source_names))]
+    #[tactic(auto, using(crate::proofs::Rules::tagged_names))]
     #[inline(always)]
-    pub fn read_found_tags(&mut self) -> Result<(), Stop>
+    pub fn read_tags(&mut self) -> Result<(), Stop>
         requires living { IsLiving self.old.buffer.value self.old.found }
         ensures reads { Gives result self.new
             (spec.parse_tags (shape self.old.buffer.value self.old.found) (state self.old)) }
@@ -238,11 +85,35 @@ impl<'a> Reader<'a> {
     {
         match tag_case(self.rest) {
             TagCase::NoTag => Ok(()),
-            TagCase::NextTag => self.read_tags(self.found),
+            TagCase::NextTag => self.read_some_tags(),
         }
     }
 
+    /// `read_tags` where one follows.
+    #[tactic(auto, using(crate::proofs::Rules::tags))]
+    #[cold]
+    fn read_some_tags(&mut self) -> Result<(), Stop>
+        requires living { IsLiving self.old.buffer.value self.old.found }
+        ensures reads { Gives result self.new
+            (spec.parse_tags (shape self.old.buffer.value self.old.found) (state self.old)) }
+        ensures run { OnOk result (IsRun self.old.buffer.value self.new.buffer.value) }
+        ensures bounds { OptionalBounds result (state self.old) (state self.new) }
+        ensures saved { SavedBounds 0 result (state self.old) (state self.new) }
+    {
+        while let TagCase::NextTag = tag_case(self.rest) {
+            self.skip(1);
+            let Some((from, to)) = source_name(self.rest, 0) else {
+                return Err(Stop::Unread);
+            };
+            let text = source_text(&self.rest[from..to]);
+            self.found = tag(&mut self.buffer, self.found, text)?;
+            self.rest = &self.rest[to..];
+        }
+        Ok(())
+    }
+
     /// `<unnamed-type-name> ::= Ut [<nonnegative number>] _`, after its `Ut`.
+    #[inline(never)]
     pub fn read_unnamed_type(&mut self) -> Result<(), Stop>
         ensures reads { Gives result self.new (spec.parse_unnamed_type (state self.old)) }
         ensures run { OnOk result (IsRun self.old.buffer.value self.new.buffer.value) }
@@ -261,6 +132,7 @@ impl<'a> Reader<'a> {
     }
 
     /// `<operator-name> ::= li <source-name>`, after its `li`.
+    #[inline(never)]
     pub fn read_literal_operator(&mut self) -> Result<(), Stop>
         ensures reads { Gives result self.new (spec.parse_literal_operator (state self.old)) }
         ensures run { OnOk result (IsRun self.old.buffer.value self.new.buffer.value) }
@@ -279,6 +151,7 @@ impl<'a> Reader<'a> {
     }
 
     /// `<operator-name>`, a code of two letters.
+    #[inline(never)]
     pub fn read_operator(&mut self) -> Result<(), Stop>
         ensures reads { Gives result self.new (spec.parse_operator (state self.old)) }
         ensures run { OnOk result (IsRun self.old.buffer.value self.new.buffer.value) }
@@ -296,6 +169,7 @@ impl<'a> Reader<'a> {
     }
 
     /// The end of a lambda's parameters, `E [<nonnegative number>] _`.
+    #[inline(never)]
     pub fn end_lambda(&mut self, list: Piece) -> Result<(), Stop>
         requires living { IsLiving self.old.buffer.value list }
         ensures reads { Gives result self.new (spec.lambda_end (shape self.old.buffer.value list) (state self.old)) }
@@ -333,6 +207,7 @@ impl<'a> Reader<'a> {
     }
 
     /// The conversion to the type that was found.
+    #[inline(never)]
     pub fn convert_found(&mut self) -> Result<(), AllocError>
         requires living { IsLiving self.old.buffer.value self.old.found }
         ensures shape { OnOk result (Lives self.new.buffer.value self.new.found

@@ -10,9 +10,10 @@ ghost use Rattle.itanium_syntax.specs.Types.{builtin_text, past_builtin};
 ghost use Rattle.itanium_grammar.specs.Answer.{max_text};
 ghost use Rattle.itanium_reader.specs.Cases.{EndOfSegments};
 ghost use Rattle.itanium_reader.specs.Parser as spec;
-ghost use Rattle.itanium_reader.specs.Outcome.{state, Gives, OnlyTakes, Bounds, SavedBounds};
+ghost use Rattle.itanium_reader.specs.Outcome.{state, Enters, Gives, Measures, OnlyTakes, HasRoom, Bounds, SavedBounds};
 
 use crate::stop::Stop;
+use demangle_edit::Quals;
 use demangle_text::{Buffer, Mark, Piece};
 use itanium_syntax::abbreviations::{abbreviation_of, abbreviation_own_len, abbreviation_text};
 use itanium_syntax::context::Context;
@@ -28,7 +29,7 @@ pub const MAX_TEXT: usize = 1_048_576;
 
 /// The limit as a number of bytes.
 #[inline(always)]
-#[tactic(auto, using(crate::proofs::Unfold::max_text_is))]
+#[tactic(auto, using(crate::proofs::Texts::max_text_is))]
 pub fn text_limit() -> usize
     ensures value { result ≡ max_text }
     ensures fits { result < 2 ^ 63 }
@@ -41,11 +42,19 @@ pub fn text_limit() -> usize
 /// memory is refused.
 #[derive(Drop)]
 pub struct Reader<'a> {
+    /// The bytes that aren't read yet.
     pub rest: &'a [u8],
+    /// The texts, the saved components and the scopes.
     pub buffer: Box<Buffer>,
+    /// What was read last, as it is printed.
     pub found: Piece,
+    /// The own qualifiers of the last name that was read, or `None`. A caller that asked for a bare name prints them;
+    /// else they are printed already.
+    pub quals: Option<Quals>,
+    /// How many counted productions were entered.
     pub entered: usize,
-    /// The most components that were saved when one was last taken back: `most_saved` is the most at any moment.
+    /// The most components that were saved at the `E` of a nested name, with the one that waited: `most_saved` is the
+    /// most at any moment.
     pub most_noted: usize,
     pub alloc: Global,
 }
@@ -67,6 +76,7 @@ impl<'a> Reader<'a> {
             rest: bytes,
             buffer,
             found,
+            quals: None,
             entered: 0,
             most_noted: 0,
             alloc,
@@ -85,17 +95,6 @@ impl<'a> Reader<'a> {
         } else {
             &[]
         };
-    }
-
-    /// As `skip` of one byte, which is there: it isn't asked whether it is.
-    #[inline(always)]
-    pub fn skip_one(&mut self)
-        requires some { 0 < length self.old.rest.now }
-        ensures state { state self.new ≡ spec.skip 1 (state self.old) }
-        ensures found { self.new.found ≡ self.old.found }
-        ensures buffer { self.new.buffer.value ≡ self.old.buffer.value }
-    {
-        self.rest = &self.rest[1..];
     }
 
     /// Goes past the `M` of a data member's initializer, where one stands.
@@ -126,17 +125,19 @@ impl<'a> Reader<'a> {
         ensures found { self.new.found ≡ self.old.found }
         ensures kept { OnOk result (SameFrame self.old.buffer.value self.new.buffer.value) }
     {
-        self.buffer.save(self.found)?;
+        self.buffer.save_in_place(&self.found)?;
         Ok(())
     }
 
     /// Takes the innermost mark back: what was found becomes all of the main text since then.
+    #[inline(always)]
     pub fn close_found(&mut self, mark: Mark) -> Result<(), AllocError>
         requires innermost { frame self.old.buffer.value ≡ inside mark }
         requires living { IsLiving self.old.buffer.value self.old.found }
         ensures shape { OnOk result (Lives self.new.buffer.value self.new.found
             (shape self.old.buffer.value self.old.found)) }
         ensures state { OnOk result (state self.new ≡ state self.old) }
+        ensures quals { OnOk result (self.new.quals ≡ self.old.quals) }
         ensures closed { OnOk result (Closes self.old.buffer.value self.new.buffer.value mark) }
         ensures main { OnOk result (main_bytes self.new.buffer.value
             ≡ take (frame_start (inside mark)) (main_bytes self.old.buffer.value)
@@ -144,69 +145,42 @@ impl<'a> Reader<'a> {
         ensures stands { OnOk result (Stands self.new.found (frame_start (inside mark))
             (length (main_bytes self.new.buffer.value))) }
     {
-        self.found = self.buffer.close(mark, self.found)?;
+        self.buffer.close_in_place(mark, &mut self.found)?;
         Ok(())
     }
 
-    /// Ends a segment of a `<nested-name>`: saves what was found, and goes past the `M` of a data member's
-    /// initializer, where one stands.
+    /// Saves what was found, where it waits for that.
     #[inline(always)]
-    pub fn end_segment(&mut self) -> Result<(), AllocError>
+    pub fn save_waiting(&mut self, waits: bool) -> Result<(), AllocError>
         requires living { IsLiving self.old.buffer.value self.old.found }
         ensures shape { OnOk result (Lives self.new.buffer.value self.new.found
             (shape self.old.buffer.value self.old.found)) }
-        ensures state { OnOk result (state self.new ≡ spec.past_initializer (spec.save
-            (shape self.old.buffer.value self.old.found) (state self.old))) }
-        ensures within { OnOk result (length self.new.rest.now ≤ length self.old.rest.now) }
-        ensures longer { OnOk result (length (saved self.new.buffer.value) ≡ length (saved self.old.buffer.value) + 1) }
-        ensures most { OnOk result ((state self.new).most_saved
-            ≡ max (state self.old).most_saved (length (saved self.old.buffer.value) + 1)) }
+        ensures state { OnOk result (state self.new ≡ spec.waiting waits
+            (shape self.old.buffer.value self.old.found) (state self.old)) }
+        ensures found { OnOk result (self.new.found ≡ self.old.found) }
         ensures kept { OnOk result (SameFrame self.old.buffer.value self.new.buffer.value) }
     {
-        self.save_found()?;
-        self.skip_initializer();
+        if waits {
+            self.save_found()?;
+        }
         Ok(())
     }
 
-    /// Ends a `<nested-name>` where its `E` is next: the last saved component is taken back, where it is to be. Whether
-    /// it ended.
+    /// Goes past the `E` of a `<nested-name>`. The grammar saves the last segment and takes it back at the `E`. Here it
+    /// is never saved: it only counts among the most that were saved.
+    #[tactic(auto, using(crate::proofs::Rules::waiting_segments))]
     #[inline(always)]
-    pub fn end_nested(&mut self, takes: bool) -> bool
-        requires saved { takes ≡ true → 0 < length (saved self.old.buffer.value) }
-        ensures ended { result ≡ true → (segment_case self.old.rest.now ≡ EndOfSegments)
-            × (state self.new ≡ spec.taken_back takes (spec.skip 1 (state self.old)))
-            × (length self.new.rest.now < length self.old.rest.now) }
-        ensures goes_on { result ≡ false → (segment_case self.old.rest.now ≡ EndOfSegments → ⊥)
-            × (self.new ≡ self.old) }
-        ensures found { self.new.found ≡ self.old.found }
-        ensures kept { SameFrame self.old.buffer.value self.new.buffer.value }
-        ensures main { main_bytes self.new.buffer.value ≡ main_bytes self.old.buffer.value }
-    {
-        let [b'E', rest @ ..] = self.rest else {
-            return false;
-        };
-        self.rest = rest;
-        self.take_back(takes);
-        true
-    }
-
-    /// `end_nested` right after a segment that isn't saved yet: it would be saved and taken back.
-    #[inline(always)]
-    pub fn end_nested_unsaved(&mut self) -> bool
-        ensures ended { result ≡ true → (segment_case self.old.rest.now ≡ EndOfSegments)
-            × (state self.new ≡ spec.skip 1 (spec.saved_once (state self.old)))
-            × (length self.new.rest.now < length self.old.rest.now) }
-        ensures goes_on { result ≡ false → (segment_case self.old.rest.now ≡ EndOfSegments → ⊥)
-            × (self.new ≡ self.old) }
+    pub fn end_nested(&mut self, waits: bool)
+        requires living { IsLiving self.old.buffer.value self.old.found }
+        ensures state { state self.new ≡ spec.taken_back waits (spec.skip 1 (spec.waiting waits
+            (shape self.old.buffer.value self.old.found) (state self.old))) }
         ensures found { self.new.found ≡ self.old.found }
         ensures buffer { self.new.buffer.value ≡ self.old.buffer.value }
     {
-        let [b'E', rest @ ..] = self.rest else {
-            return false;
-        };
-        self.rest = rest;
-        self.most_noted = self.most_noted.max(self.buffer.saved_len() + 1);
-        true
+        self.skip(1);
+        if waits {
+            self.most_noted = self.most_noted.max(self.buffer.saved_len() + 1);
+        }
     }
 
     /// Whether the piece is longer than `MAX_TEXT`.
@@ -218,6 +192,33 @@ impl<'a> Reader<'a> {
         self.buffer.len(piece) > text_limit()
     }
 
+    /// Refuses what was found where it is longer than `MAX_TEXT`.
+    #[inline(always)]
+    pub fn measure(&self) -> Result<(), Stop>
+        requires living { IsLiving self.now.buffer.value self.now.found }
+        ensures fits { Measures result (shape self.now.buffer.value self.now.found) }
+    {
+        if self.is_wide(self.found) {
+            return Err(Stop::Unread);
+        }
+        Ok(())
+    }
+
+    /// Enters a counted production where at most `depth` may be open: how many may still be open in it.
+    #[inline(always)]
+    pub fn enter(&mut self, depth: usize) -> Result<usize, Stop>
+        requires room { HasRoom 1 (state self.old) }
+        ensures enters { Enters result depth (state self.old) (state self.new) }
+        ensures found { self.new.found ≡ self.old.found }
+        ensures buffer { self.new.buffer.value ≡ self.old.buffer.value }
+    {
+        if depth == 0 {
+            return Err(Stop::Unread);
+        }
+        self.entered += 1;
+        Ok(depth - 1)
+    }
+
     /// The most components that were saved at one moment.
     #[inline(always)]
     pub fn most_saved(&self) -> usize
@@ -226,34 +227,21 @@ impl<'a> Reader<'a> {
         self.most_noted.max(self.buffer.saved_len())
     }
 
-    /// Takes the last saved component back, where it is to be.
-    fn take_back(&mut self, takes: bool)
-        requires saved { takes ≡ true → 0 < length (saved self.old.buffer.value) }
-        ensures state { state self.new ≡ spec.taken_back takes (state self.old) }
-        ensures fewer { length (saved self.new.buffer.value) ≤ length (saved self.old.buffer.value) }
-        ensures found { self.new.found ≡ self.old.found }
-        ensures kept { SameFrame self.old.buffer.value self.new.buffer.value }
-        ensures main { main_bytes self.new.buffer.value ≡ main_bytes self.old.buffer.value }
-    {
-        if takes {
-            self.most_noted = self.most_saved();
-            self.buffer.unsave();
-        }
-    }
-
     /// `<source-name> ::= <positive length number> <identifier>`
+    #[inline(always)]
     pub fn read_source(&mut self) -> Result<(), Stop>
         ensures reads { Gives result self.new (spec.parse_source (state self.old)) }
         ensures kept { OnOk result (SameFrame self.old.buffer.value self.new.buffer.value) }
         ensures bounds { Bounds 2 result (state self.old) (state self.new) }
         ensures saved { SavedBounds 2 result (state self.old) (state self.new) }
     {
-        let Some((from, to)) = source_name(self.rest, 0) else {
+        let bytes = self.rest;
+        let Some((from, to)) = source_name(bytes, 0) else {
             return Err(Stop::Unread);
         };
-        let text = source_text(&self.rest[from..to]);
+        let text = source_text(&bytes[from..to]);
         self.found = self.buffer.push(text)?;
-        self.rest = &self.rest[to..];
+        self.rest = &bytes[to..];
         Ok(())
     }
 
@@ -329,19 +317,6 @@ impl<'a> Reader<'a> {
             return Err(Stop::Unread);
         };
         self.found = argument;
-        Ok(())
-    }
-
-    /// A `<template-param>` that is saved.
-    pub fn read_saved_parameter(&mut self, context: Context) -> Result<(), Stop>
-        ensures reads { Gives result self.new (spec.saved_parameter context (state self.old)) }
-        ensures some { OnOk result (0 < length (saved self.new.buffer.value)) }
-        ensures kept { OnOk result (SameFrame self.old.buffer.value self.new.buffer.value) }
-        ensures bounds { Bounds 2 result (state self.old) (state self.new) }
-        ensures saved { SavedBounds 1 result (state self.old) (state self.new) }
-    {
-        self.read_parameter(context)?;
-        self.save_found()?;
         Ok(())
     }
 

@@ -1,19 +1,19 @@
 //! Special names, and what follows the prefix of a symbol (Itanium C++ ABI 5.1.4, "Other Special Functions and
 //! Entities").
-ghost use Rattle.std.specs.Prelude.{◌≡◌, ◌<◌, OnOk, IfOk, decimal};
-ghost use Rattle.demangle_text.specs.Shape.{text};
-ghost use Rattle.demangle_text.specs.State.{IsLiving, Lives, shape, IsEdit, KeepsAll, IsRun};
-ghost use Rattle.demangle_text.specs.Calls.{AreAdjacent};
-ghost use Rattle.itanium_grammar.specs.Tree.{offset_sign, plain_offset_text, virtual_offset_text, offset_text, worded_shape, temporary_shape, construction_shape, single_thunk_shape, covariant_thunk_shape, thunk_shape};
+ghost use Rattle.std.specs.Prelude.{◌≡◌, ◌<◌, ◌++◌, OnOk, IfOk, codes, decimal, length};
+ghost use Rattle.demangle_text.specs.Shape.{text, appended};
+ghost use Rattle.demangle_text.specs.State.{IsLiving, Lives, shape, IsEdit, IsRun};
+ghost use Rattle.demangle_text.specs.Calls.{AreAdjacent, IsLast};
+ghost use Rattle.itanium_grammar.specs.Tree.{offset_sign, offset_text, worded_shape};
 ghost use Rattle.itanium_reader.specs.Parser as spec;
 ghost use Rattle.itanium_reader.specs.Outcome.{state, Gives, Bounds, SavedBounds};
 
 use crate::reader::Reader;
 use crate::stop::Stop;
-use demangle_edit::{Glue, append_number, glue};
+use demangle_edit::append_number;
 use demangle_text::{Buffer, Piece};
 use itanium_syntax::numerals::{Radix, index_of};
-use itanium_syntax::offsets::{CallOffset, Signed, ThunkOffsets};
+use itanium_syntax::offsets::{CallOffset, Signed, ThunkOffsets, thunk_offsets};
 use std::alloc::AllocError;
 
 /// The sign of a number, `-` or nothing.
@@ -23,75 +23,47 @@ fn offset_sign_bytes(number: Signed) -> &'static [u8]
     if number.negative { b"-" } else { b"" }
 }
 
-/// A number as a text, without its sign.
-#[tactic(auto, using(crate::proofs::Rules::buffers))]
-fn push_number(buf: &mut Buffer, number: u64) -> Result<Piece, AllocError>
-    ensures text { IfOk result (λ p. IsLiving buf.new p × (text (shape buf.new p) ≡ decimal number)) }
-    ensures kept { OnOk result (KeepsAll buf.old buf.new) }
-{
-    let mark = buf.open();
-    let empty = buf.push(b"")?;
-    let numbered = append_number(buf, empty, number)?;
-    buf.close(mark, numbered)
-}
-
-/// `h <number> _` as it is printed.
-#[tactic(auto, using(crate::proofs::Rules::buffers))]
-fn push_plain_offset(buf: &mut Buffer, number: Signed) -> Result<Piece, AllocError>
-    ensures text { IfOk result (λ p. IsLiving buf.new p × (text (shape buf.new p) ≡ plain_offset_text number)) }
+/// The words with bytes after them, and then a number with its sign.
+#[tactic(auto, using(crate::proofs::Rules::endings))]
+fn append_signed(
+    buf: &mut Buffer,
+    words: Piece,
+    bytes: &[u8],
+    number: Signed,
+) -> Result<Piece, AllocError>
+    requires words { IsLiving buf.old words }
+    ensures shape { IfOk result (λ p. Lives buf.new p
+        (appended (bytes.now ++ (offset_sign number ++ decimal number.magnitude)) (shape buf.old words))) }
     ensures edit { OnOk result (IsEdit buf.old buf.new) }
 {
-    let magnitude = push_number(buf, number.magnitude)?;
-    let parts = [
-        Glue::Text(b"{offset("),
-        Glue::Text(offset_sign_bytes(number)),
-        Glue::Piece(magnitude),
-        Glue::Text(b")}"),
-    ];
-    glue(buf, &parts)
+    let opened = buf.append(words, bytes)?;
+    let signed = buf.append(opened, offset_sign_bytes(number))?;
+    let numbered = append_number(buf, signed, number.magnitude)?;
+    Ok(numbered)
 }
 
-/// `v <number> _ <number> _` as it is printed.
-#[tactic(auto, using(crate::proofs::Rules::buffers))]
-fn push_virtual_offset(buf: &mut Buffer, first: Signed, second: Signed) -> Result<Piece, AllocError>
-    ensures text { IfOk result (λ p. IsLiving buf.new p
-        × (text (shape buf.new p) ≡ virtual_offset_text first second)) }
+/// The words with `<call-offset>` after them as it is printed, and `, `.
+#[tactic(auto, using(crate::proofs::Rules::endings))]
+fn append_offset(buf: &mut Buffer, words: Piece, offset: CallOffset) -> Result<Piece, AllocError>
+    requires words { IsLiving buf.old words }
+    ensures shape { IfOk result (λ p. Lives buf.new p
+        (appended (offset_text offset ++ codes ", ") (shape buf.old words))) }
     ensures edit { OnOk result (IsEdit buf.old buf.new) }
-{
-    let one = push_number(buf, first.magnitude)?;
-    let other = push_number(buf, second.magnitude)?;
-    let parts = [
-        Glue::Text(b"{virtual offset("),
-        Glue::Text(offset_sign_bytes(first)),
-        Glue::Piece(one),
-        Glue::Text(b", "),
-        Glue::Text(offset_sign_bytes(second)),
-        Glue::Piece(other),
-        Glue::Text(b")}"),
-    ];
-    glue(buf, &parts)
-}
-
-/// `<call-offset>` as it is printed.
-fn push_offset(buf: &mut Buffer, offset: CallOffset) -> Result<Piece, AllocError>
-    ensures text { IfOk result (λ p. IsLiving buf.new p × (text (shape buf.new p) ≡ offset_text offset)) }
-    ensures edit { OnOk result (IsEdit buf.old buf.new) }
+    ensures last { IfOk result (IsLast buf.new) }
 {
     match offset {
-        CallOffset::Plain(number) => push_plain_offset(buf, number),
-        CallOffset::Virtual(first, second) => push_virtual_offset(buf, first, second),
+        CallOffset::Plain(number) => {
+            let begun = append_signed(buf, words, b"{offset(", number)?;
+            let printed = buf.append(begun, b")}, ")?;
+            Ok(printed)
+        }
+        CallOffset::Virtual(first, second) => {
+            let begun = append_signed(buf, words, b"{virtual offset(", first)?;
+            let both = append_signed(buf, begun, b", ", second)?;
+            let printed = buf.append(both, b")}, ")?;
+            Ok(printed)
+        }
     }
-}
-
-/// `<call-offset>` as it is printed, in a frame of its own: what lived keeps its shape.
-#[tactic(auto, using(crate::proofs::Rules::buffers))]
-fn framed_offset(buf: &mut Buffer, offset: CallOffset) -> Result<Piece, AllocError>
-    ensures text { IfOk result (λ p. IsLiving buf.new p × (text (shape buf.new p) ≡ offset_text offset)) }
-    ensures kept { OnOk result (KeepsAll buf.old buf.new) }
-{
-    let mark = buf.open();
-    let printed = push_offset(buf, offset)?;
-    buf.close(mark, printed)
 }
 
 #[tactic(auto, using(crate::proofs::Rules::buffers))]
@@ -115,107 +87,41 @@ impl<'a> Reader<'a> {
         Ok(())
     }
 
-    /// The number of a reference temporary in front of its name, which was found.
-    fn print_temporary(&mut self, number: u64) -> Result<(), AllocError>
-        requires living { IsLiving self.old.buffer.value self.old.found }
-        ensures shape { OnOk result (Lives self.new.buffer.value self.new.found
-            (temporary_shape number (shape self.old.buffer.value self.old.found))) }
-        ensures state { OnOk result (state self.new ≡ state self.old) }
+    /// `T <call-offset>` or `T c <call-offset> <call-offset>`: what stands in front of the encoding of a thunk with
+    /// these offsets, at the end of the main text.
+    #[tactic(auto, using(crate::proofs::Rules::endings), unfolding(crate::specs::Parser::thunk_front))]
+    #[cold]
+    pub fn open_thunk(&mut self) -> Result<(), Stop>
+        requires some { 0 < length self.old.rest.now }
+        ensures reads { Gives result self.new (spec.thunk_front (state self.old)) }
+        ensures last { OnOk result (IsLast self.new.buffer.value self.new.found) }
         ensures run { OnOk result (IsRun self.old.buffer.value self.new.buffer.value) }
+        ensures bounds { Bounds 2 result (state self.old) (state self.new) }
+        ensures saved { SavedBounds 1 result (state self.old) (state self.new) }
     {
-        let digits = push_number(&mut self.buffer, number)?;
-        let parts = [
-            Glue::Text(b"reference temporary #"),
-            Glue::Piece(digits),
-            Glue::Text(b" for "),
-            Glue::Piece(self.found),
-        ];
-        self.found = glue(&mut self.buffer, &parts)?;
-        Ok(())
-    }
-
-    /// The construction vtable of the base that was found, in its type.
-    pub fn print_construction(&mut self, class: Piece) -> Result<(), AllocError>
-        requires class { IsLiving self.old.buffer.value class }
-        requires living { IsLiving self.old.buffer.value self.old.found }
-        ensures shape { OnOk result (Lives self.new.buffer.value self.new.found
-            (construction_shape (shape self.old.buffer.value self.old.found) (shape self.old.buffer.value class))) }
-        ensures state { OnOk result (state self.new ≡ state self.old) }
-        ensures run { OnOk result (IsRun self.old.buffer.value self.new.buffer.value) }
-    {
-        let base = self.found;
-        let parts = [
-            Glue::Text(b"construction vtable for "),
-            Glue::Piece(base),
-            Glue::Text(b"-in-"),
-            Glue::Piece(class),
-        ];
-        self.found = glue(&mut self.buffer, &parts)?;
-        Ok(())
-    }
-
-    /// The thunk with this offset of what was found.
-    fn print_single_thunk(&mut self, offset: CallOffset) -> Result<(), AllocError>
-        requires living { IsLiving self.old.buffer.value self.old.found }
-        ensures shape { OnOk result (Lives self.new.buffer.value self.new.found
-            (single_thunk_shape offset (shape self.old.buffer.value self.old.found))) }
-        ensures state { OnOk result (state self.new ≡ state self.old) }
-        ensures run { OnOk result (IsRun self.old.buffer.value self.new.buffer.value) }
-    {
-        let printed = framed_offset(&mut self.buffer, offset)?;
-        let parts = [
-            Glue::Text(b"{virtual override thunk("),
-            Glue::Piece(printed),
-            Glue::Text(b", "),
-            Glue::Piece(self.found),
-            Glue::Text(b")}"),
-        ];
-        self.found = glue(&mut self.buffer, &parts)?;
-        Ok(())
-    }
-
-    /// The thunk with these two offsets of what was found.
-    fn print_covariant_thunk(
-        &mut self,
-        first: CallOffset,
-        second: CallOffset,
-    ) -> Result<(), AllocError>
-        requires living { IsLiving self.old.buffer.value self.old.found }
-        ensures shape { OnOk result (Lives self.new.buffer.value self.new.found
-            (covariant_thunk_shape first second (shape self.old.buffer.value self.old.found))) }
-        ensures state { OnOk result (state self.new ≡ state self.old) }
-        ensures run { OnOk result (IsRun self.old.buffer.value self.new.buffer.value) }
-    {
-        let one = framed_offset(&mut self.buffer, first)?;
-        let other = framed_offset(&mut self.buffer, second)?;
-        let parts = [
-            Glue::Text(b"{virtual override thunk("),
-            Glue::Piece(one),
-            Glue::Text(b", "),
-            Glue::Piece(other),
-            Glue::Text(b", "),
-            Glue::Piece(self.found),
-            Glue::Text(b")}"),
-        ];
-        self.found = glue(&mut self.buffer, &parts)?;
-        Ok(())
-    }
-
-    /// The thunk with these offsets of what was found.
-    pub fn print_thunk(&mut self, offsets: ThunkOffsets) -> Result<(), AllocError>
-        requires living { IsLiving self.old.buffer.value self.old.found }
-        ensures shape { OnOk result (Lives self.new.buffer.value self.new.found
-            (thunk_shape offsets (shape self.old.buffer.value self.old.found))) }
-        ensures state { OnOk result (state self.new ≡ state self.old) }
-        ensures run { OnOk result (IsRun self.old.buffer.value self.new.buffer.value) }
-    {
+        self.skip(1);
+        let Some((offsets, rest)) = thunk_offsets(self.rest) else {
+            return Err(Stop::Unread);
+        };
+        self.rest = rest;
+        let begun = self.buffer.push(b"{virtual override thunk(")?;
         match offsets {
-            ThunkOffsets::Single(offset) => self.print_single_thunk(offset),
-            ThunkOffsets::Covariant(first, second) => self.print_covariant_thunk(first, second),
+            ThunkOffsets::Single(offset) => {
+                let words = append_offset(&mut self.buffer, begun, offset)?;
+                self.found = self.buffer.whole(words);
+                Ok(())
+            }
+            ThunkOffsets::Covariant(first, second) => {
+                let one = append_offset(&mut self.buffer, begun, first)?;
+                let words = append_offset(&mut self.buffer, one, second)?;
+                self.found = self.buffer.whole(words);
+                Ok(())
+            }
         }
     }
 
     /// `[<seq-id>] _` of a reference temporary, after its name, which was found.
+    #[tactic(auto, using(crate::proofs::Rules::endings))]
     pub fn end_temporary(&mut self) -> Result<(), Stop>
         requires living { IsLiving self.old.buffer.value self.old.found }
         ensures reads { Gives result self.new
@@ -228,7 +134,11 @@ impl<'a> Reader<'a> {
             return Err(Stop::Unread);
         };
         self.rest = rest;
-        self.print_temporary(number as u64)?;
+        let mark = self.buffer.open();
+        let begun = self.buffer.push(b"reference temporary #")?;
+        let numbered = append_number(&mut self.buffer, begun, number as u64)?;
+        let whole = self.buffer.join(numbered, b" for ", self.found)?;
+        self.found = self.buffer.close(mark, whole)?;
         Ok(())
     }
 }

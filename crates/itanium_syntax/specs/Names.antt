@@ -2,7 +2,7 @@
 use Rattle.std.specs.Prelude.{ℕ, List, Bool, true, false, ◌&&◌, ◌||◌, drop, codes, if◌then◌else◌, is_some}
 use Rattle.demangle_quals.specs.declared.quals.Quals.{Quals}
 use Rattle.demangle_quals.specs.Quals.{no_quals}
-use Rattle.itanium_syntax.specs.Bytes.{letter, begins, begins_between, begins_digit, begins_positive, begins_lower_case, begins_one_of, past_letter}
+use Rattle.itanium_syntax.specs.Bytes.{letter, begins, begins_between, begins_digit, begins_positive, begins_lower_case, past_letter}
 use Rattle.itanium_syntax.specs.Operators.{operator_here}
 use Rattle.itanium_syntax.specs.Cases.{SymbolCase, SpecialSymbol, NameSymbol, NameCase, NestedName, LocalName}
 use Rattle.itanium_syntax.specs.Cases.{UnscopedName, UnscopedCase, StdName, SubstitutionName, PlainName, FirstCase}
@@ -104,10 +104,6 @@ past_initializer_letter bytes = past_letter (letter "M") bytes
 -- an unnamed namespace has a text of its own
 abbrev pub source_text : List ℕ → List ℕ
 source_text name = if begins (codes "_GLOBAL__N") name then codes "(anonymous namespace)" else name
-
--- whether the qualifiers of a <nested-name> are next, or the H that says none
-abbrev pub begins_quals : List ℕ → Bool
-begins_quals bytes = begins_one_of (codes "HrVKRO") bytes
 
 -- the qualifiers of a <nested-name>; one with an explicit object parameter, H, has none
 abbrev pub name_quals : List ℕ → Quals

@@ -3,8 +3,6 @@
 ghost use Rattle.std.specs.Prelude.{◌≡◌};
 ghost use Rattle.itanium_syntax.specs.Encodings as spec;
 
-use crate::names::NameCase;
-
 /// Whether a return type follows the name of an `<encoding>`.
 #[derive(Clone, Copy)]
 pub enum ReturnCase {
@@ -59,15 +57,5 @@ pub fn entity_case(bytes: &[u8]) -> EntityCase
         [b'E', b'd', b'_' | b'0'..=b'9', ..] => EntityCase::DefaultArgumentEntity,
         [b'E', ..] => EntityCase::NameEntity,
         _ => EntityCase::NoEntity,
-    }
-}
-
-/// Whether the words of a name's own qualifiers are shown: those of a local name's entity always are.
-pub fn shows_words(case: NameCase, shown: bool) -> bool
-    ensures value { result ≡ spec.shows_words case shown }
-{
-    match case {
-        NameCase::LocalName => true,
-        NameCase::NestedName | NameCase::UnscopedName => shown,
     }
 }

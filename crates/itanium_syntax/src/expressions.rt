@@ -110,41 +110,32 @@ pub fn expression_text(bytes: &[u8]) -> &'static str
     operator_here(bytes).unwrap_or("")
 }
 
-/// Which `<expression>` stands there: one with an operator of so many operands, or one without.
-fn operator_case(bytes: &[u8], arity: Option<u8>) -> ExpressionCase
-    ensures case { result ≡ spec.operator_case bytes.now arity }
-{
-    match (bytes, arity) {
-        ([b'T', b's' | b'u' | b'e' | b'L', ..], None) => ExpressionCase::NoExpression,
-        ([b'T', ..], None) => ExpressionCase::ParameterExpression,
-        ([b'L', ..], None) => ExpressionCase::LiteralExpression,
-        (_, None) => ExpressionCase::NoExpression,
-        ([b'a', b'd', b'L', b'_', b'Z', ..], _) => ExpressionCase::AddressExpression,
-        ([b'p', b'p', ..] | [b'm', b'm', ..], _) => ExpressionCase::PostExpression,
-        ([b'g', b't', ..], _) => ExpressionCase::GreaterExpression,
-        (_, Some(1)) => ExpressionCase::UnaryExpression,
-        (_, Some(3)) => ExpressionCase::ConditionalExpression,
-        _ => ExpressionCase::BinaryExpression,
-    }
-}
-
-/// Whether `pp_` or `mm_` stands there.
-fn is_pre(bytes: &[u8]) -> bool
-    ensures value { result ≡ spec.is_pre bytes.now }
-{
-    matches!(bytes, [b'p', b'p', b'_', ..] | [b'm', b'm', b'_', ..])
-}
-
 /// Which `<expression>` stands there.
 pub fn expression_case(bytes: &[u8]) -> ExpressionCase
     ensures case { result ≡ spec.expression_case bytes.now }
 {
-    if is_pre(bytes) {
-        return ExpressionCase::PreExpression;
-    }
-    match bytes {
-        [first, second, ..] if expression_refused(*first, *second) => ExpressionCase::NoExpression,
-        [first, second, ..] => operator_case(bytes, operator_arity(*first, *second)),
-        _ => operator_case(bytes, None),
+    let (first, second, rest) = match bytes {
+        [first, second, rest @ ..] => (*first, *second, rest),
+        [b'L'] => return ExpressionCase::LiteralExpression,
+        [b'T'] => return ExpressionCase::ParameterExpression,
+        _ => return ExpressionCase::NoExpression,
+    };
+    match (first, second) {
+        (b'p', b'p') | (b'm', b'm') => match rest {
+            [b'_', ..] => ExpressionCase::PreExpression,
+            _ => ExpressionCase::PostExpression,
+        },
+        (b'a', b'd') if is_external(rest) => ExpressionCase::AddressExpression,
+        (b'g', b't') => ExpressionCase::GreaterExpression,
+        (b'L', _) => ExpressionCase::LiteralExpression,
+        (b'T', b's' | b'u' | b'e' | b'L') => ExpressionCase::NoExpression,
+        (b'T', _) => ExpressionCase::ParameterExpression,
+        _ if expression_refused(first, second) => ExpressionCase::NoExpression,
+        _ => match operator_arity(first, second) {
+            Some(1) => ExpressionCase::UnaryExpression,
+            Some(3) => ExpressionCase::ConditionalExpression,
+            Some(_) => ExpressionCase::BinaryExpression,
+            None => ExpressionCase::NoExpression,
+        },
     }
 }

@@ -1,6 +1,7 @@
 //! The cases of names (Itanium C++ ABI 5.1.2): which one the next bytes begin. Of several cases the first one that
 //! fits holds.
-ghost use Rattle.std.specs.Prelude.{◌≡◌, ◌≤◌, ◌+◌, length, IfSome, Some, None, true, false};
+ghost use Rattle.std.specs.Prelude.{◌≡◌, ◌≤◌, ◌+◌, length, IfSome, Some, None, true};
+ghost use Rattle.std.specs.Option.{unwrap_or};
 ghost use Rattle.demangle_quals.specs.Quals.{no_quals};
 ghost use Rattle.itanium_syntax.specs.Names as spec;
 ghost use Rattle.itanium_syntax.specs.Scalars.{source_name};
@@ -121,18 +122,12 @@ pub fn first_case(bytes: &[u8]) -> FirstCase
     ensures case { result ≡ spec.first_case bytes.now }
 {
     match bytes {
+        [b'1'..=b'9', ..] => FirstCase::NameFirst,
         [b'T', ..] => FirstCase::ParameterFirst,
         [b'S', b't', ..] => FirstCase::StdFirst,
         [b'S', ..] => FirstCase::SubstitutionFirst,
         _ => FirstCase::NameFirst,
     }
-}
-
-/// Whether the first segment of a `<nested-name>` goes into the substitution table.
-pub fn saves_first(case: FirstCase) -> bool
-    ensures value { result ≡ spec.saves_first case }
-{
-    matches!(case, FirstCase::ParameterFirst | FirstCase::NameFirst)
 }
 
 /// Which later segment of a `<nested-name>` stands there, or its `E`.
@@ -213,28 +208,6 @@ pub fn past_internal(bytes: &[u8]) -> &[u8]
     }
 }
 
-/// The identifier of a `<source-name>` without `<abi-tags>`, and what is after it, where one stands at the front, else
-/// `None`.
-#[inline(always)]
-pub fn untagged_source(bytes: &[u8]) -> Option<(&[u8], &[u8])>
-    ensures begins { IfSome result (λ _. spec.begins_source bytes.now ≡ true) }
-    ensures value { IfSome result (λ found. source_name bytes.now ≡ Some (found.0.now, found.1.now)) }
-    ensures untagged { IfSome result (λ found. spec.tag_case found.1.now ≡ TagCase.NoTag) }
-    ensures shorter { IfSome result (λ found. length found.1.now + 2 ≤ length bytes.now) }
-    ensures none { result ≡ None → spec.begins_source bytes.now ≡ true
-        → IfSome (source_name bytes.now) (λ found. spec.tag_case found.1 ≡ TagCase.NextTag) }
-{
-    if !begins_source(bytes) {
-        return None;
-    }
-    let (from, to) = source_name(bytes, 0)?;
-    let rest = &bytes[to..];
-    match tag_case(rest) {
-        TagCase::NoTag => Some((&bytes[from..to], rest)),
-        TagCase::NextTag => None,
-    }
-}
-
 /// The text of a source name: an unnamed namespace has a text of its own.
 pub fn source_text(name: &[u8]) -> &[u8]
     ensures text { result.now ≡ spec.source_text name.now }
@@ -257,31 +230,21 @@ pub fn source_text(name: &[u8]) -> &[u8]
     }
 }
 
-/// Whether qualifiers of a `<nested-name>` stand there, or `H`, which says none.
+/// The qualifiers of a `<nested-name>`, `<CV-qualifiers>` and a `<ref-qualifier>`, or `None` where none stand there or
+/// an `H`; and what follows them.
 #[inline(always)]
-pub fn begins_quals(bytes: &[u8]) -> bool
-    ensures value { result ≡ spec.begins_quals bytes.now }
-    ensures none { result ≡ false → spec.name_quals bytes.now ≡ no_quals }
-    ensures rest { result ≡ false → spec.past_name_quals bytes.now ≡ bytes.now }
-{
-    match bytes {
-        [b'H' | b'r' | b'V' | b'K' | b'R' | b'O', ..] => true,
-        _ => false,
-    }
-}
-
-/// The qualifiers of a `<nested-name>`, which are `H`, for none, or `<CV-qualifiers>` and a `<ref-qualifier>`; and what
-/// follows them.
-#[inline(always)]
-pub fn name_quals(bytes: &[u8]) -> (Quals, &[u8])
-    ensures quals { result.0 ≡ spec.name_quals bytes.now }
+pub fn name_quals(bytes: &[u8]) -> (Option<Quals>, &[u8])
+    ensures quals { unwrap_or result.0 no_quals ≡ spec.name_quals bytes.now }
     ensures rest { result.1.now ≡ spec.past_name_quals bytes.now }
     ensures within { length result.1.now ≤ length bytes.now }
 {
-    if let [b'H', rest @ ..] = bytes {
-        return (Quals::none(), rest);
+    match bytes {
+        [b'H', rest @ ..] => (None, rest),
+        [b'r' | b'V' | b'K' | b'R' | b'O', ..] => {
+            let (words, rest) = cv_quals(bytes);
+            let (reference, rest) = ref_qualifier(rest);
+            (Some(Quals { reference, ..words }), rest)
+        }
+        _ => (None, bytes),
     }
-    let (words, rest) = cv_quals(bytes);
-    let (reference, rest) = ref_qualifier(rest);
-    (Quals { reference, ..words }, rest)
 }

@@ -1,8 +1,10 @@
-use Rattle.std.proofs.Common.{◌≡◌, ◌∙◌, ℕ, List, drop, refl, rules, sym, ap, arith, true, Some}
+use Rattle.std.proofs.Common.{◌≡◌, ◌<◌, ◌+◌, ◌*◌, ◌^◌, ◌∙◌, ℕ, List, [], ◌∷◌, length, drop, refl, rules, sym, ap, arith, true, Some}
+use Rattle.std.proofs.Common.{codes}
+use Rattle.std.proofs.lemmas.List.{length-append, length-drop}
 use Rattle.std.proofs.lemmas.Result.{err_from_is_err_and}
-use Rattle.itanium_syntax.proofs.Fronts.{attached_some}
-use Rattle.demangle_text.specs.State.{shape}
-use Rattle.demangle_text.specs.Shape.{Shape, text_len}
+use Rattle.demangle_text.specs.State.{shape, SameFrame, saved, scopes}
+use Rattle.demangle_text.specs.Shape.{Shape, text, text_len}
+use Rattle.demangle_text.proofs.Laws.{runs}
 use Rattle.demangle_quals.specs.declared.quals.Quals.{Quals}
 use Rattle.demangle_edit.specs.Names.{default_arg_opened, default_arg_shape, enclosed}
 use Rattle.itanium_syntax.specs.Scalars.{ordinal}
@@ -10,22 +12,27 @@ use Rattle.itanium_syntax.specs.Encodings.{entity_case}
 use Rattle.itanium_reader.specs.Cases.{DefaultArgumentEntity}
 use Rattle.itanium_reader.specs.Outcome.{state}
 use Rattle.itanium_reader.specs.Parser as spec
-use Rattle.itanium_reader.proofs.Unfold.{saved_first, stops, prefix_start, source_prefix_start, source_prefix_none, source_segment, waits_same, waits_saved}
-use Rattle.itanium_reader.proofs.Unfold.{attached_start, attached_end, attached_more, attached_fail, attached_plain}
-use Rattle.itanium_reader.proofs.Unfold.{attached_front, pack_start, segments_end, segments_read, segments_none}
+use Rattle.itanium_reader.proofs.Unfold.{stops, too_long, thunk_read, thunk_wide}
+use Rattle.itanium_reader.proofs.Texts.{begun_front}
+use Rattle.itanium_reader.proofs.Turns.{source_segment, later_is, attached_start, attached_end, attached_more}
+use Rattle.itanium_reader.proofs.Turns.{attached_fail, attached_plain, attached_front, pack_start, segments_end}
+use Rattle.itanium_reader.proofs.Turns.{segments_read, segments_none, items_more, items_fail, typed_end, typed_more}
+use Rattle.itanium_reader.proofs.Turns.{typed_fail, attached_wide, attached_more_wide, segments_wide, pack_ends}
+use Rattle.itanium_reader.proofs.Turns.{pack_wide, typed_wide, items_wide}
 use Rattle.itanium_syntax.specs.Context.{inside_lambda}
-use Rattle.itanium_reader.proofs.Unfold.{items_more, items_fail, typed_end, typed_more, typed_fail, begun_front}
-use Rattle.itanium_reader.proofs.Unfold.{attached_wide, attached_more_wide, segments_wide, segments_last}
-use Rattle.itanium_reader.proofs.Unfold.{pack_ends, pack_wide, typed_wide}
-use Rattle.itanium_reader.proofs.Unfold.{items_wide}
+use Rattle.itanium_reader.specs.Cases.{ArgsSegment, NameSegment, EndOfSegments}
+use Rattle.itanium_syntax.specs.Names.{segment_case}
+use Rattle.itanium_productions.proofs.+reader.Goals.{names::read_prefix-in-ArgsSegment+in_ok-save_waiting-in-ArgsSegment+in_ok-read_attached-in-ArgsSegment, names::read_prefix-in-NameSegment+in_ok-save_waiting-in-NameSegment+in_ok-read_segment-in-NameSegment}
+use Rattle.itanium_reader.proofs.Rules.{buffers, types}
+use Rattle.itanium_grammar.specs.Tree.{worded_shape}
 use Rattle.itanium_productions.proofs.+reader.Goals as goal
 
 pub args::read_attached-loop-reader-init : goal.args::read_attached-loop-reader-init
 args::read_attached-loop-reader-init t c = record {
-  positive = search rules;
+  below = search rules;
   front = begun_front (shape c.args.reader.now.buffer.value c.args.reader.now.found) (shape c.begin_arguments.new.buf c.in_ok-list.list) (search rules) (search rules);
   widest = search rules;
-  reads = attached_start _ _ _ _ (shape c.args.reader.now.buffer.value c.args.reader.now.found) (search rules) (search rules) (search rules) (search rules) (search rules);
+  reads = attached_start _ _ _ _ (shape c.args.reader.now.buffer.value c.args.reader.now.found) (search rules) (search rules) (search rules) (search rules) (search rules) (search rules);
   living = search rules;
   last = search rules;
   run = search rules;
@@ -75,7 +82,7 @@ args::read_attached-returns-in_err-framed_argument-in-NextArgument-clause-reads 
 
 pub args::read_attached-loop-reader-preserved : goal.args::read_attached-loop-reader-preserved
 args::read_attached-loop-reader-preserved t c = record {
-  positive = search rules;
+  below = search rules;
   front = c.loop-reader.invariant.front;
   widest = c.loop-reader.invariant.widest;
   reads = attached_more _ _ _ c.loop-reader.invariant.reads {next = shape c.framed_argument.new.reader.buffer.value c.framed_argument.new.reader.found} {mid = state c.framed_argument.new.reader}
@@ -92,16 +99,10 @@ args::read_attached-loop-reader-preserved t c = record {
   most = search rules;
 }
 
-pub names::read_attached_args-returns-in_ok-save_found-in-ArgsAttached-clause-saved : goal.names::read_attached_args-returns-in_ok-save_found-in-ArgsAttached-clause-saved
-names::read_attached_args-returns-in_ok-save_found-in-ArgsAttached-clause-saved t c =
-    let save = c.in_ok-save_found-in-ArgsAttached.ensures {u = tt} in
-    saved_first c.read_attached.result (state c.args.reader.now) (state c.save_found.new.self) (state c.read_attached.new.reader) c.read_attached.ensures.saved
-    save.longer (search rules) (search (rules, attached_some)) save.most
-
 pub args::read_pack-loop-reader-init : goal.args::read_pack-loop-reader-init
 args::read_pack-loop-reader-init t c = record {
-  positive = search rules;
-  reads = pack_start _ _ _ (search rules) (search rules) (search rules) (search rules);
+  below = search rules;
+  reads = pack_start _ _ _ (search rules) (search rules) (search rules) (search rules) (search rules);
   living = search rules;
   run = search rules;
   scopes_stand = search rules;
@@ -124,7 +125,7 @@ args::read_pack-returns-in_err-framed_argument-in-NextArgument-clause-reads t c 
 
 pub args::read_pack-loop-reader-preserved : goal.args::read_pack-loop-reader-preserved
 args::read_pack-loop-reader-preserved t c = record {
-  positive = search rules;
+  below = search rules;
   reads = items_more _ _ _ c.loop-reader.invariant.reads {next = shape c.framed_argument.new.reader.buffer.value c.framed_argument.new.reader.found} {mid = state c.framed_argument.new.reader}
       (sym c.in-NextArgument.ensures.case) (search rules) (search rules) (search rules) (search rules) (search rules) (search rules);
   living = search rules;
@@ -167,13 +168,23 @@ types::read_params-loop-list-preserved t c = record {
   most = search rules;
 }
 
+pub args::read_pack-returns-in_err-measure-in-EndOfArguments-clause-reads : goal.args::read_pack-returns-in_err-measure-in-EndOfArguments-clause-reads
+args::read_pack-returns-in_err-measure-in-EndOfArguments-clause-reads t c =
+    let list = shape c.skip-in-EndOfArguments.new.self.buffer.value c.whole-reader.result in
+    let r = c.from_residual-in_err-measure-in-EndOfArguments in
+    let e = err_from_is_err_and r.result r.ensures.1 in
+    rw (e.1, e.2) (too_long _ list _ (c.in_err-measure-in-EndOfArguments.ensures {u = tt}).fits
+    (λ wide. pack_wide _ {found = list} c.loop-reader.invariant.reads (sym c.in-EndOfArguments.ensures.case) (search rules) wide))
+
+pub types::read_type-returns-in_err-measure-clause-reads : goal.types::read_type-returns-in_err-measure-clause-reads
+types::read_type-returns-in_err-measure-clause-reads t c =
+    let r = c.from_residual-in_err-measure in
+    let e = err_from_is_err_and r.result r.ensures.1 in
+    let read = c.match-type_case.reader in
+    rw (e.1, e.2) (too_long _ (shape read.buffer.value read.found) _ (c.in_err-measure.ensures {u = tt}).fits (λ wide. grind (arith, types)))
+
 pub args::read_pack-returns-then-is_wide-clause-reads : goal.args::read_pack-returns-then-is_wide-clause-reads
 args::read_pack-returns-then-is_wide-clause-reads t c =
-    pack_wide _ {found = shape c.skip-in-EndOfArguments.new.self.buffer.value c.whole-reader.result} c.loop-reader.invariant.reads
-    (sym c.in-EndOfArguments.ensures.case) (search rules) (search rules)
-
-pub args::read_pack-returns-then-is_wide-2-clause-reads : goal.args::read_pack-returns-then-is_wide-2-clause-reads
-args::read_pack-returns-then-is_wide-2-clause-reads t c =
     items_wide _ _ _ c.loop-reader.invariant.reads {next = shape c.framed_argument.new.reader.buffer.value c.framed_argument.new.reader.found}
     {found = shape c.append_piece.new.buf c.in_ok-list-in-NextArgument-2.list} {mid = state c.framed_argument.new.reader}
     (sym c.in-NextArgument.ensures.case) (search rules) (search rules) (search rules)
@@ -186,9 +197,9 @@ default_argument_found bare encoding s case counted read built same = rw (case, 
 
 pub encodings::read_entity-returns-in_ok-reader-in-DefaultArgumentEntity-clause-reads : goal.encodings::read_entity-returns-in_ok-reader-in-DefaultArgumentEntity-clause-reads
 encodings::read_entity-returns-in_ok-reader-in-DefaultArgumentEntity-clause-reads t c =
-    let entity = c.framed_bare_name.new.reader in
+    let entity = c.framed_name.new.reader in
     let began = (c.in_ok-opened-in-DefaultArgumentEntity.ensures {u = tt}).shape in
-    let kept = (c.in_ok-quals-in-DefaultArgumentEntity.ensures {u = tt}).kept.pieces c.in_ok-opened-in-DefaultArgumentEntity.opened began.living in
+    let kept = (c.in_ok-framed_name-in-DefaultArgumentEntity.ensures {u = tt}).kept.pieces c.in_ok-opened-in-DefaultArgumentEntity.opened began.living in
     let closed = rw c.deref_mut-in-DefaultArgumentEntity.ensures.value at (c.in_ok-reader-in-DefaultArgumentEntity.ensures {u = tt}).shape.shape_is in (
       search rules,
       default_argument_found (spec.parse_bare_name c.args.depth c.args.context)
@@ -202,193 +213,225 @@ encodings::read_entity-returns-in_ok-reader-in-DefaultArgumentEntity-clause-read
           (search rules),
     )
 
-pub names::read_after_quals-returns-then-begins_source-clause-reads : goal.names::read_after_quals-returns-then-begins_source-clause-reads
-names::read_after_quals-returns-then-begins_source-clause-reads t c =
-    let mid = c.read_source_name.new.self in
-    c.read_segments_last.ensures.reads _ (source_prefix_start _ _ (spec.parse_args c.args.depth c.args.context true) c.args.context (state c.args.reader.now) {first = shape mid.buffer.value mid.found} {mid = state mid} (search rules) (search rules))
+pub names::read_prefix-returns-in_err-read_source_segment-clause-reads : goal.names::read_prefix-returns-in_err-read_source_segment-clause-reads
+names::read_prefix-returns-in_err-read_source_segment-clause-reads t c =
+    let type = spec.parse_type c.args.depth c.args.context in
+    let param = spec.parse_type c.args.depth (inside_lambda c.args.context) in
+    let args = spec.parse_args c.args.depth c.args.context true in
+    let r = c.loop-reader.reader in
+    let name = shape r.buffer.value r.found in
+    let case = source_segment type param args name (spec.waiting c.loop-reader.waits name (state r)) (search rules) in
+    let f = c.from_residual-in_err-read_source_segment in
+    let e = err_from_is_err_and f.result f.ensures.1 in
+    rw (e.1, e.2) (stops _ _ (c.in_err-read_source_segment.ensures {u = tt}).reads
+    (λ none. segments_none _ _ c.loop-reader.invariant.reads case.0 (case.1 ∙ none)))
 
-pub names::read_after_quals-returns-in_err-read_source_name-clause-reads : goal.names::read_after_quals-returns-in_err-read_source_name-clause-reads
-names::read_after_quals-returns-in_err-read_source_name-clause-reads t c =
-    let e = err_from_is_err_and c.from_residual.result c.from_residual.ensures.1 in
-    rw (e.1, e.2) (stops _ _ (c.in_err-read_source_name.ensures {u = tt}).reads
-    (λ none. source_prefix_none _ _ (spec.parse_args c.args.depth c.args.context true) c.args.context (state c.args.reader.now) (search rules) none))
+pub names::read_prefix-returns-in_err-measure-clause-reads : goal.names::read_prefix-returns-in_err-measure-clause-reads
+names::read_prefix-returns-in_err-measure-clause-reads t c =
+    let type = spec.parse_type c.args.depth c.args.context in
+    let param = spec.parse_type c.args.depth (inside_lambda c.args.context) in
+    let args = spec.parse_args c.args.depth c.args.context true in
+    let r = c.loop-reader.reader in
+    let name = shape r.buffer.value r.found in
+    let case = source_segment type param args name (spec.waiting c.loop-reader.waits name (state r)) (search rules) in
+    let new = c.read_source_segment.new.self in
+    let read = (c.in_ok-read_source_segment.ensures {u = tt}) in
+    let f = c.from_residual-in_err-measure in
+    let e = err_from_is_err_and f.result f.ensures.1 in
+    rw (e.1, e.2) (too_long _ (shape new.buffer.value new.found) _ (c.in_err-measure.ensures {u = tt}).fits
+    (λ wide. segments_wide _ _ c.loop-reader.invariant.reads {next = shape new.buffer.value new.found} {mid = state new} case.0 (case.1 ∙ read.reads.1) wide))
 
-pub names::read_other_prefix-returns-then-end_nested-clause-reads : goal.names::read_other_prefix-returns-then-end_nested-clause-reads
-names::read_other_prefix-returns-then-end_nested-clause-reads t c =
-    let first = c.read_first.new.reader in
-    let mid = c.skip_initializer.new.self in
-    let so_far = prefix_start _ _ (spec.parse_args c.args.depth c.args.context true) c.args.context (state c.args.reader.now) {first = shape mid.buffer.value mid.found} {mid = state first} {after = state mid} {takes = c.saves_first-takes.result} (search rules) (search rules) (search rules) in
-    let ended = c.end_nested.ensures.ended (search rules) in
-    (search rules, segments_end _ _ so_far ended.0 (search rules) ended.1)
-
-pub names::read_other_prefix-returns-in_err-read_later_segment-clause-reads : goal.names::read_other_prefix-returns-in_err-read_later_segment-clause-reads
-names::read_other_prefix-returns-in_err-read_later_segment-clause-reads t c =
-    let first = c.read_first.new.reader in
-    let mid = c.skip_initializer.new.self in
-    let so_far = prefix_start _ _ (spec.parse_args c.args.depth c.args.context true) c.args.context (state c.args.reader.now) {first = shape mid.buffer.value mid.found} {mid = state first} {after = state mid} {takes = c.saves_first-takes.result} (search rules) (search rules) (search rules) in
-    let r = c.from_residual-in_err-read_later_segment in
-    let e = err_from_is_err_and r.result r.ensures.1 in
-    let goes_on = c.end_nested.ensures.goes_on (search rules) in
-    rw (e.1, e.2) (stops _ _ (c.in_err-read_later_segment.ensures {u = tt}).reads
-    (λ none. segments_none _ _ so_far goes_on.0 (rw goes_on.1 at none)))
-
-pub names::read_other_prefix-returns-then-is_wide-clause-reads : goal.names::read_other_prefix-returns-then-is_wide-clause-reads
-names::read_other_prefix-returns-then-is_wide-clause-reads t c =
-    let first = c.read_first.new.reader in
-    let mid = c.skip_initializer.new.self in
-    let so_far = prefix_start _ _ (spec.parse_args c.args.depth c.args.context true) c.args.context (state c.args.reader.now) {first = shape mid.buffer.value mid.found} {mid = state first} {after = state mid} {takes = c.saves_first-takes.result} (search rules) (search rules) (search rules) in
-    let goes_on = c.end_nested.ensures.goes_on (search rules) in
-    let last = c.read_later_segment.new.reader in
-    let read = rw goes_on.1 at ((c.in_ok-read_later_segment.ensures {u = tt}).reads.1) in
-    segments_wide _ _ so_far {next = shape last.buffer.value last.found} {mid = state last} goes_on.0 read (search rules)
-
-pub names::read_other_prefix-returns-clause-reads : goal.names::read_other_prefix-returns-clause-reads
-names::read_other_prefix-returns-clause-reads t c =
-    let first = c.read_first.new.reader in
-    let mid = c.skip_initializer.new.self in
-    let so_far = prefix_start _ _ (spec.parse_args c.args.depth c.args.context true) c.args.context (state c.args.reader.now) {first = shape mid.buffer.value mid.found} {mid = state first} {after = state mid} {takes = c.saves_first-takes.result} (search rules) (search rules) (search rules) in
-    let goes_on = c.end_nested.ensures.goes_on (search rules) in
-    let last = c.read_later_segment.new.reader in
-    let read = rw goes_on.1 at ((c.in_ok-read_later_segment.ensures {u = tt}).reads.1) in
-    c.read_segments.ensures.reads _ (segments_read _ _ so_far {next = shape last.buffer.value last.found} {mid = state last} goes_on.0 read (search rules) (search rules) refl (search rules))
-
-pub names::read_segments_last-returns-then-end_nested_unsaved-clause-reads : goal.names::read_segments_last-returns-then-end_nested_unsaved-clause-reads
-names::read_segments_last-returns-then-end_nested_unsaved-clause-reads t c = λ whole so_far.
-    let here = c.read_next_source_last.new.self in
-    let same = c.read_next_source_last.ensures.other (search rules) in
-    let waits = waits_same _ _ _ c.loop-reader.reader here same (c.loop-reader.invariant.reads whole so_far) in
-    let ended = c.end_nested_unsaved.ensures.ended c.if-end_nested_unsaved.true in
-    (search rules, segments_last _ _ (shape here.buffer.value here.found) (state here) waits ended.0 (search rules) ended.1)
-
-pub names::read_segments_last-returns-then-is_wide-clause-reads : goal.names::read_segments_last-returns-then-is_wide-clause-reads
-names::read_segments_last-returns-then-is_wide-clause-reads t c = λ whole so_far.
-    let old = c.loop-reader.reader in
-    let new = c.read_next_source_last.new.self in
-    let next = c.read_next_source_last.ensures.next (search rules) in
-    let case = source_segment (spec.parse_type c.args.depth c.args.context) (spec.parse_type c.args.depth (inside_lambda c.args.context)) (spec.parse_args c.args.depth c.args.context true)
-    (shape old.buffer.value old.found) (state old) next.begins next.reads in
-    segments_wide _ _ (c.loop-reader.invariant.reads whole so_far) {next = shape new.buffer.value new.found} {mid = state new} case.0 case.1 (search rules)
-
-pub names::read_segments_last-returns-clause-reads : goal.names::read_segments_last-returns-clause-reads
-names::read_segments_last-returns-clause-reads t c = λ whole so_far.
-    let here = c.read_next_source_last.new.self in
-    let same = c.read_next_source_last.ensures.other (search rules) in
-    let waits = waits_same _ _ _ c.loop-reader.reader here same (c.loop-reader.invariant.reads whole so_far) in
-    let unsaved = c.end_nested_unsaved.ensures.goes_on c.if-end_nested_unsaved.false in
-    c.read_segments.ensures.reads whole (waits_same _ _ _ here c.end_nested_unsaved.new.self unsaved.1 waits)
-
-pub names::read_segments_last-loop-reader-preserved : goal.names::read_segments_last-loop-reader-preserved
-names::read_segments_last-loop-reader-preserved t c =
-    let old = c.loop-reader.reader in
-    let new = c.read_next_source_last.new.self in
-    let next = c.read_next_source_last.ensures.next (search rules) in
-    let case = source_segment (spec.parse_type c.args.depth c.args.context) (spec.parse_type c.args.depth (inside_lambda c.args.context)) (spec.parse_args c.args.depth c.args.context true)
-    (shape old.buffer.value old.found) (state old) next.begins next.reads in
+pub names::read_prefix-loop-reader-preserved-then-begins_source : goal.names::read_prefix-loop-reader-preserved-then-begins_source
+names::read_prefix-loop-reader-preserved-then-begins_source t c =
+    let type = spec.parse_type c.args.depth c.args.context in
+    let param = spec.parse_type c.args.depth (inside_lambda c.args.context) in
+    let args = spec.parse_args c.args.depth c.args.context true in
+    let r = c.loop-reader.reader in
+    let name = shape r.buffer.value r.found in
+    let case = source_segment type param args name (spec.waiting c.loop-reader.waits name (state r)) (search rules) in
+    let new = c.read_source_segment.new.self in
+    let read = (c.in_ok-read_source_segment.ensures {u = tt}) in
+    let longer = length-append (saved new.buffer.value) (shape new.buffer.value new.found ∷ []) in
     record {
-      reads = λ whole so_far. segments_read _ _ (c.loop-reader.invariant.reads whole so_far) {next = shape new.buffer.value new.found} {mid = state new} case.0 case.1 (search rules)
-          (rw case.2 (omega (arith, next.shorter))) refl (search rules);
-      living = next.living;
-      last = search rules;
+      reads = segments_read _ _ c.loop-reader.invariant.reads {next = shape new.buffer.value new.found} {mid = state new} case.0 (case.1 ∙ read.reads.1) (search rules)
+          (rw case.2 (search rules)) refl (search rules);
+      living = search rules;
       run = search rules;
       taken = search rules;
       counted = search rules;
       scopes_stand = search rules;
-      list = search rules;
-      most = search rules;
+      list = omega (arith, longer, read.saved.0, c.loop-reader.invariant.list);
+      most = omega (arith, longer, read.saved.0, read.saved.1, c.loop-reader.invariant.list, c.loop-reader.invariant.most);
     }
 
-pub names::read_segments-returns-then-end_nested_unsaved-clause-reads : goal.names::read_segments-returns-then-end_nested_unsaved-clause-reads
-names::read_segments-returns-then-end_nested_unsaved-clause-reads t c = λ whole so_far.
-    let here = c.read_next_source.new.self in
-    let same = c.read_next_source.ensures.other (search rules) in
-    let waits = waits_same _ _ _ c.loop-reader.reader here same (c.loop-reader.invariant.reads whole so_far) in
-    let ended = c.end_nested_unsaved.ensures.ended c.if-end_nested_unsaved.true in
-    (search rules, segments_last _ _ (shape here.buffer.value here.found) (state here) waits ended.0 (search rules) ended.1)
+pub names::read_prefix-returns-in-EndOfSegments-clause-reads : goal.names::read_prefix-returns-in-EndOfSegments-clause-reads
+names::read_prefix-returns-in-EndOfSegments-clause-reads t c =
+    (search rules, segments_end _ _ c.loop-reader.invariant.reads (search rules) (search rules) (search rules))
 
-pub names::read_segments-returns-then-end_nested-clause-reads : goal.names::read_segments-returns-then-end_nested-clause-reads
-names::read_segments-returns-then-end_nested-clause-reads t c = λ whole so_far.
-    let here = c.read_next_source.new.self in
-    let same = c.read_next_source.ensures.other (search rules) in
-    let waits = waits_same _ _ _ c.loop-reader.reader here same (c.loop-reader.invariant.reads whole so_far) in
-    let unsaved = c.end_nested_unsaved.ensures.goes_on c.if-end_nested_unsaved.false in
-    let end = c.in_ok-end_segment.ensures {u = tt} in
-    let saved_so_far = waits_saved _ _ _ c.end_nested_unsaved.new.self c.end_segment.new.self (waits_same _ _ _ here c.end_nested_unsaved.new.self unsaved.1 waits) end.shape.shape_is end.state in
-    let ended = c.end_nested.ensures.ended c.if-end_nested.true in
-    (search rules, segments_end _ _ saved_so_far ended.0 (search rules) ended.1)
+pub names::read_prefix-returns-in_err-read_attached-in-ArgsSegment-clause-reads : goal.names::read_prefix-returns-in_err-read_attached-in-ArgsSegment-clause-reads
+names::read_prefix-returns-in_err-read_attached-in-ArgsSegment-clause-reads t c =
+    let type = spec.parse_type c.args.depth c.args.context in
+    let param = spec.parse_type c.args.depth (inside_lambda c.args.context) in
+    let args = spec.parse_args c.args.depth c.args.context true in
+    let r = c.loop-reader.reader in
+    let name = shape r.buffer.value r.found in
+    let s = spec.past_initializer (spec.waiting c.loop-reader.waits name (state r)) in
+    let waited = c.save_waiting.new.self in
+    let is : segment_case s.rest ≡ ArgsSegment = search rules in
+    let f = c.from_residual-in_err-read_attached-in-ArgsSegment in
+    let e = err_from_is_err_and f.result f.ensures.1 in
+    rw (e.1, e.2) (stops _ _ (c.in_err-read_attached-in-ArgsSegment.ensures {u = tt}).reads
+    (λ none. segments_none _ _ c.loop-reader.invariant.reads (λ ended. cc (ended, is))
+    (later_is (spec.parse_unqualified type param) args name s {case = ArgsSegment} {found = shape waited.buffer.value waited.found} {after = state waited} is (search rules) (search rules) ∙ none)))
 
-pub names::read_segments-returns-in_err-read_later_segment-clause-reads : goal.names::read_segments-returns-in_err-read_later_segment-clause-reads
-names::read_segments-returns-in_err-read_later_segment-clause-reads t c = λ whole so_far.
-    let here = c.read_next_source.new.self in
-    let same = c.read_next_source.ensures.other (search rules) in
-    let waits = waits_same _ _ _ c.loop-reader.reader here same (c.loop-reader.invariant.reads whole so_far) in
-    let unsaved = c.end_nested_unsaved.ensures.goes_on c.if-end_nested_unsaved.false in
-    let end = c.in_ok-end_segment.ensures {u = tt} in
-    let saved_so_far = waits_saved _ _ _ c.end_nested_unsaved.new.self c.end_segment.new.self (waits_same _ _ _ here c.end_nested_unsaved.new.self unsaved.1 waits) end.shape.shape_is end.state in
-    let r = c.from_residual-in_err-read_later_segment in
-    let e = err_from_is_err_and r.result r.ensures.1 in
-    let goes_on = c.end_nested.ensures.goes_on c.if-end_nested.false in
-    rw (e.1, e.2) (stops _ {whole = whole} _ (c.in_err-read_later_segment.ensures {u = tt}).reads
-    (λ none. segments_none _ _ saved_so_far goes_on.0 (rw goes_on.1 at none)))
+pub names::read_prefix-returns-in_err-read_segment-in-NameSegment-clause-reads : goal.names::read_prefix-returns-in_err-read_segment-in-NameSegment-clause-reads
+names::read_prefix-returns-in_err-read_segment-in-NameSegment-clause-reads t c =
+    let type = spec.parse_type c.args.depth c.args.context in
+    let param = spec.parse_type c.args.depth (inside_lambda c.args.context) in
+    let args = spec.parse_args c.args.depth c.args.context true in
+    let r = c.loop-reader.reader in
+    let name = shape r.buffer.value r.found in
+    let s = spec.past_initializer (spec.waiting c.loop-reader.waits name (state r)) in
+    let waited = c.save_waiting-in-NameSegment.new.self in
+    let is : segment_case s.rest ≡ NameSegment = search rules in
+    let f = c.from_residual-in_err-read_segment-in-NameSegment in
+    let e = err_from_is_err_and f.result f.ensures.1 in
+    rw (e.1, e.2) (stops _ _ (c.in_err-read_segment-in-NameSegment.ensures {u = tt}).reads
+    (λ none. segments_none _ _ c.loop-reader.invariant.reads (λ ended. cc (ended, is))
+    (later_is (spec.parse_unqualified type param) args name s {case = NameSegment} {found = shape waited.buffer.value waited.found} {after = state waited} is (search rules) (search rules) ∙ none)))
 
-pub names::read_segments-returns-then-is_wide-clause-reads : goal.names::read_segments-returns-then-is_wide-clause-reads
-names::read_segments-returns-then-is_wide-clause-reads t c = λ whole so_far.
-    let old = c.loop-reader.reader in
-    let new = c.read_next_source.new.self in
-    let next = c.read_next_source.ensures.next (search rules) in
-    let case = source_segment (spec.parse_type c.args.depth c.args.context) (spec.parse_type c.args.depth (inside_lambda c.args.context)) (spec.parse_args c.args.depth c.args.context true)
-    (shape old.buffer.value old.found) (state old) next.begins next.reads in
-    segments_wide _ _ (c.loop-reader.invariant.reads whole so_far) {next = shape new.buffer.value new.found} {mid = state new} case.0 case.1 (search rules)
+pub names::read_prefix-returns-in_err-measure-2-clause-reads : goal.names::read_prefix-returns-in_err-measure-2-clause-reads
+names::read_prefix-returns-in_err-measure-2-clause-reads t c =
+    let type = spec.parse_type c.args.depth c.args.context in
+    let param = spec.parse_type c.args.depth (inside_lambda c.args.context) in
+    let args = spec.parse_args c.args.depth c.args.context true in
+    let r = c.loop-reader.reader in
+    let name = shape r.buffer.value r.found in
+    let s = spec.past_initializer (spec.waiting c.loop-reader.waits name (state r)) in
+    let m = c.match-segment_case.reader in
+    let later : segment_case s.rest ≡ EndOfSegments → ⊥ = elim c.match-segment_case.branch [
+      | names::read_prefix-in-ArgsSegment+in_ok-save_waiting-in-ArgsSegment+in_ok-read_attached-in-ArgsSegment w ↦
+          let is : segment_case s.rest ≡ ArgsSegment = search rules in λ ended. cc (ended, is)
+      | names::read_prefix-in-NameSegment+in_ok-save_waiting-in-NameSegment+in_ok-read_segment-in-NameSegment w ↦
+          let is : segment_case s.rest ≡ NameSegment = search rules in λ ended. cc (ended, is)
+    ] in
+    let read : spec.later_segment (segment_case s.rest) (spec.parse_unqualified type param) args name s ≡ Some (shape m.buffer.value m.found, state m) = elim c.match-segment_case.branch [
+      | names::read_prefix-in-ArgsSegment+in_ok-save_waiting-in-ArgsSegment+in_ok-read_attached-in-ArgsSegment w ↦
+          let waited = w.save_waiting.new.self in
+          rw w.reader-is (later_is (spec.parse_unqualified type param) args name s {case = ArgsSegment} {found = shape waited.buffer.value waited.found} {after = state waited} (search rules) (search rules) (search rules)
+          ∙ (w.in_ok-read_attached-in-ArgsSegment.ensures {u = tt}).reads.1)
+      | names::read_prefix-in-NameSegment+in_ok-save_waiting-in-NameSegment+in_ok-read_segment-in-NameSegment w ↦
+          let waited = w.save_waiting-in-NameSegment.new.self in
+          rw w.reader-is (later_is (spec.parse_unqualified type param) args name s {case = NameSegment} {found = shape waited.buffer.value waited.found} {after = state waited} (search rules) (search rules) (search rules)
+          ∙ (w.in_ok-read_segment-in-NameSegment.ensures {u = tt}).reads.1)
+    ] in
+    let f = c.from_residual-in_err-measure-2 in
+    let e = err_from_is_err_and f.result f.ensures.1 in
+    rw (e.1, e.2) (too_long _ (shape m.buffer.value m.found) _ (c.in_err-measure-2.ensures {u = tt}).fits
+    (λ wide. segments_wide _ _ c.loop-reader.invariant.reads {next = shape m.buffer.value m.found} {mid = state m} later read wide))
 
-pub names::read_segments-returns-then-is_wide-2-clause-reads : goal.names::read_segments-returns-then-is_wide-2-clause-reads
-names::read_segments-returns-then-is_wide-2-clause-reads t c = λ whole so_far.
-    let here = c.read_next_source.new.self in
-    let same = c.read_next_source.ensures.other (search rules) in
-    let waits = waits_same _ _ _ c.loop-reader.reader here same (c.loop-reader.invariant.reads whole so_far) in
-    let unsaved = c.end_nested_unsaved.ensures.goes_on c.if-end_nested_unsaved.false in
-    let end = c.in_ok-end_segment.ensures {u = tt} in
-    let saved_so_far = waits_saved _ _ _ c.end_nested_unsaved.new.self c.end_segment.new.self (waits_same _ _ _ here c.end_nested_unsaved.new.self unsaved.1 waits) end.shape.shape_is end.state in
-    let goes_on = c.end_nested.ensures.goes_on c.if-end_nested.false in
-    let last = c.read_later_segment.new.reader in
-    let read = rw goes_on.1 at ((c.in_ok-read_later_segment.ensures {u = tt}).reads.1) in
-    segments_wide _ _ saved_so_far {next = shape last.buffer.value last.found} {mid = state last} goes_on.0 read (search rules)
-
-pub names::read_segments-loop-reader-preserved-then-branch : goal.names::read_segments-loop-reader-preserved-then-branch
-names::read_segments-loop-reader-preserved-then-branch t c =
-    let old = c.loop-reader.reader in
-    let new = c.read_next_source.new.self in
-    let next = c.read_next_source.ensures.next (search rules) in
-    let case = source_segment (spec.parse_type c.args.depth c.args.context) (spec.parse_type c.args.depth (inside_lambda c.args.context)) (spec.parse_args c.args.depth c.args.context true)
-    (shape old.buffer.value old.found) (state old) next.begins next.reads in
+pub names::read_prefix-loop-reader-preserved : goal.names::read_prefix-loop-reader-preserved
+names::read_prefix-loop-reader-preserved t c =
+    let type = spec.parse_type c.args.depth c.args.context in
+    let param = spec.parse_type c.args.depth (inside_lambda c.args.context) in
+    let args = spec.parse_args c.args.depth c.args.context true in
+    let r = c.loop-reader.reader in
+    let name = shape r.buffer.value r.found in
+    let s = spec.past_initializer (spec.waiting c.loop-reader.waits name (state r)) in
+    let m = c.match-segment_case.reader in
+    let later : segment_case s.rest ≡ EndOfSegments → ⊥ = elim c.match-segment_case.branch [
+      | names::read_prefix-in-ArgsSegment+in_ok-save_waiting-in-ArgsSegment+in_ok-read_attached-in-ArgsSegment w ↦
+          let is : segment_case s.rest ≡ ArgsSegment = search rules in λ ended. cc (ended, is)
+      | names::read_prefix-in-NameSegment+in_ok-save_waiting-in-NameSegment+in_ok-read_segment-in-NameSegment w ↦
+          let is : segment_case s.rest ≡ NameSegment = search rules in λ ended. cc (ended, is)
+    ] in
+    let read : spec.later_segment (segment_case s.rest) (spec.parse_unqualified type param) args name s ≡ Some (shape m.buffer.value m.found, state m) = elim c.match-segment_case.branch [
+      | names::read_prefix-in-ArgsSegment+in_ok-save_waiting-in-ArgsSegment+in_ok-read_attached-in-ArgsSegment w ↦
+          let waited = w.save_waiting.new.self in
+          rw w.reader-is (later_is (spec.parse_unqualified type param) args name s {case = ArgsSegment} {found = shape waited.buffer.value waited.found} {after = state waited} (search rules) (search rules) (search rules)
+          ∙ (w.in_ok-read_attached-in-ArgsSegment.ensures {u = tt}).reads.1)
+      | names::read_prefix-in-NameSegment+in_ok-save_waiting-in-NameSegment+in_ok-read_segment-in-NameSegment w ↦
+          let waited = w.save_waiting-in-NameSegment.new.self in
+          rw w.reader-is (later_is (spec.parse_unqualified type param) args name s {case = NameSegment} {found = shape waited.buffer.value waited.found} {after = state waited} (search rules) (search rules) (search rules)
+          ∙ (w.in_ok-read_segment-in-NameSegment.ensures {u = tt}).reads.1)
+    ] in
+    let longer = length-append (saved m.buffer.value) (shape m.buffer.value m.found ∷ []) in
     record {
-      reads = λ whole so_far. segments_read _ _ (c.loop-reader.invariant.reads whole so_far) {next = shape new.buffer.value new.found} {mid = state new} case.0 case.1 (search rules)
-          (rw case.2 (omega (arith, next.shorter))) refl (search rules);
-      living = next.living;
+      reads = segments_read _ _ c.loop-reader.invariant.reads {next = shape m.buffer.value m.found} {mid = state m} later read (search rules) (search rules) refl (search rules);
+      living = search rules;
       run = search rules;
       taken = search rules;
       counted = search rules;
       scopes_stand = search rules;
-      list = search rules;
-      most = search rules;
+      list = search (rules, longer);
+      most = search (rules, longer);
     }
 
-pub names::read_segments-loop-reader-preserved : goal.names::read_segments-loop-reader-preserved
-names::read_segments-loop-reader-preserved t c = record {
-  reads = λ whole so_far.
-      let here = c.read_next_source.new.self in
-      let same = c.read_next_source.ensures.other (search rules) in
-      let waits = waits_same _ _ _ c.loop-reader.reader here same (c.loop-reader.invariant.reads whole so_far) in
-      let unsaved = c.end_nested_unsaved.ensures.goes_on c.if-end_nested_unsaved.false in
-      let end = c.in_ok-end_segment.ensures {u = tt} in
-      let saved_so_far = waits_saved _ _ _ c.end_nested_unsaved.new.self c.end_segment.new.self (waits_same _ _ _ here c.end_nested_unsaved.new.self unsaved.1 waits) end.shape.shape_is end.state in
-      let goes_on = c.end_nested.ensures.goes_on c.if-end_nested.false in
-      let last = c.read_later_segment.new.reader in
-      let read = rw goes_on.1 at ((c.in_ok-read_later_segment.ensures {u = tt}).reads.1) in
-      segments_read _ _ saved_so_far {next = shape last.buffer.value last.found} {mid = state last} goes_on.0 read (search rules) (search rules) refl (search rules);
-  living = search rules;
-  run = search rules;
-  taken = search rules;
-  counted = search rules;
-  scopes_stand = search rules;
-  list = search rules;
-  most = search rules;
-}
+pub specials::read_construction-framed_type-requires : goal.specials::read_construction-framed_type-requires
+specials::read_construction-framed_type-requires t c =
+    let left = ap (λ (s : spec.ParserState). length s.rest) c.skip.ensures.state in
+    let entered = ap (λ (s : spec.ParserState). s.entered) c.skip.ensures.state in
+    let two = length-drop 2 c.args.reader.now.rest.now in
+    let class = (c.in_ok-read_type.ensures {u = tt}).bounds in
+    let room : c.read_type.new.reader.entered + 2 * length c.in-Some.rest.now + 2 < 2 ^ 64 =
+    omega (arith, left, entered, two, class, c.in-Some.ensures.shorter, c.requires.room) in
+    search rules
+
+pub specials::read_construction-returns-clause-bounds : goal.specials::read_construction-returns-clause-bounds
+specials::read_construction-returns-clause-bounds t c =
+    let left = ap (λ (s : spec.ParserState). length s.rest) c.skip.ensures.state in
+    let entered = ap (λ (s : spec.ParserState). s.entered) c.skip.ensures.state in
+    let two = length-drop 2 c.args.reader.now.rest.now in
+    let class = (c.in_ok-read_type.ensures {u = tt}).bounds in
+    let base = (c.in_ok-framed_type.ensures {u = tt}).bounds in
+    let before = ap (λ (s : spec.ParserState). length s.scopes) c.skip.ensures.state in
+    let pushed : scopes c.push.new.self ≡ scopes c.read_type.new.reader.buffer.value = cc (c.in_ok-begun.ensures.kept.lists.scopes_same, c.deref_mut.ensures.value) in
+    let joined : scopes c.join.new.self ≡ scopes c.framed_type.new.reader.buffer.value = cc (c.in_ok-reader.ensures.edit.lists.scopes_same, c.deref_mut-2.ensures.value) in (
+      omega (arith, left, two, class.0, base.0, c.in-Some.ensures.shorter, c.requires.some),
+      omega (arith, left, entered, two, class.1, base.1, c.in-Some.ensures.shorter, c.requires.some),
+      omega (arith, before, class.2, ap length pushed, base.2, ap length joined),
+    )
+
+pub specials::read_construction-returns-clause-saved : goal.specials::read_construction-returns-clause-saved
+specials::read_construction-returns-clause-saved t c =
+    let left = ap (λ (s : spec.ParserState). length s.rest) c.skip.ensures.state in
+    let two = length-drop 2 c.args.reader.now.rest.now in
+    let class = (c.in_ok-read_type.ensures {u = tt}).saved in
+    let base = (c.in_ok-framed_type.ensures {u = tt}).saved in
+    let before = ap (λ (s : spec.ParserState). length s.saved) c.skip.ensures.state in
+    let most = ap (λ (s : spec.ParserState). s.most_saved) c.skip.ensures.state in
+    let pushed : saved c.push.new.self ≡ saved c.read_type.new.reader.buffer.value = cc (c.in_ok-begun.ensures.kept.lists.saved_same, c.deref_mut.ensures.value) in
+    let joined : saved c.join.new.self ≡ saved c.framed_type.new.reader.buffer.value = cc (c.in_ok-reader.ensures.edit.lists.saved_same, c.deref_mut-2.ensures.value) in (
+      omega (arith, left, two, before, class.0, ap length pushed, base.0, ap length joined, c.in-Some.ensures.shorter, c.requires.some),
+      omega (arith, left, two, before, most, class, ap length pushed, base, ap length joined, c.in-Some.ensures.shorter),
+    )
+
+pub specials::read_thunk-returns-in_err-measure-clause-reads : goal.specials::read_thunk-returns-in_err-measure-clause-reads
+specials::read_thunk-returns-in_err-measure-clause-reads t c =
+    let r = c.from_residual-in_err-measure in
+    let e = err_from_is_err_and r.result r.ensures.1 in
+    let opened = c.open_thunk.new.self in
+    let symbol = c.close_found.new.self in
+    let found = shape c.print_worded.new.self.buffer.value c.print_worded.new.self.found in
+    let kept : SameFrame opened.buffer.value symbol.buffer.value = search (rules, runs) in
+    let words = kept.pieces opened.found (c.in_ok-open_thunk.ensures {u = tt}).reads.0 in
+    let built = c.in_ok-print_worded.ensures.shape.shape_is
+    ∙ ap (λ (s : Shape). worded_shape (text s) (shape symbol.buffer.value symbol.found) (codes ")}")) words.shape_is in
+    rw (e.1, e.2) (too_long _ found _ (c.in_err-measure.ensures {u = tt}).fits (λ wide.
+    thunk_wide c.args.depth c.args.context (state c.args.reader.now) {front = shape opened.buffer.value opened.found} {t = shape symbol.buffer.value symbol.found}
+    {mid = state opened} {after = state symbol}
+    (search rules) (search rules) (search (rules, buffers)) built wide))
+
+pub specials::read_thunk-returns-clause-reads : goal.specials::read_thunk-returns-clause-reads
+specials::read_thunk-returns-clause-reads t c =
+    let opened = c.open_thunk.new.self in
+    let symbol = c.close_found.new.self in
+    let kept : SameFrame opened.buffer.value symbol.buffer.value = search (rules, runs) in
+    let words = kept.pieces opened.found (c.in_ok-open_thunk.ensures {u = tt}).reads.0 in
+    let built = c.in_ok-print_worded.ensures.shape.shape_is
+    ∙ ap (λ (s : Shape). worded_shape (text s) (shape symbol.buffer.value symbol.found) (codes ")}")) words.shape_is in (
+      search rules,
+      thunk_read c.args.depth c.args.context (state c.args.reader.now) {front = shape opened.buffer.value opened.found} {t = shape symbol.buffer.value symbol.found}
+          {mid = state opened} {after = state c.print_worded.new.self}
+          (search rules) (search rules) (search (rules, buffers)) built (c.in_ok-measure.ensures {u = tt}).fits,
+    )

@@ -1,134 +1,134 @@
-use Rattle.std.proofs.Common.{◌≡◌, ◌+◌, ◌-◌, ◌*◌, ◌<◌, ◌≤◌, length, max, true, Option}
-use Rattle.demangle_text.specs.Shape.{Shape}
+use Rattle.std.proofs.Common.{ℕ, ◌≡◌, ◌+◌, ◌*◌, ◌<◌, ◌≤◌, length, max, Bool, true}
 use Rattle.demangle_text.specs.State.{IsLiving, IsRun, shape, saved, scopes}
 use Rattle.demangle_text.specs.Calls.{IsLast}
 use Rattle.itanium_reader.specs.Parser as spec
 use Rattle.itanium_reader.specs.Outcome.{state, LoopSoFar}
-use Rattle.itanium_syntax.specs.Context.{inside_lambda}
 use Rattle.itanium_syntax.specs.Types.{params_case}
 use Rattle.itanium_grammar.specs.Answer.{max_text}
 use Rattle.itanium_reader.proofs.Loops.{ListSoFar}
-use Rattle.itanium_reader.proofs.Unfold.{AttachedSoFar, front_len, pack_end, Waits}
+use Rattle.itanium_reader.proofs.Texts.{front_len}
+use Rattle.itanium_reader.proofs.Turns.{AttachedSoFar, pack_end}
+use Rattle.itanium_reader.specs.declared.reader.Reader.{Reader}
 use Rattle.itanium_productions.proofs.+reader.Given as goal
 
-abbrev pub decreases-names::read_bare_name : goal.decreases-names::read_bare_name
-decreases-names::read_bare_name l = 16 * l.depth
+-- The layers of the readers. A reader calls readers of lower layers with the same depth, and a counted production calls
+-- all others with a lesser one.
+-- a counted production
+abbrev production : ℕ → ℕ
+production d = 16 * d
 
-abbrev pub decreases-names::read_plain_nested : goal.decreases-names::read_plain_nested
-decreases-names::read_plain_nested l = 16 * l.depth
+-- one such in a frame, or one with a step after it
+abbrev framed : ℕ → ℕ
+framed d = 16 * d + 1
 
-abbrev pub decreases-names::read_unscoped_name : goal.decreases-names::read_unscoped_name
-decreases-names::read_unscoped_name l = 16 * l.depth
+-- a list, or two in frames
+abbrev list : ℕ → ℕ
+list d = 16 * d + 2
 
-abbrev pub decreases-names::read_qualified_nested : goal.decreases-names::read_qualified_nested
-decreases-names::read_qualified_nested l = 16 * l.depth
+-- what a list is put after, or operands beside an operator
+abbrev listed : ℕ → ℕ
+listed d = 16 * d + 3
 
-abbrev pub decreases-names::read_any_nested : goal.decreases-names::read_any_nested
-decreases-names::read_any_nested l = 16 * l.depth + 1
+-- what a list or a name is ended by
+abbrev ended : ℕ → ℕ
+ended d = 16 * d + 4
 
-abbrev pub decreases-names::read_other_name : goal.decreases-names::read_other_name
-decreases-names::read_other_name l = 16 * l.depth + 1
+-- an <unqualified-name> that asks for no parent
+abbrev free_name : ℕ → ℕ
+free_name d = 16 * d + 5
+
+-- one with its tags, or in its parent
+abbrev unqualified : ℕ → ℕ
+unqualified d = 16 * d + 6
+
+-- a segment of a <nested-name>, or what holds an encoding
+abbrev segment : ℕ → ℕ
+segment d = 16 * d + 7
+
+-- a <template-arg>, or an <unscoped-name>
+abbrev argument : ℕ → ℕ
+argument d = 16 * d + 8
+
+-- the segments of a <nested-name>
+abbrev prefix : ℕ → ℕ
+prefix d = 16 * d + 9
+
+-- what is after its N
+abbrev nested : ℕ → ℕ
+nested d = 16 * d + 10
 
 abbrev pub decreases-names::read_name : goal.decreases-names::read_name
-decreases-names::read_name l = 16 * l.depth + 2
-
-abbrev pub decreases-encodings::framed_bare_name : goal.decreases-encodings::framed_bare_name
-decreases-encodings::framed_bare_name l = 16 * l.depth + 1
+decreases-names::read_name l = production l.depth
 
 abbrev pub decreases-encodings::drop_type : goal.decreases-encodings::drop_type
-decreases-encodings::drop_type l = 16 * l.depth + 1
+decreases-encodings::drop_type l = framed l.depth
 
 abbrev pub decreases-encodings::read_return : goal.decreases-encodings::read_return
-decreases-encodings::read_return l = 16 * l.depth + 2
+decreases-encodings::read_return l = list l.depth
 
 abbrev pub decreases-encodings::end_encoding : goal.decreases-encodings::end_encoding
-decreases-encodings::end_encoding l = 16 * l.depth + 4
+decreases-encodings::end_encoding l = ended l.depth
 
 abbrev pub decreases-encodings::read_encoding : goal.decreases-encodings::read_encoding
-decreases-encodings::read_encoding l = 16 * l.depth + 6
+decreases-encodings::read_encoding l = unqualified l.depth
 
 abbrev pub decreases-encodings::read_entity : goal.decreases-encodings::read_entity
-decreases-encodings::read_entity l = 16 * l.depth + 2
+decreases-encodings::read_entity l = list l.depth
 
 abbrev pub decreases-encodings::read_local : goal.decreases-encodings::read_local
-decreases-encodings::read_local l = 16 * l.depth + 7
+decreases-encodings::read_local l = segment l.depth
 
 abbrev pub decreases-types::read_type : goal.decreases-types::read_type
-decreases-types::read_type l = 16 * l.depth
+decreases-types::read_type l = production l.depth
 
 abbrev pub decreases-args::read_argument : goal.decreases-args::read_argument
-decreases-args::read_argument l = 16 * l.depth + 8
+decreases-args::read_argument l = argument l.depth
 
 abbrev pub decreases-args::framed_argument : goal.decreases-args::framed_argument
-decreases-args::framed_argument l = 16 * l.depth + 9
+decreases-args::framed_argument l = prefix l.depth
 
 abbrev pub decreases-args::read_attached : goal.decreases-args::read_attached
-decreases-args::read_attached l = 16 * l.depth + 2
-
-abbrev pub decreases-names::read_attached_args : goal.decreases-names::read_attached_args
-decreases-names::read_attached_args l = 16 * l.depth + 3
+decreases-args::read_attached l = list l.depth
 
 abbrev pub decreases-types::read_type_attached : goal.decreases-types::read_type_attached
-decreases-types::read_type_attached l = 16 * l.depth + 3
-
-abbrev pub decreases-names::read_segments : goal.decreases-names::read_segments
-decreases-names::read_segments l = 16 * l.depth + 11
-
-abbrev pub decreases-names::read_segments_last : goal.decreases-names::read_segments_last
-decreases-names::read_segments_last l = 16 * l.depth + 12
+decreases-types::read_type_attached l = listed l.depth
 
 abbrev pub decreases-names::read_unscoped : goal.decreases-names::read_unscoped
-decreases-names::read_unscoped l = 16 * l.depth + 10
+decreases-names::read_unscoped l = argument l.depth
+
+abbrev pub decreases-names::read_prefix : goal.decreases-names::read_prefix
+decreases-names::read_prefix l = prefix l.depth
+
+-- What was found, and the state once it is saved, where it waits for that.
+abbrev waits_so_far : Bool → Reader → spec.ParserState
+waits_so_far waits r = spec.waiting waits (shape r.buffer.value r.found) (state r)
+
+abbrev pub invariant-names::read_prefix-loop-reader : goal.invariant-names::read_prefix-loop-reader
+invariant-names::read_prefix-loop-reader l = record {
+  reads : LoopSoFar (spec.parse_after_quals (spec.unqualified_name l.depth l.context)
+      (spec.parse_args l.depth l.context true) l.context (state l.fn.reader))
+      (spec.segment_turn (spec.unqualified_name l.depth l.context) (spec.parse_args l.depth l.context true))
+      (l.waits, shape l.reader.buffer.value l.reader.found) (spec.past_initializer (waits_so_far l.waits l.reader));
+  living : IsLiving l.reader.buffer.value l.reader.found;
+  run : IsRun l.fn.reader.buffer.value l.reader.buffer.value;
+  taken : length l.reader.rest.now < length l.fn.reader.rest.now;
+  counted : l.reader.entered + 2 * length l.reader.rest.now + 1 ≤ l.fn.reader.entered + 2 * length l.fn.reader.rest.now;
+  scopes_stand : length (scopes l.fn.reader.buffer.value) ≤ length (scopes l.reader.buffer.value);
+  list : length (waits_so_far l.waits l.reader).saved + length l.reader.rest.now ≤ length (saved l.fn.reader.buffer.value) + length l.fn.reader.rest.now;
+  most : (waits_so_far l.waits l.reader).most_saved ≤ max (state l.fn.reader).most_saved (length (saved l.fn.reader.buffer.value) + length l.fn.reader.rest.now);
+}
+
+abbrev pub decreases-names::read_prefix-loop-reader : goal.decreases-names::read_prefix-loop-reader
+decreases-names::read_prefix-loop-reader l = length l.reader.rest.now
 
 abbrev pub decreases-names::read_nested : goal.decreases-names::read_nested
-decreases-names::read_nested l = 16 * l.depth + 14
-
-abbrev pub decreases-names::read_after_quals : goal.decreases-names::read_after_quals
-decreases-names::read_after_quals l = 16 * l.depth + 13
-
-abbrev pub decreases-names::read_other_prefix : goal.decreases-names::read_other_prefix
-decreases-names::read_other_prefix l = 16 * l.depth + 12
-
-abbrev pub invariant-names::read_segments-loop-reader : goal.invariant-names::read_segments-loop-reader
-invariant-names::read_segments-loop-reader l = record {
-  reads : (whole : Option (Shape × spec.ParserState))
-      → Waits whole (spec.parse_unqualified (spec.parse_type l.depth l.context) (spec.parse_type l.depth (inside_lambda l.context))) (spec.parse_args l.depth l.context true) l.fn.reader
-      → Waits whole (spec.parse_unqualified (spec.parse_type l.depth l.context) (spec.parse_type l.depth (inside_lambda l.context))) (spec.parse_args l.depth l.context true) l.reader;
-  living : IsLiving l.reader.buffer.value l.reader.found;
-  run : IsRun l.fn.reader.buffer.value l.reader.buffer.value;
-  taken : length l.reader.rest.now ≤ length l.fn.reader.rest.now;
-  counted : l.reader.entered + 2 * length l.reader.rest.now ≤ l.fn.reader.entered + 2 * length l.fn.reader.rest.now;
-  scopes_stand : length (scopes l.fn.reader.buffer.value) ≤ length (scopes l.reader.buffer.value);
-  list : length (saved l.reader.buffer.value) + length l.reader.rest.now ≤ length (saved l.fn.reader.buffer.value) + length l.fn.reader.rest.now;
-  most : (state l.reader).most_saved ≤ max (state l.fn.reader).most_saved (length (saved l.fn.reader.buffer.value) + 1 + length l.fn.reader.rest.now);
-}
-
-abbrev pub decreases-names::read_segments-loop-reader : goal.decreases-names::read_segments-loop-reader
-decreases-names::read_segments-loop-reader l = length l.reader.rest.now
-
-abbrev pub invariant-names::read_segments_last-loop-reader : goal.invariant-names::read_segments_last-loop-reader
-invariant-names::read_segments_last-loop-reader l = record {
-  reads : (whole : Option (Shape × spec.ParserState))
-      → Waits whole (spec.parse_unqualified (spec.parse_type l.depth l.context) (spec.parse_type l.depth (inside_lambda l.context))) (spec.parse_args l.depth l.context true) l.fn.reader
-      → Waits whole (spec.parse_unqualified (spec.parse_type l.depth l.context) (spec.parse_type l.depth (inside_lambda l.context))) (spec.parse_args l.depth l.context true) l.reader;
-  living : IsLiving l.reader.buffer.value l.reader.found;
-  last : IsLast l.reader.buffer.value l.reader.found;
-  run : IsRun l.fn.reader.buffer.value l.reader.buffer.value;
-  taken : length l.reader.rest.now ≤ length l.fn.reader.rest.now;
-  counted : l.reader.entered + 2 * length l.reader.rest.now ≤ l.fn.reader.entered + 2 * length l.fn.reader.rest.now;
-  scopes_stand : length (scopes l.fn.reader.buffer.value) ≤ length (scopes l.reader.buffer.value);
-  list : length (saved l.reader.buffer.value) + length l.reader.rest.now ≤ length (saved l.fn.reader.buffer.value) + length l.fn.reader.rest.now;
-  most : (state l.reader).most_saved ≤ max (state l.fn.reader).most_saved (length (saved l.fn.reader.buffer.value) + 1 + length l.fn.reader.rest.now);
-}
-
-abbrev pub decreases-names::read_segments_last-loop-reader : goal.decreases-names::read_segments_last-loop-reader
-decreases-names::read_segments_last-loop-reader l = length l.reader.rest.now
+decreases-names::read_nested l = nested l.depth
 
 abbrev pub invariant-args::read_attached-loop-reader : goal.invariant-args::read_attached-loop-reader
 invariant-args::read_attached-loop-reader l = record {
-  positive : 0 < l.depth;
-  reads : AttachedSoFar (spec.attached_by (spec.parse_args l.depth l.context l.of_name) (shape l.fn.reader.buffer.value l.fn.reader.found) (state l.fn.reader))
-      (spec.add_argument l.opens l.scopes) (spec.parse_argument (l.depth - 1) l.context) (shape l.fn.reader.buffer.value l.fn.reader.found) l.first
+  below : l.depth < l.fn.depth;
+  reads : AttachedSoFar (spec.attached_by (spec.parse_args l.fn.depth l.context l.of_name) (shape l.fn.reader.buffer.value l.fn.reader.found) (state l.fn.reader))
+      (spec.add_argument l.opens l.scopes) (spec.parse_argument l.depth l.context) (shape l.fn.reader.buffer.value l.fn.reader.found) l.first
       (shape l.reader.buffer.value l.list) (state l.reader);
   front : l.front ≡ front_len (shape l.fn.reader.buffer.value l.fn.reader.found);
   widest : l.widest ≡ l.front + max_text;
@@ -148,76 +148,61 @@ abbrev pub decreases-args::read_attached-loop-reader : goal.decreases-args::read
 decreases-args::read_attached-loop-reader l = length l.reader.rest.now
 
 abbrev pub decreases-types::framed_type : goal.decreases-types::framed_type
-decreases-types::framed_type l = 16 * l.depth + 1
+decreases-types::framed_type l = framed l.depth
 
 abbrev pub decreases-types::read_function : goal.decreases-types::read_function
-decreases-types::read_function l = 16 * l.depth + 4
+decreases-types::read_function l = ended l.depth
 
 abbrev pub decreases-types::read_cv : goal.decreases-types::read_cv
-decreases-types::read_cv l = 16 * l.depth + 5
+decreases-types::read_cv l = free_name l.depth
 
 abbrev pub decreases-types::read_member : goal.decreases-types::read_member
-decreases-types::read_member l = 16 * l.depth + 2
+decreases-types::read_member l = list l.depth
 
 abbrev pub decreases-types::read_array : goal.decreases-types::read_array
-decreases-types::read_array l = 16 * l.depth + 1
+decreases-types::read_array l = framed l.depth
 
 abbrev pub decreases-types::read_pointer : goal.decreases-types::read_pointer
-decreases-types::read_pointer l = 16 * l.depth + 1
+decreases-types::read_pointer l = framed l.depth
 
 abbrev pub decreases-types::read_elaborated : goal.decreases-types::read_elaborated
-decreases-types::read_elaborated l = 16 * l.depth + 3
+decreases-types::read_elaborated l = ended l.depth
 
 abbrev pub decreases-types::read_params : goal.decreases-types::read_params
-decreases-types::read_params l = 16 * l.depth + 2
+decreases-types::read_params l = list l.depth
 
 abbrev pub decreases-names::read_lambda : goal.decreases-names::read_lambda
-decreases-names::read_lambda l = 16 * l.depth + 4
+decreases-names::read_lambda l = ended l.depth
 
 abbrev pub decreases-names::read_free_name : goal.decreases-names::read_free_name
-decreases-names::read_free_name l = 16 * l.depth + 5
-
-abbrev pub decreases-names::framed_free_name : goal.decreases-names::framed_free_name
-decreases-names::framed_free_name l = 16 * l.depth + 6
+decreases-names::read_free_name l = free_name l.depth
 
 abbrev pub decreases-names::read_unqualified : goal.decreases-names::read_unqualified
-decreases-names::read_unqualified l = 16 * l.depth + 7
+decreases-names::read_unqualified l = unqualified l.depth
 
 abbrev pub decreases-names::read_first : goal.decreases-names::read_first
-decreases-names::read_first l = 16 * l.depth + 9
-
-abbrev pub decreases-names::read_other_first : goal.decreases-names::read_other_first
-decreases-names::read_other_first l = 16 * l.depth + 8
-
-abbrev pub decreases-names::read_outer_name : goal.decreases-names::read_outer_name
-decreases-names::read_outer_name l = 16 * l.depth + 8
-
-abbrev pub decreases-names::read_later_segment : goal.decreases-names::read_later_segment
-decreases-names::read_later_segment l = 16 * l.depth + 10
+decreases-names::read_first l = segment l.depth
 
 abbrev pub decreases-names::read_segment : goal.decreases-names::read_segment
-decreases-names::read_segment l = 16 * l.depth + 9
-
-abbrev pub decreases-names::read_other_segment : goal.decreases-names::read_other_segment
-decreases-names::read_other_segment l = 16 * l.depth + 8
+decreases-names::read_segment l = segment l.depth
 
 abbrev pub decreases-names::read_free_segment : goal.decreases-names::read_free_segment
-decreases-names::read_free_segment l = 16 * l.depth + 7
+decreases-names::read_free_segment l = unqualified l.depth
 
 abbrev pub decreases-names::framed_name : goal.decreases-names::framed_name
-decreases-names::framed_name l = 16 * l.depth + 3
+decreases-names::framed_name l = framed l.depth
 
 abbrev pub decreases-types::read_expansion : goal.decreases-types::read_expansion
-decreases-types::read_expansion l = 16 * l.depth + 1
+decreases-types::read_expansion l = framed l.depth
 
 abbrev pub decreases-args::read_pack : goal.decreases-args::read_pack
-decreases-args::read_pack l = 16 * l.depth
+decreases-args::read_pack l = production l.depth
 
 abbrev pub invariant-args::read_pack-loop-reader : goal.invariant-args::read_pack-loop-reader
 invariant-args::read_pack-loop-reader l = record {
-  positive : 0 < l.depth;
-  reads : ListSoFar (spec.parse_pack l.depth l.fn.context (state l.fn.reader))
-      (spec.list_turn spec.add_nowhere (spec.parse_argument (l.depth - 1) l.inside))
+  below : l.depth < l.fn.depth;
+  reads : ListSoFar (spec.parse_pack l.fn.depth l.fn.context (state l.fn.reader))
+      (spec.list_turn spec.add_nowhere (spec.parse_argument l.depth l.inside))
       pack_end (l.first, shape l.reader.buffer.value l.list) (state l.reader);
   living : IsLiving l.reader.buffer.value l.list;
   run : IsRun l.fn.reader.buffer.value l.reader.buffer.value;
@@ -249,67 +234,64 @@ abbrev pub decreases-types::read_params-loop-list : goal.decreases-types::read_p
 decreases-types::read_params-loop-list l = length l.reader.rest.now
 
 abbrev pub decreases-expressions::read_expression : goal.decreases-expressions::read_expression
-decreases-expressions::read_expression l = 16 * l.depth
+decreases-expressions::read_expression l = production l.depth
 
 abbrev pub decreases-expressions::framed_expression : goal.decreases-expressions::framed_expression
-decreases-expressions::framed_expression l = 16 * l.depth + 1
+decreases-expressions::framed_expression l = framed l.depth
 
 abbrev pub decreases-expressions::read_operand : goal.decreases-expressions::read_operand
-decreases-expressions::read_operand l = 16 * l.depth + 1
+decreases-expressions::read_operand l = framed l.depth
 
 abbrev pub decreases-expressions::framed_operand : goal.decreases-expressions::framed_operand
-decreases-expressions::framed_operand l = 16 * l.depth + 2
+decreases-expressions::framed_operand l = list l.depth
 
 abbrev pub decreases-expressions::read_pre : goal.decreases-expressions::read_pre
-decreases-expressions::read_pre l = 16 * l.depth + 2
+decreases-expressions::read_pre l = list l.depth
 
 abbrev pub decreases-expressions::read_address : goal.decreases-expressions::read_address
-decreases-expressions::read_address l = 16 * l.depth + 1
+decreases-expressions::read_address l = framed l.depth
 
 abbrev pub decreases-expressions::read_unary : goal.decreases-expressions::read_unary
-decreases-expressions::read_unary l = 16 * l.depth + 3
+decreases-expressions::read_unary l = listed l.depth
 
 abbrev pub decreases-expressions::read_post : goal.decreases-expressions::read_post
-decreases-expressions::read_post l = 16 * l.depth + 3
+decreases-expressions::read_post l = listed l.depth
 
 abbrev pub decreases-expressions::read_binary : goal.decreases-expressions::read_binary
-decreases-expressions::read_binary l = 16 * l.depth + 3
+decreases-expressions::read_binary l = listed l.depth
 
 abbrev pub decreases-expressions::read_greater : goal.decreases-expressions::read_greater
-decreases-expressions::read_greater l = 16 * l.depth + 2
+decreases-expressions::read_greater l = list l.depth
 
 abbrev pub decreases-expressions::read_conditional : goal.decreases-expressions::read_conditional
-decreases-expressions::read_conditional l = 16 * l.depth + 4
+decreases-expressions::read_conditional l = ended l.depth
 
 abbrev pub decreases-expressions::read_primary : goal.decreases-expressions::read_primary
-decreases-expressions::read_primary l = 16 * l.depth + 7
+decreases-expressions::read_primary l = segment l.depth
 
 abbrev pub decreases-expressions::read_literal : goal.decreases-expressions::read_literal
-decreases-expressions::read_literal l = 16 * l.depth + 3
-
-abbrev pub decreases-args::read_expression_argument : goal.decreases-args::read_expression_argument
-decreases-args::read_expression_argument l = 16 * l.depth + 1
+decreases-expressions::read_literal l = listed l.depth
 
 abbrev pub decreases-expressions::read_alternatives : goal.decreases-expressions::read_alternatives
-decreases-expressions::read_alternatives l = 16 * l.depth + 3
+decreases-expressions::read_alternatives l = listed l.depth
 
 abbrev pub decreases-specials::read_type_special : goal.decreases-specials::read_type_special
-decreases-specials::read_type_special l = 16 * l.depth + 2
+decreases-specials::read_type_special l = list l.depth
 
 abbrev pub decreases-specials::read_name_special : goal.decreases-specials::read_name_special
-decreases-specials::read_name_special l = 16 * l.depth + 4
+decreases-specials::read_name_special l = ended l.depth
 
 abbrev pub decreases-specials::read_temporary : goal.decreases-specials::read_temporary
-decreases-specials::read_temporary l = 16 * l.depth + 3
+decreases-specials::read_temporary l = ended l.depth
 
 abbrev pub decreases-specials::read_construction : goal.decreases-specials::read_construction
-decreases-specials::read_construction l = 16 * l.depth + 2
+decreases-specials::read_construction l = list l.depth
 
 abbrev pub decreases-specials::read_thunk : goal.decreases-specials::read_thunk
-decreases-specials::read_thunk l = 16 * l.depth
+decreases-specials::read_thunk l = production l.depth
 
 abbrev pub decreases-specials::read_special : goal.decreases-specials::read_special
-decreases-specials::read_special l = 16 * l.depth + 5
+decreases-specials::read_special l = free_name l.depth
 
 abbrev pub decreases-specials::read_symbol : goal.decreases-specials::read_symbol
-decreases-specials::read_symbol l = 16 * l.depth + 7
+decreases-specials::read_symbol l = segment l.depth

@@ -1,12 +1,39 @@
+use Rattle.std.proofs.Common.{◌++◌, List, ℕ, sym, subst}
+use Rattle.std.proofs.lemmas.List.{append-nil}
+use Rattle.demangle_text.specs.Shape.{text, plain_shape}
+use Rattle.demangle_text.specs.State.{shape, Lives}
 use Rattle.demangle_text.proofs.Laws.{Opens-edit, Appends-close}
-use Rattle.demangle_edit.proofs.Glued.{part_more}
+use Rattle.demangle_edit.specs.declared.parts.Glue.{Glue}
+use Rattle.demangle_edit.specs.Calls.{part_text}
+use Rattle.demangle_edit.proofs.Glued.{text_put, part_more}
 use Rattle.demangle_edit.proofs.lists.glue.Goals as goal
+use Rattle.demangle_edit.proofs.lists.glue.Goals.{in-Text+in_ok-longer-in-Text, in-Piece+in_ok-all-in-Piece}
 
 pub loop-part-preserved : goal.loop-part-preserved
-loop-part-preserved c = record {
-  run = Opens-edit _ _ _ _ c.loop-part.invariant.run c.in_ok-all-2.ensures.edit;
-  all = part_more _ _ _ _ _ _ _ _ _ c.loop-part.invariant.run c.requires.parts c.loop-part-test.true c.loop-part.invariant.all c.in_ok-all-2.ensures.shape;
-}
+loop-part-preserved c =
+    let mid = c.loop-part.buf in
+    let so_far = c.loop-part.invariant in
+    elim c.match-part.branch [
+      | in-Text+in_ok-longer-in-Text w ↦
+          let new = w.append.new.self in
+          let put = text_put mid new c.loop-part.all w.in_ok-longer-in-Text.longer w.whole-all.result _ w.in-Text.bytes.now so_far.all.shape_is
+          w.in_ok-longer-in-Text.ensures.shape w.whole-all.ensures.shape in
+          let joins = subst (λ (p : Glue). Lives new w.whole-all.result (plain_shape (text (shape mid c.loop-part.all) ++ part_text (shape mid) p))) (sym w.in-Text.is) put in
+          rw (w.buf-is, w.all-is) (record {
+            run = Opens-edit _ _ _ _ so_far.run w.in_ok-longer-in-Text.ensures.edit;
+            all = part_more _ _ _ _ _ _ _ _ _ so_far.run c.requires.parts c.loop-part-test.true so_far.all joins;
+          })
+      | in-Piece+in_ok-all-in-Piece w ↦
+          let new = w.join.new.self in
+          let next = w.in_ok-all-in-Piece.all in
+          let before = text (shape mid c.loop-part.all) in
+          let put = subst (λ (v : List ℕ). Lives new next (plain_shape (v ++ text (shape mid w.in-Piece.piece)))) (append-nil before) w.in_ok-all-in-Piece.ensures.shape in
+          let joins = subst (λ (p : Glue). Lives new next (plain_shape (before ++ part_text (shape mid) p))) (sym w.in-Piece.is) put in
+          rw (w.buf-is, w.all-is) (record {
+            run = Opens-edit _ _ _ _ so_far.run w.in_ok-all-in-Piece.ensures.edit;
+            all = part_more _ _ _ _ _ _ _ _ _ so_far.run c.requires.parts c.loop-part-test.true so_far.all joins;
+          })
+    ]
 
 pub returns-clause-appends : goal.returns-clause-appends
 returns-clause-appends c =

@@ -1,17 +1,17 @@
-use Rattle.std.proofs.Common.{true, List, [], map, ap, ◌∙◌, refl, subst, IfOk}
+use Rattle.std.proofs.Common.{rules, true, List, [], map, ap, ◌∙◌, refl, subst, IfOk}
 use Rattle.std.proofs.lemmas.List.{take_all}
 use Rattle.demangle_text.specs.declared.shape.Piece.{Piece}
 use Rattle.demangle_text.specs.Shape.{Shape, plain_shape, whole_shape}
 use Rattle.demangle_text.specs.State.{shape, Lives}
 use Rattle.demangle_text.proofs.Laws.{Opens-edit, Appends-close}
 use Rattle.demangle_edit.specs.Built.{listed_each}
-use Rattle.demangle_edit.proofs.Built.{piece_more, pack_built}
+use Rattle.demangle_edit.proofs.Built.{piece_put, pack_built}
 use Rattle.demangle_edit.proofs.lists.list_pieces.Goals as goal
 
 pub loop-i-preserved : goal.loop-i-preserved
 loop-i-preserved c = record {
   run = Opens-edit _ _ _ _ c.loop-i.invariant.run c.in_ok-list-2.ensures.edit;
-  list = piece_more _ _ _ _ _ _ _ _ _ _ _ c.loop-i.invariant.run c.requires.pieces c.loop-i-test.true c.loop-i.invariant.list c.in_ok-list-2.ensures.shape refl;
+  list = piece_put _ _ _ _ _ _ _ _ _ _ _ c.if-i-eq0.between.now c.loop-i.invariant.run c.requires.pieces c.loop-i-test.true c.loop-i.invariant.list c.in_ok-list-2.ensures.shape refl (search rules);
 }
 
 -- at the end all pieces are listed

@@ -1,7 +1,6 @@
-use Rattle.std.proofs.Common.{ap, ◌∙◌, subst, IfOk}
+use Rattle.std.proofs.Common.{rules, subst, IfOk}
 use Rattle.demangle_text.specs.Shape.{Shape}
 use Rattle.demangle_text.specs.State.{shape, Lives, IsEditOf, JoinsInPlace}
-use Rattle.demangle_edit.specs.Types.{member_gap}
 use Rattle.demangle_edit.proofs.Members.{member_pointer_after}
 use Rattle.std.proofs.lemmas.Result.{IfOk-weaker}
 use Rattle.demangle_text.proofs.Laws.{StaysInPlace-edit, JoinsInPlace-trans}
@@ -11,7 +10,7 @@ pub returns-clause-shape : goal.returns-clause-shape
 returns-clause-shape c =
     let old = c.args.buf.now in
     let is = member_pointer_after (shape old c.args.class) (shape old c.args.member) _ _ c.requires.plain
-    (c.gap_before_member-gap.ensures.value ∙ ap member_gap c.bytes.ensures.value) c.in_ok-begun.ensures.shape.shape_is in
+    (search rules) c.in_ok-begun.ensures.shape.shape_is in
     subst (λ (s : Shape). IfOk c.append.result (λ p. Lives c.append.new.self p s)) is c.append.ensures.shape
 
 -- the class stays after the member

@@ -2,18 +2,33 @@ use Rattle.std.proofs.Common.{◌++◌, ◌-◌, ℕ, List, codes, ap, ◌∙◌
 use Rattle.demangle_text.specs.Shape.{text, text_len, plain_shape, gap_after}
 use Rattle.demangle_text.specs.Calls.{front_text}
 use Rattle.demangle_text.specs.State.{shape}
-use Rattle.demangle_edit.proofs.Members.{member_pointer_shape_is, closes_at}
-use Rattle.demangle_text.proofs.Laws.{Appends-named}
+use Rattle.demangle_edit.proofs.Members.{member_joined, member_pointer_shape_is, opens_at, opens_before, closes_at}
+use Rattle.demangle_text.proofs.Laws.{IsEdit-keeps, KeepsAll-closed, Opens-edit, Appends-closed, Appends-named}
 use Rattle.demangle_edit.proofs.types.open_member.Goals as goal
 
 -- the class stands in a group
+pub declare_group-declared-requires-clause-opens : goal.declare_group-declared-requires-clause-opens
+declare_group-declared-requires-clause-opens c =
+    let is = c.in_ok-whole.ensures.shape.shape_is
+    ∙ member_joined _ _ _ _ _ _ _ _ _ _ _ c.open-mark.ensures.opens c.in_ok-begun.ensures.edit c.cut_declarator.ensures.front.living c.requires.class c.cut_declarator.ensures.after.living
+    (c.group_opening-opening.ensures.value ∙ ap (λ (v : List ℕ). gap_after v ++ codes "(") c.bytes.ensures.value) c.in_ok-begun.ensures.shape.shape_is c.in_ok-joined.ensures.shape.shape_is in
+    opens_at _ _ _ _ _ c.len.result c.len-after_len.result c.len-class_len.result (ap text is) c.len.ensures.value c.len-after_len.ensures.value c.len-class_len.ensures.value
+
 pub declare_group-declared-requires-clause-closes : goal.declare_group-declared-requires-clause-closes
 declare_group-declared-requires-clause-closes c =
+    let is = c.in_ok-whole.ensures.shape.shape_is
+    ∙ member_joined _ _ _ _ _ _ _ _ _ _ _ c.open-mark.ensures.opens c.in_ok-begun.ensures.edit c.cut_declarator.ensures.front.living c.requires.class c.cut_declarator.ensures.after.living
+    (c.group_opening-opening.ensures.value ∙ ap (λ (v : List ℕ). gap_after v ++ codes "(") c.bytes.ensures.value) c.in_ok-begun.ensures.shape.shape_is c.in_ok-joined.ensures.shape.shape_is in
     let buf = c.args.buf.now in
     let front = text (shape buf c.cut_declarator.result.0) in
-    let after = text (shape buf c.cut_declarator.result.1) in
-    closes_at (front ++ (gap_after front ++ codes "(")) (text (shape buf c.args.class)) after _ c.len.result c.len-after_len.result
-    (ap text c.in_ok-whole.ensures.shape.shape_is) c.len.ensures.value c.len-after_len.ensures.value
+    closes_at (front ++ (gap_after front ++ codes "(")) (text (shape buf c.args.class)) (text (shape buf c.cut_declarator.result.1)) _ c.len.result c.len-after_len.result (ap text is) c.len.ensures.value c.len-after_len.ensures.value
+
+pub declare_group-declared-requires-clause-ordered : goal.declare_group-declared-requires-clause-ordered
+declare_group-declared-requires-clause-ordered c =
+    let is = c.in_ok-whole.ensures.shape.shape_is
+    ∙ member_joined _ _ _ _ _ _ _ _ _ _ _ c.open-mark.ensures.opens c.in_ok-begun.ensures.edit c.cut_declarator.ensures.front.living c.requires.class c.cut_declarator.ensures.after.living
+    (c.group_opening-opening.ensures.value ∙ ap (λ (v : List ℕ). gap_after v ++ codes "(") c.bytes.ensures.value) c.in_ok-begun.ensures.shape.shape_is c.in_ok-joined.ensures.shape.shape_is in
+    opens_before _ _ _ _ _ c.len.result c.len-after_len.result c.len-class_len.result (ap text is) c.len.ensures.value c.len-after_len.ensures.value c.len-class_len.ensures.value
 
 pub returns-clause-shape : goal.returns-clause-shape
 returns-clause-shape c =
@@ -23,16 +38,27 @@ returns-clause-shape c =
     let after_is = ap text c.cut_declarator.ensures.after.shape_is in
     let first = front_text (shape old c.args.member).form in
     let last = text (shape old c.cut_declarator.result.1) in
-    let whole_is = c.in_ok-whole.ensures.shape.shape_is
+    let is = c.in_ok-whole.ensures.shape.shape_is
+    ∙ member_joined _ _ _ _ _ _ _ _ _ _ _ c.open-mark.ensures.opens c.in_ok-begun.ensures.edit c.cut_declarator.ensures.front.living c.requires.class c.cut_declarator.ensures.after.living
+    (c.group_opening-opening.ensures.value ∙ ap (λ (v : List ℕ). gap_after v ++ codes "(") c.bytes.ensures.value) c.in_ok-begun.ensures.shape.shape_is c.in_ok-joined.ensures.shape.shape_is in
+    let whole_is = is
     ∙ ap (λ (f : List ℕ). plain_shape (f ++ (gap_after f ++ codes "(") ++ text class ++ codes "::*)" ++ last)) front_is
     ∙ ap (λ (a : List ℕ). plain_shape (first ++ (gap_after first ++ codes "(") ++ text class ++ codes "::*)" ++ a)) after_is in
-    let is = member_pointer_shape_is class (shape old c.args.member) _ _ _ _ _ _ _ _ c.requires.function whole_is c.len-class_len.ensures.value
+    let by = member_pointer_shape_is class (shape old c.args.member) _ _ _ _ _ _ _ _ c.requires.function whole_is c.len-class_len.ensures.value
     (c.len-after_len.ensures.value ∙ ap text_len c.cut_declarator.ensures.after.shape_is) (ap (λ (n : ℕ). n - c.len-after_len.result) c.len.ensures.value) refl
     c.declare_group-declared.ensures.shape.shape_is c.templ-templ.ensures.value c.ctor-ctor.ensures.value in
-    record { living = c.with_flags.ensures.shape.living; shape_is = c.with_flags.ensures.shape.shape_is ∙ is }
+    record { living = c.with_flags.ensures.shape.living; shape_is = c.with_flags.ensures.shape.shape_is ∙ by }
 
--- the text is put at the end
+-- the text is put together after a mark
+pub returns-clause-edit : goal.returns-clause-edit
+returns-clause-edit c =
+    let run = Opens-edit _ _ _ _ (Opens-edit _ _ _ _ c.open-mark.ensures.opens c.in_ok-begun.ensures.edit) c.in_ok-joined.ensures.edit in
+    IsEdit-keeps _ _ (KeepsAll-closed _ _ _ _ run c.in_ok-whole.ensures.closed)
+
+-- and stands at the end then
 pub returns-clause-appends : goal.returns-clause-appends
 returns-clause-appends c =
-    let declared = Appends-named _ _ _ c.declare_group-declared.result c.in_ok-whole.ensures.appends c.declare_group-declared.ensures.stands in
+    let run = Opens-edit _ _ _ _ (Opens-edit _ _ _ _ c.open-mark.ensures.opens c.in_ok-begun.ensures.edit) c.in_ok-joined.ensures.edit in
+    let appends = Appends-closed _ _ _ _ _ c.open-mark.ensures.mark run c.in_ok-whole.ensures.closed c.in_ok-whole.ensures.stands in
+    let declared = Appends-named _ _ _ c.declare_group-declared.result appends c.declare_group-declared.ensures.stands in
     Appends-named _ _ _ c.with_flags.result declared c.with_flags.ensures.stands

@@ -1,10 +1,12 @@
-use Rattle.std.proofs.Common.{◌<◌, length, ◌∙◌, refl, sym, subst, rules, arith}
-use Rattle.std.proofs.lemmas.List.{length-set}
-use Rattle.std.proofs.lemmas.List.Elements.{AllWithin-more_set}
-use Rattle.demangle_text.specs.Pieces.{IsApart, EndsBy}
-use Rattle.demangle_text.proofs.States.{All-extends, replaced_lie, replaced_shapes, shapes-extends, Extends-trans}
+use Rattle.std.proofs.Common.{◌<◌, true, length, slice_range, ap, ◌∙◌, refl, sym, subst, rules, arith}
+use Rattle.std.proofs.lemmas.List.{length-set, get_or_default}
+use Rattle.std.proofs.lemmas.List.Elements.{AllWithin-more, AllWithin-more_set}
+use Rattle.demangle_text.specs.declared.shape.Piece.{Piece}
+use Rattle.demangle_text.specs.Pieces.{IsApart, IsPiece, Extends, shape_in}
+use Rattle.demangle_text.proofs.States.{IsPiece-aside, shape-aside, replaced_lie, replaced_shapes, Extends-trans}
 use Rattle.demangle_text.proofs.Reaches.{within-apart}
 use Rattle.demangle_text.proofs.moves.evict.Goals as goal
+use Rattle.demangle_text.proofs.moves.evict.Goals.{then-is_torn+in_ok-add, else-is_torn}
 
 pub loop-i-init : goal.loop-i-init
 loop-i-init c = record {
@@ -16,29 +18,44 @@ loop-i-init c = record {
 }
 
 pub set-requires-clause-ends : goal.set-requires-clause-ends
-set-requires-clause-ends c = λ end h. c.in_ok-piece.ensures.ends end (subst (EndsBy end) (sym c.piece_at.ensures.value) (h c.piece_at.result))
-
-pub returns-in_err-piece-clause-lie : goal.returns-in_err-piece-clause-lie
-returns-in_err-piece-clause-lie c = All-extends c.args.main.now c.loop-i.side _ c.set_aside.ensures.side c.loop-i.pieces c.loop-i.invariant.lie
-
-pub returns-in_err-piece-clause-shapes : goal.returns-in_err-piece-clause-shapes
-returns-in_err-piece-clause-shapes c =
-    shapes-extends c.args.main.now c.loop-i.side _ c.set_aside.ensures.side c.loop-i.pieces c.loop-i.invariant.lie ∙ c.loop-i.invariant.shapes
+set-requires-clause-ends c = λ end h home. absurd (cc)
 
 pub loop-i-preserved : goal.loop-i-preserved
 loop-i-preserved c =
     let main = c.args.main.now in
     let side = c.loop-i.side in
-    let new = c.set_aside.new.side in
+    let ps = c.loop-i.pieces in
     let i = c.loop-i.i in
-    let q = c.in_ok-piece.piece in
-    let there : i < length c.loop-i.pieces = omega (arith, c.loop-i.invariant.long, c.len-i-end.ensures.value, c.loop-i-test.true) in
-    let e = c.set_aside.ensures.side in
-    rw c.set.ensures.value (record {
-      side = Extends-trans _ _ _ c.loop-i.invariant.side e;
-      lie = replaced_lie main side new c.loop-i.pieces i q q e c.loop-i.invariant.lie c.in_ok-piece.ensures.lies;
-      shapes = replaced_shapes main side new c.loop-i.pieces i c.piece_at.result q there e c.loop-i.invariant.lie
-          (rw (← c.piece_at.ensures.value) c.in_ok-piece.ensures.shape) ∙ c.loop-i.invariant.shapes;
-      long = length-set c.loop-i.pieces i q ∙ c.loop-i.invariant.long;
-      apart = AllWithin-more_set c.loop-i.pieces i q there (IsApart c.args.block.low c.args.block.from c.args.block.end) c.loop-i.invariant.apart c.in_ok-piece.ensures.apart;
-    })
+    let so_far = c.loop-i.invariant in
+    let p = c.piece_at-piece.result in
+    let apart = IsApart c.args.block.low c.args.block.from c.args.block.end in
+    let there : i < length ps = omega (arith, so_far.long, c.len-i-end.ensures.value, c.loop-i-test.true) in
+    let is = c.piece_at-piece.ensures.value in
+    elim c.if-is_torn.branch [
+      | then-is_torn+in_ok-add w ↦
+          let new = w.add.new.self in
+          let added = w.in_ok-add.ensures.ok in
+          let from = w.len-from.result in
+          let to = w.len.result in
+          let q : Piece = record p { from_byte = from; to_byte = to; aside = true } in
+          let home = c.is_torn.ensures.torn w.if-is_torn.true in
+          let here = subst (IsPiece main side) (sym is) (so_far.lie i p there) in
+          let e : Extends side new = record { more = slice_range main p.from_byte p.to_byte; all = added } in
+          let same = shape-aside main side new p from to here home added w.len-from.ensures.value w.len.ensures.value in
+          rw (w.side-is, w.pieces-is, w.set.ensures.value) (record {
+            side = Extends-trans _ _ _ so_far.side e;
+            lie = replaced_lie main side new ps i q q e so_far.lie (IsPiece-aside main side new p from to here home added w.len-from.ensures.value w.len.ensures.value);
+            shapes = replaced_shapes main side new ps i p q there e so_far.lie (same ∙ ap (shape_in main side) is) ∙ so_far.shapes;
+            long = length-set ps i q ∙ so_far.long;
+            apart = AllWithin-more_set ps i q there apart so_far.apart (λ h above. let no : ⊥ = cc in absurd no);
+          })
+      | else-is_torn w ↦
+          let stays = c.is_torn.ensures.apart w.if-is_torn.false in
+          rw (w.side-is, w.pieces-is) (record {
+            side = so_far.side;
+            lie = so_far.lie;
+            shapes = so_far.shapes;
+            long = so_far.long;
+            apart = AllWithin-more apart ps 0 i so_far.apart (λ (d : Piece). subst apart (is ∙ get_or_default ps i p d there) stays);
+          })
+    ]

@@ -1,35 +1,104 @@
 -- The text with the bytes in it stands at the end, and its outline is that of the shape with the bytes.
-use Rattle.std.proofs.Common.{◌≡◌, ◌-◌, ℕ, length, ap, ◌∙◌, subst, arith}
-use Rattle.demangle_text.specs.Pieces.{Store, IsAt, outline_of, own_at}
+use Rattle.std.proofs.Common.{◌+◌, ◌-◌, ℕ, length, refl, ap, ◌∙◌, subst, arith}
+use Rattle.demangle_text.specs.Pieces.{IsAt, outline_of, own_at}
 use Rattle.demangle_text.specs.Shape.{moved}
+use Rattle.demangle_text.specs.View.{store_of}
+use Rattle.demangle_text.proofs.Gaps.{length-gap, one-put}
+use Rattle.demangle_text.proofs.Brought.{IsOpen-same, IsStore-put, IsEdit-put, IsSplice-put}
 use Rattle.demangle_text.proofs.Tails.{Lives-inserted, IsEditOf-spliced, own-fits, layout-fits}
 use Rattle.demangle_text.proofs.buffer.Buffer.insert.Goals as goal
 
+-- the bytes fill the gap for them
+pub put-requires : goal.put-requires
+put-requires c =
+    let b = c.args.self.now in
+    let p = c.args.piece in
+    let at = c.place-at.result in
+    let from = c.in_ok-from.from in
+    let bytes = c.args.bytes.now in
+    let k = length bytes in
+    let o = IsOpen-same b (store_of c.self.inside) _ p at k from c.self.view_is c.in_ok-from.ensures.opened in
+    let n = length-gap o.main c.self.inside.main (from + at) k o.within o.room in
+    record { within = omega (arith, n, o.within) }
+
 pub with_bytes-requires-clause-own_fits : goal.with_bytes-requires-clause-own_fits
 with_bytes-requires-clause-own_fits c =
-    let fits = own-fits c.args.self.now c.splice.new.self c.args.piece c.place-at.result c.args.bytes.now c.in_ok-from.from c.requires.living c.in_ok-from.ensures.splice in
-    omega (arith, fits, c.len.ensures.value, ap (λ (b : Store). length b.main_text) c.self.view_is)
+    let b = c.args.self.now in
+    let p = c.args.piece in
+    let at = c.place-at.result in
+    let from = c.in_ok-from.from in
+    let bytes = c.args.bytes.now in
+    let k = length bytes in
+    let o = IsOpen-same b (store_of c.self.inside) _ p at k from c.self.view_is c.in_ok-from.ensures.opened in
+    let main = one-put o.main c.self.inside.main bytes c.put.new.self (from + at) o.within o.room c.put.ensures.value in
+    let splice = IsSplice-put b (store_of c.self.inside) p at k from o bytes c.put.new.self refl main in
+    let fits = own-fits b _ p at bytes from c.requires.living splice in
+    omega (arith, fits, c.len.ensures.value, c.len.type_inv)
 
 pub with_bytes-requires-clause-layout_fits : goal.with_bytes-requires-clause-layout_fits
 with_bytes-requires-clause-layout_fits c =
-    let fits = layout-fits c.args.self.now c.splice.new.self c.args.piece c.place-at.result c.args.bytes.now c.in_ok-from.from c.requires.living c.in_ok-from.ensures.splice in
-    omega (arith, fits, c.len.ensures.value, ap (λ (b : Store). length b.main_text) c.self.view_is)
+    let b = c.args.self.now in
+    let p = c.args.piece in
+    let at = c.place-at.result in
+    let from = c.in_ok-from.from in
+    let bytes = c.args.bytes.now in
+    let k = length bytes in
+    let o = IsOpen-same b (store_of c.self.inside) _ p at k from c.self.view_is c.in_ok-from.ensures.opened in
+    let main = one-put o.main c.self.inside.main bytes c.put.new.self (from + at) o.within o.room c.put.ensures.value in
+    let splice = IsSplice-put b (store_of c.self.inside) p at k from o bytes c.put.new.self refl main in
+    let fits = layout-fits b _ p at bytes from c.requires.living splice in
+    omega (arith, fits, c.len.ensures.value, c.len.type_inv)
+
+pub invariant_of-self : goal.invariant_of-self
+invariant_of-self c =
+    let b = c.args.self.now in
+    let p = c.args.piece in
+    let at = c.place-at.result in
+    let from = c.in_ok-from.from in
+    let bytes = c.args.bytes.now in
+    let k = length bytes in
+    let o = IsOpen-same b (store_of c.self.inside) _ p at k from c.self.view_is c.in_ok-from.ensures.opened in
+    let main = one-put o.main c.self.inside.main bytes c.put.new.self (from + at) o.within o.room c.put.ensures.value in
+    IsStore-put b (store_of c.self.inside) p at k from o bytes c.put.new.self refl main
+
+pub returns-clause-edit : goal.returns-clause-edit
+returns-clause-edit c =
+    let b = c.args.self.now in
+    let p = c.args.piece in
+    let at = c.place-at.result in
+    let from = c.in_ok-from.from in
+    let bytes = c.args.bytes.now in
+    let k = length bytes in
+    let o = IsOpen-same b (store_of c.self.inside) _ p at k from c.self.view_is c.in_ok-from.ensures.opened in
+    let main = one-put o.main c.self.inside.main bytes c.put.new.self (from + at) o.within o.room c.put.ensures.value in
+    IsEdit-put b (store_of c.self.inside) p at k from o bytes c.put.new.self refl main
 
 pub returns-clause-shape : goal.returns-clause-shape
 returns-clause-shape c =
-    let n = c.splice.new.self in
+    let b = c.args.self.now in
     let p = c.args.piece in
-    let from = c.in_ok-from.from in
     let at = c.place-at.result in
+    let from = c.in_ok-from.from in
+    let bytes = c.args.bytes.now in
+    let k = length bytes in
+    let o = IsOpen-same b (store_of c.self.inside) _ p at k from c.self.view_is c.in_ok-from.ensures.opened in
+    let main = one-put o.main c.self.inside.main bytes c.put.new.self (from + at) o.within o.room c.put.ensures.value in
+    let splice = IsSplice-put b (store_of c.self.inside) p at k from o bytes c.put.new.self refl main in
     let m = c.with_bytes.ensures in
-    let k : c.len.result ≡ length n.main_text = c.len.ensures.value ∙ ap (λ (b : Store). length b.main_text) c.self.view_is in
-    Lives-inserted c.args.self.now n p at c.args.bytes.now from c.requires.living c.in_ok-from.ensures.splice c.with_bytes.result (subst (IsAt c.with_bytes.result from) k m.stands)
+    Lives-inserted b _ p at bytes from c.requires.living splice c.with_bytes.result (subst (IsAt c.with_bytes.result from) c.len.ensures.value m.stands)
     c.args.place c.requires.fits c.place-at.ensures.value m.layout
-    (m.own ∙ ap (λ (j : ℕ). own_at (outline_of p).layout (j - from) (moved at (length c.args.bytes.now) (outline_of p).own)) k) m.templ m.ctor
+    (m.own ∙ ap (λ (j : ℕ). own_at (outline_of p).layout (j - from) (moved at k (outline_of p).own)) c.len.ensures.value) m.templ m.ctor
 
 pub returns-clause-edit_of : goal.returns-clause-edit_of
 returns-clause-edit_of c =
-    let q = c.with_bytes.result in
+    let b = c.args.self.now in
+    let p = c.args.piece in
+    let at = c.place-at.result in
     let from = c.in_ok-from.from in
-    let k : c.len.result ≡ length c.splice.new.self.main_text = c.len.ensures.value ∙ ap (λ (b : Store). length b.main_text) c.self.view_is in
-    IsEditOf-spliced c.args.self.now c.splice.new.self c.args.piece q c.place-at.result from c.args.bytes.now c.in_ok-from.ensures.splice (subst (IsAt q from) k c.with_bytes.ensures.stands)
+    let bytes = c.args.bytes.now in
+    let k = length bytes in
+    let o = IsOpen-same b (store_of c.self.inside) _ p at k from c.self.view_is c.in_ok-from.ensures.opened in
+    let main = one-put o.main c.self.inside.main bytes c.put.new.self (from + at) o.within o.room c.put.ensures.value in
+    let splice = IsSplice-put b (store_of c.self.inside) p at k from o bytes c.put.new.self refl main in
+    let q = c.with_bytes.result in
+    IsEditOf-spliced b _ p q at from bytes splice (subst (IsAt q from) c.len.ensures.value c.with_bytes.ensures.stands)

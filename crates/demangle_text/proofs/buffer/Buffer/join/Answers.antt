@@ -1,20 +1,84 @@
-use Rattle.std.proofs.Common.{◌-◌, length, ap, ◌∙◌, subst}
-use Rattle.demangle_text.specs.Pieces.{IsAt, whole_outline}
-use Rattle.demangle_text.proofs.Tails.{Lives-joined, IsJoinOf-joint}
+-- Bytes between two texts that meet at the end, or the first text and bytes in front of a second one there, or bytes and
+-- the second text after the first.
+use Rattle.std.proofs.Common.{rules, ◌-◌, length, ap, ◌∙◌, subst, arith}
+use Rattle.demangle_text.specs.Pieces.{IsAt, IsTail, IsAdjacent, IsJoint, EndsBy, whole_outline}
+use Rattle.demangle_text.specs.State.{IsLiving}
+use Rattle.demangle_text.specs.View.{store_of}
+use Rattle.demangle_text.proofs.Tails.{IsJoint-inserted, IsJoint-moved, Lives-joined, IsJoinOf-joint}
+use Rattle.demangle_text.proofs.Brought.{tail-is, is-tail, IsJoint-spliced}
 use Rattle.demangle_text.proofs.buffer.Buffer.join.Goals as goal
+use Rattle.demangle_text.proofs.buffer.Buffer.join.Goals.{else-is_tail-via-then-is_tail+else-first-second, else-is_tail-via-else-is_tail}
+
+adjacent : (c : goal.After-whole_at) → IsJoint c.args.self.now c.insert_at.new.self c.args.first c.args.bytes.now c.args.second c.args.first.from_byte
+unfolding IsLiving
+adjacent c =
+    IsJoint-inserted c.args.self.now c.insert_at.new.self c.args.first c.args.bytes.now c.args.second (c.are_adjacent.ensures.adjacent c.if-are_adjacent.true)
+    c.requires.first_living.ordered c.requires.second_living.ordered c.in_ok-insert_at.ensures.main
+
+pub returns-then-are_adjacent-clause-shape : goal.returns-then-are_adjacent-clause-shape
+returns-then-are_adjacent-clause-shape c =
+    let k = c.len.ensures.value ∙ ap (λ b. length b.main_text) c.self-then-are_adjacent.view_is in
+    Lives-joined c.args.self.now c.insert_at.new.self c.args.first c.args.second c.whole_at.result c.args.bytes.now _ c.requires.first_living c.requires.second_living (adjacent c)
+    (subst (IsAt c.whole_at.result c.args.first.from_byte) k c.whole_at.ensures.stands)
+    (c.whole_at.ensures.outline ∙ ap (λ j. whole_outline (j - c.args.first.from_byte)) k)
+
+pub returns-then-are_adjacent-clause-join_of : goal.returns-then-are_adjacent-clause-join_of
+returns-then-are_adjacent-clause-join_of c =
+    let k = c.len.ensures.value ∙ ap (λ b. length b.main_text) c.self-then-are_adjacent.view_is in
+    IsJoinOf-joint c.args.self.now c.insert_at.new.self c.args.first c.args.second c.whole_at.result c.args.bytes.now _ c.requires.first_living c.requires.second_living (adjacent c)
+    (subst (IsAt c.whole_at.result c.args.first.from_byte) k c.whole_at.ensures.stands)
+
+moved : (c : goal.After-whole_at-then-first-second) → IsJoint c.args.self.now c.insert_piece.new.self c.args.first c.args.bytes.now c.args.second c.args.second.from_byte
+unfolding IsLiving
+moved c =
+    let b = c.args.self.now in
+    let apart = λ (h : IsAdjacent b c.args.first c.args.second). let t = c.are_adjacent.ensures.other h in let f = c.if-are_adjacent.false in let k : ⊥ = cc (t, f) in k in
+    let tail = tail-is (store_of c.self.inside) b c.args.second c.len-2.result c.self.view_is c.len-2.ensures.value (c.is_tail.ensures.tail c.if-is_tail.true) in
+    let before : EndsBy c.args.second.from_byte c.args.first = search rules in
+    IsJoint-moved b c.insert_piece.new.self c.args.first c.args.bytes.now c.args.second apart tail before c.requires.second_living.ordered c.in_ok-insert_piece.ensures.main
+
+pub returns-then-first-second-clause-shape : goal.returns-then-first-second-clause-shape
+returns-then-first-second-clause-shape c =
+    let q = c.whole_at-then-first-second in
+    let from = c.args.second.from_byte in
+    let k = c.len-then-first-second.ensures.value ∙ ap (λ b. length b.main_text) c.self-then-first-second.view_is in
+    Lives-joined c.args.self.now c.insert_piece.new.self c.args.first c.args.second q.result c.args.bytes.now _ c.requires.first_living c.requires.second_living (moved c)
+    (subst (IsAt q.result from) k q.ensures.stands) (q.ensures.outline ∙ ap (λ j. whole_outline (j - from)) k)
+
+pub returns-then-first-second-clause-join_of : goal.returns-then-first-second-clause-join_of
+returns-then-first-second-clause-join_of c =
+    let q = c.whole_at-then-first-second in
+    let k = c.len-then-first-second.ensures.value ∙ ap (λ b. length b.main_text) c.self-then-first-second.view_is in
+    IsJoinOf-joint c.args.self.now c.insert_piece.new.self c.args.first c.args.second q.result c.args.bytes.now _ c.requires.first_living c.requires.second_living (moved c)
+    (subst (IsAt q.result c.args.second.from_byte) k q.ensures.stands)
+
+extended : (c : goal.After-whole_at-2) → IsJoint c.args.self.now c.extend_by.new.self c.args.first c.args.bytes.now c.args.second c.in_ok-from.from
+extended c =
+    let b = c.args.self.now in
+    let one = c.args.first in
+    let two = c.args.second in
+    let apart = λ (h : IsAdjacent b one two). let t = c.are_adjacent.ensures.other h in let f = c.if-are_adjacent.false in let k : ⊥ = cc (t, f) in k in
+    let later = λ (h : IsTail b two) (before : EndsBy two.from_byte one).
+    let there = c.is_tail.ensures.other (is-tail (store_of c.self.inside) b two c.len-2.result c.self.view_is c.len-2.ensures.value h) in
+    let k : ⊥ = elim c.else-is_tail.branch [
+      | else-is_tail-via-then-is_tail+else-first-second w ↦ let k : ⊥ = omega (arith, before w.if-first-second.false.0, w.if-first-second.false.1) in k
+      | else-is_tail-via-else-is_tail w ↦
+          let f = w.if-is_tail.false in
+          let k : ⊥ = cc (there, f) in k
+    ] in k in
+    IsJoint-spliced b c.extend_by.new.self one c.args.bytes.now two c.in_ok-from.from apart later c.requires.first_living c.in_ok-from.ensures.splice
 
 pub returns-clause-shape : goal.returns-clause-shape
 returns-clause-shape c =
-    let n = c.join_texts.new.self in
     let from = c.in_ok-from.from in
-    let k = c.len.ensures.value ∙ ap (λ b. length b.main_text) c.self.view_is in
-    Lives-joined c.args.self.now n c.args.first c.args.second c.whole_at.result c.args.bytes.now from c.requires.first_living c.requires.second_living c.in_ok-from.ensures.joint
-    (subst (IsAt c.whole_at.result from) k c.whole_at.ensures.stands)
-    (c.whole_at.ensures.outline ∙ ap (λ j. whole_outline (j - from)) k)
+    let k = c.len-3.ensures.value ∙ ap (λ b. length b.main_text) c.self-2.view_is in
+    Lives-joined c.args.self.now c.extend_by.new.self c.args.first c.args.second c.whole_at-2.result c.args.bytes.now from c.requires.first_living c.requires.second_living (extended c)
+    (subst (IsAt c.whole_at-2.result from) k c.whole_at-2.ensures.stands)
+    (c.whole_at-2.ensures.outline ∙ ap (λ j. whole_outline (j - from)) k)
 
 pub returns-clause-join_of : goal.returns-clause-join_of
 returns-clause-join_of c =
     let from = c.in_ok-from.from in
-    let k = c.len.ensures.value ∙ ap (λ b. length b.main_text) c.self.view_is in
-    IsJoinOf-joint c.args.self.now c.join_texts.new.self c.args.first c.args.second c.whole_at.result c.args.bytes.now from c.requires.first_living c.requires.second_living c.in_ok-from.ensures.joint
-    (subst (IsAt c.whole_at.result from) k c.whole_at.ensures.stands)
+    let k = c.len-3.ensures.value ∙ ap (λ b. length b.main_text) c.self-2.view_is in
+    IsJoinOf-joint c.args.self.now c.extend_by.new.self c.args.first c.args.second c.whole_at-2.result c.args.bytes.now from c.requires.first_living c.requires.second_living (extended c)
+    (subst (IsAt c.whole_at-2.result from) k c.whole_at-2.ensures.stands)

@@ -1,17 +1,71 @@
--- A text that was copied to the end becomes the block.
-use Rattle.std.proofs.Common.{◌≡◌, ◌≤◌, List, ℕ, OnOk, length, ap, ◌∙◌, subst, arith}
+-- What would be torn is set aside; the block moves to the mark, and what lies in it moves with it.
+use Rattle.std.proofs.Common.{◌≡◌, sym, ap, ◌∙◌, subst}
 use Rattle.demangle_text.specs.Pieces.{Store}
-use Rattle.demangle_text.proofs.Tails.{kept_only-copy}
+use Rattle.demangle_text.specs.State.{IsLiving}
+use Rattle.demangle_text.specs.View.{store_of}
+use Rattle.demangle_text.proofs.Laws.{IsEdit-keeps, IsEdit-trans}
+use Rattle.demangle_text.proofs.States.{KeepsAll-longer, IsStore-longer}
+use Rattle.demangle_text.proofs.Blocks.{IsBlock, IsBlock-here, IsBlock-copied}
+use Rattle.demangle_text.proofs.Texts.{Moves}
+use Rattle.demangle_text.proofs.Carried.{Moves-kept, IsStore-after, IsEdit-after}
 use Rattle.demangle_text.proofs.buffer.Buffer.move_down.Goals as goal
+use Rattle.demangle_text.proofs.buffer.Buffer.move_down.Goals.{then-piece+in_ok-add_text+else-from-at-2, else-piece+else-from-at}
 
-pub keep_block-requires-clause-before : goal.keep_block-requires-clause-before
-keep_block-requires-clause-before c = omega (arith, c.requires.mark, c.copy_text.ensures.inner, c.in_ok-from.ensures.from)
+-- a copy at the mark is all that there is since then
+pub invariant_of-self-then-from-at-2 : goal.invariant_of-self-then-from-at-2
+invariant_of-self-then-from-at-2 c = rw c.in_ok-add_text.ensures.ok (IsStore-longer (store_of c.self.inside) _ c.self.invariant)
 
-pub returns-then-piece-clause-main : goal.returns-then-piece-clause-main
-returns-then-piece-clause-main c =
-    let old = c.args.self.now in
-    let mid = c.copy_text.new.self in
-    let low : c.args.at ≤ length old.main_text = omega (arith, c.requires.mark, c.copy_text.ensures.inner) in
-    let ends = c.len-to.ensures.value ∙ ap (λ (b : Store). length b.main_text) c.self.view_is in
-    let block = kept_only-copy old.main_text mid.main_text _ c.args.at c.in_ok-from.from c.len-to.result c.in_ok-from.ensures.main low c.in_ok-from.ensures.from ends in
-    subst (λ (v : List ℕ). OnOk c.keep_block.result (c.keep_block.new.self.main_text ≡ v)) block c.keep_block.ensures.main
+pub returns-then-from-at-2-clause-edit : goal.returns-then-from-at-2-clause-edit
+returns-then-from-at-2-clause-edit c =
+    rw (← c.self.view_is, c.in_ok-add_text.ensures.ok) (IsEdit-keeps _ _ (KeepsAll-longer (store_of c.self.inside) _ c.self.invariant))
+
+-- what is kept lies in the texts
+pub set_apart-requires-clause-saved : goal.set_apart-requires-clause-saved
+set_apart-requires-clause-saved c = rw c.as_slice.ensures.value (elim c.if-piece.branch [
+  | then-piece+in_ok-add_text+else-from-at-2 w ↦ rw (w.self-inside-is, w.in_ok-add_text.ensures.ok) ((IsStore-longer (store_of c.self.inside) _ c.self.invariant).saved_lie)
+  | else-piece+else-from-at w ↦ rw w.self-inside-is c.self.invariant.saved_lie
+])
+
+pub set_apart-requires-clause-args : goal.set_apart-requires-clause-args
+set_apart-requires-clause-args c = rw c.as_slice.ensures.value (elim c.if-piece.branch [
+  | then-piece+in_ok-add_text+else-from-at-2 w ↦ rw (w.self-inside-is, w.in_ok-add_text.ensures.ok) ((IsStore-longer (store_of c.self.inside) _ c.self.invariant).args_lie)
+  | else-piece+else-from-at w ↦ rw w.self-inside-is c.self.invariant.args_lie
+])
+
+block : (c : goal.After-carry-2) → IsBlock (store_of c.self.inside) (store_of c.if-piece.self-inside) c.args.piece c.args.at c.if-piece.from c.if-piece.to
+block c =
+    let s = store_of c.self.inside in
+    let mark : s.frame_main ≡ c.args.at = ap (λ (b : Store). b.frame_main) c.self.view_is ∙ c.requires.mark in
+    let lies = subst (λ (b : Store). IsLiving b c.args.piece) (sym c.self.view_is) c.requires.living in
+    elim c.if-piece.branch [
+      | then-piece+in_ok-add_text+else-from-at-2 w ↦ rw (w.self-inside-is, w.from-is, w.to-is) (
+          IsBlock-copied s c.args.piece w.add_text.new.main c.args.at w.len-from.result w.len-to.result c.self.invariant mark w.in_ok-add_text.ensures.ok
+          w.len-from.ensures.value w.len-to.ensures.value)
+      | else-piece+else-from-at w ↦ rw (w.self-inside-is, w.from-is, w.to-is) (IsBlock-here s c.args.piece c.args.at c.self.invariant lies mark w.if-piece.false)
+    ]
+
+moves : (c : goal.After-carry-2) → Moves (store_of c.if-piece.self-inside).main_text c.keep.new.self c.args.at c.if-piece.from c.if-piece.to c.args.at
+moves c =
+    let b = block c in
+    Moves-kept (store_of c.if-piece.self-inside).main_text c.keep.new.self c.args.at c.if-piece.from c.if-piece.to b.low b.ordered b.within c.keep.ensures.value
+
+pub invariant_of-self-2 : goal.invariant_of-self-2
+invariant_of-self-2 c =
+    let a = c.in_ok-set_apart.ensures in
+    let b = block c in
+    (IsStore-after (store_of c.if-piece.self-inside) _ _ _ _ c.as_slice.ensures.value c.set_apart.ensures.aside
+    _ _ _ _ _ _ _ b.store a.saved_apart a.args_apart c.carry.ensures.value c.carry-2.ensures.value
+    (moves c) b.inner)
+
+pub returns-clause-edit : goal.returns-clause-edit
+returns-clause-edit c =
+    let a = c.in_ok-set_apart.ensures in
+    let b = block c in
+    rw (← c.self.view_is)
+    (IsEdit-trans _ _ _ (IsEdit-keeps _ _ b.keeps)
+    (IsEdit-after (store_of c.if-piece.self-inside) _ _ _ _ c.as_slice.ensures.value c.set_apart.ensures.aside
+    _ _ _ _ _ _ _ b.store a.saved_apart a.args_apart c.carry.ensures.value c.carry-2.ensures.value
+    (moves c) b.inner))
+
+pub returns-clause-main : goal.returns-clause-main
+returns-clause-main c = rw (← c.self.view_is) (c.keep.ensures.value ∙ (block c).text)

@@ -1,6 +1,7 @@
 -- What would be torn is set aside, and then the rest moves on.
-use Rattle.std.proofs.Common.{◌≡◌, ◌≤◌, ◌+◌, ◌-◌, List, ℕ, length, take, drop, ap, ◌∙◌, arith}
-use Rattle.demangle_text.specs.Pieces.{Store}
+use Rattle.std.proofs.Common.{◌≡◌, ◌≤◌, ◌+◌, ◌-◌, List, ℕ, length, take, drop, ap, ◌∙◌, subst, arith}
+use Rattle.demangle_text.specs.declared.shape.Piece.{Piece}
+use Rattle.demangle_text.specs.Pieces.{Store, IsAside}
 use Rattle.growing_text.specs.Room.{HasRoom}
 use Rattle.demangle_text.specs.View.{store_of}
 use Rattle.demangle_text.specs.State.{KeepsAll}
@@ -9,18 +10,25 @@ use Rattle.demangle_text.proofs.Carried.{KeepsAll-aside}
 use Rattle.demangle_text.proofs.Gaps.{length-gap, IsStore-opened, IsGap-opened}
 use Rattle.demangle_text.proofs.buffer.Buffer.open_gap.Goals as goal
 
+-- what was reserved changed neither text
+aside : (m side was new : List ℕ) (saved saved' args args' : List Piece) → side ≡ was → IsAside m side new saved saved' args args' → IsAside m was new saved saved' args args'
+aside m side was new saved saved' args args' same a = subst (λ (v : List ℕ). IsAside m v new saved saved' args args') same a
+
+room : (main was new : List ℕ) (at n : ℕ) → main ≡ was → HasRoom (take at main) (drop at main) new n → HasRoom (take at was) (drop at was) new n
+room main was new at n same h = subst (λ (v : List ℕ). HasRoom (take at v) (drop at v) new n) same h
+
 pub returns-in_err-set_apart-clause-err : goal.returns-in_err-set_apart-clause-err
 returns-in_err-set_apart-clause-err c =
     let same : KeepsAll c.args.self.now _ =
-    rw (← (c.self.view_is ∙ c.reserve_gap.ensures.same))
-    (KeepsAll-aside (store_of c.self.inside) _ _ _ _ c.as_slice.ensures.value c.set_apart.ensures.aside) in
+    rw (← c.self.view_is, c.reserve.ensures.same)
+    (KeepsAll-aside (store_of c.self.inside) _ _ _ _ (c.as_slice.ensures.value ∙ c.reserve.ensures.same) (aside _ _ _ _ _ _ _ _ c.reserve-2.ensures.same c.set_apart.ensures.aside)) in
     on_err_from c.from_residual-in_err-set_apart.result same
 
 pub returns-in_err-open_room-clause-err : goal.returns-in_err-open_room-clause-err
 returns-in_err-open_room-clause-err c =
     let same : KeepsAll c.args.self.now _ =
-    rw (← (c.self.view_is ∙ c.reserve_gap.ensures.same), c.in_err-open_room.ensures.err)
-    (KeepsAll-aside (store_of c.self.inside) _ _ _ _ c.as_slice.ensures.value c.set_apart.ensures.aside) in
+    rw (← c.self.view_is, c.in_err-open_room.ensures.err, c.reserve.ensures.same)
+    (KeepsAll-aside (store_of c.self.inside) _ _ _ _ (c.as_slice.ensures.value ∙ c.reserve.ensures.same) (aside _ _ _ _ _ _ _ _ c.reserve-2.ensures.same c.set_apart.ensures.aside)) in
     on_err_from c.from_residual-in_err-open_room.result same
 
 -- the place lies in the text, and no earlier than the mark
@@ -38,25 +46,25 @@ longer s b main at n same within room = length-gap s.main_text main at n (place 
 pub overflow_sub-dest : goal.overflow_sub-dest
 overflow_sub-dest c =
     let s = store_of c.self.inside in
-    let n = longer s _ _ c.args.at _ (c.self.view_is ∙ c.reserve_gap.ensures.same) c.requires.within c.in_ok-open_room.ensures.ok in
+    let n = longer s _ _ c.args.at _ c.self.view_is c.requires.within (room _ _ _ c.args.at _ c.reserve.ensures.same c.in_ok-open_room.ensures.ok) in
     omega (arith, n, c.len-len.ensures.value, c.len.ensures.value)
 
 pub overflow_add-dest : goal.overflow_add-dest
 overflow_add-dest c =
     let s = store_of c.self.inside in
-    omega (arith, place s _ c.args.at (c.self.view_is ∙ c.reserve_gap.ensures.same) c.requires.within, c.len-len.ensures.value, c.len.type_inv)
+    omega (arith, place s _ c.args.at c.self.view_is c.requires.within, c.len-len.ensures.value, c.len.type_inv)
 
 pub carry-requires-clause-fits : goal.carry-requires-clause-fits
 carry-requires-clause-fits c =
     let s = store_of c.self.inside in
-    let n = longer s _ _ c.args.at _ (c.self.view_is ∙ c.reserve_gap.ensures.same) c.requires.within c.in_ok-open_room.ensures.ok in
-    let within = place s _ c.args.at (c.self.view_is ∙ c.reserve_gap.ensures.same) c.requires.within in
+    let n = longer s _ _ c.args.at _ c.self.view_is c.requires.within (room _ _ _ c.args.at _ c.reserve.ensures.same c.in_ok-open_room.ensures.ok) in
+    let within = place s _ c.args.at c.self.view_is c.requires.within in
     omega (arith, n, within, c.len-len.ensures.value, c.len.ensures.value, c.len.type_inv)
 
-moved_by : (c : goal.After-carry) → c.args.at + (c.len.result - c.len-len.result) ≡ c.args.at + c.args.n
+moved_by : (c : goal.After-carry-2) → c.args.at + (c.len.result - c.len-len.result) ≡ c.args.at + c.args.n
 moved_by c =
     let s = store_of c.self.inside in
-    let n = longer s _ _ c.args.at _ (c.self.view_is ∙ c.reserve_gap.ensures.same) c.requires.within c.in_ok-open_room.ensures.ok in
+    let n = longer s _ _ c.args.at _ c.self.view_is c.requires.within (room _ _ _ c.args.at _ c.reserve.ensures.same c.in_ok-open_room.ensures.ok) in
     omega (arith, n, c.len-len.ensures.value, c.len.ensures.value)
 
 pub invariant_of-self-2 : goal.invariant_of-self-2
@@ -64,21 +72,18 @@ invariant_of-self-2 c =
     let s = store_of c.self.inside in
     let at = c.args.at in
     let a = c.in_ok-set_apart.ensures in
-    let e = c.carry.ensures in
-    rw e.side
-    (IsStore-opened s _ _ _ _ _ _ at c.args.n _ _ c.as_slice.ensures.value c.set_apart.ensures.aside
-    a.saved_apart a.args_apart e.saved e.args
-    c.self.invariant (low s _ at (c.self.view_is ∙ c.reserve_gap.ensures.same) c.requires.inner) (place s _ at (c.self.view_is ∙ c.reserve_gap.ensures.same) c.requires.within)
-    c.len-len.ensures.value (moved_by c) _ c.in_ok-open_room.ensures.ok)
+    (IsStore-opened s _ _ _ _ _ _ at c.args.n _ _ (c.as_slice.ensures.value ∙ c.reserve.ensures.same) (aside _ _ _ _ _ _ _ _ c.reserve-2.ensures.same c.set_apart.ensures.aside)
+    a.saved_apart a.args_apart c.carry.ensures.value c.carry-2.ensures.value
+    c.self.invariant (low s _ at c.self.view_is c.requires.inner) (place s _ at c.self.view_is c.requires.within)
+    c.len-len.ensures.value (moved_by c) _ (room _ _ _ c.args.at _ c.reserve.ensures.same c.in_ok-open_room.ensures.ok))
 
 pub returns-clause-gap : goal.returns-clause-gap
 returns-clause-gap c =
     let s = store_of c.self.inside in
     let at = c.args.at in
     let a = c.in_ok-set_apart.ensures in
-    let e = c.carry.ensures in
-    rw (← (c.self.view_is ∙ c.reserve_gap.ensures.same), e.side)
-    (IsGap-opened s _ _ _ _ _ _ at c.args.n _ _ c.as_slice.ensures.value c.set_apart.ensures.aside
-    a.saved_apart a.args_apart e.saved e.args
-    c.self.invariant (low s _ at (c.self.view_is ∙ c.reserve_gap.ensures.same) c.requires.inner) (place s _ at (c.self.view_is ∙ c.reserve_gap.ensures.same) c.requires.within)
-    c.len-len.ensures.value (moved_by c) _ c.in_ok-open_room.ensures.ok)
+    rw (← c.self.view_is)
+    (IsGap-opened s _ _ _ _ _ _ at c.args.n _ _ (c.as_slice.ensures.value ∙ c.reserve.ensures.same) (aside _ _ _ _ _ _ _ _ c.reserve-2.ensures.same c.set_apart.ensures.aside)
+    a.saved_apart a.args_apart c.carry.ensures.value c.carry-2.ensures.value
+    c.self.invariant (low s _ at c.self.view_is c.requires.inner) (place s _ at c.self.view_is c.requires.within)
+    c.len-len.ensures.value (moved_by c) _ (room _ _ _ c.args.at _ c.reserve.ensures.same c.in_ok-open_room.ensures.ok))

@@ -2,29 +2,29 @@
 use Rattle.std.proofs.Common.{◌≡◌, ◌+◌, ◌-◌, List, ℕ, OnOk, OnErr, length, take, drop, sym, ap, subst, arith}
 use Rattle.std.proofs.lemmas.List.{length-append}
 use Rattle.growing_text.specs.Room.{HasRoom}
-use Rattle.demangle_text.specs.Pieces.{Store, IsTail, piece_text}
+use Rattle.demangle_text.specs.Pieces.{Store, IsTail, IsTailAt, piece_text}
 use Rattle.demangle_text.specs.State.{IsLiving}
 use Rattle.demangle_text.specs.View.{store_of}
 use Rattle.demangle_text.proofs.States.{on_err_from}
 use Rattle.demangle_text.proofs.Tails.{length-text}
-use Rattle.demangle_text.proofs.Brought.{KeepsAll-left, IsOpen-tail, IsOpen-copied, IsStore-copied}
+use Rattle.demangle_text.proofs.Brought.{tail-is, KeepsAll-left, IsOpen-tail, IsOpen-copied, IsStore-copied}
 use Rattle.demangle_text.proofs.buffer.Buffer.open_in.Goals as goal
 
 pub returns-then-is_tail-clause-opened : goal.returns-then-is_tail-clause-opened
 unfolding IsLiving
 returns-then-is_tail-clause-opened c =
-    IsOpen-tail c.args.self.now c.open_gap.new.self c.args.piece c.args.at c.args.n (c.is_tail.ensures.tail c.if-is_tail.true)
+    IsOpen-tail c.args.self.now c.open_gap.new.self c.args.piece c.args.at c.args.n (tail-is (store_of c.self.inside) c.args.self.now c.args.piece c.len.result c.self.view_is c.len.ensures.value (c.is_tail.ensures.tail c.if-is_tail.true))
     c.requires.living.ordered c.requires.within c.in_ok-open_gap.ensures.gap
 
 pub returns-in_err-taken_back-clause-err : goal.returns-in_err-taken_back-clause-err
 returns-in_err-taken_back-clause-err c =
     let s = store_of c.self.inside in
-    let mid = c.add_part.new.main in
+    let mid = c.add_text.new.main in
     let done = c.open_room-opened.new.self in
     let failed : done ≡ mid = subst (λ r. OnErr r (done ≡ mid)) (sym c.in_err-taken_back.ensures.same) c.open_room-opened.ensures.err in
     on_err_from c.from_residual-in_err-taken_back.result (rw (← c.self.view_is)
     (KeepsAll-left s mid done c.taken_back.new.main c.len-from.result c.len-from.ensures.value
-    (record { more = piece_text s.main_text s.side_text c.args.piece; all = c.in_ok-add_part.ensures.ok }) failed c.in_err-taken_back.ensures.err))
+    (record { more = piece_text s.main_text s.side_text c.args.piece; all = c.in_ok-add_text.ensures.ok }) failed c.in_err-taken_back.ensures.err))
 
 pub invariant_of-self-2 : goal.invariant_of-self-2
 invariant_of-self-2 c =
@@ -32,18 +32,18 @@ invariant_of-self-2 c =
     let p = c.args.piece in
     let at = c.args.at in
     let n = c.args.n in
-    let mid = c.add_part.new.main in
+    let mid = c.add_text.new.main in
     let done = c.open_room-opened.new.self in
     let from = c.len-from.result in
     let text = piece_text s.main_text s.side_text p in
     let lies = subst (λ (b : Store). IsLiving b p) (sym c.self.view_is) c.requires.living in
     let apart = λ (h : IsTail s p).
-    let t = c.is_tail.ensures.other (subst (λ (b : Store). IsTail b p) c.self.view_is h) in
+    let t = c.is_tail.ensures.other (subst (λ (k : ℕ). IsTailAt s.frame_main k p) (sym c.len.ensures.value) h) in
     let f = c.if-is_tail.false in let k : ⊥ = cc (t, f) in k in
-    let copied = c.in_ok-add_part.ensures.ok in
-    let place = c.len.result - (c.text_len.result - at) in
+    let copied = c.in_ok-add_text.ensures.ok in
+    let place = c.len-2.result - (c.text_len.result - at) in
     let there : place ≡ from + at =
-    omega (arith, c.len.ensures.value, c.len-from.ensures.value, c.text_len.ensures.value, c.requires.within, ap length copied, length-append s.main_text text, length-text s p lies) in
+    omega (arith, c.len-2.ensures.value, c.len-from.ensures.value, c.text_len.ensures.value, c.requires.within, ap length copied, length-append s.main_text text, length-text s p lies) in
     let opened = subst (λ r. OnOk r (HasRoom (take place mid) (drop place mid) done n)) (sym c.in_ok-taken_back.ensures.same) c.open_room-opened.ensures.ok in
     let moved = subst (λ (i : ℕ). HasRoom (take i mid) (drop i mid) done n) there opened in
     let room = subst (λ (v : List ℕ). HasRoom (take (from + at) mid) (drop (from + at) mid) v n) (sym c.in_ok-taken_back.ensures.ok) moved in
@@ -55,18 +55,18 @@ returns-clause-opened c =
     let p = c.args.piece in
     let at = c.args.at in
     let n = c.args.n in
-    let mid = c.add_part.new.main in
+    let mid = c.add_text.new.main in
     let done = c.open_room-opened.new.self in
     let from = c.len-from.result in
     let text = piece_text s.main_text s.side_text p in
     let lies = subst (λ (b : Store). IsLiving b p) (sym c.self.view_is) c.requires.living in
     let apart = λ (h : IsTail s p).
-    let t = c.is_tail.ensures.other (subst (λ (b : Store). IsTail b p) c.self.view_is h) in
+    let t = c.is_tail.ensures.other (subst (λ (k : ℕ). IsTailAt s.frame_main k p) (sym c.len.ensures.value) h) in
     let f = c.if-is_tail.false in let k : ⊥ = cc (t, f) in k in
-    let copied = c.in_ok-add_part.ensures.ok in
-    let place = c.len.result - (c.text_len.result - at) in
+    let copied = c.in_ok-add_text.ensures.ok in
+    let place = c.len-2.result - (c.text_len.result - at) in
     let there : place ≡ from + at =
-    omega (arith, c.len.ensures.value, c.len-from.ensures.value, c.text_len.ensures.value, c.requires.within, ap length copied, length-append s.main_text text, length-text s p lies) in
+    omega (arith, c.len-2.ensures.value, c.len-from.ensures.value, c.text_len.ensures.value, c.requires.within, ap length copied, length-append s.main_text text, length-text s p lies) in
     let opened = subst (λ r. OnOk r (HasRoom (take place mid) (drop place mid) done n)) (sym c.in_ok-taken_back.ensures.same) c.open_room-opened.ensures.ok in
     let moved = subst (λ (i : ℕ). HasRoom (take i mid) (drop i mid) done n) there opened in
     let room = subst (λ (v : List ℕ). HasRoom (take (from + at) mid) (drop (from + at) mid) v n) (sym c.in_ok-taken_back.ensures.ok) moved in

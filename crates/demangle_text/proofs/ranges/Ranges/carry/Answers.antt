@@ -7,4 +7,4 @@ use Rattle.demangle_text.proofs.ranges.Ranges.carry.Goals as goal
 pub returns-then-first-self : goal.returns-then-first-self
 returns-then-first-self c =
     let all : length c.args.self.now ≤ c.count_by-first.result = omega (arith, ap length c.self.view_is, length-take c.self.inside.count (pieces_of c.self.inside.kept.items), c.if-first-self.true) in
-    record { value = carried-below c.args.by.block.low c.args.by.block.from c.args.by.dest c.args.self.now (λ k d lt. c.count_by-first.ensures.ends k d (omega arith) (omega (arith, lt, all))) }
+    record { value = carried-below c.args.block.low c.args.block.from c.args.dest c.args.self.now (λ k d lt. c.count_by-first.ensures.ends k d (omega arith) (omega (arith, lt, all))) }

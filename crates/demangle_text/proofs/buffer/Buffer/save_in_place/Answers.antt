@@ -1,0 +1,18 @@
+use Rattle.std.proofs.Common.{sym, subst}
+use Rattle.std.proofs.lemmas.List.Elements.{All-push}
+use Rattle.demangle_text.specs.Pieces.{Store, IsPiece}
+use Rattle.demangle_text.specs.State.{IsLiving}
+use Rattle.demangle_text.specs.View.{store_of}
+use Rattle.demangle_text.proofs.buffer.Buffer.save_in_place.Goals as goal
+
+pub invariant_of-self-2 : goal.invariant_of-self-2
+unfolding IsLiving
+invariant_of-self-2 c =
+    let s = store_of c.self.inside in
+    let lies = subst (λ (b : Store). IsLiving b c.args.piece.now) (sym c.self.view_is) c.requires.living in
+    record {
+      saved_lie = rw c.in_ok-push.ensures.ok (All-push (IsPiece s.main_text s.side_text) _ _ c.self.invariant.saved_lie lies);
+      args_lie = c.self.invariant.args_lie;
+      starts_fit = c.self.invariant.starts_fit;
+      main_frame = c.self.invariant.main_frame;
+    }

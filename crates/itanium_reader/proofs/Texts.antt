@@ -1,0 +1,131 @@
+-- Texts and their lengths, and how many shapes are saved.
+use Rattle.std.proofs.Common.{◌≡◌, ◌<◌, ◌≤◌, ℕ, ◌+◌, ◌-◌, max, Bool, true, false, List, [], ◌∷◌, ◌++◌}
+use Rattle.std.proofs.Common.{length, refl, sym, ◌∙◌, ap, append_assoc, arith, Result, Ok}
+use Rattle.std.proofs.Common.{codes, decimal}
+use Rattle.std.proofs.Common.{Err}
+use Rattle.std.specs.Prelude.{nat_lt}
+use Rattle.std.proofs.lemmas.Bool.Decides.{nat_tests}
+use Rattle.std.proofs.lemmas.List.{append-nil, length-append, take_at}
+use Rattle.demangle_text.specs.declared.shape.Place.TheVariants.{End}
+use Rattle.demangle_text.specs.Shape.{Shape, Plain, plain_shape, text, text_len, flattened, moved, appended}
+use Rattle.demangle_edit.specs.Names.{angle_gap, qualified, tagged}
+use Rattle.demangle_edit.specs.Built.{separated, arguments_begun}
+use Rattle.demangle_edit.proofs.Insertions.{inserted_twice, inserted_thrice}
+use Rattle.itanium_syntax.specs.declared.offsets.Signed.{Signed}
+use Rattle.itanium_syntax.specs.declared.offsets.CallOffset.TheVariants as Offset
+use Rattle.itanium_reader.specs.declared.stop.Stop.{Stop}
+use Rattle.itanium_reader.specs.declared.stop.Stop.TheVariants.{Unread, Memory}
+use Rattle.itanium_reader.specs.Outcome.{SavedBounds}
+use Rattle.itanium_grammar.specs.Answer.{max_text}
+use Rattle.itanium_reader.specs.Parser.{ParserState, is_wide}
+use Rattle.itanium_grammar.specs.Tree.{offset_sign, offset_text}
+use Rattle.itanium_reader.specs.Parser.{taken_back}
+use Rattle.itanium_reader.specs.Parser.{waiting}
+
+-- a range moves in front of a place as it does after it
+moved_in : (front len more : ℕ) (own : ℕ × ℕ) → moved (front + len) more (moved 0 front own) ≡ moved 0 front (moved len more own)
+moved_in front len more (from, to) = grind (arith, nat_tests)
+
+-- a tag after a name that is in a parent is a tag of the name
+pub tagged_in : (parent name : Shape) (tag : List ℕ) → tagged (qualified parent name) tag ≡ qualified parent (tagged name tag)
+tagged_in parent name tag = λ j. record {
+  form = Plain (append_assoc front (text name) bytes j);
+  own = (ap (λ n. moved n (length bytes) (moved 0 (length front) name.own)) (length-append front (text name))
+      ∙ moved_in (length front) (text_len name) (length bytes) name.own) j;
+  templ = name.templ;
+  ctor = name.ctor;
+}
+  where
+    front : List ℕ
+    front = text parent ++ codes "::"
+
+    bytes : List ℕ
+    bytes = codes "[abi:" ++ (tag ++ codes "]")
+
+-- the limit
+pub max_text_is : max_text ≡ 1048576
+unfolding max_text
+max_text_is = refl
+
+-- a length that is within the limit, and one that isn't
+pub not_longer : {n : ℕ} → n ≤ max_text → nat_lt max_text n ≡ false
+not_longer short = grind (arith, nat_tests)
+
+pub longer : {n : ℕ} → max_text < n → nat_lt max_text n ≡ true
+longer long = grind (arith, nat_tests)
+
+pub not_wide : (t : Shape) → text_len t ≤ max_text → is_wide t ≡ false
+not_wide t short = not_longer short
+
+pub wide_by : (t : Shape) → max_text < text_len t → is_wide t ≡ true
+wide_by t long = longer long
+
+-- a name is saved, and then a list with a byte of its own is read
+pub saved_first : (result : Result (Unit {0}) Stop) (before mid after : ParserState) → SavedBounds 2 result mid after → length mid.saved ≡ length before.saved + 1
+    → length mid.rest ≡ length before.rest → 0 < length before.rest → mid.most_saved ≡ max before.most_saved (length before.saved + 1) → SavedBounds 0 result before after
+saved_first (Ok u) before mid after bounds longer same some most = (omega (arith, bounds.0), omega (arith, bounds.1))
+saved_first (Err Unread) before mid after bounds longer same some most = omega (arith, bounds)
+saved_first (Err Memory) before mid after bounds longer same some most = tt
+
+-- what waits is one shape
+pub waiting_bounds : (waits : Bool) (t : Shape) (s : ParserState) → (length s.saved ≤ length (waiting waits t s).saved) × (length (waiting waits t s).saved ≤ length s.saved + 1)
+    × (s.most_saved ≤ (waiting waits t s).most_saved) × ((waiting waits t s).most_saved ≤ max s.most_saved (length s.saved + 1))
+waiting_bounds true t s =
+    let long = length-append s.saved (t ∷ []) in
+    (omega (arith, long), omega (arith, long), omega arith, omega arith)
+waiting_bounds false t s = (omega arith, omega arith, omega arith, omega arith)
+
+-- what waited is taken back
+pub waiting_back : (waits : Bool) (t : Shape) (s : ParserState) → (taken_back waits (waiting waits t s)).saved ≡ s.saved
+waiting_back true t s = take_at s.saved (t ∷ []) (length (s.saved ++ t ∷ []) - 1) (omega (arith, length-append s.saved (t ∷ [])))
+waiting_back false t s = refl
+
+-- a range stays where nothing is put
+nothing_moved : (at : ℕ) (own : ℕ × ℕ) → moved at 0 own ≡ own
+nothing_moved at (from, to) = grind (arith, nat_tests)
+
+-- in front of the first text of a list nothing is put
+pub nothing_in_front : (list : Shape) → separated true list ≡ flattened list
+nothing_in_front list = λ j. record { form = Plain (append-nil (text list) j); own = nothing_moved (length (text list)) list.own j; templ = list.templ; ctor = list.ctor }
+
+-- words, a text after them, and the words that close it
+pub words_joined : (words t close : List ℕ) → plain_shape ((words ++ t) ++ close) ≡ plain_shape (words ++ (t ++ (close ++ [])))
+words_joined words t close = ap plain_shape (append_assoc words t close ∙ ap (λ (c : List ℕ). words ++ (t ++ c)) (sym (append-nil close)))
+
+-- a number with its sign, and the bytes after it
+regrouped : (sign digits close after : List ℕ) → (sign ++ digits) ++ (close ++ after) ≡ (sign ++ (digits ++ close)) ++ after
+regrouped sign digits close after =
+    append_assoc sign digits (close ++ after) ∙ ap (λ (rest : List ℕ). sign ++ rest) (sym (append_assoc digits close after))
+    ∙ sym (append_assoc sign (digits ++ close) after)
+
+-- the parts of an offset, one after another
+pub plain_printed : (n : Signed) (s : Shape) → appended (codes ")}, ") (appended (codes "{offset(" ++ (offset_sign n ++ decimal n.magnitude)) s)
+    ≡ appended (offset_text (Offset.Plain n) ++ codes ", ") s
+plain_printed n s =
+    inserted_twice End (codes "{offset(" ++ (offset_sign n ++ decimal n.magnitude)) (codes ")}, ") s (λ e. cc) tt
+    ∙ ap (λ (rest : List ℕ). appended (codes "{offset(" ++ rest) s) (regrouped (offset_sign n) (decimal n.magnitude) (codes ")}") (codes ", "))
+
+pub virtual_printed : (n m : Signed) (s : Shape)
+    → appended (codes ")}, ") (appended (codes ", " ++ (offset_sign m ++ decimal m.magnitude)) (appended (codes "{virtual offset(" ++ (offset_sign n ++ decimal n.magnitude)) s))
+    ≡ appended (offset_text (Offset.Virtual n m) ++ codes ", ") s
+virtual_printed n m s =
+    let second = codes ", " ++ (offset_sign m ++ (decimal m.magnitude ++ codes ")}")) in
+    let inner = regrouped (offset_sign m) (decimal m.magnitude) (codes ")}") (codes ", ") in
+    inserted_thrice End (codes "{virtual offset(" ++ (offset_sign n ++ decimal n.magnitude)) (codes ", " ++ (offset_sign m ++ decimal m.magnitude)) (codes ")}, ") s (λ e. cc) tt
+    ∙ ap (λ (rest : List ℕ). appended (codes "{virtual offset(" ++ rest) s)
+    (ap (λ (rest : List ℕ). (offset_sign n ++ decimal n.magnitude) ++ (codes ", " ++ rest)) inner ∙ regrouped (offset_sign n) (decimal n.magnitude) second (codes ", "))
+
+-- bytes, a sign and digits, one after another
+pub signed_printed : (bytes sign digits : List ℕ) (s : Shape) → appended digits (appended sign (appended bytes s)) ≡ appended (bytes ++ (sign ++ digits)) s
+signed_printed bytes sign digits s = inserted_thrice End bytes sign digits s (λ e. cc) tt
+
+-- how many bytes stand in front of a list after a name
+abbrev pub front_len : Shape → ℕ
+front_len name = text_len name + length (angle_gap (text name))
+
+-- the front of a list that has begun
+pub begun_front : (name found : Shape) {len : ℕ} → found ≡ arguments_begun name → len ≡ text_len found → len - 1 ≡ front_len name
+begun_front name found built long =
+    let gap = angle_gap (text name) in
+    let all : text_len found ≡ length (text name ++ (gap ++ (60 ∷ []))) = ap text_len built in
+    omega (arith, long, all, length-append (text name) (gap ++ (60 ∷ [])), length-append gap (60 ∷ []))

@@ -1,0 +1,48 @@
+use Rattle.std.proofs.Common.{◌≡◌, ap, length, arith}
+use Rattle.std.proofs.lemmas.List.{length-drop}
+use Rattle.demangle_text.specs.State.{saved, scopes}
+use Rattle.itanium_reader.specs.Parser.{ParserState}
+use Rattle.itanium_reader.proofs.reader.Reader.open_thunk.Goals as goal
+
+pub returns-in_ok-words-in-Covariant-clause-bounds : goal.returns-in_ok-words-in-Covariant-clause-bounds
+returns-in_ok-words-in-Covariant-clause-bounds c =
+    let lists = c.in_ok-begun.ensures.kept.lists in
+    let first = c.in_ok-one-in-Covariant.ensures.edit.lists in
+    let second = c.in_ok-words-in-Covariant.ensures.edit.lists in
+    let same : scopes c.append_offset-in-Covariant-2.new.buf ≡ scopes c.args.self.now.buffer.value = cc (
+      second.scopes_same,
+      c.deref_mut-in-Covariant-2.ensures.value,
+      first.scopes_same,
+      c.deref_mut-in-Covariant.ensures.value,
+      lists.scopes_same,
+      c.deref_mut.ensures.value,
+      c.skip.ensures.buffer,
+    ) in
+    let left = ap (λ (s : ParserState). length s.rest) c.skip.ensures.state in
+    let entered = ap (λ (s : ParserState). s.entered) c.skip.ensures.state in
+    let one = length-drop 1 c.args.self.now.rest.now in (
+      omega (arith, left, one, c.in-Some.ensures.within, c.requires.some),
+      omega (arith, left, one, entered, c.in-Some.ensures.within, c.requires.some),
+      omega (arith, ap length same),
+    )
+
+pub returns-in_ok-words-in-Covariant-clause-saved : goal.returns-in_ok-words-in-Covariant-clause-saved
+returns-in_ok-words-in-Covariant-clause-saved c =
+    let lists = c.in_ok-begun.ensures.kept.lists in
+    let first = c.in_ok-one-in-Covariant.ensures.edit.lists in
+    let second = c.in_ok-words-in-Covariant.ensures.edit.lists in
+    let same : saved c.append_offset-in-Covariant-2.new.buf ≡ saved c.args.self.now.buffer.value = cc (
+      second.saved_same,
+      c.deref_mut-in-Covariant-2.ensures.value,
+      first.saved_same,
+      c.deref_mut-in-Covariant.ensures.value,
+      lists.saved_same,
+      c.deref_mut.ensures.value,
+      c.skip.ensures.buffer,
+    ) in
+    let left = ap (λ (s : ParserState). length s.rest) c.skip.ensures.state in
+    let most = ap (λ (s : ParserState). s.most_saved) c.skip.ensures.state in
+    let one = length-drop 1 c.args.self.now.rest.now in (
+      omega (arith, left, one, ap length same, c.in-Some.ensures.within, c.requires.some),
+      omega (arith, most, ap length same, ap (λ (s : ParserState). length s.saved) c.skip.ensures.state),
+    )
