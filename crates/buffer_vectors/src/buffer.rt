@@ -222,12 +222,17 @@ fn texts_that_meet_are_joined_where_they_stand(rt: HostRuntime) {
 
 #[test]
 #[tactic(auto, using(demangle_text::proofs::Laws::runs, demangle_text::proofs::Laws::lasts))]
-fn texts_at_the_end_go_on_there(rt: HostRuntime) {
+fn text_takes_in_what_stands_after_it(rt: HostRuntime) {
     let mut buf = Buffer::new(rt.alloc());
-    let list = buf.push(b"A, ").expect(&rt, "no memory");
-    let next = buf.push(b"B").expect(&rt, "no memory");
-    let joined = buf.join_adjacent(list, next);
-    let ended = buf.append(joined, b">").expect(&rt, "no memory");
+    let list = buf.push(b"A").expect(&rt, "no memory");
+    let alone = buf.up_to_end(list);
+    assert_text(&rt, &buf, alone, b"A");
+    buf.push(b", ").expect(&rt, "no memory");
+    buf.push(b"B").expect(&rt, "no memory");
+    let all = buf.up_to_end(list);
+    assert_text(&rt, &buf, all, b"A, B");
+    assert_eq!(&rt; buf.own_range(all), (0, 1));
+    let ended = buf.append(all, b">").expect(&rt, "no memory");
     assert_text(&rt, &buf, ended, b"A, B>");
     assert_main(&rt, &buf, b"A, B>");
     drop(buf);
@@ -461,7 +466,7 @@ fn name_after_its_parent(rt: HostRuntime) {
     let mut buf = Buffer::new(rt.alloc());
     let mut name = buf.push(b"A").expect(&rt, "no memory");
     buf.save(name).expect(&rt, "no memory");
-    buf.append_name_in_place(&mut name, b"::", b"value")
+    buf.append_name(&mut name, b"::", b"value")
         .expect(&rt, "no memory");
     assert_text(&rt, &buf, name, b"A::value");
     assert_own(&rt, &buf, name, 3, 8);
@@ -476,8 +481,8 @@ fn name_after_a_parent_before_a_mark(rt: HostRuntime) {
     let mut buf = Buffer::new(rt.alloc());
     let older = buf.push(b"A").expect(&rt, "no memory");
     let mark = buf.open();
-    let mut name = older;
-    buf.append_name_in_place(&mut name, b"::", b"B")
+    let mut name = buf.append(older, b"").expect(&rt, "no memory");
+    buf.append_name(&mut name, b"::", b"B")
         .expect(&rt, "no memory");
     assert_main(&rt, &buf, b"AA::B");
     let answer = buf.close(mark, name).expect(&rt, "no memory");

@@ -13,12 +13,12 @@ use Rattle.demangle_text.specs.declared.shape.Piece.{Piece}
 use Rattle.demangle_text.specs.declared.shape.Mark.{Mark}
 use Rattle.demangle_text.specs.declared.shape.Place.TheVariants.{End}
 use Rattle.demangle_text.specs.declared.buffer.Buffer.{Buffer}
-use Rattle.demangle_text.specs.Shape.{Shape, Form, Plain, Declared, text, text_len, plain_shape, whole_shape, appended, flattened, flagged, moved}
-use Rattle.demangle_text.specs.Calls.{IsPlain, joined}
+use Rattle.demangle_text.specs.Shape.{Shape, Form, Plain, Declared, form_text, form_with, grouped, text, plain_shape, whole_shape, appended, flattened, flagged, moved}
+use Rattle.demangle_text.specs.Calls.{IsPlain}
 use Rattle.demangle_text.specs.State.{IsLiving, shape, Lives, Opens}
 use Rattle.demangle_edit.specs.Lists.{listed, arguments_closed, arguments_shape, pack_shape, lambda_shape}
 use Rattle.demangle_edit.specs.Names.{angle_gap, attached, encoding_shape}
-use Rattle.demangle_edit.specs.Built.{separator, separated, is_first, listed_more, listed_each, arguments_opened, arguments_begun, arguments_ended, params_opened, params_closed, lambda_closed}
+use Rattle.demangle_edit.specs.Built.{separator, is_first, listed_more, listed_each, arguments_opened, params_opened, params_closed, lambda_closed}
 use Rattle.demangle_edit.proofs.Insertions.{inserted_twice}
 
 -- the texts of a list, with what stands in front of each
@@ -32,6 +32,15 @@ from_listed [] = refl
 from_listed (t ∷ []) = append-nil t
 from_listed (t ∷ next ∷ rest) =
     ap (λ (v : List ℕ). t ++ v) (append_assoc (codes ", ") next (listed_from false rest) ∙ ap (λ (v : List ℕ). codes ", " ++ v) (from_listed (next ∷ rest)))
+
+-- the text with bytes at its end
+pub appended_text : (bytes : List ℕ) (s : Shape) → text (appended bytes s) ≡ text s ++ bytes
+appended_text bytes s = in_form s.form
+  where
+    in_form : (f : Form) → form_text (form_with End bytes f) ≡ form_text f ++ bytes
+    in_form (Plain t) = refl
+    in_form (Declared k before group after) =
+        sym (append_assoc before (grouped group ++ after) bytes ∙ ap (λ (v : List ℕ). before ++ v) (append_assoc (grouped group) after bytes))
 
 -- bytes at the end, and then more bytes
 pub appended_twice : (a b : List ℕ) (s : Shape) → appended b (appended a s) ≡ appended (a ++ b) s
@@ -103,65 +112,38 @@ pub more_listed : (s : Shape) (all : List Shape) (next : Shape) → IsPlain s.fo
 more_listed s all next flat =
     ap (λ (l : Shape). listed_more (is_first all) l next) (sym (each_listed s all flat)) ∙ sym (each_more s all next) ∙ each_listed s (all ++ next ∷ []) flat
 
--- the last byte of a list is a list's own
-last_byte : (front list : List ℕ) → ends_with nat_eq (front ++ (60 ∷ list)) (codes ">") ≡ ends_with nat_eq (60 ∷ list) (codes ">")
-last_byte front list =
-    let whole = front ++ (60 ∷ list) in
-    let last : length whole - 1 ≡ length front + (length (60 ∷ list) - 1) = omega (arith, length-append front (60 ∷ list)) in
-    ap (bytes_eq (codes ">")) (ap (λ (k : ℕ). drop k whole) last ∙ drop-append-add front (60 ∷ list) (length (60 ∷ list) - 1))
+-- the last byte of a text is that of its end
+pub last_byte : (front t : List ℕ) → 0 < length t → ends_with nat_eq (front ++ t) (codes ">") ≡ ends_with nat_eq t (codes ">")
+last_byte front t some =
+    let whole = front ++ t in
+    let last : length whole - 1 ≡ length front + (length t - 1) = omega (arith, length-append front t) in
+    ap (bytes_eq (codes ">")) (ap (λ (k : ℕ). drop k whole) last ∙ drop-append-add front t (length t - 1))
 
 -- a list of template arguments that isn't closed yet: `<` and what follows
 abbrev pub begun_list : List ℕ → ℕ × ℕ → Bool → Bool → Shape
 begun_list list own templ ctor = record { form = Plain (60 ∷ list); own = own; templ = templ; ctor = ctor }
 
--- a name with its template arguments, one after another, is the name with the list attached
-pub arguments_built : (name : Shape) (args : List Shape) → arguments_closed (listed_each true (arguments_opened name) args) ≡ attached name (arguments_shape args)
-arguments_built name args =
-    let all = listed (map text args) in
+-- a name with the text of its template arguments is the name with the list attached
+pub closed_attached : (name : Shape) (list : List ℕ) (own : ℕ × ℕ) (templ ctor : Bool)
+    → arguments_closed (appended list (arguments_opened name)) ≡ attached name (whole_shape (arguments_closed (begun_list list own templ ctor)))
+closed_attached name list own templ ctor =
     let t = text name in
     let gap = angle_gap t in
     let begun = arguments_opened name in
     let end_at = λ (b : Bool). if b then codes " >" else codes ">" in
-    let end = end_at (ends_with nat_eq (60 ∷ all) (codes ">")) in
-    let text_is : text (appended all begun) ≡ (t ++ gap) ++ (60 ∷ all) = simp append_assoc in
-    let test_is : ends_with nat_eq (text (appended all begun)) (codes ">") ≡ ends_with nat_eq (60 ∷ all) (codes ">") =
-    ap (λ (v : List ℕ). ends_with nat_eq v (codes ">")) text_is ∙ last_byte (t ++ gap) all in
-    ap arguments_closed (each_listed begun args tt) ∙ ap (λ (b : Bool). appended (end_at b) (appended all begun)) test_is
-    ∙ appended_twice all end begun ∙ ap (flagged true name.ctor) (appended_twice (gap ++ codes "<") (all ++ end) (flattened name))
-    ∙ ap (λ (v : List ℕ). flagged true name.ctor (appended v (flattened name))) (append_assoc gap (codes "<") (all ++ end))
-
--- the text of a name with the start of its list
-pub begun_text : (name : Shape) → whole_shape (flagged false false (arguments_opened name)) ≡ arguments_begun name
-begun_text name = refl
-
--- a list that ends on a name's text is the name with the list attached
-pub ended_attached : (name : Shape) (list : List ℕ) (own : ℕ × ℕ) (templ ctor : Bool) → arguments_ended (text_len name) name.own name.ctor
-    (plain_shape (text name ++ (angle_gap (text name) ++ (60 ∷ list)))) ≡ attached name (whole_shape (arguments_closed (begun_list list own templ ctor)))
-ended_attached name list own templ ctor =
-    let t = text name in
-    let gap = angle_gap t in
-    let end_at = λ (b : Bool). if b then codes " >" else codes ">" in
     let end = end_at (ends_with nat_eq (60 ∷ list) (codes ">")) in
-    let whole = t ++ (gap ++ (60 ∷ list)) in
-    let text_is : whole ≡ (t ++ gap) ++ (60 ∷ list) = simp append_assoc in
-    let test_is : ends_with nat_eq whole (codes ">") ≡ ends_with nat_eq (60 ∷ list) (codes ">") =
-    ap (λ (v : List ℕ). ends_with nat_eq v (codes ">")) text_is ∙ last_byte (t ++ gap) list in
-    let ended : Bool → Shape = λ b. record {
-      form = Plain (whole ++ end_at b);
-      own = moved (text_len name) (length (whole ++ end_at b) - text_len name) name.own;
-      templ = true;
-      ctor = name.ctor;
-    } in
-    let form_is : whole ++ end ≡ t ++ (gap ++ ((60 ∷ list) ++ end)) = simp append_assoc in
-    let rest = gap ++ ((60 ∷ list) ++ end) in
-    let len_is : length (whole ++ end) ≡ length t + length rest = ap length form_is ∙ length-append t rest in
-    let more_is : length (whole ++ end) - length t ≡ length rest = omega (arith, len_is) in
-    ap ended test_is ∙ (λ j. record { form = Plain (form_is j); own = moved (text_len name) (more_is j) name.own; templ = true; ctor = name.ctor })
+    let text_is : text (appended list begun) ≡ (t ++ gap) ++ (60 ∷ list) = simp append_assoc in
+    let test_is : ends_with nat_eq (text (appended list begun)) (codes ">") ≡ ends_with nat_eq (60 ∷ list) (codes ">") =
+    ap (λ (v : List ℕ). ends_with nat_eq v (codes ">")) text_is ∙ last_byte (t ++ gap) (60 ∷ list) (omega arith) in
+    ap (λ (b : Bool). appended (end_at b) (appended list begun)) test_is
+    ∙ appended_twice list end begun ∙ ap (flagged true name.ctor) (appended_twice (gap ++ codes "<") (list ++ end) (flattened name))
+    ∙ ap (λ (v : List ℕ). flagged true name.ctor (appended v (flattened name))) (append_assoc gap (codes "<") (list ++ end))
 
--- a list on a name's text with one text more
-pub begun_more : (t gap list : List ℕ) (next : Shape) (first : Bool)
-    → joined (separated first (plain_shape (t ++ (gap ++ (60 ∷ list))))) [] next ≡ plain_shape (t ++ (gap ++ (60 ∷ ((list ++ separator first) ++ text next))))
-begun_more t gap list next first = ap plain_shape (simp append_assoc)
+-- so is a name with its template arguments, one after another
+pub arguments_built : (name : Shape) (args : List Shape) → arguments_closed (listed_each true (arguments_opened name) args) ≡ attached name (arguments_shape args)
+arguments_built name args =
+    let all = listed (map text args) in
+    ap arguments_closed (each_listed (arguments_opened name) args tt) ∙ closed_attached name all (0, length (60 ∷ all)) false false
 
 -- a list by itself
 pub arguments_alone : (args : List Shape) → whole_shape (arguments_closed (listed_each true (plain_shape (codes "<")) args)) ≡ arguments_shape args

@@ -1,11 +1,10 @@
 -- Lists that are built as they are read: what opens them, what each text adds, and what closes them.
-use Rattle.std.specs.Prelude.{ℕ, ◌+◌, ◌-◌, List, [], ◌∷◌, ◌++◌, codes, decimal, Bool, true, false, if◌then◌else◌}
+use Rattle.std.specs.Prelude.{ℕ, ◌+◌, List, [], ◌∷◌, ◌++◌, codes, decimal, Bool, true, false, if◌then◌else◌}
 use Rattle.demangle_quals.specs.declared.quals.Quals.{Quals}
 use Rattle.demangle_quals.specs.Quals.{quals_text}
 use Rattle.demangle_text.specs.declared.shape.Kind.TheVariants.{Function}
-use Rattle.demangle_text.specs.Shape.{Shape, text, text_len, plain_shape, whole_shape, with_own, appended, flattened, flagged, moved, declared_at}
+use Rattle.demangle_text.specs.Shape.{Shape, text, plain_shape, whole_shape, appended, flattened, flagged, declared_at}
 use Rattle.demangle_edit.specs.Names.{angle_gap}
-use Rattle.demangle_edit.specs.Lists.{arguments_closed}
 
 -- what stands in front of a text of a list: nothing in front of the first
 abbrev pub separator : Bool → List ℕ
@@ -36,17 +35,6 @@ listed_each first list (next ∷ rest) = listed_each false (listed_more first li
 -- a name that its template arguments follow
 abbrev pub arguments_opened : Shape → Shape
 arguments_opened name = flagged true name.ctor (appended (angle_gap (text name) ++ codes "<") (flattened name))
-
--- the text of a name with the `<` of its template arguments
-abbrev pub arguments_begun : Shape → Shape
-arguments_begun name = plain_shape (text name ++ (angle_gap (text name) ++ codes "<"))
-
--- the end of a list of template arguments on a name: the name has this length, this last own name and this flag
-abbrev pub arguments_ended : ℕ → ℕ × ℕ → Bool → Shape → Shape
-arguments_ended len own ctor list =
-    let closed = arguments_closed list in
-    let moved_own = moved len (text_len closed - len) own in
-    flagged true ctor (with_own moved_own.0 moved_own.1 closed)
 
 -- a name that its parameters follow
 abbrev pub params_opened : Shape → Shape

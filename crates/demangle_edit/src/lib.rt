@@ -12,9 +12,9 @@
 //! its parent, and `open_parent` before the leaf is read and `close_opened` after it.
 //!
 //! A list after a name is put together from pieces (`attach_template_args`, `format_params`), or built as it is
-//! read: what opens it, then `, ` before each text but the first, and each text by `append_piece` (`join` or
-//! `join_adjacent` of the buffer in a list that `begin_arguments` began), then what closes it. Both give the same
-//! shape. So it is with a function type: `function_type`, or `open_function` and `close_function`.
+//! read: what opens it, then `, ` before each text but the first, and each text by `append_piece`, then what closes
+//! it. Template arguments are put at the end of the output in place of that, and `close_arguments` takes them in. Both
+//! give the same shape. So it is with a function type: `function_type`, or `open_function` and `close_function`.
 #![tactic(auto)]
 
 mod appends;
@@ -28,11 +28,11 @@ mod types;
 pub use crate::appends::append_piece;
 pub use crate::expressions::{address, subexpr, write_literal, write_opened_literal};
 pub use crate::lists::{
-    append_number, begin_arguments, close_lambda, close_params, end_arguments, glue, open_params,
+    append_number, close_arguments, close_lambda, close_params, glue, open_arguments, open_params,
 };
 pub use crate::names::{
     apply_name_qualifiers, attach_template_args, close_opened, default_arg, format_params,
-    open_default_arg, open_parent, qualify, qualify_ctor, qualify_text, qualify_text_in_place, tag,
+    open_default_arg, open_parent, qualify, qualify_ctor, qualify_text, tag,
 };
 pub use crate::parts::Glue;
 pub use crate::types::{

@@ -1,11 +1,12 @@
 //! Texts that follow one another, and lists that are built as they are read.
-ghost use Rattle.std.specs.Prelude.{◌≡◌, ◌≤◌, ◌++◌, All, map, decimal, IfOk, OnOk, false};
-ghost use Rattle.demangle_text.specs.Shape.{text, text_len, plain_shape, appended};
+ghost use Rattle.std.specs.Prelude.{◌≡◌, ◌<◌, ◌++◌, All, map, decimal, IfOk, OnOk};
+ghost use Rattle.demangle_text.specs.Shape.{text_len, appended};
 ghost use Rattle.demangle_text.specs.State.{IsLiving, shape, Lives, IsEdit, KeepsAll};
 ghost use Rattle.demangle_text.specs.State.{StaysInPlace, Appends};
+ghost use Rattle.demangle_text.specs.Calls.{IsLast, IsInner, text_after};
 ghost use Rattle.demangle_edit.specs.Lists.{glued, arguments_closed, pack_shape};
 ghost use Rattle.demangle_edit.specs.Calls.{part_text, IsLivingPart};
-ghost use Rattle.demangle_edit.specs.Built.{arguments_opened, arguments_begun, arguments_ended};
+ghost use Rattle.demangle_edit.specs.Built.{arguments_opened};
 ghost use Rattle.demangle_edit.specs.Built.{params_opened, params_closed, lambda_closed};
 
 use crate::appends::append_piece;
@@ -58,11 +59,14 @@ pub(crate) fn list_pieces(buf: &mut Buffer, pieces: &[Piece]) -> Result<Piece, A
     buf.close(mark, whole)
 }
 
-// The name with the `<` of its template arguments, after a space where the name ends in `<`. A
-// plain piece with the last own name and the flag `ctor` of the name; `templ` holds.
+/// The name with the `<` of its template arguments, after a space where the name ends in `<`. A
+/// plain piece with the last own name and the flag `ctor` of the name; `templ` holds.
+///
+/// The list is built as a text after it: `, ` before each argument but the first, and the text of
+/// each, up to the end of the output. `close_arguments` takes all of it in.
 #[inline(always)]
 #[tactic(auto, using(demangle_text::proofs::Laws::laws, crate::proofs::Insertions::insertions))]
-fn open_arguments(buf: &mut Buffer, name: Piece) -> Result<Piece, AllocError>
+pub fn open_arguments(buf: &mut Buffer, name: Piece) -> Result<Piece, AllocError>
     requires name { IsLiving buf.old name }
     ensures shape { IfOk result (λ p. Lives buf.new p (arguments_opened (shape buf.old name))) }
     ensures edit { OnOk result (IsEdit buf.old buf.new) }
@@ -79,66 +83,28 @@ fn open_arguments(buf: &mut Buffer, name: Piece) -> Result<Piece, AllocError>
     Ok(buf.with_flags(opened, true, ctor))
 }
 
-// The list of template arguments with its `>`, after a space where its text ends in `>`.
+/// The piece that `open_arguments` returned with all that stands after it, which is the list of
+/// template arguments, and with the `>` of the list, after a space where the text ends in `>`.
 #[inline(always)]
-#[tactic(auto, using(demangle_text::proofs::Laws::laws))]
-fn close_arguments(buf: &mut Buffer, list: Piece) -> Result<Piece, AllocError>
+#[tactic(auto, using(
+// The laws of calls, of runs of calls, and of what ends the output.
+demangle_text::proofs::Laws::laws, demangle_text::proofs::Laws::lasts, demangle_text::proofs::Laws::runs))]
+pub fn close_arguments(buf: &mut Buffer, list: Piece) -> Result<Piece, AllocError>
     requires list { IsLiving buf.old list }
-    ensures shape { IfOk result (λ p. Lives buf.new p (arguments_closed (shape buf.old list))) }
-    ensures edit { OnOk result (IsEdit buf.old buf.new) }
-    ensures in_place { IfOk result (λ p. StaysInPlace buf.old buf.new list p) }
+    requires inner { IsInner buf.old list }
+    requires some { 0 < text_len (shape buf.old list) }
+    ensures shape { IfOk result (λ p. Lives buf.new p
+        (arguments_closed (appended (text_after buf.old list) (shape buf.old list)))) }
+    ensures kept { OnOk result (KeepsAll buf.old buf.new) }
+    ensures last { IfOk result (IsLast buf.new) }
 {
-    let end: &[u8] = if buf.bytes(list).ends_with(b">") {
+    let end: &[u8] = if buf.main_bytes().ends_with(b">") {
         b" >"
     } else {
         b">"
     };
-    buf.append(list, end)
-}
-
-/// The text of the name with the `<` of its template arguments, after a space where it ends in `<`, as a plain piece.
-///
-/// The list is built as a text: `, ` before each argument but the first, and `join` of the buffer after each, or
-/// `join_adjacent`. `end_arguments` gives it what the name was.
-#[inline(always)]
-#[tactic(auto, using(demangle_text::proofs::Laws::laws, crate::proofs::Built::begun_text))]
-pub fn begin_arguments(buf: &mut Buffer, name: Piece) -> Result<Piece, AllocError>
-    requires name { IsLiving buf.old name }
-    ensures shape { IfOk result (λ p. Lives buf.new p (arguments_begun (shape buf.old name))) }
-    ensures edit { OnOk result (IsEdit buf.old buf.new) }
-    ensures in_place { IfOk result (λ p. StaysInPlace buf.old buf.new name p) }
-{
-    let opened = open_arguments(buf, name)?;
-    let unflagged = buf.with_flags(opened, false, false);
-    Ok(buf.whole(unflagged))
-}
-
-/// The list that `begin_arguments` began, with its `>`, after a space where its text ends in `>`. `len`, `own` and
-/// `ctor` are those that the name had; the last own name moves as an insertion at `len` moves it. A plain piece;
-/// `templ` holds.
-#[inline(always)]
-#[tactic(auto, using(demangle_text::proofs::Laws::laws))]
-pub fn end_arguments(
-    buf: &mut Buffer,
-    list: Piece,
-    len: usize,
-    own: (usize, usize),
-    ctor: bool,
-) -> Result<Piece, AllocError>
-    requires list { IsLiving buf.old list }
-    requires plain { shape buf.old list ≡ plain_shape (text (shape buf.old list)) }
-    requires ordered { own.0 ≤ own.1 }
-    requires within { own.1 ≤ len }
-    requires front { len ≤ text_len (shape buf.old list) }
-    ensures shape { IfOk result (λ p. Lives buf.new p (arguments_ended len own ctor (shape buf.old list))) }
-    ensures edit { OnOk result (IsEdit buf.old buf.new) }
-    ensures in_place { IfOk result (λ p. StaysInPlace buf.old buf.new list p) }
-{
-    let closed = close_arguments(buf, list)?;
-    let all = buf.len(closed);
-    let n = if len <= own.0 { all - len } else { 0 };
-    let named = buf.own_at(closed, own.0 + n, own.1 + n);
-    Ok(buf.with_flags(named, true, ctor))
+    buf.push(end)?;
+    Ok(buf.up_to_end(list))
 }
 
 /// The name with the `(` of its parameters. A plain piece with the last own name and the flag `ctor`

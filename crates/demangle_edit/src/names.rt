@@ -36,9 +36,8 @@ pub fn qualify(buf: &mut Buffer, parent: Piece, leaf: Piece) -> Result<Piece, Al
     Ok(buf.with_flags(named, templ, ctor))
 }
 
-/// A text in a parent, `parent::text`, as a plain piece whose last own name is the text, with no flag
-/// set. It is offered to others: the readers use `qualify_text_in_place`.
-#[inline(always)]
+/// A text in a parent, `parent::text`, as a plain piece whose base name is the text, with no flag set. It is offered to
+/// others: the readers' parent ends the output, and they put the name after it by `append_name` of the buffer.
 #[tactic(auto, using(demangle_text::proofs::Laws::laws))]
 pub fn qualify_text(buf: &mut Buffer, parent: Piece, text: &[u8]) -> Result<Piece, AllocError>
     requires parent { IsLiving buf.old parent }
@@ -47,28 +46,9 @@ pub fn qualify_text(buf: &mut Buffer, parent: Piece, text: &[u8]) -> Result<Piec
     ensures edit { OnOk result (IsEdit buf.old buf.new) }
     ensures in_place { IfOk result (λ p. StaysInPlace buf.old buf.new parent p) }
 {
-    let mut name = parent;
-    qualify_text_in_place(buf, &mut name, text)?;
+    let mut name = buf.append(parent, b"")?;
+    buf.append_name(&mut name, b"::", text)?;
     Ok(name)
-}
-
-/// As `qualify_text`, of a parent that is changed where it is kept.
-#[inline(always)]
-#[tactic(auto, using(demangle_text::proofs::Laws::laws))]
-pub fn qualify_text_in_place(
-    buf: &mut Buffer,
-    name: &mut Piece,
-    text: &[u8],
-) -> Result<(), AllocError>
-    requires parent { IsLiving buf.old name.old }
-    ensures shape { OnOk result (Lives buf.new name.new
-        (qualified (shape buf.old name.old) (plain_shape text.now))) }
-    ensures edit { OnOk result (IsEdit buf.old buf.new) }
-    ensures in_place { OnOk result (StaysInPlace buf.old buf.new name.old name.new) }
-    ensures piece_err { OnErr result (name.new ≡ name.old) }
-{
-    buf.append_name_in_place(name, b"::", text)?;
-    Ok(())
 }
 
 /// What stands in front of an entity in a default argument of a parent, `parent::{default arg#k}::` with k for its
@@ -164,7 +144,7 @@ pub fn qualify_ctor(buf: &mut Buffer, parent: Piece, destructor: bool) -> Result
 
 /// The name with the list of its template arguments after it, and a space between them where the
 /// name ends in `<`. A plain piece with the last own name and the flag `ctor` of the name; `templ`
-/// holds. It is offered to others: the readers here build the list on the name (`begin_arguments`).
+/// holds. It is offered to others: the readers here build the list on the name (`open_arguments`).
 #[inline(always)]
 #[tactic(auto, using(demangle_text::proofs::Laws::laws))]
 pub fn attach_template_args(buf: &mut Buffer, name: Piece, args: Piece) -> Result<Piece, AllocError>

@@ -1,42 +1,40 @@
 -- The block of the output that `close` keeps: the text of a piece, or a copy of it at the end.
-use Rattle.std.proofs.Common.{◌≡◌, ℕ, ◌≤◌, List, ◌++◌, length, take, slice_range, false, refl, sym, ap, ◌∙◌, subst, arith}
+use Rattle.std.proofs.Common.{◌≡◌, ℕ, ◌≤◌, Bool, false, List, ◌++◌, length, take, slice_range, refl, sym, ap, ◌∙◌, subst, arith}
 use Rattle.std.proofs.lemmas.List.{length-append}
-use Rattle.demangle_text.specs.declared.shape.Piece.{Piece}
-use Rattle.demangle_text.specs.Pieces.{Store, IsStore, home_bytes, piece_text}
-use Rattle.demangle_text.specs.State.{IsLiving, KeepsAll}
+use Rattle.demangle_text.specs.Pieces.{Store, IsStore, home_bytes}
+use Rattle.demangle_text.specs.State.{KeepsAll}
 use Rattle.demangle_text.proofs.States.{KeepsAll-longer, IsStore-longer, unchanged}
 use Rattle.demangle_text.proofs.Tails.{kept_only-copy}
 
--- the block has the text of the piece, and nothing else changed
-pub record IsBlock (s mid : Store) (p : Piece) (at from to : ℕ) : Type 0 where
+-- the block has the text, and nothing else changed
+pub record IsBlock (s mid : Store) (text : List ℕ) (at from to : ℕ) : Type 0 where
   pub keeps : KeepsAll s mid
   pub store : IsStore mid
   pub inner : mid.frame_main ≤ at
   pub low : at ≤ length mid.main_text
   pub ordered : from ≤ to
   pub within : to ≤ length mid.main_text
-  pub text : take at mid.main_text ++ slice_range mid.main_text from to ≡ take at s.main_text ++ piece_text s.main_text s.side_text p
+  pub has : take at mid.main_text ++ slice_range mid.main_text from to ≡ take at s.main_text ++ text
 
--- the piece where it stands
-pub IsBlock-here : (s : Store) (p : Piece) (at : ℕ) → IsStore s → IsLiving s p → s.frame_main ≡ at → p.aside ≡ false → IsBlock s s p at p.from_byte p.to_byte
-unfolding IsLiving
-IsBlock-here s p at i lies mark home =
-    let here = ap (λ h. home_bytes s.main_text s.side_text h) home in
+-- a part of the output, where it stands
+pub IsBlock-here : (s : Store) (aside : Bool) (at from to : ℕ) → IsStore s → s.frame_main ≡ at → aside ≡ false → from ≤ to
+    → to ≤ length (home_bytes s.main_text s.side_text aside) → IsBlock s s (slice_range (home_bytes s.main_text s.side_text aside) from to) at from to
+IsBlock-here s aside at from to i mark home ordered within =
+    let here = ap (home_bytes s.main_text s.side_text) home in
     record {
       keeps = unchanged s s refl refl refl refl refl refl;
       store = i;
       inner = omega (arith, mark);
       low = omega (arith, mark, i.main_frame);
-      ordered = lies.ordered;
-      within = omega (arith, lies.within, ap length here);
-      text = ap (λ (v : List ℕ). take at s.main_text ++ slice_range v p.from_byte p.to_byte) (sym here);
+      ordered = ordered;
+      within = omega (arith, within, ap length here);
+      has = ap (λ (v : List ℕ). take at s.main_text ++ slice_range v from to) (sym here);
     }
 
--- its copy at the end
-pub IsBlock-copied : (s : Store) (p : Piece) (main : List ℕ) (at from to : ℕ) → IsStore s → s.frame_main ≡ at
-    → main ≡ s.main_text ++ piece_text s.main_text s.side_text p → from ≡ length s.main_text → to ≡ length main → IsBlock s (record s { main_text = main }) p at from to
-IsBlock-copied s p main at from to i mark is starts ends =
-    let t = piece_text s.main_text s.side_text p in
+-- a copy of a text at the end
+pub IsBlock-copied : (s : Store) (t main : List ℕ) (at from to : ℕ) → IsStore s → s.frame_main ≡ at
+    → main ≡ s.main_text ++ t → from ≡ length s.main_text → to ≡ length main → IsBlock s (record s { main_text = main }) t at from to
+IsBlock-copied s t main at from to i mark is starts ends =
     let long = ap length is ∙ length-append s.main_text t in
     record {
       keeps = subst (λ (v : List ℕ). KeepsAll s (record s { main_text = v })) (sym is) (KeepsAll-longer s t i);
@@ -45,5 +43,5 @@ IsBlock-copied s p main at from to i mark is starts ends =
       low = omega (arith, mark, i.main_frame, long);
       ordered = omega (arith, starts, ends, long);
       within = omega (arith, ends);
-      text = kept_only-copy s.main_text main t at from to is (omega (arith, mark, i.main_frame)) starts ends;
+      has = kept_only-copy s.main_text main t at from to is (omega (arith, mark, i.main_frame)) starts ends;
     }

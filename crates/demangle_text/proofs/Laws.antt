@@ -4,14 +4,15 @@ use Rattle.std.proofs.Common.{◌≡◌, ◌≤◌, ℕ, List, ◌++◌, length,
 use Rattle.std.proofs.lemmas.List.{take-take, take_at, take_all}
 use Rattle.demangle_text.specs.declared.shape.Piece.{Piece}
 use Rattle.demangle_text.specs.declared.shape.Mark.{Mark}
-use Rattle.demangle_text.specs.Shape.{Shape}
+use Rattle.demangle_text.specs.Shape.{Shape, text}
 use Rattle.demangle_text.specs.Pieces.{Store}
 use Rattle.demangle_text.specs.State.{Frame, frame, frame_start, inside, main_bytes, IsLiving, IsOlder, IsAsOld, shape}
 use Rattle.demangle_text.specs.State.{Lives, SameLists, SameFrame, KeepsFront, KeepsAll, IsEdit, Opens, Closes, IsRun}
 use Rattle.demangle_text.specs.State.{IsSince}
-use Rattle.demangle_text.specs.Calls.{IsLast, AreAdjacent}
+use Rattle.demangle_text.specs.Calls.{IsLast, IsInner, text_after}
 use Rattle.demangle_text.specs.State.{Stands, StandsAs, StandsBefore, EndsMain, IsEditOf, IsJoinOf, StaysInPlace, JoinsInPlace, Appends}
 use Rattle.demangle_text.proofs.States.{Stands-begins, Stands-ordered, Stands-tail}
+pub use Rattle.demangle_text.proofs.States.{main_split, text_after-more, text_after-same, text_after-last}
 
 -- a piece as old as one that is older than a frame is older than the frame too
 pub IsAsOld-older : (p q : Piece) (f : Frame) → IsAsOld p q → IsOlder p f → IsOlder q f
@@ -87,28 +88,37 @@ KeepsAll-closed old mid new m o c = record {
 
 -- runs, which may change the lists
 pub IsRun-edit : (old new : Store) → IsEdit old new → IsRun old new
-IsRun-edit old new e = record { pieces = e.pieces; frame_same = e.frame_same }
+IsRun-edit old new e = record { pieces = e.pieces; frame_same = e.frame_same; front = e.front }
 
 pub IsRun-same : (old new : Store) → SameFrame old new → IsRun old new
-IsRun-same old new k = record { pieces = λ p h _. k.pieces p h; frame_same = k.frame_same }
+IsRun-same old new k = record { pieces = λ p h _. k.pieces p h; frame_same = k.frame_same; front = k.front }
 
 pub SameFrame-keeps : (old new : Store) → KeepsAll old new → SameFrame old new
-SameFrame-keeps old new u = record { pieces = u.pieces; frame_same = u.frame_same }
+SameFrame-keeps old new u = record { pieces = u.pieces; frame_same = u.frame_same; front = u.front }
 
 pub SameFrame-trans : (old mid new : Store) → SameFrame old mid → SameFrame mid new → SameFrame old new
 SameFrame-trans old mid new a b = record {
   pieces = λ p h. Lives-trans mid new p (shape old p) (a.pieces p h) (b.pieces p);
   frame_same = b.frame_same ∙ a.frame_same;
+  front = KeepsFront-trans old mid new a.frame_same a.front b.front;
 }
 
 pub IsRun-trans : (old mid new : Store) → IsRun old mid → IsRun mid new → IsRun old new
 IsRun-trans old mid new a b = record {
   pieces = λ p h o. Lives-trans mid new p (shape old p) (a.pieces p h o) (λ l. b.pieces p l (subst (IsOlder p) (sym a.frame_same) o));
   frame_same = b.frame_same ∙ a.frame_same;
+  front = KeepsFront-trans old mid new a.frame_same a.front b.front;
 }
 
 pub IsSince-opens : (old new : Store) (m : Mark) → Opens old new m → IsSince old new m
-IsSince-opens old new m o = record { pieces = o.pieces; older = o.older; inside_is = o.inside_is; outside_is = o.outside_is }
+IsSince-opens old new m o = record {
+  pieces = o.pieces;
+  older = o.older;
+  inside_is = o.inside_is;
+  outside_is = o.outside_is;
+  nested = o.nested;
+  front = o.front;
+}
 
 pub IsSince-run : (old mid new : Store) (m : Mark) → IsSince old mid m → IsRun mid new → IsSince old new m
 IsSince-run old mid new m o e = record {
@@ -116,6 +126,10 @@ IsSince-run old mid new m o e = record {
   older = o.older;
   inside_is = e.frame_same ∙ o.inside_is;
   outside_is = o.outside_is;
+  nested = o.nested;
+  front =
+      subst (λ (f : Frame). take (frame_start f) (main_bytes new) ≡ take (frame_start f) (main_bytes mid)) o.inside_is e.front
+      ∙ o.front;
 }
 
 -- what is opened and closed again, with a run between: all that lived at the start lives on
@@ -123,7 +137,16 @@ pub SameFrame-closed : (old mid new : Store) (m : Mark) → IsSince old mid m �
 SameFrame-closed old mid new m o c = record {
   pieces = λ p h. Lives-trans mid new p (shape old p) (o.pieces p h) (λ l. c.pieces p l (o.older p h));
   frame_same = c.outside_is ∙ o.outside_is;
+  front =
+      let low = frame_start (frame old) in
+      sym (take-take low (frame_start (inside m)) (main_bytes new) o.nested) ∙ ap (take low) (c.front ∙ o.front);
 }
+
+-- all that was there, and then the text of what was closed
+pub main-closed : (old mid new : Store) (m : Mark) (p : Piece) (s : Shape) → IsSince old mid m → Lives new p s
+    → main_bytes new ≡ take (frame_start (inside m)) (main_bytes mid) ++ text s → main_bytes new ≡ main_bytes old ++ text (shape new p)
+main-closed old mid new m p s o h main =
+    main ∙ ap (λ (v : List ℕ). v ++ text s) o.front ∙ ap (λ (t : Shape). main_bytes old ++ text t) (sym h.shape_is)
 
 pub Lives-same : (old new : Store) (p : Piece) (s : Shape) → SameFrame old new → Lives old p s → Lives new p s
 Lives-same old new p s u h = Lives-trans old new p s h (u.pieces p)
@@ -295,6 +318,14 @@ IsLast-stays old new p q e s = record {
   stands = s.ends.stands;
 }
 
+-- and what was joined
+pub IsLast-joined : (old new : Store) (p q r : Piece) → IsEdit old new → JoinsInPlace old new p q r → IsLast new r
+IsLast-joined old new p q r e s = record {
+  from = s.ends.from;
+  inner = subst (λ (f : Frame). frame_start f ≤ s.ends.from) (sym e.frame_same) s.ends.inner;
+  stands = s.ends.stands;
+}
+
 -- so does what was pushed
 pub IsLast-push : (old new : Store) (p : Piece) → KeepsAll old new → frame_start (frame old) ≤ length (main_bytes old)
     → Stands p (length (main_bytes old)) (length (main_bytes new)) → IsLast new p
@@ -316,31 +347,29 @@ IsLast-same old new p l k main = record {
   stands = subst (λ (t : List ℕ). Stands p l.from (length t)) (sym main) l.stands;
 }
 
--- what stood last, and what was put after it
-pub AreAdjacent-follows : (old new : Store) (p q : Piece) → IsLast old p → SameFrame old new → Stands q (length (main_bytes old)) (length (main_bytes new)) → AreAdjacent new p q
-AreAdjacent-follows old new p q l k stands = record {
-  from = l.from;
-  middle = length (main_bytes old);
-  inner = subst (λ (f : Frame). frame_start f ≤ l.from) (sym k.frame_same) l.inner;
-  first_stands = l.stands;
-  second_stands = stands;
+-- and it is inside the innermost mark
+pub IsInner-last : (b : Store) (p : Piece) → IsLast b p → IsInner b p
+IsInner-last b p l = record { from = l.from; to = length (main_bytes b); inner = l.inner; stands = l.stands }
+
+-- what is inside it stays there
+pub IsInner-same : (old new : Store) (p : Piece) → IsInner old p → SameFrame old new → IsInner new p
+IsInner-same old new p i k = record {
+  from = i.from;
+  to = i.to;
+  inner = subst (λ (f : Frame). frame_start f ≤ i.from) (sym k.frame_same) i.inner;
+  stands = i.stands;
 }
 
--- they stay adjacent where the main text stays
-pub AreAdjacent-same : (old new : Store) (p q : Piece) → AreAdjacent old p q → SameFrame old new → main_bytes new ≡ main_bytes old → AreAdjacent new p q
-AreAdjacent-same old new p q a k main = record {
-  from = a.from;
-  middle = a.middle;
-  inner = subst (λ (f : Frame). frame_start f ≤ a.from) (sym k.frame_same) a.inner;
-  first_stands = a.first_stands;
-  second_stands = subst (λ (t : List ℕ). Stands q a.middle (length t)) (sym main) a.second_stands;
-}
+-- after what stood last there is what was put there
+pub text_after-follows : (old new : Store) (p : Piece) (bytes : List ℕ) → IsLiving old p → IsLast old p → main_bytes new ≡ main_bytes old ++ bytes → text_after new p ≡ bytes
+text_after-follows old new p bytes lies l main =
+    text_after-more old new p bytes lies (IsInner-last old p l) main ∙ ap (λ (v : List ℕ). v ++ bytes) (text_after-last old p l)
 
 -- the laws for the readers
-pub ruleset runs = (IsRun-edit, IsRun-same, SameFrame-keeps, SameFrame-trans, IsRun-trans, IsSince-opens, IsSince-run, SameFrame-closed, Lives-same)
+pub ruleset runs = (IsRun-edit, IsRun-same, SameFrame-keeps, SameFrame-trans, IsRun-trans, IsSince-opens, IsSince-run, SameFrame-closed, main-closed, Lives-same)
 
 -- the laws for what is put after what stands last
-pub ruleset lasts = (IsLast-stays, IsLast-push, IsLast-named, IsLast-same, AreAdjacent-follows, AreAdjacent-same)
+pub ruleset lasts = (IsLast-stays, IsLast-joined, IsLast-push, IsLast-named, IsLast-same, IsInner-last, IsInner-same)
 
 -- the laws for the callers of a buffer
 pub ruleset laws = (Lives-keeps, IsEdit-keeps, KeepsAll-trans, IsEdit-trans, Opens-edit, Opens-keeps, KeepsAll-closed)

@@ -1,25 +1,48 @@
--- A piece that two texts were put after, the second of which is its last own name.
-use Rattle.std.proofs.Common.{◌≡◌, ◌-◌, ◌≤◌, ◌++◌, ℕ, List, length, refl, ap, ◌∙◌, arith}
-use Rattle.std.proofs.lemmas.List.{length-append}
+-- A piece that ends the output, and two texts that were put after it, the second of which is its base name.
+use Rattle.std.proofs.Common.{◌≡◌, ◌-◌, ◌++◌, ℕ, List, None, false, length, refl, ap, arith}
 use Rattle.demangle_text.specs.declared.shape.Piece.{Piece}
-use Rattle.demangle_text.specs.Pieces.{Store, IsSplice, IsAt, Outline, outline_of, whole_outline}
-use Rattle.demangle_text.specs.Calls.{named}
-use Rattle.demangle_text.specs.State.{IsLiving, shape, Lives}
-use Rattle.demangle_text.proofs.Tails.{Lives-named, splice-long}
+use Rattle.demangle_text.specs.Pieces.{Store, IsStore, IsTail, IsSplice}
+use Rattle.demangle_text.specs.Calls.{IsLast, named}
+use Rattle.demangle_text.specs.State.{IsLiving, shape, Lives, IsEdit, Stands, frame, frame_start, main_bytes}
+use Rattle.demangle_text.proofs.States.{Extends-same}
+use Rattle.demangle_text.proofs.Brought.{IsBrought-stays, IsEdit-extended, IsSplice-extended}
+use Rattle.demangle_text.proofs.Tails.{Lives-named}
 
-module _ (b n : Store) (p : Piece) (between name : List ℕ) (from end long : ℕ) (living : IsLiving b p)
-    (splice : IsSplice b n p (p.to_byte - p.from_byte) (between ++ name) from) (end_is : end ≡ length n.main_text) (long_is : long ≡ end - from) where
-  -- the name is no longer than the whole
-  pub name-fits : length name ≤ long
-  name-fits =
-      let grown = splice-long b n p (p.to_byte - p.from_byte) (between ++ name) from living splice in
-      omega (arith, grown, length-append between name, end_is, long_is)
+-- what ends the output lies in it
+pub tail-of : (b : Store) (p : Piece) → IsLast b p → IsTail b p
+unfolding Stands frame frame_start main_bytes
+tail-of b p l = record { in_main = l.stands.in_main; inner = omega (arith, l.inner, l.stands.begins); ends = l.stands.ends }
 
-  -- and a plain piece of all has the shape with both, if the name is its last own name
-  pub Lives-renamed : (q : Piece) → IsAt q from end → outline_of q ≡ whole_outline (end - from) → Lives n (record q { own_start = q.own_end - length name }) (named between name (shape b p))
-  Lives-renamed q stands outline =
-      let whole : q.own_end ≡ length n.main_text - from = ap (λ (o : Outline). o.own.1) outline ∙ ap (λ (i : ℕ). i - from) end_is in
-      Lives-named b n p (p.to_byte - p.from_byte) (between ++ name) from living splice (record q { own_start = q.own_end - length name })
-      (record { in_main = stands.in_main; begins = stands.begins; ends = stands.ends ∙ end_is }) between name refl refl
-      (ap (λ (o : Outline). o.layout) outline) (ap (λ (i : ℕ). (i - length name, i)) whole)
-      (ap (λ (o : Outline). o.templ) outline) (ap (λ (o : Outline). o.ctor) outline)
+module _ (s : Store) (main : List ℕ) (p : Piece) (between name : List ℕ) (i : IsStore s) (living : IsLiving s p) (last : IsLast s p)
+    (is : main ≡ s.main_text ++ (between ++ name)) where
+  abbrev new : Store
+  new = record s { main_text = main }
+
+  pub edit-named : IsEdit s new
+  edit-named = IsEdit-extended s s.main_text (between ++ name) main i (Extends-same s.main_text) is
+
+  -- the texts stand after the piece
+  splice : IsSplice s new p (p.to_byte - p.from_byte) (between ++ name) p.from_byte
+  unfolding IsLiving
+  splice = IsSplice-extended s new p s.main_text (between ++ name) p.from_byte living
+      (IsBrought-stays s.main_text s.side_text s.frame_main p living.ordered (tail-of s p last)) is
+
+  module _ (end : ℕ) (end_is : end ≡ length main) where
+    -- the piece of all of it, whose base name is the name
+    abbrev pub renamed : Piece
+    renamed = record p {
+      to_byte = end;
+      own_start = end - p.from_byte - length name;
+      own_end = end - p.from_byte;
+      kind = None;
+      grouped = false;
+      templ = false;
+      ctor = false;
+    }
+
+    -- has the shape with both texts
+    pub Lives-renamed : Lives new renamed (named between name (shape s p))
+    Lives-renamed =
+        Lives-named s new p (p.to_byte - p.from_byte) (between ++ name) p.from_byte living splice renamed
+        (record { in_main = (tail-of s p last).in_main; begins = refl; ends = end_is }) between name refl refl
+        refl (ap (λ (i : ℕ). (i - p.from_byte - length name, i - p.from_byte)) end_is) refl refl

@@ -1,11 +1,11 @@
 -- What stays when a buffer's texts grow, and when the texts that it keeps lie elsewhere.
-use Rattle.std.proofs.Common.{◌≡◌, ℕ, ◌-◌, ◌<◌, ◌≤◌, Bool, true, false, List, [], ◌++◌, length, take, drop, slice_range}
+use Rattle.std.proofs.Common.{◌≡◌, ℕ, ◌+◌, ◌-◌, ◌<◌, ◌≤◌, Bool, true, false, List, [], ◌++◌, length, take, drop, slice_range}
 use Rattle.std.proofs.Common.{leb, All, map, refl, sym, ap, ◌∙◌, subst, arith, Result, Ok, Err, OnErr, append_assoc}
 use Rattle.std.proofs.Common.{set, get_or}
 use Rattle.std.proofs.Math.Seq.{map-set_same}
 use Rattle.std.proofs.lemmas.Bool.{leb-true, leb-false}
 use Rattle.std.proofs.lemmas.List.Elements.{All-set, All-get_or, All-weaker}
-use Rattle.std.proofs.lemmas.List.{length-append, length-drop, append-nil, drop_at, take_all, take-append-le}
+use Rattle.std.proofs.lemmas.List.{length-append, length-drop, append-nil, drop_at, drop_all, take_all, take-append-le, drop-append-le, drop-drop, take-append-drop}
 use Rattle.demangle_text.specs.declared.shape.Piece.{Piece}
 use Rattle.demangle_text.specs.declared.shape.Mark.{Mark}
 use Rattle.demangle_text.specs.Shape.{text}
@@ -13,6 +13,7 @@ use Rattle.demangle_text.specs.Pieces.{Store, IsStore, IsPiece, IsAt, IsOutlined
 use Rattle.demangle_text.specs.State.{IsLiving, shape, saved, scopes, main_bytes, Stands, StandsBefore, frame}
 use Rattle.demangle_text.specs.State.{frame_start, inside, outside, Frame, IsOlder, KeepsAll, IsEdit, Opens}
 use Rattle.demangle_text.specs.State.{Closes, Lives, parts_at}
+use Rattle.demangle_text.specs.Calls.{IsLast, IsInner, text_after}
 use Rattle.demangle_text.proofs.Forms.{text-form_of}
 use Rattle.growing_text.proofs.Parts.{part-append}
 use Rattle.demangle_text.proofs.Texts.{map_same}
@@ -236,6 +237,35 @@ Stands-tail s p P lies tail before = by p.aside (leb s.frame_main p.from_byte) (
         before (λ a b at. (omega (arith, within home, at.ends), λ inner. let k : ⊥ = omega (arith, leb-false _ _ from, at.begins, inner) in absurd k))
     by false true false home from to = before (λ a b at. (omega (arith, within home, at.ends), λ inner. omega (arith, leb-false _ _ to, at.ends)))
 
+-- what stands after a piece grows as the output does
+pub text_after-more : (s t : Store) (p : Piece) (bytes : List ℕ) → IsLiving s p → IsInner s p → main_bytes t ≡ main_bytes s ++ bytes → text_after t p ≡ text_after s p ++ bytes
+unfolding IsLiving Stands main_bytes text_after
+text_after-more s t p bytes lies i main =
+    let within : p.to_byte ≤ length s.main_text = subst (λ (h : Bool). p.to_byte ≤ length (home_bytes s.main_text s.side_text h)) i.stands.in_main lies.within in
+    ap (drop p.to_byte) main ∙ drop-append-le p.to_byte s.main_text bytes within
+
+-- and stays with it
+pub text_after-same : (s t : Store) (p : Piece) → main_bytes t ≡ main_bytes s → text_after t p ≡ text_after s p
+unfolding main_bytes text_after
+text_after-same s t p main = ap (drop p.to_byte) main
+
+-- nothing stands after what ends the output
+pub text_after-last : (s : Store) (p : Piece) → IsLast s p → text_after s p ≡ []
+unfolding Stands main_bytes text_after
+text_after-last s p l = drop_all p.to_byte s.main_text (omega (arith, l.stands.ends))
+
+-- the output from an inner piece on is its text and what stands after it
+pub inner_text : (s : Store) (p : Piece) → IsLiving s p → IsInner s p → drop p.from_byte s.main_text ≡ piece_text s.main_text s.side_text p ++ drop p.to_byte s.main_text
+unfolding IsLiving Stands
+inner_text s p lies i =
+    let main = s.main_text in
+    let at = p.to_byte - p.from_byte in
+    let rest = drop p.from_byte main in
+    let here : piece_text main s.side_text p ≡ take at rest = ap (λ (h : Bool). slice_range (home_bytes main s.side_text h) p.from_byte p.to_byte) i.stands.in_main in
+    let split : p.to_byte ≡ p.from_byte + at = omega (arith, lies.ordered) in
+    let after : drop p.to_byte main ≡ drop at rest = ap (λ (k : ℕ). drop k main) split ∙ sym (drop-drop at p.from_byte main) in
+    sym (take-append-drop at rest) ∙ ap (λ (v : List ℕ). v ++ drop at rest) (sym here) ∙ ap (λ (v : List ℕ). piece_text main s.side_text p ++ v) (sym after)
+
 -- a fact at the exit of a `?`
 pub on_err_from : {T E Q : Type 0} (r : Result T E) → Q → OnErr r Q
 on_err_from (Ok x) q = tt
@@ -245,6 +275,14 @@ on_err_from (Err e) q = q
 pub text_is : (s : Store) (p : Piece) → IsLiving s p → text (shape s p) ≡ piece_text s.main_text s.side_text p
 unfolding IsLiving shape
 text_is s p h = text-form_of (piece_text s.main_text s.side_text p) (outline_of p).layout h.outlined.layout
+
+-- the output is what stands before an inner piece, its text and what stands after it
+pub main_split : (s : Store) (p : Piece) → IsLiving s p → (i : IsInner s p) → main_bytes s ≡ take i.from (main_bytes s) ++ (text (shape s p) ++ text_after s p)
+unfolding Stands main_bytes text_after
+main_split s p lies i =
+    let main = s.main_text in
+    sym (take-append-drop i.from main) ∙ ap (λ (v : List ℕ). take i.from main ++ v)
+    (ap (λ (k : ℕ). drop k main) (sym i.stands.begins) ∙ inner_text s p lies i ∙ ap (λ (v : List ℕ). v ++ drop p.to_byte main) (sym (text_is s p lies)))
 
 -- the same as it was
 pub unchanged : (s new : Store) → new.main_text ≡ s.main_text → new.side_text ≡ s.side_text → new.saved_pieces ≡ s.saved_pieces → new.arg_pieces ≡ s.arg_pieces

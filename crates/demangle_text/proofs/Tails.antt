@@ -8,7 +8,7 @@ use Rattle.std.proofs.lemmas.List.Edits.{length-between}
 use Rattle.demangle_text.specs.declared.shape.Piece.{Piece}
 use Rattle.demangle_text.specs.Pieces.{Store, IsTail, IsAdjacent, IsSplice, IsJoint, EndsBy, piece_text, own_text, home_bytes}
 use Rattle.demangle_text.specs.Shape.{Shape, text, text_len, plain_shape, inserted, own_shape, opened_group, moved}
-use Rattle.demangle_text.specs.Calls.{joined, named, CanInsert, IsDeclared, AreAdjacent}
+use Rattle.demangle_text.specs.Calls.{joined, named, CanInsert, IsDeclared, IsInner, text_after}
 use Rattle.demangle_text.specs.Pieces.{Layout, Flat, Cut, Outline, IsLayout, IsAt, IsOutlined, outline_of, whole_outline, shape_of, place_at, layout_with, layout_opened, layout_end, own_at}
 use Rattle.demangle_text.specs.State.{IsLiving, shape, Lives, IsEditOf, IsJoinOf, main_bytes, frame, frame_start, Frame, Stands}
 use Rattle.demangle_text.specs.declared.shape.Place.{Place}
@@ -16,7 +16,7 @@ use Rattle.demangle_text.specs.declared.shape.Place.TheVariants.{Suffix, End}
 use Rattle.demangle_text.proofs.Inserts.{Inserts, length-inserted, shape-inserted, IsOutlined-inserted}
 use Rattle.demangle_text.proofs.Groups.{Groups, group_text, layout_end_within, shape-opened, IsOutlined-opened}
 use Rattle.demangle_text.proofs.Texts.{part-part, front_below}
-use Rattle.demangle_text.proofs.States.{Lives-at_end, text_is}
+use Rattle.demangle_text.proofs.States.{Lives-at_end, text_is, inner_text}
 
 -- the text from a place on, with bytes inserted in it
 tail_inserted : (main bytes : List ℕ) (from at : ℕ) → from + at ≤ length main
@@ -59,6 +59,27 @@ IsSplice-inserted s t p at bytes h ordered within is =
       inner = h.inner;
       front = ap (take p.from_byte) is ∙ front_inserted main bytes p.from_byte (p.from_byte + at) (omega arith) there;
       in_place = λ _. (refl, n);
+    }
+
+-- a piece inside the innermost mark, with all that stands after it
+pub IsSplice-taken : (s : Store) (p : Piece) → IsLiving s p → IsInner s p → IsSplice s s p (p.to_byte - p.from_byte) (text_after s p) p.from_byte
+unfolding IsLiving frame frame_start Frame Stands text_after
+IsSplice-taken s p lies i =
+    let main = s.main_text in
+    let t = piece_text main s.side_text p in
+    let at = p.to_byte - p.from_byte in
+    let more = drop p.to_byte main in
+    let within : p.to_byte ≤ length main = subst (λ (h : Bool). p.to_byte ≤ length (home_bytes main s.side_text h)) i.stands.in_main lies.within in
+    let long : length t ≡ at = length-between (home_bytes main s.side_text p.aside) p.from_byte p.to_byte lies.within in
+    let front : take at t ≡ t = take_all at t (omega (arith, long)) in
+    let none : drop at t ≡ [] = drop_all at t (omega (arith, long)) in
+    record {
+      within = omega (arith, within, lies.ordered);
+      text = inner_text s p lies i ∙ ap (λ (v : List ℕ). t ++ v) (sym (append-nil more))
+          ∙ ap (λ (v : List ℕ). t ++ (more ++ v)) (sym none) ∙ ap (λ (v : List ℕ). v ++ (more ++ drop at t)) (sym front);
+      inner = omega (arith, i.inner, i.stands.begins);
+      front = refl;
+      in_place = λ tail. (refl, omega (arith, tail.ends, length-drop p.to_byte main));
     }
 
 -- an edit that spliced bytes into the text of a piece
@@ -127,16 +148,6 @@ IsJoint-inserted s t first bytes second h ordered after is =
       -- (the second text is empty then)
       after = λ tail. (refl, n ∙ omega (arith, tail.ends, h.meets, ap length texts.1, length-drop k (drop first.from_byte main), length-drop first.from_byte main));
     }
-
--- pieces that are adjacent at the end are joined already
-pub IsJoint-adjacent : (s : Store) (first second : Piece) → AreAdjacent s first second → first.from_byte ≤ first.to_byte → second.from_byte ≤ second.to_byte → IsJoint s s first [] second first.from_byte
-unfolding main_bytes frame frame_start Frame Stands
-IsJoint-adjacent s first second h ordered after =
-    let one = h.first_stands in
-    let two = h.second_stands in
-    let meet : IsAdjacent s first second =
-    record { first_in_main = one.in_main; second_in_main = two.in_main; inner = omega (arith, h.inner, one.begins); meets = one.ends ∙ sym two.begins; ends = two.ends } in
-    IsJoint-inserted s s first [] second meet ordered after (sym (take-append-drop second.from_byte s.main_text))
 
 -- a first piece and a second one that is there with the first before it meet
 tails-meet : (s : Store) (first second : Piece) → second.from_byte ≤ second.to_byte → IsTail s second → EndsBy second.from_byte first → IsTail s first → IsAdjacent s first second

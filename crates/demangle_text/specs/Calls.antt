@@ -16,14 +16,16 @@ pub record IsLast (b : Store) (p : Piece) : Type 0 where
   pub inner : frame_start (frame b) ≤ from
   pub stands : Stands p from (length (main_bytes b))
 
--- the first piece stands up to where the second begins, and the second up to the end of the main text, both from the
--- innermost mark or later
-pub record AreAdjacent (b : Store) (first second : Piece) : Type 0 where
+-- the piece stands in the output, from the innermost mark or later
+pub record IsInner (b : Store) (p : Piece) : Type 0 where
   pub from : ℕ
-  pub middle : ℕ
+  pub to : ℕ
   pub inner : frame_start (frame b) ≤ from
-  pub first_stands : Stands first from middle
-  pub second_stands : Stands second middle (length (main_bytes b))
+  pub stands : Stands p from to
+
+-- the bytes of the output after a piece that stands in it
+unfoldable pub text_after : Store → Piece → List ℕ
+text_after b p = drop p.to_byte b.main_text
 
 -- two texts with bytes between them
 abbrev pub joined : Shape → List ℕ → Shape → Shape

@@ -86,19 +86,20 @@ KeepsPieces old new = (p : Piece) → IsLiving old p → Lives new p (shape old 
 abbrev pub KeepsOlder : Frame → Store → Store → Type 0
 KeepsOlder f old new = (p : Piece) → IsLiving old p → IsOlder p f → Lives new p (shape old p)
 
+-- no byte of the main text before the innermost mark changes
+abbrev pub KeepsFront : Store → Store → Type 0
+KeepsFront old new = take (frame_start (frame old)) (main_bytes new) ≡ take (frame_start (frame old)) (main_bytes old)
+
 -- both lists stay
 pub record SameLists (old new : Store) : Type 0 where
   pub saved_same : saved new ≡ saved old
   pub scopes_same : scopes new ≡ scopes old
 
--- pieces and frame stay
+-- pieces, innermost mark and the output before that mark stay
 pub record SameFrame (old new : Store) : Type 0 where
   pub pieces : KeepsPieces old new
   pub frame_same : frame new ≡ frame old
-
--- no byte of the main text before the innermost mark changes
-abbrev pub KeepsFront : Store → Store → Type 0
-KeepsFront old new = take (frame_start (frame old)) (main_bytes new) ≡ take (frame_start (frame old)) (main_bytes old)
+  pub front : KeepsFront old new
 
 -- pieces, innermost mark, both lists and the main text before that mark stay
 pub record KeepsAll (old new : Store) : Type 0 where
@@ -115,17 +116,22 @@ pub record IsEdit (old new : Store) : Type 0 where
   pub lists : SameLists old new
   pub front : KeepsFront old new
 
--- a run of calls inside the innermost mark: what was made before it keeps its shape, the lists may have changed
+-- a run of calls inside the innermost mark: what was made before it keeps its shape, and the output before it stays;
+-- the lists may have changed
 pub record IsRun (old new : Store) : Type 0 where
   pub pieces : KeepsOlder (frame old) old new
   pub frame_same : frame new ≡ frame old
+  pub front : KeepsFront old new
 
--- a run of calls since a mark was opened: all that lived then keeps its shape, and is older than the mark
+-- a run of calls since a mark was opened: all that lived then keeps its shape, and is older than the mark; the output
+-- before the mark is all that there was
 pub record IsSince (old new : Store) (m : Mark) : Type 0 where
   pub pieces : KeepsPieces old new
   pub older : (p : Piece) → IsLiving old p → IsOlder p (inside m)
   pub inside_is : frame new ≡ inside m
   pub outside_is : outside m ≡ frame old
+  pub nested : frame_start (frame old) ≤ frame_start (inside m)
+  pub front : take (frame_start (inside m)) (main_bytes new) ≡ main_bytes old
 
 -- a mark is opened: each living piece is older than it, it stands at the mark outside it or later, and the main text
 -- before it is all that there was

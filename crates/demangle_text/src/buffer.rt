@@ -58,7 +58,7 @@ impl Buffer {
     ghost use Rattle.demangle_text.specs.Shape.{shortened, flagged, with_own, flattened, whole_shape, own_shape};
     ghost use Rattle.demangle_text.specs.Shape.{declared_at};
     ghost use Rattle.demangle_text.specs.Calls.{joined, named, CanInsert, IsPlain, IsDeclared, IsNotFunction, kind_of};
-    ghost use Rattle.demangle_text.specs.Calls.{group_of, after_of, declared_group, IsLast, AreAdjacent};
+    ghost use Rattle.demangle_text.specs.Calls.{group_of, after_of, declared_group, IsLast, IsInner, text_after};
 
     /// An empty buffer, with no mark open. It takes no memory.
     pub fn new(alloc: Global) -> Self
@@ -182,10 +182,17 @@ impl Buffer {
         ensures kept { KeepsAll self.old self.new }
         ensures main { OnOk result (main_bytes self.new ≡ main_bytes self.old ++ text (shape self.old piece)) }
         ensures main_err { OnErr result (main_bytes self.new ≡ main_bytes self.old) }
+        ensures mark { frame_start (frame self.old) ≤ length (main_bytes self.old) }
         ensures stands { IfOk result (λ p. Stands p (length (main_bytes self.old)) (length (main_bytes self.new))) }
     {
         let from = self.main.len();
-        add_text(&mut self.main, &self.lists.side, piece)?;
+        add_text(
+            &mut self.main,
+            &self.lists.side,
+            piece.aside,
+            piece.from_byte,
+            piece.to_byte,
+        )?;
         Ok(piece.moved_to(from, self.main.len()))
     }
 
@@ -202,21 +209,22 @@ impl Buffer {
         ensures edit_of { IfOk result (λ p. IsEditOf self.old self.new piece p (length bytes.now)) }
         ensures main_err { OnErr result (main_bytes self.new ≡ main_bytes self.old) }
     {
-        let from = self.extend(piece, bytes, b"")?;
+        let from = self.extend(piece, bytes)?;
         Ok(piece.extended(bytes.len(), from, self.main.len()))
     }
 
     /// The piece, which is changed where it is kept, as a plain one with both texts at the end of its text, one after
-    /// the other: the second is its last own name, and both flags are off. Ends pieces, copies a text, and keeps all
-    /// after `AllocError`, as `append` does.
+    /// the other: the second is its base name, and both flags are off. The piece ends the output, from the innermost
+    /// mark on, and it stays there. It ends the other pieces made since that mark. After `AllocError` all is as it was.
     #[inline(always)]
-    pub fn append_name_in_place(
+    pub fn append_name(
         &mut self,
         piece: &mut Piece,
         between: &[u8],
         name: &[u8],
     ) -> Result<(), AllocError>
         requires living { IsLiving self.old piece.old }
+        requires last { IsLast self.old piece.old }
         ensures shape { OnOk result (Lives self.new piece.new (named between.now name.now (shape self.old piece.old))) }
         ensures edit { OnOk result (IsEdit self.old self.new) }
         ensures err { OnErr result (KeepsAll self.old self.new) }
@@ -225,12 +233,15 @@ impl Buffer {
             (length between.now + length name.now)) }
         ensures main_err { OnErr result (main_bytes self.new ≡ main_bytes self.old) }
     {
-        let from = self.extend(*piece, between, name)?;
-        let whole = Piece::whole_at(from, self.main.len());
-        *piece = Piece {
-            own_start: whole.own_end - name.len(),
-            ..whole
-        };
+        self.main.add_pair(between, name)?;
+        // A field at a time: a piece that is written whole goes through memory.
+        piece.to_byte = self.main.len();
+        piece.own_end = piece.to_byte - piece.from_byte;
+        piece.own_start = piece.own_end - name.len();
+        piece.kind = None;
+        piece.grouped = false;
+        piece.templ = false;
+        piece.ctor = false;
         Ok(())
     }
 
@@ -373,18 +384,17 @@ impl Buffer {
         Ok(Piece::whole_at(from, self.main.len()))
     }
 
-    /// As `join` with no bytes between them, where the first ends where the second begins, and the second stands up
-    /// to the end of the main text, both from the innermost mark or later: it isn't asked whether they do. The buffer
-    /// stays as it is.
+    /// The piece with all that stands after it in the output, up to the end, at the end of its text. The piece has to
+    /// stand in the output from the innermost mark or later: it isn't asked whether it does. The buffer stays as it is.
     #[inline(always)]
-    pub fn join_adjacent(&self, first: Piece, second: Piece) -> Piece
-        requires first_living { IsLiving self.now first }
-        requires second_living { IsLiving self.now second }
-        requires adjacent { AreAdjacent self.now first second }
-        ensures shape { Lives self.now result (joined (shape self.now first) [] (shape self.now second)) }
+    pub fn up_to_end(&self, piece: Piece) -> Piece
+        requires living { IsLiving self.now piece }
+        requires inner { IsInner self.now piece }
+        ensures shape { Lives self.now result (appended (text_after self.now piece) (shape self.now piece)) }
         ensures last { IsLast self.now result }
     {
-        Piece::whole_at(first.from_byte, self.main.len())
+        let to = self.main.len();
+        piece.extended(to - piece.to_byte, piece.from_byte, to)
     }
 
     /// The main text.

@@ -1,24 +1,30 @@
 //! Texts of pieces, put at the end of the output.
-ghost use Rattle.std.specs.Prelude.{◌≡◌, ◌≤◌, ◌++◌, length, take, IfOk, OnOk};
+ghost use Rattle.std.specs.Prelude.{◌≡◌, ◌≤◌, ◌++◌, length, take, slice_range, IfOk, OnOk};
 ghost use Rattle.std.specs.Prelude.{OnErr};
-ghost use Rattle.demangle_text.specs.Pieces.{home_bytes, piece_text, IsBrought};
+ghost use Rattle.demangle_text.specs.Pieces.{home_bytes, IsBrought};
 
 use crate::shape::Piece;
 use growing_text::Text;
 use std::alloc::AllocError;
 
-// Copies the text of a piece to the end of the output.
+// Copies a part of the output or of the spill to the end of the output.
 #[inline(always)]
-pub(crate) fn add_text(main: &mut Text, side: &Text, piece: Piece) -> Result<(), AllocError>
-    requires ordered { piece.from_byte ≤ piece.to_byte }
-    requires within { piece.to_byte ≤ length (home_bytes main.old side.now piece.aside) }
-    ensures ok { OnOk result (main.new ≡ main.old ++ piece_text main.old side.now piece) }
+pub(crate) fn add_text(
+    main: &mut Text,
+    side: &Text,
+    aside: bool,
+    from: usize,
+    to: usize,
+) -> Result<(), AllocError>
+    requires ordered { from ≤ to }
+    requires within { to ≤ length (home_bytes main.old side.now aside) }
+    ensures ok { OnOk result (main.new ≡ main.old ++ slice_range (home_bytes main.old side.now aside) from to) }
     ensures err { OnErr result (main.new ≡ main.old) }
 {
-    if piece.aside {
-        main.add(side.part(piece.from_byte, piece.to_byte))
+    if aside {
+        main.add(side.part(from, to))
     } else {
-        main.repeat(piece.from_byte, piece.to_byte)
+        main.repeat(from, to)
     }
 }
 
@@ -62,6 +68,6 @@ pub(crate) fn at_end(
         return Ok(piece.from_byte);
     }
     let from = main.len();
-    add_text(main, side, piece)?;
+    add_text(main, side, piece.aside, piece.from_byte, piece.to_byte)?;
     Ok(from)
 }

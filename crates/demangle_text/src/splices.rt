@@ -1,6 +1,6 @@
 //! Edits of the output that the calls of a buffer are made of: a text is brought to the end and changed there, texts
 //! are joined, and a text is kept alone.
-ghost use Rattle.std.specs.Prelude.{◌≡◌, ◌+◌, ◌-◌, ◌^◌, ◌<◌, ◌≤◌, ◌++◌, length, take, drop, IfOk, OnOk, OnErr, true};
+ghost use Rattle.std.specs.Prelude.{◌≡◌, ◌+◌, ◌-◌, ◌^◌, ◌<◌, ◌≤◌, ◌++◌, length, take, drop, slice_range, IfOk, OnOk, OnErr, true};
 
 use crate::buffer::Buffer;
 use crate::moves::torn_len;
@@ -25,7 +25,7 @@ crate::specs::State::saved, crate::specs::State::scopes,),)]
 impl Buffer {
     ghost use Rattle.demangle_text.specs.State.{IsLiving, KeepsAll, IsEdit};
     ghost use Rattle.demangle_text.specs.Gaps.{IsGap, IsOpen};
-    ghost use Rattle.demangle_text.specs.Pieces.{IsSplice, IsAdjacent, IsAt, EndsBy, outline_of, piece_text};
+    ghost use Rattle.demangle_text.specs.Pieces.{IsSplice, IsAdjacent, IsAt, EndsBy, outline_of, piece_text, home_bytes};
 
     // The text of a piece becomes all of the output since the innermost mark.
     #[inline(always)]
@@ -43,26 +43,34 @@ impl Buffer {
         if !piece.aside && piece.from_byte == at && piece.to_byte == len {
             return Ok(());
         }
-        self.move_down(at, *piece)?;
+        self.move_down(at, piece.aside, piece.from_byte, piece.to_byte)?;
         *piece = piece.moved_to(at, self.main.len());
         Ok(())
     }
 
-    // The text of a piece that stands otherwise becomes all of the output since the innermost mark. It moves down to
-    // the mark, from the end if it was copied there, and all else since the mark goes.
+    // A part of the output or of the spill becomes all of the output since the innermost mark. It moves down to the
+    // mark, from the end if it was copied there, and all else since the mark goes.
     #[cold]
-    fn move_down(&mut self, at: usize, piece: Piece) -> Result<(), AllocError>
+    fn move_down(
+        &mut self,
+        at: usize,
+        aside: bool,
+        from: usize,
+        to: usize,
+    ) -> Result<(), AllocError>
         requires mark { self.old.frame_main ≡ at }
-        requires living { IsLiving self.old piece }
+        requires ordered { from ≤ to }
+        requires within { to ≤ length (home_bytes self.old.main_text self.old.side_text aside) }
         ensures edit { OnOk result (IsEdit self.old self.new) }
         ensures main { OnOk result (self.new.main_text ≡ take at self.old.main_text
-            ++ piece_text self.old.main_text self.old.side_text piece) }
+            ++ slice_range (home_bytes self.old.main_text self.old.side_text aside) from to) }
     {
-        let mut from = piece.from_byte;
-        let mut to = piece.to_byte;
-        if piece.aside || from < at {
-            from = self.main.len();
-            add_text(&mut self.main, &self.lists.side, piece)?;
+        let mut from = from;
+        let mut to = to;
+        if aside || from < at {
+            let copied = self.main.len();
+            add_text(&mut self.main, &self.lists.side, aside, from, to)?;
+            from = copied;
             to = self.main.len();
             if from == at {
                 return Ok(());
@@ -143,30 +151,30 @@ impl Buffer {
         }
         let from = self.main.len();
         let rest = piece.text_len() - at;
-        add_text(&mut self.main, &self.lists.side, piece)?;
+        add_text(
+            &mut self.main,
+            &self.lists.side,
+            piece.aside,
+            piece.from_byte,
+            piece.to_byte,
+        )?;
         let opened = self.main.open_room(self.main.len() - rest, n);
         taken_back(&mut self.main, from, opened)?;
         Ok(from)
     }
 
-    // The text of a piece with both texts after it, at the end of the output: where it begins.
+    // The text of a piece with bytes after it, at the end of the output: where it begins.
     #[inline(always)]
-    pub(crate) fn extend(
-        &mut self,
-        piece: Piece,
-        first: &[u8],
-        second: &[u8],
-    ) -> Result<usize, AllocError>
+    pub(crate) fn extend(&mut self, piece: Piece, bytes: &[u8]) -> Result<usize, AllocError>
         requires living { IsLiving self.old piece }
-        ensures splice { IfOk result (IsSplice self.old self.new piece (piece.to_byte - piece.from_byte)
-            (first.now ++ second.now)) }
+        ensures splice { IfOk result (IsSplice self.old self.new piece (piece.to_byte - piece.from_byte) bytes.now) }
         ensures edit { OnOk result (IsEdit self.old self.new) }
         ensures err { OnErr result (KeepsAll self.old self.new) }
         ensures main_err { OnErr result (self.new.main_text ≡ self.old.main_text) }
     {
         let len = self.main.len();
         let from = at_end(&mut self.main, &self.lists.side, self.frame_main, piece)?;
-        let added = self.main.add_pair(first, second);
+        let added = self.main.add(bytes);
         taken_back(&mut self.main, len, added)?;
         Ok(from)
     }
@@ -191,7 +199,13 @@ impl Buffer {
         let from = at_end(&mut self.main, &self.lists.side, self.frame_main, piece)?;
         let added = self.main.add(bytes);
         taken_back(&mut self.main, len, added)?;
-        let added = add_text(&mut self.main, &self.lists.side, other);
+        let added = add_text(
+            &mut self.main,
+            &self.lists.side,
+            other.aside,
+            other.from_byte,
+            other.to_byte,
+        );
         taken_back(&mut self.main, len, added)?;
         Ok(from)
     }

@@ -7,11 +7,11 @@ use crate::pieces::{
 };
 use demangle_edit::{
     Glue, Pointer, Quals, Reference, address, append_number, append_piece, apply_name_qualifiers,
-    attach_template_args, begin_arguments, close_function, close_lambda, close_opened,
-    close_params, collapse_ref, default_arg, end_arguments, expand, format_params, function_type,
-    glue, open_default_arg, open_function, open_params, qualify, qualify_ctor, qualify_text,
-    subexpr, tag, wrap_array, wrap_cv, wrap_member_pointer, wrap_pointer, write_literal,
-    write_opened_literal,
+    attach_template_args, close_arguments, close_function, close_lambda, close_opened,
+    close_params, collapse_ref, default_arg, expand, format_params, function_type, glue,
+    open_arguments, open_default_arg, open_function, open_params, qualify, qualify_ctor,
+    qualify_text, subexpr, tag, wrap_array, wrap_cv, wrap_member_pointer, wrap_pointer,
+    write_literal, write_opened_literal,
 };
 use demangle_text::{Buffer, Kind, Piece};
 use std::alloc::Global;
@@ -477,18 +477,19 @@ fn parameters_built_on_a_name(rt: HostRuntime) {
 }
 
 #[test]
-#[tactic(auto, using(demangle_text::proofs::Laws::laws))]
-fn arguments_built_as_a_text(rt: HostRuntime) {
+#[tactic(auto, using(
+// The laws of calls, of runs of calls, and of what ends the output.
+demangle_text::proofs::Laws::laws, demangle_text::proofs::Laws::runs, demangle_text::proofs::Laws::lasts))]
+fn arguments_built_after_their_name(rt: HostRuntime) {
     let mut buf = Buffer::new(rt.alloc());
     let name = named(&rt, &mut buf, b"A::f", 3, 4, false, false);
-    let (len, own, ctor) = (buf.len(name), buf.own_range(name), buf.ctor(name));
-    let opened = begin_arguments(&mut buf, name).expect(&rt, "no memory");
-    let first = push(&rt, &mut buf, b"A");
-    let one = buf.join(opened, b"", first).expect(&rt, "no memory");
-    let list = buf.append(one, b", ").expect(&rt, "no memory");
-    let second = push(&rt, &mut buf, b"B<A, A>");
-    let two = buf.join(list, b"", second).expect(&rt, "no memory");
-    let whole = end_arguments(&mut buf, two, len, own, ctor).expect(&rt, "no memory");
+    let opened = open_arguments(&mut buf, name).expect(&rt, "no memory");
+    buf.push(b"A").expect(&rt, "no memory");
+    buf.push(b", ").expect(&rt, "no memory");
+    buf.push(b"B<A, A>").expect(&rt, "no memory");
+    let list = buf.up_to_end(opened);
+    assert_named(&rt, &buf, list, b"A::f<A, B<A, A>", 3, 4);
+    let whole = close_arguments(&mut buf, opened).expect(&rt, "no memory");
     assert_named(&rt, &buf, whole, b"A::f<A, B<A, A> >", 3, 4);
     assert_flags(&rt, &buf, whole, true, false);
     assert_eq!(&rt; buf.main_bytes(), b"A::f<A, B<A, A> >".as_slice());
@@ -497,16 +498,13 @@ fn arguments_built_as_a_text(rt: HostRuntime) {
 }
 
 /// An operator with no arguments.
-#[tactic(auto, using(demangle_text::proofs::Laws::laws))]
+#[tactic(auto, using(
+// The laws of calls, of runs of calls, and of what ends the output.
+demangle_text::proofs::Laws::laws, demangle_text::proofs::Laws::runs, demangle_text::proofs::Laws::lasts))]
 fn assert_no_arguments(rt: &impl Abort, buf: &mut Buffer) {
     let operator = push(rt, buf, b"operator<");
-    let (len, own, ctor) = (
-        buf.len(operator),
-        buf.own_range(operator),
-        buf.ctor(operator),
-    );
-    let opened = begin_arguments(buf, operator).expect(rt, "no memory");
-    let whole = end_arguments(buf, opened, len, own, ctor).expect(rt, "no memory");
+    let opened = open_arguments(buf, operator).expect(rt, "no memory");
+    let whole = close_arguments(buf, opened).expect(rt, "no memory");
     assert_named(rt, buf, whole, b"operator< <>", 0, 9);
 }
 

@@ -113,12 +113,3 @@ HasRoom-after ys len n fits =
 pub HasRoom-made : (xs ys old : List ℕ) (len n : ℕ) → take len ys ≡ take len xs → take len xs ≡ old → len + n ≤ length ys → HasRoom old [] (take (len + n) ys) n
 HasRoom-made xs ys old len n front is room =
     subst (λ (v : List ℕ). HasRoom v [] (take (len + n) ys) n) (front ∙ is) (HasRoom-after ys len n room)
-
--- two texts, one after the other, in room for both at the end
-pub pair-put : (old all one two mid new : List ℕ) (n at middle : ℕ) → HasRoom old [] all n → at ≡ length old → n ≡ length one + length two
-    → mid ≡ take at all ++ (one ++ drop (at + length one) all) → middle ≡ at + length one → new ≡ take middle mid ++ (two ++ drop (middle + length two) mid)
-    → new ≡ old ++ (one ++ two)
-pair-put old all one two mid new n at middle h by_at by_n is_mid by_middle is_new =
-    let done : new ≡ take (at + length one) mid ++ (two ++ drop (at + length one + length two) mid) =
-    is_new ∙ ap (λ (i : ℕ). take i mid ++ (two ++ drop (i + length two) mid)) by_middle in
-    both-put old [] all one two mid new n at (length one) h by_at refl by_n is_mid done ∙ ap (λ (v : List ℕ). old ++ v) (append-nil (one ++ two))

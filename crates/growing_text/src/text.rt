@@ -112,9 +112,11 @@ impl Text {
         let end = self.len;
         let n = first.len() + second.len();
         make_room(&mut self.bytes, self.len, n)?;
+        let (_, room) = self.bytes.split_at_mut(end);
+        let (front, rest) = room.split_at_mut(first.len());
+        copy_text(front, first);
+        copy_text(&mut rest[..second.len()], second);
         self.len = end + n;
-        let middle = self.put(end, first);
-        self.put(middle, second);
         Ok(())
     }
 

@@ -11,8 +11,7 @@ use Rattle.std.specs.Prelude.{Box}
 use Rattle.std.specs.Global.{Global}
 use Rattle.demangle_text.specs.Shape.{Shape, text}
 use Rattle.demangle_text.specs.declared.buffer.Buffer.{Buffer}
-use Rattle.demangle_text.specs.declared.shape.Mark.{Mark}
-use Rattle.demangle_text.specs.State.{shape, saved, main_bytes, Opens}
+use Rattle.demangle_text.specs.State.{shape, saved, scopes, main_bytes}
 use Rattle.itanium_syntax.specs.declared.context.Context.{Context}
 use Rattle.itanium_syntax.specs.Bytes.{begins}
 use Rattle.itanium_syntax.proofs.Fronts.{IsAfter, after_then}
@@ -24,8 +23,8 @@ use Rattle.itanium_reader.specs.declared.reader.Reader.{Reader}
 use Rattle.itanium_reader.specs.declared.stop.Stop.{Stop}
 use Rattle.itanium_reader.specs.declared.stop.Stop.TheVariants.{Unread, Memory}
 use Rattle.itanium_reader.specs.Parser.{ParserState, begun, parse_symbol}
-use Rattle.itanium_reader.specs.Outcome.{state, Gives, Bounds, SavedBounds, MostSaved}
-use Rattle.itanium_demangle.specs.Meaning.{StandsFor, HasReading, HasNoReading, ReadsAs}
+use Rattle.itanium_reader.specs.Outcome.{state, Gives, TakesSome, SavedBounds, MostSaved}
+use Rattle.itanium_demangle.specs.Meaning.{StandsFor, state_at, HasReading, HasNoReading, ReadsAs}
 use Rattle.itanium_demangle.specs.Demangler.{IsPrinted, IsText, answer_text, component_texts, component_shapes}
 use Rattle.itanium_demangle.proofs.Readers.{symbols}
 
@@ -49,6 +48,18 @@ stands_at_start r bytes is = is ∙ (λ j. record {
   entered = sym (ap (λ (s : ParserState). s.entered) is) j;
   most_saved = sym (ap (λ (s : ParserState). s.most_saved) is) j;
 })
+
+-- the state of a new reader over a buffer where nothing is saved and no scope is open
+pub state_begun : (buffer : Buffer) (bytes : List ℕ) → saved buffer ≡ [] → scopes buffer ≡ []
+    → record (begun bytes) { saved = saved buffer; scopes = scopes buffer; most_saved = max 0 (length (saved buffer)) } ≡ begun bytes
+state_begun buffer bytes no_saved no_scopes = λ j. record (begun bytes) { saved = no_saved j; scopes = no_scopes j; most_saved = max 0 (length (no_saved j)) }
+
+-- what is read from there
+pub reading_from_start : (x : Context) (d : ℕ) (before after : ParserState) (found : Shape) (bytes : List ℕ) → before ≡ begun bytes
+    → ((p : Position) → before ≡ state_at p before.entered before.most_saved → HasReading (Symbol x p) shape_of d before.entered before.most_saved found after)
+    → HasReading (Symbol x (start bytes)) shape_of d 0 0 found after
+reading_from_start x d before after found bytes is reads =
+    subst (λ (s : ParserState). (p : Position) → s ≡ state_at p s.entered s.most_saved → HasReading (Symbol x p) shape_of d s.entered s.most_saved found after) is reads (start bytes) refl
 
 pub no_prefix : (symbol : List ℕ) → after_prefix symbol ≡ None → HasNoAnswer symbol
 no_prefix symbol none tree next cost reading within utf8 = let p = reading.prefix in cc
@@ -146,18 +157,16 @@ suffix_utf8 symbol inside e m found after utf8 prefix has =
     rw same_rest (suffix_from symbol has.next.rest utf8 (after_then (prefix_after symbol inside prefix) (symbol_takes has.reading).after))
 
 -- the counts of a reading that was found are those of every reading
-pub counted : (symbol inside : List ℕ) (before : ParserState) (found : Shape) (after : ParserState) → after_prefix symbol ≡ Some inside → before ≡ begun inside
-    → HasReading (Symbol initial (start inside)) shape_of max_depth before.entered before.most_saved found after → HasCounts symbol after.entered after.most_saved
-counted symbol inside before found after prefix starts has tree next cost reading within =
+pub counted : (symbol inside : List ℕ) (found : Shape) (after : ParserState) → after_prefix symbol ≡ Some inside
+    → HasReading (Symbol initial (start inside)) shape_of max_depth 0 0 found after → HasCounts symbol after.entered after.most_saved
+counted symbol inside found after prefix has tree next cost reading within =
     let here : reading.inside ≡ inside = cc in
     let same = has.one tree next cost (subst (λ v. Symbol initial (start v) tree next cost) here reading.reading) within in
-    let entered : after.entered ≡ before.entered + has.cost.count = ap (λ (s : ParserState). s.entered) has.state_is in
-    let most : after.most_saved ≡ max before.most_saved has.cost.peak = ap (λ (s : ParserState). s.most_saved) has.state_is in
-    let none : before.entered ≡ 0 = ap (λ (s : ParserState). s.entered) starts in
-    let nothing : before.most_saved ≡ 0 = ap (λ (s : ParserState). s.most_saved) starts in
+    let entered : after.entered ≡ 0 + has.cost.count = ap (λ (s : ParserState). s.entered) has.state_is in
+    let most : after.most_saved ≡ max 0 has.cost.peak = ap (λ (s : ParserState). s.most_saved) has.state_is in
     let count : cost.count ≡ has.cost.count = ap (λ (c : Cost). c.count) same.2 in
     let peak : cost.peak ≡ has.cost.peak = ap (λ (c : Cost). c.peak) same.2 in
-    (omega (arith, entered, none, count), omega (arith, most, nothing, peak))
+    (omega (arith, entered, count), omega (arith, most, peak))
 
 -- where there is no reading within the limits, nothing is asked of the counts
 pub uncounted : (symbol inside : List ℕ) (entered most_saved : ℕ) → after_prefix symbol ≡ Some inside → HasNoReading (Symbol initial (start inside)) max_depth → HasCounts symbol entered most_saved
@@ -209,17 +218,9 @@ pub kept_text : (printing after : List ℕ) (buffer : Box Buffer Global) (answer
 kept_text printing after buffer false printed good = tt
 kept_text printing after buffer true printed good = subst IsUtf8 (sym printed.1) (IsUtf8-append printing after printed.0 good)
 
--- a mark that is opened leaves the parser's state
-pub opened_state : (r : Reader) (new : Buffer) (m : Mark) → Opens r.buffer.value new m → state (record r { buffer = record r.buffer { value = new } }) ≡ state r
-opened_state r new m o = λ j. record (state r) {
-  saved = o.lists.saved_same j;
-  scopes = o.lists.scopes_same j;
-  most_saved = max r.most_noted (length (o.lists.saved_same j));
-}
-
 -- what is entered and saved over what follows the prefix is within the bounds of the symbol
 pub within_bounds : (symbol inside : List ℕ) (before after : ParserState) → after_prefix symbol ≡ Some inside → before ≡ begun inside
-    → after.entered + 1 ≤ before.entered + 2 * length before.rest + 2 → MostSaved 0 before after → HasBounds symbol after.entered after.most_saved
+    → after.entered ≤ before.entered + 2 * length before.rest + 1 → MostSaved 0 before after → HasBounds symbol after.entered after.most_saved
 within_bounds symbol inside before after prefix starts entered saved =
     let shorter : length inside + 2 ≤ length symbol = prefix_takes symbol inside prefix in
     let none : before.entered ≡ 0 = ap (λ (s : ParserState). s.entered) starts in
@@ -230,11 +231,11 @@ within_bounds symbol inside before after prefix starts entered saved =
 
 -- the same of a reading that was found
 pub read_within : (symbol inside : List ℕ) (before after : ParserState) (u : Unit {0}) → after_prefix symbol ≡ Some inside → before ≡ begun inside
-    → Bounds {A = Unit {0}} 1 (Ok u) before after → SavedBounds {A = Unit {0}} 1 (Ok u) before after → HasBounds symbol after.entered after.most_saved
-read_within symbol inside before after u prefix starts bounds saved = within_bounds symbol inside before after prefix starts (omega (arith, bounds.1)) saved.1
+    → TakesSome {A = Unit {0}} 1 (Ok u) before after → SavedBounds {A = Unit {0}} 1 (Ok u) before after → HasBounds symbol after.entered after.most_saved
+read_within symbol inside before after u prefix starts bounds saved = within_bounds symbol inside before after prefix starts (omega (arith, bounds.counted)) saved.most
 
 -- and of a run that failed
 pub unread_within : (symbol inside : List ℕ) (before after : ParserState) (stop : Stop) → after_prefix symbol ≡ Some inside → before ≡ begun inside → stop ≡ Unread
-    → Bounds {A = Unit {0}} 1 (Err stop) before after → SavedBounds {A = Unit {0}} 1 (Err stop) before after → HasBounds symbol after.entered after.most_saved
+    → TakesSome {A = Unit {0}} 1 (Err stop) before after → SavedBounds {A = Unit {0}} 1 (Err stop) before after → HasBounds symbol after.entered after.most_saved
 unread_within symbol inside before after Unread prefix starts is bounds saved = within_bounds symbol inside before after prefix starts bounds saved
 unread_within symbol inside before after Memory prefix starts is bounds saved = cc

@@ -7,7 +7,6 @@ ghost use Rattle.demangle_text.specs.State.{IsLiving, shape, saved, scopes, main
 ghost use Rattle.demangle_text.specs.Shape.{text};
 ghost use Rattle.itanium_grammar.specs.Answer.{IsAnswer, HasOneReading, HasCounts, HasComponents, HasSaved, HasBounds, HasLength};
 ghost use Rattle.itanium_grammar.specs.Answer as spec;
-ghost use Rattle.itanium_reader.specs.Parser.{begun};
 ghost use Rattle.itanium_reader.specs.Outcome.{state};
 ghost use Rattle.itanium_demangle.specs.Demangler.{IsPrinted, IsPrepared, IsText, IsEnded, answer_text, component_texts, component_shapes};
 ghost use Rattle.itanium_demangle.specs.LastRun.{no_run};
@@ -47,19 +46,17 @@ impl Model for Demangler {
     ghost invariant = { KeepsAnswer };
 }
 
-/// A reader at the front of the bytes, over a buffer that is cleared, and a mark that is opened in it. Both are made
-/// here, where no call has seen the reader yet: so the compiler knows that the mark stands at 0.
-#[tactic(auto, using(crate::proofs::Rules::opened))]
+/// Clears the buffer, and opens the mark of an answer in it.
 #[inline(always)]
-fn begin_answer(alloc: Global, buffer: Box<Buffer>, bytes: &[u8]) -> (Reader<'_>, Mark)
-    ensures state { state result.0 ≡ begun bytes.entry.now }
-    ensures innermost { frame result.0.buffer.value ≡ inside result.1 }
-    ensures next { outside result.1 ≡ outermost }
-    ensures start { frame_start (inside result.1) ≡ 0 }
+fn begin_answer(buffer: &mut Buffer) -> Mark
+    ensures saved { saved buffer.new ≡ [] }
+    ensures scopes { scopes buffer.new ≡ [] }
+    ensures innermost { frame buffer.new ≡ inside result }
+    ensures next { outside result ≡ outermost }
+    ensures start { frame_start (inside result) ≡ 0 }
 {
-    let mut reader = Reader::new(alloc, buffer, bytes);
-    let mark = reader.buffer.open();
-    (reader, mark)
+    buffer.clear();
+    buffer.open()
 }
 
 /// Makes the printing that was found, and all that follows from a dot after it, the main text of the buffer, and drops
@@ -74,20 +71,19 @@ fn end_answer(reader: &mut Reader, mark: Mark) -> Result<bool, AllocError>
         (spec.suffix reader.old.rest.now) (answer_text answered (Some reader.new.buffer))) }
     ensures saved { OnOk result (saved reader.new.buffer.value ≡ saved reader.old.buffer.value) }
     ensures ended { IfOk result (λ answered. IsEnded answered (Some reader.new.buffer)) }
-    ensures entered { reader.new.entered ≡ reader.old.entered }
+    ensures entered { OnOk result (reader.new.entered ≡ reader.old.entered) }
     ensures most_saved { OnOk result ((state reader.new).most_saved ≡ (state reader.old).most_saved) }
 {
     if !is_utf8(reader.buffer.bytes(reader.found)) {
         return Ok(false);
     }
     reader.buffer.keep_scopes(0);
-    let printed = reader.buffer.plain(reader.found);
     let rest = suffix(reader.rest);
     if rest.is_empty() {
-        reader.buffer.close(mark, printed)?;
+        reader.close_found(mark)?;
         return Ok(true);
     }
-    let whole = reader.buffer.append(printed, rest)?;
+    let whole = reader.buffer.append(reader.found, rest)?;
     reader.buffer.close(mark, whole)?;
     Ok(true)
 }
@@ -157,11 +153,19 @@ impl Demangler {
         let Some(inside) = after_prefix(symbol.as_bytes()) else {
             return Ok(false);
         };
-        let buffer = match self.buffer.take() {
+        let mut buffer = match self.buffer.take() {
             Some(buffer) => buffer,
             None => Box::new(alloc, Buffer::new(alloc))?,
         };
-        let (mut reader, mark) = begin_answer(alloc, buffer, inside);
+        let mark = begin_answer(&mut buffer);
+        let mut reader = Reader {
+            rest: inside,
+            found: buffer.empty(),
+            buffer,
+            quals: None,
+            entered: 0,
+            most_noted: 0,
+        };
         match read_mangled_name(&mut reader, MAX_DEPTH, INITIAL) {
             Ok(()) => {}
             Err(Stop::Unread) => {

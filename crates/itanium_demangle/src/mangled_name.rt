@@ -2,7 +2,7 @@
 ghost use Rattle.std.specs.Prelude.{OnOk};
 ghost use Rattle.demangle_text.specs.State.{IsRun};
 ghost use Rattle.itanium_reader.specs.Parser as spec;
-ghost use Rattle.itanium_reader.specs.Outcome.{state, Gives, HasRoom, Bounds, SavedBounds};
+ghost use Rattle.itanium_reader.specs.Outcome.{state, Gives, HasRoom, TakesSome, SavedBounds};
 ghost use Rattle.itanium_demangle.specs.Meaning.{ReadsAs};
 
 use itanium_productions::read_symbol;
@@ -22,7 +22,7 @@ pub(crate) fn read_mangled_name(
     // Of trees: a reading of the bytes, with which every other agrees, or none.
     ensures reading { ReadsAs result context depth reader.old reader.new }
     ensures run { OnOk result (IsRun reader.old.buffer.value reader.new.buffer.value) }
-    ensures bounds { Bounds 1 result (state reader.old) (state reader.new) }
+    ensures bounds { TakesSome 1 result (state reader.old) (state reader.new) }
     ensures saved { SavedBounds 1 result (state reader.old) (state reader.new) }
 {
     read_symbol(reader, depth, context)

@@ -1,19 +1,21 @@
 //! Template arguments (Itanium C++ ABI 5.1.5).
-ghost use Rattle.std.specs.Prelude.{◌≡◌, ◌<◌, OnOk, length};
-ghost use Rattle.demangle_text.specs.State.{IsLiving, shape, IsRun, SameFrame, Stands, main_bytes};
+ghost use Rattle.std.specs.Prelude.{◌≡◌, ◌<◌, ◌++◌, OnOk, length};
+ghost use Rattle.demangle_text.specs.State.{IsLiving, shape, IsRun, SameFrame, main_bytes};
+ghost use Rattle.demangle_text.specs.Shape.{text};
+ghost use Rattle.demangle_text.specs.Calls.{IsLast};
 ghost use Rattle.itanium_reader.specs.Parser as spec;
-ghost use Rattle.itanium_reader.specs.Outcome.{state, Gives, HasRoom, Bounds, SavedBounds};
+ghost use Rattle.itanium_reader.specs.Outcome.{state, Gives, HasRoom, TakesSome, SavedBounds};
 
 use crate::expressions::{read_expression, read_primary};
 use crate::types::read_type;
-use demangle_edit::{append_piece, begin_arguments, end_arguments};
+use demangle_edit::{append_piece, close_arguments, open_arguments};
 use itanium_reader::{Reader, Stop, text_limit};
 use itanium_syntax::args::{ArgsCase, ArgumentCase, args_case, argument_case};
 use itanium_syntax::context::Context;
 
 /// `<template-args> ::= I <template-arg>* E`, of a name or of a type, after what was found, within `depth` open
 /// productions.
-#[tactic(auto, using(itanium_reader::proofs::Rules::argument_lists, itanium_reader::proofs::Rules::lasts))]
+#[tactic(auto, using(itanium_reader::proofs::Rules::argument_lists))]
 #[cycle(reader)]
 pub(crate) fn read_attached(
     reader: &mut Reader,
@@ -28,8 +30,9 @@ pub(crate) fn read_attached(
         (spec.attached_by (spec.parse_args depth context of_name)
         (shape reader.old.buffer.value reader.old.found) (state reader.old)) }
     ensures run { OnOk result (IsRun reader.old.buffer.value reader.new.buffer.value) }
+    ensures last { OnOk result (IsLast reader.new.buffer.value reader.new.found) }
     ensures refused { depth ≡ 0 → reader.new.entered ≡ reader.old.entered }
-    ensures bounds { Bounds 1 result (state reader.old) (state reader.new) }
+    ensures bounds { TakesSome 1 result (state reader.old) (state reader.new) }
     ensures saved { SavedBounds 2 result (state reader.old) (state reader.new) }
 {
     let depth = reader.enter(depth)?;
@@ -37,10 +40,7 @@ pub(crate) fn read_attached(
     let opens = context.opens_scope(of_name);
     reader.begin_list(opens)?;
     let scopes = reader.buffer.scopes();
-    let len = reader.buffer.len(reader.found);
-    let own = reader.buffer.own_range(reader.found);
-    let ctor = reader.buffer.ctor(reader.found);
-    let mut list = begin_arguments(&mut reader.buffer, reader.found)?;
+    let list = open_arguments(&mut reader.buffer, reader.found)?;
     // The list begins with its `<`, after the name.
     let front = reader.buffer.len(list) - 1;
     let widest = front + text_limit();
@@ -49,18 +49,17 @@ pub(crate) fn read_attached(
         match args_case(reader.rest) {
             ArgsCase::EndOfArguments => {
                 reader.skip(1);
-                reader.found = end_arguments(&mut reader.buffer, list, len, own, ctor)?;
+                reader.found = close_arguments(&mut reader.buffer, list)?;
                 if reader.buffer.len(reader.found) > widest {
                     return Err(Stop::Unread);
                 }
                 return Ok(());
             }
             ArgsCase::NextArgument => {
-                list = reader.separate_list(list, first)?;
+                reader.separate(first)?;
                 framed_argument(reader, depth, context)?;
                 reader.add_argument(opens, scopes)?;
-                list = reader.buffer.join_adjacent(list, reader.found);
-                if reader.buffer.len(list) > widest {
+                if reader.buffer.len(reader.buffer.up_to_end(list)) > widest {
                     return Err(Stop::Unread);
                 }
                 first = false;
@@ -80,7 +79,7 @@ pub(crate) fn read_pack(reader: &mut Reader, depth: usize, context: Context) -> 
     ensures reads { Gives result reader.new (spec.parse_pack depth context (state reader.old)) }
     ensures run { OnOk result (IsRun reader.old.buffer.value reader.new.buffer.value) }
     ensures refused { depth ≡ 0 → reader.new.entered ≡ reader.old.entered }
-    ensures bounds { Bounds 1 result (state reader.old) (state reader.new) }
+    ensures bounds { TakesSome 1 result (state reader.old) (state reader.new) }
     ensures saved { SavedBounds 1 result (state reader.old) (state reader.new) }
 {
     let depth = reader.enter(depth)?;
@@ -118,7 +117,7 @@ pub(crate) fn read_argument(reader: &mut Reader, depth: usize, context: Context)
     ensures reads { Gives result reader.new
         (spec.parse_argument depth context (state reader.old)) }
     ensures run { OnOk result (IsRun reader.old.buffer.value reader.new.buffer.value) }
-    ensures bounds { Bounds 0 result (state reader.old) (state reader.new) }
+    ensures bounds { TakesSome 2 result (state reader.old) (state reader.new) }
     ensures saved { SavedBounds 0 result (state reader.old) (state reader.new) }
 {
     match argument_case(reader.rest) {
@@ -134,7 +133,8 @@ pub(crate) fn read_argument(reader: &mut Reader, depth: usize, context: Context)
     }
 }
 
-/// A `<template-arg>` in a frame of its own: what lived keeps its shape. It stands right after all that was there.
+/// A `<template-arg>` in a frame of its own: what lived keeps its shape. The output is all that was
+/// there and then its text.
 #[tactic(auto, using(itanium_reader::proofs::Rules::buffers))]
 #[cycle(reader)]
 #[inline(always)]
@@ -147,9 +147,9 @@ pub(crate) fn framed_argument(
     ensures reads { Gives result reader.new
         (spec.parse_argument depth context (state reader.old)) }
     ensures kept { OnOk result (SameFrame reader.old.buffer.value reader.new.buffer.value) }
-    ensures stands { OnOk result (Stands reader.new.found (length (main_bytes reader.old.buffer.value))
-        (length (main_bytes reader.new.buffer.value))) }
-    ensures bounds { Bounds 0 result (state reader.old) (state reader.new) }
+    ensures main { OnOk result (main_bytes reader.new.buffer.value
+        ≡ main_bytes reader.old.buffer.value ++ text (shape reader.new.buffer.value reader.new.found)) }
+    ensures bounds { TakesSome 2 result (state reader.old) (state reader.new) }
     ensures saved { SavedBounds 0 result (state reader.old) (state reader.new) }
 {
     let mark = reader.buffer.open();

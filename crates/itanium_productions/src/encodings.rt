@@ -6,7 +6,7 @@ ghost use Rattle.demangle_text.specs.State.{IsLiving, shape, IsRun, SameFrame};
 ghost use Rattle.itanium_syntax.specs.Context.{inside_encoding, inside_local};
 ghost use Rattle.itanium_syntax.specs.Encodings.{return_case, entity_case};
 ghost use Rattle.itanium_reader.specs.Parser as spec;
-ghost use Rattle.itanium_reader.specs.Outcome.{state, Gives, GivesBareName, Leaves, HasRoom, Bounds, ListBounds, SavedBounds};
+ghost use Rattle.itanium_reader.specs.Outcome.{state, Gives, GivesBareName, Leaves, HasRoom, TakesSome, MayTakeNone, SavedBounds};
 
 use crate::names::{framed_name, read_name};
 use crate::specials::read_special;
@@ -31,7 +31,7 @@ pub(crate) fn drop_type(reader: &mut Reader, depth: usize, context: Context) -> 
     requires room { HasRoom 2 (state reader.old) }
     ensures reads { Leaves result reader.new (spec.dropped (spec.parse_type depth context (state reader.old))) }
     ensures kept { OnOk result (SameFrame reader.old.buffer.value reader.new.buffer.value) }
-    ensures bounds { Bounds 0 result (state reader.old) (state reader.new) }
+    ensures bounds { TakesSome 2 result (state reader.old) (state reader.new) }
     ensures saved { SavedBounds 0 result (state reader.old) (state reader.new) }
 {
     let mark = reader.buffer.open();
@@ -55,7 +55,7 @@ pub(crate) fn read_return(
     ensures reads { Leaves result reader.new (spec.return_as (return_case templ ctor reader.old.rest.now)
         (spec.parse_type depth context) (state reader.old)) }
     ensures kept { OnOk result (SameFrame reader.old.buffer.value reader.new.buffer.value) }
-    ensures bounds { ListBounds result (state reader.old) (state reader.new) }
+    ensures bounds { MayTakeNone 2 result (state reader.old) (state reader.new) }
     ensures saved { SavedBounds 0 result (state reader.old) (state reader.new) }
 {
     match return_case(templ, ctor, reader.rest) {
@@ -79,7 +79,7 @@ pub(crate) fn end_encoding(
     ensures reads { Gives result reader.new (spec.encoding_end (spec.parse_type depth context)
         (shape reader.old.buffer.value name, unwrap_or reader.old.quals no_quals) (state reader.old)) }
     ensures run { OnOk result (IsRun reader.old.buffer.value reader.new.buffer.value) }
-    ensures bounds { ListBounds result (state reader.old) (state reader.new) }
+    ensures bounds { MayTakeNone 2 result (state reader.old) (state reader.new) }
     ensures saved { SavedBounds 0 result (state reader.old) (state reader.new) }
 {
     let quals = reader.quals.unwrap_or(Quals::none());
@@ -107,7 +107,7 @@ pub(crate) fn read_encoding(reader: &mut Reader, depth: usize, context: Context)
     requires room { HasRoom 1 (state reader.old) }
     ensures reads { Gives result reader.new (spec.parse_encoding depth context (state reader.old)) }
     ensures run { OnOk result (IsRun reader.old.buffer.value reader.new.buffer.value) }
-    ensures bounds { Bounds 1 result (state reader.old) (state reader.new) }
+    ensures bounds { TakesSome 1 result (state reader.old) (state reader.new) }
     ensures saved { SavedBounds 1 result (state reader.old) (state reader.new) }
 {
     match symbol_case(reader.rest) {
@@ -135,7 +135,7 @@ pub(crate) fn read_entity(
     ensures reads { GivesBareName result reader.new (spec.entity_as (entity_case reader.old.rest.now)
         (spec.parse_bare_name depth context) (shape reader.old.buffer.value encoding) (state reader.old)) }
     ensures run { OnOk result (IsRun reader.old.buffer.value reader.new.buffer.value) }
-    ensures bounds { Bounds 2 result (state reader.old) (state reader.new) }
+    ensures bounds { TakesSome 0 result (state reader.old) (state reader.new) }
     ensures saved { SavedBounds 1 result (state reader.old) (state reader.new) }
 {
     match entity_case(reader.rest) {
@@ -177,7 +177,7 @@ pub(crate) fn read_local(reader: &mut Reader, depth: usize, context: Context) ->
         (spec.parse_encoding depth (inside_encoding context))
         (spec.parse_bare_name depth (inside_local context)) (state reader.old)) }
     ensures run { OnOk result (IsRun reader.old.buffer.value reader.new.buffer.value) }
-    ensures bounds { Bounds 1 result (state reader.old) (state reader.new) }
+    ensures bounds { TakesSome 1 result (state reader.old) (state reader.new) }
     ensures saved { SavedBounds 1 result (state reader.old) (state reader.new) }
 {
     read_encoding(reader, depth, context.inside_encoding())?;

@@ -1,8 +1,9 @@
 //! Literals, external names and expressions (Itanium C++ ABI 5.1, "Expressions").
-ghost use Rattle.std.specs.Prelude.{◌≡◌, ◌<◌, OnOk, length};
-ghost use Rattle.demangle_text.specs.State.{IsLiving, shape, IsRun, SameFrame, Stands, main_bytes};
+ghost use Rattle.std.specs.Prelude.{◌≡◌, ◌<◌, ◌++◌, OnOk, length};
+ghost use Rattle.demangle_text.specs.State.{IsLiving, shape, IsRun, SameFrame, main_bytes};
+ghost use Rattle.demangle_text.specs.Shape.{text};
 ghost use Rattle.itanium_reader.specs.Parser as spec;
-ghost use Rattle.itanium_reader.specs.Outcome.{state, Gives, HasRoom, Bounds, SavedBounds};
+ghost use Rattle.itanium_reader.specs.Outcome.{state, Gives, HasRoom, TakesSome, SavedBounds};
 
 use crate::encodings::read_encoding;
 use crate::types::framed_type;
@@ -22,7 +23,7 @@ pub(crate) fn read_primary(reader: &mut Reader, depth: usize, context: Context) 
     requires some { 0 < length reader.old.rest.now }
     ensures reads { Gives result reader.new (spec.parse_primary depth context (state reader.old)) }
     ensures run { OnOk result (IsRun reader.old.buffer.value reader.new.buffer.value) }
-    ensures bounds { Bounds 2 result (state reader.old) (state reader.new) }
+    ensures bounds { TakesSome 0 result (state reader.old) (state reader.new) }
     ensures saved { SavedBounds 1 result (state reader.old) (state reader.new) }
 {
     match literal_case(reader.rest) {
@@ -47,7 +48,7 @@ pub(crate) fn read_literal(reader: &mut Reader, depth: usize, context: Context) 
     requires room { HasRoom 2 (state reader.old) }
     ensures reads { Gives result reader.new (spec.literal_by (spec.parse_type depth context) (state reader.old)) }
     ensures run { OnOk result (IsRun reader.old.buffer.value reader.new.buffer.value) }
-    ensures bounds { Bounds 0 result (state reader.old) (state reader.new) }
+    ensures bounds { TakesSome 2 result (state reader.old) (state reader.new) }
     ensures saved { SavedBounds 0 result (state reader.old) (state reader.new) }
 {
     // Most literals have their type in parentheses, the first of which goes in front of it.
@@ -65,12 +66,13 @@ pub(crate) fn read_pre(reader: &mut Reader, depth: usize, context: Context) -> R
     ensures reads { Gives result reader.new
         (spec.parse_pre (spec.parse_expression depth context) (state reader.old)) }
     ensures run { OnOk result (IsRun reader.old.buffer.value reader.new.buffer.value) }
-    ensures bounds { Bounds 2 result (state reader.old) (state reader.new) }
+    ensures bounds { TakesSome 0 result (state reader.old) (state reader.new) }
     ensures saved { SavedBounds 1 result (state reader.old) (state reader.new) }
 {
     // The operator's text goes in front before the operand is read, so that nothing moves after it.
-    let front = reader.buffer.push(expression_text(reader.rest).as_bytes())?;
+    let operator = expression_text(reader.rest).as_bytes();
     reader.skip(3);
+    let front = reader.buffer.push(operator)?;
     framed_expression(reader, depth, context)?;
     reader.print_worded(front, b"")?;
     Ok(())
@@ -85,7 +87,7 @@ pub(crate) fn read_address(reader: &mut Reader, depth: usize, context: Context) 
     ensures reads { Gives result reader.new
         (spec.parse_address (spec.parse_expression depth context) (state reader.old)) }
     ensures run { OnOk result (IsRun reader.old.buffer.value reader.new.buffer.value) }
-    ensures bounds { Bounds 2 result (state reader.old) (state reader.new) }
+    ensures bounds { TakesSome 0 result (state reader.old) (state reader.new) }
     ensures saved { SavedBounds 1 result (state reader.old) (state reader.new) }
 {
     reader.skip(2);
@@ -103,11 +105,12 @@ pub(crate) fn read_unary(reader: &mut Reader, depth: usize, context: Context) ->
     ensures reads { Gives result reader.new
         (spec.parse_unary (spec.parse_expression depth context) (state reader.old)) }
     ensures run { OnOk result (IsRun reader.old.buffer.value reader.new.buffer.value) }
-    ensures bounds { Bounds 2 result (state reader.old) (state reader.new) }
+    ensures bounds { TakesSome 0 result (state reader.old) (state reader.new) }
     ensures saved { SavedBounds 1 result (state reader.old) (state reader.new) }
 {
-    let front = reader.buffer.push(expression_text(reader.rest).as_bytes())?;
+    let operator = expression_text(reader.rest).as_bytes();
     reader.skip(2);
+    let front = reader.buffer.push(operator)?;
     framed_operand(reader, depth, context)?;
     reader.print_worded(front, b"")?;
     Ok(())
@@ -122,7 +125,7 @@ pub(crate) fn read_post(reader: &mut Reader, depth: usize, context: Context) -> 
     ensures reads { Gives result reader.new
         (spec.parse_post (spec.parse_expression depth context) (state reader.old)) }
     ensures run { OnOk result (IsRun reader.old.buffer.value reader.new.buffer.value) }
-    ensures bounds { Bounds 2 result (state reader.old) (state reader.new) }
+    ensures bounds { TakesSome 0 result (state reader.old) (state reader.new) }
     ensures saved { SavedBounds 1 result (state reader.old) (state reader.new) }
 {
     let text = expression_text(reader.rest);
@@ -141,7 +144,7 @@ pub(crate) fn read_binary(reader: &mut Reader, depth: usize, context: Context) -
     ensures reads { Gives result reader.new
         (spec.parse_binary (spec.parse_expression depth context) (state reader.old)) }
     ensures run { OnOk result (IsRun reader.old.buffer.value reader.new.buffer.value) }
-    ensures bounds { Bounds 2 result (state reader.old) (state reader.new) }
+    ensures bounds { TakesSome 0 result (state reader.old) (state reader.new) }
     ensures saved { SavedBounds 1 result (state reader.old) (state reader.new) }
 {
     let text = expression_text(reader.rest);
@@ -162,7 +165,7 @@ pub(crate) fn read_greater(reader: &mut Reader, depth: usize, context: Context) 
     ensures reads { Gives result reader.new
         (spec.parse_greater (spec.parse_expression depth context) (state reader.old)) }
     ensures run { OnOk result (IsRun reader.old.buffer.value reader.new.buffer.value) }
-    ensures bounds { Bounds 2 result (state reader.old) (state reader.new) }
+    ensures bounds { TakesSome 0 result (state reader.old) (state reader.new) }
     ensures saved { SavedBounds 1 result (state reader.old) (state reader.new) }
 {
     reader.skip(2);
@@ -187,7 +190,7 @@ pub(crate) fn read_alternatives(
     ensures reads { Gives result reader.new (spec.parse_alternatives (spec.parse_expression depth context)
         (shape reader.old.buffer.value condition) (state reader.old)) }
     ensures run { OnOk result (IsRun reader.old.buffer.value reader.new.buffer.value) }
-    ensures bounds { Bounds 1 result (state reader.old) (state reader.new) }
+    ensures bounds { TakesSome 1 result (state reader.old) (state reader.new) }
     ensures saved { SavedBounds 1 result (state reader.old) (state reader.new) }
 {
     let mark = reader.buffer.open();
@@ -213,7 +216,7 @@ pub(crate) fn read_conditional(
     ensures reads { Gives result reader.new
         (spec.parse_conditional (spec.parse_expression depth context) (state reader.old)) }
     ensures run { OnOk result (IsRun reader.old.buffer.value reader.new.buffer.value) }
-    ensures bounds { Bounds 2 result (state reader.old) (state reader.new) }
+    ensures bounds { TakesSome 0 result (state reader.old) (state reader.new) }
     ensures saved { SavedBounds 1 result (state reader.old) (state reader.new) }
 {
     reader.skip(2);
@@ -233,7 +236,7 @@ pub(crate) fn read_expression(
     ensures reads { Gives result reader.new (spec.parse_expression depth context (state reader.old)) }
     ensures run { OnOk result (IsRun reader.old.buffer.value reader.new.buffer.value) }
     ensures refused { depth ≡ 0 → reader.new.entered ≡ reader.old.entered }
-    ensures bounds { Bounds 1 result (state reader.old) (state reader.new) }
+    ensures bounds { TakesSome 1 result (state reader.old) (state reader.new) }
     ensures saved { SavedBounds 1 result (state reader.old) (state reader.new) }
 {
     let depth = reader.enter(depth)?;
@@ -261,7 +264,7 @@ pub(crate) fn read_operand(reader: &mut Reader, depth: usize, context: Context) 
     ensures reads { Gives result reader.new
         (spec.operand_by (spec.parse_expression depth context) (state reader.old)) }
     ensures run { OnOk result (IsRun reader.old.buffer.value reader.new.buffer.value) }
-    ensures bounds { Bounds 1 result (state reader.old) (state reader.new) }
+    ensures bounds { TakesSome 1 result (state reader.old) (state reader.new) }
     ensures saved { SavedBounds 1 result (state reader.old) (state reader.new) }
 {
     let paren = !is_external(reader.rest);
@@ -270,7 +273,8 @@ pub(crate) fn read_operand(reader: &mut Reader, depth: usize, context: Context) 
     Ok(())
 }
 
-/// An operand in a frame of its own: what lived keeps its shape. It stands right after all that was there.
+/// An operand in a frame of its own: what lived keeps its shape. The output is all that was
+/// there and then its text.
 #[tactic(auto, using(itanium_reader::proofs::Rules::buffers))]
 #[cycle(reader)]
 pub(crate) fn framed_operand(
@@ -282,9 +286,9 @@ pub(crate) fn framed_operand(
     ensures reads { Gives result reader.new
         (spec.operand_by (spec.parse_expression depth context) (state reader.old)) }
     ensures kept { OnOk result (SameFrame reader.old.buffer.value reader.new.buffer.value) }
-    ensures stands { OnOk result (Stands reader.new.found (length (main_bytes reader.old.buffer.value))
-        (length (main_bytes reader.new.buffer.value))) }
-    ensures bounds { Bounds 1 result (state reader.old) (state reader.new) }
+    ensures main { OnOk result (main_bytes reader.new.buffer.value
+        ≡ main_bytes reader.old.buffer.value ++ text (shape reader.new.buffer.value reader.new.found)) }
+    ensures bounds { TakesSome 1 result (state reader.old) (state reader.new) }
     ensures saved { SavedBounds 1 result (state reader.old) (state reader.new) }
 {
     let mark = reader.buffer.open();
@@ -293,7 +297,8 @@ pub(crate) fn framed_operand(
     Ok(())
 }
 
-/// `<expression>` in a frame of its own: what lived keeps its shape. It stands right after all that was there.
+/// `<expression>` in a frame of its own: what lived keeps its shape. The output is all that was
+/// there and then its text.
 #[tactic(auto, using(itanium_reader::proofs::Rules::buffers))]
 #[cycle(reader)]
 pub(crate) fn framed_expression(
@@ -304,9 +309,9 @@ pub(crate) fn framed_expression(
     requires room { HasRoom 1 (state reader.old) }
     ensures reads { Gives result reader.new (spec.parse_expression depth context (state reader.old)) }
     ensures kept { OnOk result (SameFrame reader.old.buffer.value reader.new.buffer.value) }
-    ensures stands { OnOk result (Stands reader.new.found (length (main_bytes reader.old.buffer.value))
-        (length (main_bytes reader.new.buffer.value))) }
-    ensures bounds { Bounds 1 result (state reader.old) (state reader.new) }
+    ensures main { OnOk result (main_bytes reader.new.buffer.value
+        ≡ main_bytes reader.old.buffer.value ++ text (shape reader.new.buffer.value reader.new.found)) }
+    ensures bounds { TakesSome 1 result (state reader.old) (state reader.new) }
     ensures saved { SavedBounds 1 result (state reader.old) (state reader.new) }
 {
     let mark = reader.buffer.open();

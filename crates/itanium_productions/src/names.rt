@@ -1,12 +1,14 @@
 //! Names (Itanium C++ ABI 5.1.2).
-ghost use Rattle.std.specs.Prelude.{◌≡◌, length, None, Some, IfOk, OnOk, true, false};
-ghost use Rattle.demangle_text.specs.State.{IsLiving, shape, IsRun, SameFrame, Stands, main_bytes};
+ghost use Rattle.std.specs.Prelude.{◌≡◌, ◌++◌, length, None, Some, IfOk, OnOk, true, false};
+ghost use Rattle.demangle_text.specs.State.{IsLiving, shape, IsRun, SameFrame, main_bytes};
+ghost use Rattle.demangle_text.specs.Shape.{text};
+ghost use Rattle.demangle_text.specs.Calls.{IsLast};
 ghost use Rattle.itanium_syntax.specs.Names.{free_case, first_case};
 ghost use Rattle.itanium_syntax.specs.Names.{unscoped_case, saves_first};
 ghost use Rattle.itanium_syntax.specs.Context.{inside_lambda};
 ghost use Rattle.itanium_reader.specs.Cases.{FreeName};
 ghost use Rattle.itanium_reader.specs.Parser as spec;
-ghost use Rattle.itanium_reader.specs.Outcome.{state, Gives, GivesBareName, GivesName, GivesWaiting, HasRoom, Bounds};
+ghost use Rattle.itanium_reader.specs.Outcome.{state, Gives, GivesBareName, GivesName, GivesWaiting, HasRoom, TakesSome};
 ghost use Rattle.itanium_reader.specs.Outcome.{SavedBounds};
 
 use crate::args::read_attached;
@@ -24,13 +26,14 @@ use itanium_syntax::names::{
 };
 
 /// `<closure-type-name> ::= Ul <lambda-sig> E [<nonnegative number>] _`, after its `Ul`.
-#[tactic(auto, using(itanium_reader::proofs::Rules::buffers))]
+#[tactic(auto, using(itanium_reader::proofs::Rules::parents))]
 #[cycle(reader)]
 pub(crate) fn read_lambda(reader: &mut Reader, depth: usize, context: Context) -> Result<(), Stop>
     requires room { HasRoom 2 (state reader.old) }
     ensures reads { Gives result reader.new (spec.parse_lambda (spec.parse_type depth context) (state reader.old)) }
     ensures run { OnOk result (IsRun reader.old.buffer.value reader.new.buffer.value) }
-    ensures bounds { Bounds 0 result (state reader.old) (state reader.new) }
+    ensures last { OnOk result (IsLast reader.new.buffer.value reader.new.found) }
+    ensures bounds { TakesSome 2 result (state reader.old) (state reader.new) }
     ensures saved { SavedBounds 1 result (state reader.old) (state reader.new) }
 {
     let list = reader.buffer.push(b"{lambda(")?;
@@ -50,7 +53,8 @@ pub(crate) fn read_free_name(
     ensures reads { Gives result reader.new (spec.free_as (free_case reader.old.rest.now)
         (spec.parse_type depth context) (spec.parse_type depth (inside_lambda context)) (state reader.old)) }
     ensures run { OnOk result (IsRun reader.old.buffer.value reader.new.buffer.value) }
-    ensures bounds { Bounds 2 result (state reader.old) (state reader.new) }
+    ensures last { OnOk result (IsLast reader.new.buffer.value reader.new.found) }
+    ensures bounds { TakesSome 0 result (state reader.old) (state reader.new) }
     ensures saved { SavedBounds 1 result (state reader.old) (state reader.new) }
 {
     match free_case(reader.rest) {
@@ -92,7 +96,8 @@ pub(crate) fn read_unqualified(
     ensures reads { Gives result reader.new
         (spec.unqualified_name depth context None (state reader.old)) }
     ensures run { OnOk result (IsRun reader.old.buffer.value reader.new.buffer.value) }
-    ensures bounds { Bounds 2 result (state reader.old) (state reader.new) }
+    ensures last { OnOk result (IsLast reader.new.buffer.value reader.new.found) }
+    ensures bounds { TakesSome 0 result (state reader.old) (state reader.new) }
     ensures saved { SavedBounds 1 result (state reader.old) (state reader.new) }
 {
     reader.rest = past_internal(reader.rest);
@@ -111,11 +116,13 @@ pub(crate) fn read_unqualified(
 pub(crate) fn read_segment(reader: &mut Reader, depth: usize, context: Context) -> Result<(), Stop>
     requires room { HasRoom 0 (state reader.old) }
     requires living { IsLiving reader.old.buffer.value reader.old.found }
+    requires last { IsLast reader.old.buffer.value reader.old.found }
     ensures reads { Gives result reader.new
         (spec.unqualified_name depth context
         (Some (shape reader.old.buffer.value reader.old.found)) (state reader.old)) }
     ensures run { OnOk result (IsRun reader.old.buffer.value reader.new.buffer.value) }
-    ensures bounds { Bounds 2 result (state reader.old) (state reader.new) }
+    ensures last { OnOk result (IsLast reader.new.buffer.value reader.new.found) }
+    ensures bounds { TakesSome 0 result (state reader.old) (state reader.new) }
     ensures saved { SavedBounds 1 result (state reader.old) (state reader.new) }
 {
     reader.rest = past_internal(reader.rest);
@@ -132,7 +139,7 @@ pub(crate) fn read_segment(reader: &mut Reader, depth: usize, context: Context) 
 
 /// `<unqualified-name>` that asks for no parent, without its tags, in the parent that was found. The parent is printed
 /// in front of it first, so that nothing moves.
-#[tactic(auto, using(itanium_reader::proofs::Rules::buffers))]
+#[tactic(auto, using(itanium_reader::proofs::Rules::parents))]
 #[cycle(reader)]
 pub(crate) fn read_free_segment(
     reader: &mut Reader,
@@ -145,7 +152,8 @@ pub(crate) fn read_free_segment(
         (spec.untagged_as FreeName (spec.parse_type depth context) (spec.parse_type depth (inside_lambda context))
         (Some (shape reader.old.buffer.value reader.old.found)) (state reader.old)) }
     ensures run { OnOk result (IsRun reader.old.buffer.value reader.new.buffer.value) }
-    ensures bounds { Bounds 2 result (state reader.old) (state reader.new) }
+    ensures last { OnOk result (IsLast reader.new.buffer.value reader.new.found) }
+    ensures bounds { TakesSome 0 result (state reader.old) (state reader.new) }
     ensures saved { SavedBounds 1 result (state reader.old) (state reader.new) }
 {
     let opened = open_parent(&mut reader.buffer, reader.found)?;
@@ -167,12 +175,14 @@ pub(crate) fn read_first(reader: &mut Reader, depth: usize, context: Context) ->
         (spec.unqualified_name depth context) context (state reader.old)) }
     ensures waits { IfOk result (λ waits. waits ≡ saves_first (first_case reader.old.rest.now)) }
     ensures run { OnOk result (IsRun reader.old.buffer.value reader.new.buffer.value) }
-    ensures bounds { Bounds 2 result (state reader.old) (state reader.new) }
+    ensures last { OnOk result (IsLast reader.new.buffer.value reader.new.found) }
+    ensures bounds { TakesSome 0 result (state reader.old) (state reader.new) }
     ensures saved { SavedBounds 1 result (state reader.old) (state reader.new) }
 {
     match first_case(reader.rest) {
         FirstCase::ParameterFirst => {
             reader.read_parameter(context)?;
+            reader.copy_found()?;
             Ok(true)
         }
         FirstCase::StdFirst => {
@@ -182,6 +192,7 @@ pub(crate) fn read_first(reader: &mut Reader, depth: usize, context: Context) ->
         }
         FirstCase::SubstitutionFirst => {
             reader.read_substitution()?;
+            reader.copy_found()?;
             Ok(false)
         }
         FirstCase::NameFirst => {
@@ -202,13 +213,21 @@ pub(crate) fn read_nested(reader: &mut Reader, depth: usize, context: Context) -
         (spec.unqualified_name depth context)
         (spec.parse_args depth context true) context (state reader.old)) }
     ensures run { OnOk result (IsRun reader.old.buffer.value reader.new.buffer.value) }
-    ensures bounds { Bounds 1 result (state reader.old) (state reader.new) }
+    ensures bounds { TakesSome 1 result (state reader.old) (state reader.new) }
     ensures saved { SavedBounds 1 result (state reader.old) (state reader.new) }
 {
-    let (quals, rest) = name_quals(reader.rest);
-    reader.rest = rest;
-    read_prefix(reader, depth, context)?;
-    reader.quals = quals;
+    match name_quals(reader.rest) {
+        (None, rest) => {
+            reader.rest = rest;
+            read_prefix(reader, depth, context)?;
+            reader.quals = None;
+        }
+        (quals, rest) => {
+            reader.rest = rest;
+            read_prefix(reader, depth, context)?;
+            reader.quals = quals;
+        }
+    }
     Ok(())
 }
 
@@ -223,7 +242,7 @@ pub(crate) fn read_prefix(reader: &mut Reader, depth: usize, context: Context) -
         (spec.unqualified_name depth context)
         (spec.parse_args depth context true) context (state reader.old)) }
     ensures run { OnOk result (IsRun reader.old.buffer.value reader.new.buffer.value) }
-    ensures bounds { Bounds 1 result (state reader.old) (state reader.new) }
+    ensures bounds { TakesSome 1 result (state reader.old) (state reader.new) }
     ensures saved { SavedBounds 1 result (state reader.old) (state reader.new) }
 {
     let mut waits = read_first(reader, depth, context)?;
@@ -256,7 +275,7 @@ pub(crate) fn read_prefix(reader: &mut Reader, depth: usize, context: Context) -
 
 /// `<unscoped-name> ::= [St] <unqualified-name>` and `<template-args>` after it or none, or a `<substitution>` and
 /// `<template-args>`.
-#[tactic(auto, using(itanium_reader::proofs::Rules::fronts))]
+#[tactic(auto, using(itanium_reader::proofs::Rules::segments))]
 #[cycle(reader)]
 pub(crate) fn read_unscoped(reader: &mut Reader, depth: usize, context: Context) -> Result<(), Stop>
     requires room { HasRoom 0 (state reader.old) }
@@ -265,7 +284,7 @@ pub(crate) fn read_unscoped(reader: &mut Reader, depth: usize, context: Context)
         (spec.unqualified_name depth context)
         (spec.parse_args depth context true) (state reader.old)) }
     ensures run { OnOk result (IsRun reader.old.buffer.value reader.new.buffer.value) }
-    ensures bounds { Bounds 2 result (state reader.old) (state reader.new) }
+    ensures bounds { TakesSome 0 result (state reader.old) (state reader.new) }
     ensures saved { SavedBounds 1 result (state reader.old) (state reader.new) }
 {
     match unscoped_case(reader.rest) {
@@ -308,7 +327,7 @@ pub(crate) fn read_name(
     ensures fits { OnOk result (spec.is_wide (shape reader.new.buffer.value reader.new.found) ≡ false) }
     ensures run { OnOk result (IsRun reader.old.buffer.value reader.new.buffer.value) }
     ensures refused { depth ≡ 0 → reader.new.entered ≡ reader.old.entered }
-    ensures bounds { Bounds 1 result (state reader.old) (state reader.new) }
+    ensures bounds { TakesSome 1 result (state reader.old) (state reader.new) }
     ensures saved { SavedBounds 1 result (state reader.old) (state reader.new) }
 {
     let depth = reader.enter(depth)?;
@@ -340,7 +359,8 @@ pub(crate) fn read_name(
     Ok(())
 }
 
-/// `<name>` in a frame of its own: what lived keeps its shape. It stands right after all that was there.
+/// `<name>` in a frame of its own: what lived keeps its shape. The output is all that was
+/// there and then its text.
 #[tactic(auto, using(itanium_reader::proofs::Rules::buffers))]
 #[cycle(reader)]
 pub(crate) fn framed_name(
@@ -352,9 +372,9 @@ pub(crate) fn framed_name(
     requires room { HasRoom 1 (state reader.old) }
     ensures reads { GivesName wait result reader.new depth context (state reader.old) }
     ensures kept { OnOk result (SameFrame reader.old.buffer.value reader.new.buffer.value) }
-    ensures stands { OnOk result (Stands reader.new.found (length (main_bytes reader.old.buffer.value))
-        (length (main_bytes reader.new.buffer.value))) }
-    ensures bounds { Bounds 1 result (state reader.old) (state reader.new) }
+    ensures main { OnOk result (main_bytes reader.new.buffer.value
+        ≡ main_bytes reader.old.buffer.value ++ text (shape reader.new.buffer.value reader.new.found)) }
+    ensures bounds { TakesSome 1 result (state reader.old) (state reader.new) }
     ensures saved { SavedBounds 1 result (state reader.old) (state reader.new) }
 {
     let mark = reader.buffer.open();

@@ -3,7 +3,7 @@
 ghost use Rattle.std.specs.Prelude.{◌≡◌, ◌<◌, OnOk, length};
 ghost use Rattle.demangle_text.specs.State.{IsRun};
 ghost use Rattle.itanium_reader.specs.Parser as spec;
-ghost use Rattle.itanium_reader.specs.Outcome.{state, Gives, HasRoom, Bounds, SavedBounds};
+ghost use Rattle.itanium_reader.specs.Outcome.{state, Gives, HasRoom, TakesSome, SavedBounds};
 
 use crate::names::{framed_name, read_name};
 use crate::types::{framed_type, read_type};
@@ -26,7 +26,7 @@ pub(crate) fn read_type_special(
     ensures reads { Gives result reader.new
         (spec.parse_worded (spec.parse_type depth context) (state reader.old)) }
     ensures run { OnOk result (IsRun reader.old.buffer.value reader.new.buffer.value) }
-    ensures bounds { Bounds 2 result (state reader.old) (state reader.new) }
+    ensures bounds { TakesSome 0 result (state reader.old) (state reader.new) }
     ensures saved { SavedBounds 1 result (state reader.old) (state reader.new) }
 {
     let words = special_text(reader.rest);
@@ -51,7 +51,7 @@ pub(crate) fn read_name_special(
     ensures reads { Gives result reader.new
         (spec.parse_worded (spec.parse_name depth context) (state reader.old)) }
     ensures run { OnOk result (IsRun reader.old.buffer.value reader.new.buffer.value) }
-    ensures bounds { Bounds 2 result (state reader.old) (state reader.new) }
+    ensures bounds { TakesSome 0 result (state reader.old) (state reader.new) }
     ensures saved { SavedBounds 1 result (state reader.old) (state reader.new) }
 {
     let words = special_text(reader.rest);
@@ -76,7 +76,7 @@ pub(crate) fn read_temporary(
     ensures reads { Gives result reader.new
         (spec.parse_temporary (spec.parse_name depth context) (state reader.old)) }
     ensures run { OnOk result (IsRun reader.old.buffer.value reader.new.buffer.value) }
-    ensures bounds { Bounds 2 result (state reader.old) (state reader.new) }
+    ensures bounds { TakesSome 0 result (state reader.old) (state reader.new) }
     ensures saved { SavedBounds 1 result (state reader.old) (state reader.new) }
 {
     reader.skip(2);
@@ -97,7 +97,7 @@ pub(crate) fn read_construction(
     ensures reads { Gives result reader.new
         (spec.parse_construction (spec.parse_type depth context) (state reader.old)) }
     ensures run { OnOk result (IsRun reader.old.buffer.value reader.new.buffer.value) }
-    ensures bounds { Bounds 2 result (state reader.old) (state reader.new) }
+    ensures bounds { TakesSome 0 result (state reader.old) (state reader.new) }
     ensures saved { SavedBounds 1 result (state reader.old) (state reader.new) }
 {
     reader.skip(2);
@@ -109,7 +109,7 @@ pub(crate) fn read_construction(
     reader.rest = rest;
     let begun = reader.buffer.push(b"construction vtable for ")?;
     framed_type(reader, depth, context)?;
-    let whole = reader.buffer.join_adjacent(begun, reader.found);
+    let whole = reader.buffer.up_to_end(begun);
     reader.found = reader.buffer.join(whole, b"-in-", class)?;
     Ok(())
 }
@@ -123,7 +123,7 @@ pub(crate) fn read_thunk(reader: &mut Reader, depth: usize, context: Context) ->
     ensures reads { Gives result reader.new (spec.parse_thunk depth context (state reader.old)) }
     ensures run { OnOk result (IsRun reader.old.buffer.value reader.new.buffer.value) }
     ensures refused { depth ≡ 0 → reader.new.entered ≡ reader.old.entered }
-    ensures bounds { Bounds 1 result (state reader.old) (state reader.new) }
+    ensures bounds { TakesSome 1 result (state reader.old) (state reader.new) }
     ensures saved { SavedBounds 1 result (state reader.old) (state reader.new) }
 {
     let depth = reader.enter(depth)?;
@@ -145,7 +145,7 @@ pub(crate) fn read_special(reader: &mut Reader, depth: usize, context: Context) 
     requires room { HasRoom 1 (state reader.old) }
     ensures reads { Gives result reader.new (spec.parse_special depth context (state reader.old)) }
     ensures run { OnOk result (IsRun reader.old.buffer.value reader.new.buffer.value) }
-    ensures bounds { Bounds 1 result (state reader.old) (state reader.new) }
+    ensures bounds { TakesSome 1 result (state reader.old) (state reader.new) }
     ensures saved { SavedBounds 1 result (state reader.old) (state reader.new) }
 {
     match special_case(reader.rest) {
@@ -167,7 +167,7 @@ pub fn read_symbol(reader: &mut Reader, depth: usize, context: Context) -> Resul
     requires room { HasRoom 1 (state reader.old) }
     ensures reads { Gives result reader.new (spec.parse_symbol depth context (state reader.old)) }
     ensures run { OnOk result (IsRun reader.old.buffer.value reader.new.buffer.value) }
-    ensures bounds { Bounds 1 result (state reader.old) (state reader.new) }
+    ensures bounds { TakesSome 1 result (state reader.old) (state reader.new) }
     ensures saved { SavedBounds 1 result (state reader.old) (state reader.new) }
 {
     match symbol_case(reader.rest) {

@@ -1,10 +1,11 @@
 //! Types (Itanium C++ ABI 5.1.5).
-ghost use Rattle.std.specs.Prelude.{◌≡◌, ◌<◌, OnOk, length, false};
-ghost use Rattle.demangle_text.specs.State.{IsLiving, shape, IsRun, SameFrame, Stands, main_bytes};
+ghost use Rattle.std.specs.Prelude.{◌≡◌, ◌<◌, ◌++◌, OnOk, length, false};
+ghost use Rattle.demangle_text.specs.State.{IsLiving, shape, IsRun, SameFrame, main_bytes};
+ghost use Rattle.demangle_text.specs.Shape.{text};
 ghost use Rattle.itanium_syntax.specs.Args.{attached_case};
 ghost use Rattle.itanium_syntax.specs.Types.{params_case, past_cv};
 ghost use Rattle.itanium_reader.specs.Parser as spec;
-ghost use Rattle.itanium_reader.specs.Outcome.{state, Gives, HasRoom, Bounds, OptionalBounds, ListBounds, SavedBounds};
+ghost use Rattle.itanium_reader.specs.Outcome.{state, Gives, HasRoom, TakesSome, MayTakeNone, SavedBounds};
 
 use crate::args::read_attached;
 use crate::names::{framed_name, read_name};
@@ -32,7 +33,7 @@ pub(crate) fn read_type_attached(
     ensures reads { Gives result reader.new (spec.type_attached_as (attached_case reader.old.rest.now)
         (spec.parse_args depth context false) (shape reader.old.buffer.value reader.old.found) (state reader.old)) }
     ensures run { OnOk result (IsRun reader.old.buffer.value reader.new.buffer.value) }
-    ensures bounds { OptionalBounds result (state reader.old) (state reader.new) }
+    ensures bounds { MayTakeNone 1 result (state reader.old) (state reader.new) }
     ensures saved { SavedBounds 0 result (state reader.old) (state reader.new) }
 {
     match attached_case(reader.rest) {
@@ -53,15 +54,17 @@ pub(crate) fn read_type(reader: &mut Reader, depth: usize, context: Context) -> 
     ensures reads { Gives result reader.new (spec.parse_type depth context (state reader.old)) }
     ensures run { OnOk result (IsRun reader.old.buffer.value reader.new.buffer.value) }
     ensures refused { depth ≡ 0 → reader.new.entered ≡ reader.old.entered }
-    ensures bounds { Bounds 0 result (state reader.old) (state reader.new) }
+    ensures bounds { TakesSome 2 result (state reader.old) (state reader.new) }
     ensures saved { SavedBounds 0 result (state reader.old) (state reader.new) }
 {
     let depth = reader.enter(depth)?;
     let context = context.inside_type();
     match type_case(reader.rest) {
         TypeCase::NameType => {
+            // The name was measured.
             read_name(reader, depth, context, false)?;
             reader.save_found()?;
+            return Ok(());
         }
         TypeCase::BuiltinType => reader.read_builtin()?,
         TypeCase::SubstitutionType => {
@@ -106,7 +109,7 @@ pub(crate) fn read_expansion(
     ensures reads { Gives result reader.new
         (spec.parse_expansion (spec.parse_type depth context) context.pack (state reader.old)) }
     ensures run { OnOk result (IsRun reader.old.buffer.value reader.new.buffer.value) }
-    ensures bounds { Bounds 2 result (state reader.old) (state reader.new) }
+    ensures bounds { TakesSome 0 result (state reader.old) (state reader.new) }
     ensures saved { SavedBounds 0 result (state reader.old) (state reader.new) }
 {
     reader.skip(2);
@@ -123,7 +126,7 @@ pub(crate) fn read_array(reader: &mut Reader, depth: usize, context: Context) ->
     requires some { 0 < length reader.old.rest.now }
     ensures reads { Gives result reader.new (spec.parse_array (spec.parse_type depth context) (state reader.old)) }
     ensures run { OnOk result (IsRun reader.old.buffer.value reader.new.buffer.value) }
-    ensures bounds { Bounds 2 result (state reader.old) (state reader.new) }
+    ensures bounds { TakesSome 0 result (state reader.old) (state reader.new) }
     ensures saved { SavedBounds 0 result (state reader.old) (state reader.new) }
 {
     reader.skip(1);
@@ -149,7 +152,7 @@ pub(crate) fn read_pointer(
     ensures reads { Gives result reader.new (spec.parse_pointer
         (spec.parse_type depth context) kind (state reader.old)) }
     ensures run { OnOk result (IsRun reader.old.buffer.value reader.new.buffer.value) }
-    ensures bounds { Bounds 2 result (state reader.old) (state reader.new) }
+    ensures bounds { TakesSome 0 result (state reader.old) (state reader.new) }
     ensures saved { SavedBounds 0 result (state reader.old) (state reader.new) }
 {
     reader.skip(1);
@@ -169,7 +172,7 @@ pub(crate) fn read_elaborated(
     requires room { HasRoom 1 (state reader.old) }
     ensures reads { Gives result reader.new (spec.parse_elaborated (spec.parse_name depth context) (state reader.old)) }
     ensures run { OnOk result (IsRun reader.old.buffer.value reader.new.buffer.value) }
-    ensures bounds { Bounds 1 result (state reader.old) (state reader.new) }
+    ensures bounds { TakesSome 1 result (state reader.old) (state reader.new) }
     ensures saved { SavedBounds 0 result (state reader.old) (state reader.new) }
 {
     let word = reader.buffer.push(elaborated_text(reader.rest))?;
@@ -180,7 +183,8 @@ pub(crate) fn read_elaborated(
     Ok(())
 }
 
-/// A `<type>` in a frame of its own: what lived keeps its shape. It stands right after all that was there.
+/// A `<type>` in a frame of its own: what lived keeps its shape. The output is all that was
+/// there and then its text.
 #[tactic(auto, using(itanium_reader::proofs::Rules::buffers))]
 #[cycle(reader)]
 #[inline(always)]
@@ -188,9 +192,9 @@ pub(crate) fn framed_type(reader: &mut Reader, depth: usize, context: Context) -
     requires room { HasRoom 2 (state reader.old) }
     ensures reads { Gives result reader.new (spec.parse_type depth context (state reader.old)) }
     ensures kept { OnOk result (SameFrame reader.old.buffer.value reader.new.buffer.value) }
-    ensures stands { OnOk result (Stands reader.new.found (length (main_bytes reader.old.buffer.value))
-        (length (main_bytes reader.new.buffer.value))) }
-    ensures bounds { Bounds 0 result (state reader.old) (state reader.new) }
+    ensures main { OnOk result (main_bytes reader.new.buffer.value
+        ≡ main_bytes reader.old.buffer.value ++ text (shape reader.new.buffer.value reader.new.found)) }
+    ensures bounds { TakesSome 2 result (state reader.old) (state reader.new) }
     ensures saved { SavedBounds 0 result (state reader.old) (state reader.new) }
 {
     let mark = reader.buffer.open();
@@ -207,7 +211,7 @@ pub(crate) fn read_member(reader: &mut Reader, depth: usize, context: Context) -
     requires some { 0 < length reader.old.rest.now }
     ensures reads { Gives result reader.new (spec.parse_member (spec.parse_type depth context) (state reader.old)) }
     ensures run { OnOk result (IsRun reader.old.buffer.value reader.new.buffer.value) }
-    ensures bounds { Bounds 2 result (state reader.old) (state reader.new) }
+    ensures bounds { TakesSome 0 result (state reader.old) (state reader.new) }
     ensures saved { SavedBounds 0 result (state reader.old) (state reader.new) }
 {
     reader.skip(1);
@@ -225,7 +229,7 @@ pub(crate) fn read_cv(reader: &mut Reader, depth: usize, context: Context) -> Re
     requires some { length (past_cv reader.old.rest.now) < length reader.old.rest.now }
     ensures reads { Gives result reader.new (spec.parse_cv (spec.parse_type depth context) (state reader.old)) }
     ensures run { OnOk result (IsRun reader.old.buffer.value reader.new.buffer.value) }
-    ensures bounds { Bounds 2 result (state reader.old) (state reader.new) }
+    ensures bounds { TakesSome 0 result (state reader.old) (state reader.new) }
     ensures saved { SavedBounds 1 result (state reader.old) (state reader.new) }
 {
     let (quals, rest) = cv_quals(reader.rest);
@@ -254,7 +258,7 @@ pub(crate) fn read_function(
     ensures reads { Gives result reader.new (spec.parse_function
         (spec.parse_type depth context) quals (state reader.old)) }
     ensures run { OnOk result (IsRun reader.old.buffer.value reader.new.buffer.value) }
-    ensures bounds { Bounds 2 result (state reader.old) (state reader.new) }
+    ensures bounds { TakesSome 0 result (state reader.old) (state reader.new) }
     ensures saved { SavedBounds 1 result (state reader.old) (state reader.new) }
 {
     match function_case(reader.rest) {
@@ -288,7 +292,7 @@ pub(crate) fn read_params(
     ensures reads { Gives result reader.new (spec.typed_params_as (params_case reader.old.rest.now) of_function
         (spec.parse_type depth context) (shape reader.old.buffer.value list) (state reader.old)) }
     ensures run { OnOk result (IsRun reader.old.buffer.value reader.new.buffer.value) }
-    ensures bounds { ListBounds result (state reader.old) (state reader.new) }
+    ensures bounds { MayTakeNone 2 result (state reader.old) (state reader.new) }
     ensures saved { SavedBounds 0 result (state reader.old) (state reader.new) }
 {
     if let ParamsCase::NoParams = params_case(reader.rest) {

@@ -1,19 +1,22 @@
 -- What the check may use for the readers: the laws of the buffer, and what unfolds each.
 use Rattle.std.proofs.lemmas.List.{append-nil}
-use Rattle.demangle_text.proofs.Laws.{laws, runs, StaysInPlace-edit}
+use Rattle.demangle_text.proofs.Laws.{laws, runs, StaysInPlace-edit, text_after-follows}
 pub use Rattle.demangle_text.proofs.Laws.{lasts}
+use Rattle.demangle_text.proofs.Laws.{text_after-last}
 use Rattle.itanium_syntax.proofs.Fronts.{cases, names_some, entities_some, expressions_some, arguments_some, specials_some}
-use Rattle.itanium_reader.proofs.Unfold.{bare_name_opens, no_bare_name, name_opens, encoding_opens, local_opens}
+use Rattle.itanium_reader.proofs.Unfold.{bare_name_opens, no_bare_name, encoding_opens, local_opens}
 use Rattle.itanium_reader.proofs.Unfold.{expression_opens, no_expression, primary_opens, argument_opens, thunk_opens}
 use Rattle.itanium_reader.proofs.Unfold.{no_thunk, special_opens, pack_opens, no_pack, type_opens, no_type}
 use Rattle.itanium_reader.proofs.Unfold.{substitution_opens, parameter_opens, unqualified_opens, symbol_opens}
 use Rattle.itanium_reader.proofs.Unfold.{nested_opens, internal_source_opens, outer_source_opens}
-use Rattle.itanium_reader.proofs.Texts.{waiting_back, nothing_in_front, words_joined, signed_printed, plain_printed}
+use Rattle.itanium_reader.proofs.Texts.{waiting_back, nothing_in_front, signed_printed, plain_printed}
 use Rattle.itanium_reader.proofs.Texts.{virtual_printed}
 use Rattle.itanium_reader.proofs.Turns.{no_attached, no_tags}
 use Rattle.itanium_reader.proofs.Loops.{loop_start}
 
 pub ruleset buffers = (laws, runs)
+
+pub ruleset parents = (buffers, lasts, StaysInPlace-edit)
 
 pub ruleset fronts = (buffers, cases)
 
@@ -25,29 +28,29 @@ pub ruleset tags = (buffers, loop_start)
 
 pub ruleset tagged_names = (buffers, no_tags)
 
-pub ruleset segments = (fronts)
+pub ruleset segments = (fronts, lasts)
 
 pub ruleset waiting_segments = (buffers, waiting_back)
 
-pub ruleset first_segments = (fronts)
+pub ruleset first_segments = (fronts, lasts)
 
 pub ruleset lists = (buffers, lasts, nothing_in_front, StaysInPlace-edit)
 
-pub ruleset words = (buffers, lasts, words_joined, append-nil)
+pub ruleset separators = (buffers, append-nil)
+
+pub ruleset words = (buffers, lasts, text_after-follows)
 
 pub ruleset endings = (buffers, lasts, StaysInPlace-edit, append-nil, signed_printed, plain_printed, virtual_printed)
 
-pub ruleset free_names = (fronts, names_some)
+pub ruleset free_names = (fronts, lasts, names_some)
 
-pub ruleset unqualified_names = (fronts, unqualified_opens, internal_source_opens)
+pub ruleset unqualified_names = (fronts, lasts, unqualified_opens, internal_source_opens)
 
-pub ruleset outer_names = (buffers, unqualified_opens, outer_source_opens)
+pub ruleset outer_names = (buffers, lasts, unqualified_opens, outer_source_opens)
 
 pub ruleset nested_names = (buffers, nested_opens)
 
 pub ruleset bare_names = (fronts, bare_name_opens, no_bare_name)
-
-pub ruleset names = (buffers, name_opens)
 
 pub ruleset encodings = (fronts, encoding_opens)
 
@@ -67,7 +70,7 @@ pub ruleset expressions = (fronts, expressions_some, expression_opens, no_expres
 
 pub ruleset arguments = (fronts, arguments_some, argument_opens)
 
-pub ruleset argument_lists = (buffers, no_attached)
+pub ruleset argument_lists = (buffers, lasts, no_attached, text_after-last)
 
 pub ruleset packs = (buffers, pack_opens, no_pack)
 

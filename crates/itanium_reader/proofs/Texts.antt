@@ -1,24 +1,21 @@
--- Texts and their lengths, and how many shapes are saved.
-use Rattle.std.proofs.Common.{◌≡◌, ◌<◌, ◌≤◌, ℕ, ◌+◌, ◌-◌, max, Bool, true, false, List, [], ◌∷◌, ◌++◌}
-use Rattle.std.proofs.Common.{length, refl, sym, ◌∙◌, ap, append_assoc, arith, Result, Ok}
+-- Texts and their lengths.
+use Rattle.std.proofs.Common.{◌≡◌, ◌<◌, ◌≤◌, ℕ, ◌+◌, ◌-◌, Bool, true, false, List, [], ◌∷◌, ◌++◌}
+use Rattle.std.proofs.Common.{length, refl, sym, ◌∙◌, ap, append_assoc, arith}
 use Rattle.std.proofs.Common.{codes, decimal}
-use Rattle.std.proofs.Common.{Err}
 use Rattle.std.specs.Prelude.{nat_lt}
 use Rattle.std.proofs.lemmas.Bool.Decides.{nat_tests}
 use Rattle.std.proofs.lemmas.List.{append-nil, length-append, take_at}
 use Rattle.demangle_text.specs.declared.shape.Place.TheVariants.{End}
-use Rattle.demangle_text.specs.Shape.{Shape, Plain, plain_shape, text, text_len, flattened, moved, appended}
+use Rattle.demangle_text.specs.Shape.{Shape, Plain, plain_shape, text, text_len, flattened, moved, appended, whole_shape}
+use Rattle.demangle_text.specs.Calls.{named}
 use Rattle.demangle_edit.specs.Names.{angle_gap, qualified, tagged}
-use Rattle.demangle_edit.specs.Built.{separated, arguments_begun}
+use Rattle.demangle_edit.specs.Built.{separated, arguments_opened}
 use Rattle.demangle_edit.proofs.Insertions.{inserted_twice, inserted_thrice}
 use Rattle.itanium_syntax.specs.declared.offsets.Signed.{Signed}
 use Rattle.itanium_syntax.specs.declared.offsets.CallOffset.TheVariants as Offset
-use Rattle.itanium_reader.specs.declared.stop.Stop.{Stop}
-use Rattle.itanium_reader.specs.declared.stop.Stop.TheVariants.{Unread, Memory}
-use Rattle.itanium_reader.specs.Outcome.{SavedBounds}
 use Rattle.itanium_grammar.specs.Answer.{max_text}
 use Rattle.itanium_reader.specs.Parser.{ParserState, is_wide}
-use Rattle.itanium_grammar.specs.Tree.{offset_sign, offset_text}
+use Rattle.itanium_grammar.specs.Tree.{offset_sign, offset_text, worded_shape}
 use Rattle.itanium_reader.specs.Parser.{taken_back}
 use Rattle.itanium_reader.specs.Parser.{waiting}
 
@@ -60,21 +57,6 @@ not_wide t short = not_longer short
 pub wide_by : (t : Shape) → max_text < text_len t → is_wide t ≡ true
 wide_by t long = longer long
 
--- a name is saved, and then a list with a byte of its own is read
-pub saved_first : (result : Result (Unit {0}) Stop) (before mid after : ParserState) → SavedBounds 2 result mid after → length mid.saved ≡ length before.saved + 1
-    → length mid.rest ≡ length before.rest → 0 < length before.rest → mid.most_saved ≡ max before.most_saved (length before.saved + 1) → SavedBounds 0 result before after
-saved_first (Ok u) before mid after bounds longer same some most = (omega (arith, bounds.0), omega (arith, bounds.1))
-saved_first (Err Unread) before mid after bounds longer same some most = omega (arith, bounds)
-saved_first (Err Memory) before mid after bounds longer same some most = tt
-
--- what waits is one shape
-pub waiting_bounds : (waits : Bool) (t : Shape) (s : ParserState) → (length s.saved ≤ length (waiting waits t s).saved) × (length (waiting waits t s).saved ≤ length s.saved + 1)
-    × (s.most_saved ≤ (waiting waits t s).most_saved) × ((waiting waits t s).most_saved ≤ max s.most_saved (length s.saved + 1))
-waiting_bounds true t s =
-    let long = length-append s.saved (t ∷ []) in
-    (omega (arith, long), omega (arith, long), omega arith, omega arith)
-waiting_bounds false t s = (omega arith, omega arith, omega arith, omega arith)
-
 -- what waited is taken back
 pub waiting_back : (waits : Bool) (t : Shape) (s : ParserState) → (taken_back waits (waiting waits t s)).saved ≡ s.saved
 waiting_back true t s = take_at s.saved (t ∷ []) (length (s.saved ++ t ∷ []) - 1) (omega (arith, length-append s.saved (t ∷ [])))
@@ -89,8 +71,15 @@ pub nothing_in_front : (list : Shape) → separated true list ≡ flattened list
 nothing_in_front list = λ j. record { form = Plain (append-nil (text list) j); own = nothing_moved (length (text list)) list.own j; templ = list.templ; ctor = list.ctor }
 
 -- words, a text after them, and the words that close it
-pub words_joined : (words t close : List ℕ) → plain_shape ((words ++ t) ++ close) ≡ plain_shape (words ++ (t ++ (close ++ [])))
+words_joined : (words t close : List ℕ) → plain_shape ((words ++ t) ++ close) ≡ plain_shape (words ++ (t ++ (close ++ [])))
 words_joined words t close = ap plain_shape (append_assoc words t close ∙ ap (λ (c : List ℕ). words ++ (t ++ c)) (sym (append-nil close)))
+
+-- plain words, what stands after them and the words that close it
+pub words_taken : (words t : Shape) (after close : List ℕ) → words ≡ plain_shape (text words) → after ≡ text t
+    → whole_shape (appended close (appended after words)) ≡ worded_shape (text words) t close
+words_taken words t after close flat same =
+    ap (λ (s : Shape). whole_shape (appended close (appended after s))) flat ∙ ap (λ (v : List ℕ). plain_shape ((text words ++ v) ++ close)) same
+    ∙ words_joined (text words) (text t) close
 
 -- a number with its sign, and the bytes after it
 regrouped : (sign digits close after : List ℕ) → (sign ++ digits) ++ (close ++ after) ≡ (sign ++ (digits ++ close)) ++ after
@@ -124,8 +113,15 @@ abbrev pub front_len : Shape → ℕ
 front_len name = text_len name + length (angle_gap (text name))
 
 -- the front of a list that has begun
-pub begun_front : (name found : Shape) {len : ℕ} → found ≡ arguments_begun name → len ≡ text_len found → len - 1 ≡ front_len name
+pub begun_front : (name found : Shape) {len : ℕ} → found ≡ arguments_opened name → len ≡ text_len found → len - 1 ≡ front_len name
 begun_front name found built long =
     let gap = angle_gap (text name) in
     let all : text_len found ≡ length (text name ++ (gap ++ (60 ∷ []))) = ap text_len built in
     omega (arith, long, all, length-append (text name) (gap ++ (60 ∷ [])), length-append gap (60 ∷ []))
+
+-- a name after its parent and `::` is the name in the parent
+pub named_is : (s : Shape) (t : List ℕ) → named (codes "::") t s ≡ qualified s (plain_shape t)
+named_is s t =
+    let before = text s ++ codes "::" in
+    let own : (length before, length (before ++ t)) ≡ moved 0 (length before) (0, length t) = grind (arith, nat_tests, length-append before t) in
+    λ j. record { form = Plain (before ++ t); own = own j; templ = false; ctor = false }

@@ -2,12 +2,11 @@
 use Rattle.std.proofs.Common.{◌≡◌, ◌<◌, ◌≤◌, ℕ, ◌+◌, ◌-◌, Bool, true, false, List, [], ◌∷◌, ◌++◌}
 use Rattle.std.proofs.Common.{length, drop, refl, sym, ◌∙◌, ap, arith, Option, Some, None}
 use Rattle.std.proofs.lemmas.List.{length-append}
-use Rattle.demangle_text.specs.Shape.{Shape, plain_shape, whole_shape, text, text_len}
-use Rattle.demangle_text.specs.Calls.{joined}
+use Rattle.demangle_text.specs.Shape.{Shape, plain_shape, whole_shape, text, text_len, appended}
 use Rattle.demangle_edit.specs.Names.{angle_gap, attached, tagged}
-use Rattle.demangle_edit.specs.Built.{separator, separated, listed_more, arguments_begun, arguments_ended}
+use Rattle.demangle_edit.specs.Built.{separator, listed_more, arguments_opened}
 use Rattle.demangle_edit.specs.Lists.{arguments_closed}
-use Rattle.demangle_edit.proofs.Built.{begun_list, begun_more, ended_attached}
+use Rattle.demangle_edit.proofs.Built.{begun_list, closed_attached}
 use Rattle.itanium_syntax.specs.declared.context.Context.{Context}
 use Rattle.itanium_syntax.specs.Scalars.{source_name}
 use Rattle.itanium_syntax.specs.Context.{opens_scope, inside_pack}
@@ -191,28 +190,24 @@ pack_wide item {list = list} {found = found} so_far case built wide =
 abbrev pub attached_to : Shape → Shape × ParserState → Option (Shape × ParserState)
 attached_to name r = fitting (whole_shape (arguments_closed r.0), r.1) >>= λ list. Some (attached name list.0, list.1)
 
--- A list after a name has come this far: what is found stands for the name's text and the list's.
+-- A list after a name has come this far: this text stands after its `<`.
 pub record AttachedSoFar (whole : Option (Shape × ParserState)) (add_argument : Shape → ParserState → ParserState)
-    (item : Parses Shape) (name : Shape) (first : Bool) (found : Shape) (s : ParserState) : Type 0 where
-  pub list : List ℕ
+    (item : Parses Shape) (name : Shape) (first : Bool) (list : List ℕ) (s : ParserState) : Type 0 where
   pub own : ℕ × ℕ
   pub templ : Bool
   pub ctor : Bool
   pub so_far : ListSoFar whole (list_turn add_argument item) (attached_to name) (first, begun_list list own templ ctor) s
-  pub stands : found ≡ plain_shape (text name ++ (angle_gap (text name) ++ (60 ∷ list)))
 
 -- a list begins after a name
-pub attached_start : (d : ℕ) (x : Context) (of_name : Bool) (s : ParserState) (name : Shape) {below : ℕ} {opens : Bool} {n : ℕ} {found : Shape} {after : ParserState} → 0 < d → below ≡ d - 1
-    → opens ≡ opens_scope of_name x → found ≡ arguments_begun name → after ≡ begin_list opens (skip 1 (enter s)) → n ≡ length after.scopes
-    → AttachedSoFar (attached_by (parse_args d x of_name) name s) (add_argument opens n) (parse_argument below x) name true found after
-attached_start d x of_name s name {below} {opens} {n} {found} {after} deep less opened built left scopes = record {
-  list = [];
+pub attached_start : (d : ℕ) (x : Context) (of_name : Bool) (s : ParserState) (name : Shape) {below : ℕ} {opens : Bool} {n : ℕ} {list : List ℕ} {after : ParserState} → 0 < d → below ≡ d - 1
+    → opens ≡ opens_scope of_name x → list ≡ [] → after ≡ begin_list opens (skip 1 (enter s)) → n ≡ length after.scopes
+    → AttachedSoFar (attached_by (parse_args d x of_name) name s) (add_argument opens n) (parse_argument below x) name true list after
+attached_start d x of_name s name {below} {opens} {n} {list} {after} deep less opened none left scopes = record {
   own = (0, 1);
   templ = false;
   ctor = false;
-  so_far = rw (less, scopes, left, opened) (list_start (ap (with_end (attached name)) (args_opens d x of_name s deep)
+  so_far = rw (less, scopes, left, opened, none) (list_start (ap (with_end (attached name)) (args_opens d x of_name s deep)
       ∙ ended_thrice _ (λ all. whole_shape (arguments_closed all)) (attached name)));
-  stands = built;
 }
   where
     ended_thrice : (read : Option (Shape × ParserState)) (first second : Shape → Shape)
@@ -221,81 +216,67 @@ attached_start d x of_name s name {below} {opens} {n} {found} {after} deep less 
     ended_thrice (Some r) first second = refl
 
 -- the turns of a list after a name
-module _ {whole : Option (Shape × ParserState)} (add_argument : Shape → ParserState → ParserState) (item : Parses Shape) (name : Shape) {first : Bool} {found : Shape} {s : ParserState}
-    (so_far : AttachedSoFar whole add_argument item name first found s) where
+module _ {whole : Option (Shape × ParserState)} (add_argument : Shape → ParserState → ParserState) (item : Parses Shape) (name : Shape) {first : Bool} {list : List ℕ} {s : ParserState}
+    (so_far : AttachedSoFar whole add_argument item name first list s) where
   -- the list so far, and the whole of it
   abbrev list_so_far : Shape
-  list_so_far = begun_list so_far.list so_far.own so_far.templ so_far.ctor
+  list_so_far = begun_list list so_far.own so_far.templ so_far.ctor
 
   abbrev list_whole : Shape
   list_whole = whole_shape (arguments_closed list_so_far)
 
   -- the name with the list
-  ended : {last : Shape} → last ≡ arguments_ended (text_len name) name.own name.ctor found → last ≡ attached name list_whole
-  ended built = built ∙ ap (arguments_ended (text_len name) name.own name.ctor) so_far.stands ∙ ended_attached name so_far.list so_far.own so_far.templ so_far.ctor
+  ended : {last : Shape} → last ≡ arguments_closed (appended list (arguments_opened name)) → last ≡ attached name list_whole
+  ended built = built ∙ closed_attached name list so_far.own so_far.templ so_far.ctor
 
   -- its length
-  ended_len : {last : Shape} → last ≡ arguments_ended (text_len name) name.own name.ctor found → text_len last ≡ front_len name + text_len list_whole
+  ended_len : {last : Shape} → last ≡ arguments_closed (appended list (arguments_opened name)) → text_len last ≡ front_len name + text_len list_whole
   ended_len built =
       let gap = angle_gap (text name) in
       let long : text_len (attached name list_whole) ≡ length (text name ++ (gap ++ text list_whole)) = refl in
       omega (arith, ap text_len (ended built), long, length-append (text name) (gap ++ text list_whole), length-append gap (text list_whole))
 
-  pub attached_end : {last : Shape} {after : ParserState} → args_case s.rest ≡ EndOfArguments → last ≡ arguments_ended (text_len name) name.own name.ctor found
+  pub attached_end : {last : Shape} {after : ParserState} → args_case s.rest ≡ EndOfArguments → last ≡ arguments_closed (appended list (arguments_opened name))
       → text_len last - front_len name ≤ max_text → after ≡ skip 1 s → whole ≡ Some (last, after)
   attached_end case built short left =
       let fits : is_wide list_whole ≡ false = not_wide list_whole (omega (arith, short, ended_len built)) in
       items_end add_argument item (attached_to name) so_far.so_far case left ∙ rw (fits, sym (ended built)) refl
 
-  pub attached_wide : {last : Shape} → args_case s.rest ≡ EndOfArguments → last ≡ arguments_ended (text_len name) name.own name.ctor found
+  pub attached_wide : {last : Shape} → args_case s.rest ≡ EndOfArguments → last ≡ arguments_closed (appended list (arguments_opened name))
       → max_text < text_len last - front_len name → whole ≡ None
   attached_wide case built long =
       let wide : is_wide list_whole ≡ true = wide_by list_whole (omega (arith, long, ended_len built)) in
       items_end add_argument item (attached_to name) so_far.so_far case refl ∙ rw wide refl
 
   -- with one text more
-  more_len : (next more : Shape) → more ≡ joined (separated first found) [] next → text_len more ≡ front_len name + text_len (listed_more first list_so_far next)
-  more_len next more built =
-      let list = (so_far.list ++ separator first) ++ text next in
+  more_len : (next : Shape) {more : List ℕ} {all : Shape} → more ≡ (list ++ separator first) ++ text next → all ≡ appended more (arguments_opened name)
+      → text_len all ≡ front_len name + text_len (listed_more first list_so_far next)
+  more_len next {more} {all} longer built =
       let gap = angle_gap (text name) in
-      let is : more ≡ plain_shape (text name ++ (gap ++ (60 ∷ list))) =
-      built ∙ ap (λ (l : Shape). joined (separated first l) [] next) so_far.stands ∙ begun_more (text name) gap so_far.list next first in
-      let long : text_len (listed_more first list_so_far next) ≡ length (60 ∷ list) = refl in
-      omega (arith, ap text_len is, long, length-append (text name) (gap ++ (60 ∷ list)), length-append gap (60 ∷ list))
+      let begun = text name ++ (gap ++ (60 ∷ [])) in
+      let whole_len : text_len (appended more (arguments_opened name)) ≡ length (begun ++ more) = refl in
+      let list_len : text_len (listed_more first list_so_far next) ≡ length (60 ∷ ((list ++ separator first) ++ text next)) = refl in
+      omega (arith, ap text_len built, whole_len, list_len, ap length longer, length-append begun more, length-append (text name) (gap ++ (60 ∷ [])), length-append gap (60 ∷ []))
 
-  pub attached_more : {next more : Shape} {mid after : ParserState} → args_case s.rest ≡ NextArgument → item s ≡ Some (next, mid) → length mid.rest < length s.rest
-      → more ≡ joined (separated first found) [] next → text_len more - front_len name ≤ max_text
-      → after ≡ add_argument next mid → after.rest ≡ mid.rest → AttachedSoFar whole add_argument item name false more
-      after
-  attached_more {next} {more} {mid} {after} case read shorter built short left same =
-      let longer = listed_more first list_so_far next in
-      let fits : is_wide longer ≡ false = not_wide longer (omega (arith, short, more_len next more built)) in record {
-        list = (so_far.list ++ separator first) ++ text next;
-        own = longer.own;
+  pub attached_more : {next all : Shape} {more : List ℕ} {mid after : ParserState} → args_case s.rest ≡ NextArgument → item s ≡ Some (next, mid) → length mid.rest < length s.rest
+      → more ≡ (list ++ separator first) ++ text next → all ≡ appended more (arguments_opened name) → text_len all - front_len name ≤ max_text
+      → after ≡ add_argument next mid → after.rest ≡ mid.rest → AttachedSoFar whole add_argument item name false more after
+  attached_more {next} {all} {more} {mid} {after} case read shorter longer built short left same =
+      let listed = listed_more first list_so_far next in
+      let fits : is_wide listed ≡ false = not_wide listed (omega (arith, short, more_len next longer built)) in record {
+        own = listed.own;
         templ = so_far.templ;
         ctor = so_far.ctor;
-        so_far = items_more add_argument item (attached_to name) so_far.so_far case read shorter refl fits left same;
-        stands = built ∙ ap (λ (l : Shape). joined (separated first l) [] next) so_far.stands ∙ begun_more (text name) (angle_gap (text name)) so_far.list next first;
+        so_far = rw longer (items_more add_argument item (attached_to name) so_far.so_far case read shorter refl fits left same);
       }
 
-  pub attached_more_wide : {next more : Shape} {mid : ParserState} → args_case s.rest ≡ NextArgument → item s ≡ Some (next, mid)
-      → more ≡ joined (separated first found) [] next → max_text < text_len more - front_len name → whole ≡ None
-  attached_more_wide {next} {more} case read built long =
-      items_wide add_argument item (attached_to name) so_far.so_far case read refl (wide_by (listed_more first list_so_far next) (omega (arith, long, more_len next more built)))
+  pub attached_more_wide : {next all : Shape} {more : List ℕ} {mid : ParserState} → args_case s.rest ≡ NextArgument → item s ≡ Some (next, mid)
+      → more ≡ (list ++ separator first) ++ text next → all ≡ appended more (arguments_opened name) → max_text < text_len all - front_len name → whole ≡ None
+  attached_more_wide {next} case read longer built long =
+      items_wide add_argument item (attached_to name) so_far.so_far case read refl (wide_by (listed_more first list_so_far next) (omega (arith, long, more_len next longer built)))
 
   pub attached_fail : args_case s.rest ≡ NextArgument → item s ≡ None → whole ≡ None
   attached_fail case none = items_fail add_argument item (attached_to name) so_far.so_far case none
-
-  -- what is found is a text that begins with the name's
-  pub attached_plain : {all : Shape} → all ≡ found → all ≡ plain_shape (text all)
-  attached_plain same =
-      let is = same ∙ so_far.stands in is ∙ ap (λ (l : Shape). plain_shape (text l)) (sym is)
-
-  pub attached_front : {len all : ℕ} → len ≡ text_len name → all ≡ text_len found → len ≤ all
-  attached_front {len} {all} long same =
-      let list = angle_gap (text name) ++ (60 ∷ so_far.list) in
-      let len_is : all ≡ text_len name + length list = same ∙ ap text_len so_far.stands ∙ length-append (text name) list in
-      omega (arith, long, len_is)
 
 -- no list is read after a name where none may open
 pub no_attached : (d : ℕ) (x : Context) (of_name : Bool) (name : Shape) (s : ParserState) → d ≡ 0 → attached_by (parse_args d x of_name) name s ≡ None

@@ -74,63 +74,62 @@ abbrev pub Measures : Result (Unit {0}) Stop → Shape → Type 0
 Measures (Ok u) t = is_wide t ≡ false
 Measures (Err e) t = (e ≡ Unread) × (is_wide t ≡ true)
 
--- there is room to count what a reading or a failing run can enter
+-- The count of productions can rise by two for each byte that is left, and by `more`: what a run can enter at most.
 abbrev pub HasRoom : ℕ → ParserState → Type 0
 HasRoom more s = s.entered + 2 * length s.rest + more < 2 ^ 64
 
--- a reading takes bytes, and all else of the state stays; a failing run leaves all of it
+-- A reading takes bytes, and all else of the state stays. A run that fails leaves all of it.
 abbrev pub OnlyTakes : Result (Unit {0}) Stop → ParserState → ParserState → Type 0
 OnlyTakes (Ok u) before after = (length after.rest < length before.rest) × (after ≡ with_rest after.rest before)
 OnlyTakes (Err Unread) before after = after ≡ before
 OnlyTakes (Err Memory) before after = Unit {0}
 
--- a reading takes bytes, enters at most two productions for each, less the slack, and drops no scope that stood before
-abbrev pub Taken : ℕ → ParserState → ParserState → Type 0
-Taken slack before after =
-    (length after.rest < length before.rest)
-    × (after.entered + 2 * length after.rest + slack ≤ before.entered + 2 * length before.rest)
-    × (length before.scopes ≤ length after.scopes)
+-- What a successful reading costs.
+pub record Cost (least slack : ℕ) (before after : ParserState) : Type 0 where
+  -- it takes at least so many bytes
+  pub taken : length after.rest + least ≤ length before.rest
+  -- it enters at most two counted productions for each byte that it takes, less the slack
+  pub counted : after.entered + 2 * length after.rest + slack ≤ before.entered + 2 * length before.rest
+  -- it drops no scope that stood before
+  pub scopes_stand : length before.scopes ≤ length after.scopes
 
--- the same of what may be left out: it may take no byte
-abbrev pub OptionallyTaken : ParserState → ParserState → Type 0
-OptionallyTaken before after =
-    (length after.rest ≤ length before.rest)
-    × (after.entered + 2 * length after.rest ≤ before.entered + 2 * length before.rest)
-    × (length before.scopes ≤ length after.scopes)
+-- What a call costs. A run that fails enters at most two productions for each byte that was left, and `more`. After an
+-- allocation failure nothing is said.
+abbrev pub Bounds : {A : Type 0} → ℕ → ℕ → ℕ → Result A Stop → ParserState → ParserState → Type 0
+Bounds least slack more (Ok a) before after = Cost least slack before after
+Bounds least slack more (Err Unread) before after = after.entered ≤ before.entered + 2 * length before.rest + more
+Bounds least slack more (Err Memory) before after = Unit {0}
 
--- what is entered by a reading, and by a failing run, which enters two more at most
-abbrev pub Bounds : {A : Type 0} → ℕ → Result A Stop → ParserState → ParserState → Type 0
-Bounds slack (Ok a) before after = Taken slack before after
-Bounds slack (Err Unread) before after = after.entered + slack ≤ before.entered + 2 * length before.rest + 2
-Bounds slack (Err Memory) before after = Unit {0}
+-- The bounds of a production that takes at least one byte: a reading enters at most `more` for the first byte, and two
+-- for each further one.
+abbrev pub TakesSome : {A : Type 0} → ℕ → Result A Stop → ParserState → ParserState → Type 0
+TakesSome more result before after = Bounds 1 (2 - more) more result before after
 
--- the same of what may be left out
-abbrev pub OptionalBounds : {A : Type 0} → Result A Stop → ParserState → ParserState → Type 0
-OptionalBounds (Ok a) before after = OptionallyTaken before after
-OptionalBounds (Err Unread) before after = after.entered ≤ before.entered + 2 * length before.rest + 1
-OptionalBounds (Err Memory) before after = Unit {0}
+-- The bounds of a production that may be empty.
+abbrev pub MayTakeNone : {A : Type 0} → ℕ → Result A Stop → ParserState → ParserState → Type 0
+MayTakeNone more result before after = Bounds 0 0 more result before after
 
--- the same of a list, which may be empty
-abbrev pub ListBounds : {A : Type 0} → Result A Stop → ParserState → ParserState → Type 0
-ListBounds (Ok a) before after = OptionallyTaken before after
-ListBounds (Err Unread) before after = after.entered ≤ before.entered + 2 * length before.rest + 2
-ListBounds (Err Memory) before after = Unit {0}
-
--- at no moment are more shapes saved than were there before, with one for each byte that was left, less the slack
+-- The most components at any moment: no more than the most before the call, or no more than there were before it with
+-- one for each byte that was left, less the slack.
 abbrev pub MostSaved : ℕ → ParserState → ParserState → Type 0
 MostSaved slack before after =
     after.most_saved + slack ≤ max (before.most_saved + slack) (length before.saved + length before.rest)
 
--- the saved list rises by at most one for each byte that a reading takes, less the slack; also in a failing run at no
--- moment are too many saved
+-- How the substitution table grows in a successful reading.
+pub record Growth (slack : ℕ) (before after : ParserState) : Type 0 where
+  -- by at most one component for each byte that is taken, less the slack
+  pub list : length after.saved + length after.rest + slack ≤ length before.saved + length before.rest
+  -- at any moment by at most one for each byte that was left, less the slack. Where there is a slack, one component
+  -- more may wait
+  pub most : MostSaved (slack - 1) before after
+
+-- How it grows in a call. A run that fails keeps to the same most.
 abbrev pub SavedBounds : {A : Type 0} → ℕ → Result A Stop → ParserState → ParserState → Type 0
-SavedBounds slack (Ok a) before after =
-    (length after.saved + length after.rest + slack ≤ length before.saved + length before.rest)
-    × MostSaved (slack - 1) before after
+SavedBounds slack (Ok a) before after = Growth slack before after
 SavedBounds slack (Err Unread) before after = MostSaved (slack - 1) before after
 SavedBounds slack (Err Memory) before after = Unit {0}
 
--- one shape more is saved, or none
+-- One component is saved. A run that fails saves none.
 abbrev pub SavesOne : {A : Type 0} → Result A Stop → ParserState → ParserState → Type 0
 SavesOne (Ok a) before after =
     (length after.saved ≡ length before.saved + 1)

@@ -4,7 +4,7 @@ ghost use Rattle.demangle_text.specs.State.{IsLiving, shape, Lives, IsRun, SameF
 ghost use Rattle.demangle_edit.specs.Types.{pointer_shape, cv_shape};
 ghost use Rattle.itanium_syntax.specs.Args.{attached_case};
 ghost use Rattle.itanium_reader.specs.Parser as spec;
-ghost use Rattle.itanium_reader.specs.Outcome.{state, Gives, Bounds, OptionalBounds, SavedBounds, SavesOne};
+ghost use Rattle.itanium_reader.specs.Outcome.{state, Gives, TakesSome, MayTakeNone, SavedBounds, SavesOne};
 
 use crate::reader::Reader;
 use crate::stop::Stop;
@@ -64,7 +64,7 @@ impl<'a> Reader<'a> {
         ensures reads { Gives result self.new (spec.saved_array dimension
             (shape self.old.buffer.value self.old.found) (state self.old)) }
         ensures run { OnOk result (IsRun self.old.buffer.value self.new.buffer.value) }
-        ensures bounds { OptionalBounds result (state self.old) (state self.new) }
+        ensures bounds { MayTakeNone 1 result (state self.old) (state self.new) }
         ensures one { SavesOne result (state self.old) (state self.new) }
     {
         let Some(whole) = wrap_array(&mut self.buffer, self.found, dimension)? else {
@@ -83,7 +83,7 @@ impl<'a> Reader<'a> {
             (spec.saved_member (shape self.old.buffer.value class)
             (shape self.old.buffer.value self.old.found) (state self.old)) }
         ensures run { OnOk result (IsRun self.old.buffer.value self.new.buffer.value) }
-        ensures bounds { OptionalBounds result (state self.old) (state self.new) }
+        ensures bounds { MayTakeNone 1 result (state self.old) (state self.new) }
         ensures one { SavesOne result (state self.old) (state self.new) }
     {
         let Some(whole) = wrap_member_pointer(&mut self.buffer, class, self.found)? else {
@@ -102,7 +102,7 @@ impl<'a> Reader<'a> {
         ensures reads { Gives result self.new (spec.function_end front quals
             (shape self.old.buffer.value self.old.found) (state self.old)) }
         ensures run { OnOk result (IsRun self.old.buffer.value self.new.buffer.value) }
-        ensures bounds { OptionalBounds result (state self.old) (state self.new) }
+        ensures bounds { MayTakeNone 1 result (state self.old) (state self.new) }
         ensures saved { SavedBounds 0 result (state self.old) (state self.new) }
     {
         let (reference, rest) = ref_qualifier(self.rest);
@@ -117,7 +117,7 @@ impl<'a> Reader<'a> {
     pub fn read_vendor(&mut self) -> Result<(), Stop>
         ensures reads { Gives result self.new (spec.parse_vendor (state self.old)) }
         ensures run { OnOk result (IsRun self.old.buffer.value self.new.buffer.value) }
-        ensures bounds { Bounds 2 result (state self.old) (state self.new) }
+        ensures bounds { TakesSome 0 result (state self.old) (state self.new) }
         ensures saved { SavedBounds 0 result (state self.old) (state self.new) }
     {
         self.skip(1);

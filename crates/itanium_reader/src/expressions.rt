@@ -5,7 +5,7 @@ ghost use Rattle.demangle_text.specs.State.{IsLiving, Lives, shape, IsRun, SameF
 ghost use Rattle.demangle_edit.specs.Expressions.{operand_shape};
 ghost use Rattle.itanium_grammar.specs.Tree.{post_shape, binary_shape, greater_shape};
 ghost use Rattle.itanium_reader.specs.Parser as spec;
-ghost use Rattle.itanium_reader.specs.Outcome.{state, Gives, Bounds, SavedBounds};
+ghost use Rattle.itanium_reader.specs.Outcome.{state, Gives, TakesSome, SavedBounds};
 
 use crate::reader::Reader;
 use crate::stop::Stop;
@@ -23,7 +23,7 @@ impl<'a> Reader<'a> {
         ensures reads { Gives result self.new
             (spec.ended (Some (shape self.old.buffer.value self.old.found, state self.old))) }
         ensures kept { OnOk result (SameFrame self.old.buffer.value self.new.buffer.value) }
-        ensures bounds { Bounds 2 result (state self.old) (state self.new) }
+        ensures bounds { TakesSome 0 result (state self.old) (state self.new) }
         ensures saved { SavedBounds 1 result (state self.old) (state self.new) }
     {
         match self.rest {
@@ -43,7 +43,7 @@ impl<'a> Reader<'a> {
         ensures reads { Gives result self.new
             (spec.literal_end (shape self.old.buffer.value self.old.found) (state self.old)) }
         ensures run { OnOk result (IsRun self.old.buffer.value self.new.buffer.value) }
-        ensures bounds { Bounds 2 result (state self.old) (state self.new) }
+        ensures bounds { TakesSome 0 result (state self.old) (state self.new) }
         ensures saved { SavedBounds 1 result (state self.old) (state self.new) }
     {
         let Some((value, rest)) = literal_value(self.rest) else {

@@ -2,17 +2,15 @@
 ghost use Rattle.std.specs.Prelude.{◌≡◌, codes, Some, OnOk};
 ghost use Rattle.demangle_text.specs.Shape.{appended};
 ghost use Rattle.demangle_text.specs.State.{IsLiving, shape, Lives, IsEdit, IsRun};
+ghost use Rattle.demangle_text.specs.Calls.{IsLast};
 ghost use Rattle.demangle_edit.specs.Names.{qualified_ctor, with_name_qualifiers};
 ghost use Rattle.itanium_grammar.specs.Tree.{conversion_shape};
 ghost use Rattle.itanium_reader.specs.Parser as spec;
-ghost use Rattle.itanium_reader.specs.Outcome.{state, Gives, Bounds, OptionalBounds, SavedBounds};
+ghost use Rattle.itanium_reader.specs.Outcome.{state, Gives, TakesSome, MayTakeNone, SavedBounds};
 
 use crate::reader::Reader;
 use crate::stop::Stop;
-use demangle_edit::{
-    Quals, append_number, apply_name_qualifiers, close_lambda, qualify_ctor, qualify_text_in_place,
-    tag,
-};
+use demangle_edit::{Quals, append_number, apply_name_qualifiers, close_lambda, qualify_ctor, tag};
 use demangle_text::{Piece, Place};
 use itanium_syntax::names::{TagCase, source_text, tag_case};
 use itanium_syntax::numerals::ordinal;
@@ -20,7 +18,7 @@ use itanium_syntax::operators::operator_here;
 use itanium_syntax::scalar::source_name;
 use std::alloc::AllocError;
 
-#[tactic(auto, using(crate::proofs::Rules::buffers))]
+#[tactic(auto, using(crate::proofs::Rules::parents))]
 impl<'a> Reader<'a> {
     /// The string literal of an encoding.
     pub fn print_string_literal(&mut self, encoding: Piece) -> Result<(), AllocError>
@@ -38,11 +36,13 @@ impl<'a> Reader<'a> {
     #[inline(always)]
     pub fn read_source_segment(&mut self, waits: bool) -> Result<(), Stop>
         requires living { IsLiving self.old.buffer.value self.old.found }
+        requires last { IsLast self.old.buffer.value self.old.found }
         ensures reads { Gives result self.new (spec.parse_source_in
             (Some (shape self.old.buffer.value self.old.found))
             (spec.waiting waits (shape self.old.buffer.value self.old.found) (state self.old))) }
         ensures run { OnOk result (IsRun self.old.buffer.value self.new.buffer.value) }
-        ensures bounds { Bounds 2 result (state self.old) (state self.new) }
+        ensures last { OnOk result (IsLast self.new.buffer.value self.new.found) }
+        ensures bounds { TakesSome 0 result (state self.old) (state self.new) }
         ensures saved { SavedBounds 1 result
             (spec.waiting waits (shape self.old.buffer.value self.old.found) (state self.old)) (state self.new) }
     {
@@ -54,7 +54,7 @@ impl<'a> Reader<'a> {
         };
         self.save_waiting(waits)?;
         let text = source_text(&bytes[from..to]);
-        qualify_text_in_place(&mut self.buffer, &mut self.found, text)?;
+        self.buffer.append_name(&mut self.found, b"::", text)?;
         self.rest = &bytes[to..];
         self.read_tags()
     }
@@ -66,6 +66,7 @@ impl<'a> Reader<'a> {
             (qualified_ctor (shape self.old.buffer.value self.old.found) destructor)) }
         ensures state { OnOk result (state self.new ≡ spec.skip 2 (state self.old)) }
         ensures run { OnOk result (IsRun self.old.buffer.value self.new.buffer.value) }
+        ensures last { OnOk result (IsLast self.new.buffer.value self.new.found) }
     {
         self.skip(2);
         self.found = qualify_ctor(&mut self.buffer, self.found, destructor)?;
@@ -73,14 +74,16 @@ impl<'a> Reader<'a> {
     }
 
     /// `<abi-tags> ::= (B <source-name>)*` after the name that was found. Mostly there is none.
-    #[tactic(auto, using(crate::proofs::Rules::tagged_names))]
+    #[tactic(auto, using(crate::proofs::Rules::tagged_names, crate::proofs::Rules::parents))]
     #[inline(always)]
     pub fn read_tags(&mut self) -> Result<(), Stop>
         requires living { IsLiving self.old.buffer.value self.old.found }
         ensures reads { Gives result self.new
             (spec.parse_tags (shape self.old.buffer.value self.old.found) (state self.old)) }
         ensures run { OnOk result (IsRun self.old.buffer.value self.new.buffer.value) }
-        ensures bounds { OptionalBounds result (state self.old) (state self.new) }
+        ensures last { IsLast self.old.buffer.value self.old.found
+            → OnOk result (IsLast self.new.buffer.value self.new.found) }
+        ensures bounds { MayTakeNone 1 result (state self.old) (state self.new) }
         ensures saved { SavedBounds 0 result (state self.old) (state self.new) }
     {
         match tag_case(self.rest) {
@@ -90,14 +93,16 @@ impl<'a> Reader<'a> {
     }
 
     /// `read_tags` where one follows.
-    #[tactic(auto, using(crate::proofs::Rules::tags))]
+    #[tactic(auto, using(crate::proofs::Rules::tags, crate::proofs::Rules::parents))]
     #[cold]
     fn read_some_tags(&mut self) -> Result<(), Stop>
         requires living { IsLiving self.old.buffer.value self.old.found }
         ensures reads { Gives result self.new
             (spec.parse_tags (shape self.old.buffer.value self.old.found) (state self.old)) }
         ensures run { OnOk result (IsRun self.old.buffer.value self.new.buffer.value) }
-        ensures bounds { OptionalBounds result (state self.old) (state self.new) }
+        ensures last { IsLast self.old.buffer.value self.old.found
+            → OnOk result (IsLast self.new.buffer.value self.new.found) }
+        ensures bounds { MayTakeNone 1 result (state self.old) (state self.new) }
         ensures saved { SavedBounds 0 result (state self.old) (state self.new) }
     {
         while let TagCase::NextTag = tag_case(self.rest) {
@@ -117,7 +122,8 @@ impl<'a> Reader<'a> {
     pub fn read_unnamed_type(&mut self) -> Result<(), Stop>
         ensures reads { Gives result self.new (spec.parse_unnamed_type (state self.old)) }
         ensures run { OnOk result (IsRun self.old.buffer.value self.new.buffer.value) }
-        ensures bounds { Bounds 2 result (state self.old) (state self.new) }
+        ensures last { OnOk result (IsLast self.new.buffer.value self.new.found) }
+        ensures bounds { TakesSome 0 result (state self.old) (state self.new) }
         ensures saved { SavedBounds 1 result (state self.old) (state self.new) }
     {
         let Some((number, rest)) = ordinal(self.rest) else {
@@ -136,7 +142,8 @@ impl<'a> Reader<'a> {
     pub fn read_literal_operator(&mut self) -> Result<(), Stop>
         ensures reads { Gives result self.new (spec.parse_literal_operator (state self.old)) }
         ensures run { OnOk result (IsRun self.old.buffer.value self.new.buffer.value) }
-        ensures bounds { Bounds 2 result (state self.old) (state self.new) }
+        ensures last { OnOk result (IsLast self.new.buffer.value self.new.found) }
+        ensures bounds { TakesSome 0 result (state self.old) (state self.new) }
         ensures saved { SavedBounds 2 result (state self.old) (state self.new) }
     {
         let Some((from, to)) = source_name(self.rest, 0) else {
@@ -155,7 +162,8 @@ impl<'a> Reader<'a> {
     pub fn read_operator(&mut self) -> Result<(), Stop>
         ensures reads { Gives result self.new (spec.parse_operator (state self.old)) }
         ensures run { OnOk result (IsRun self.old.buffer.value self.new.buffer.value) }
-        ensures bounds { Bounds 2 result (state self.old) (state self.new) }
+        ensures last { OnOk result (IsLast self.new.buffer.value self.new.found) }
+        ensures bounds { TakesSome 0 result (state self.old) (state self.new) }
         ensures saved { SavedBounds 2 result (state self.old) (state self.new) }
     {
         let Some(text) = operator_here(self.rest) else {
@@ -174,7 +182,8 @@ impl<'a> Reader<'a> {
         requires living { IsLiving self.old.buffer.value list }
         ensures reads { Gives result self.new (spec.lambda_end (shape self.old.buffer.value list) (state self.old)) }
         ensures run { OnOk result (IsRun self.old.buffer.value self.new.buffer.value) }
-        ensures bounds { Bounds 2 result (state self.old) (state self.new) }
+        ensures last { OnOk result (IsLast self.new.buffer.value self.new.found) }
+        ensures bounds { TakesSome 0 result (state self.old) (state self.new) }
         ensures saved { SavedBounds 1 result (state self.old) (state self.new) }
     {
         self.skip(1);
@@ -214,6 +223,7 @@ impl<'a> Reader<'a> {
             (conversion_shape (shape self.old.buffer.value self.old.found))) }
         ensures state { OnOk result (state self.new ≡ state self.old) }
         ensures run { OnOk result (IsRun self.old.buffer.value self.new.buffer.value) }
+        ensures last { OnOk result (IsLast self.new.buffer.value self.new.found) }
     {
         let plain = self.buffer.plain(self.found);
         let named = self.buffer.insert(plain, Place::Start, b"operator ")?;

@@ -1,16 +1,16 @@
 //! What the readers share: the bytes that are left, the buffer with what was saved, and the piece that was found.
-ghost use Rattle.std.specs.Prelude.{◌≡◌, ◌<◌, ◌≤◌, ◌+◌, ◌^◌, ◌++◌, IfOk, OnOk, [], length, take, max, true, false};
+ghost use Rattle.std.specs.Prelude.{◌≡◌, ◌<◌, ◌≤◌, ◌+◌, ◌^◌, ◌++◌, IfOk, OnOk, length, take, max, true, false};
 ghost use Rattle.demangle_text.specs.Shape.{plain_shape, text};
 ghost use Rattle.demangle_text.specs.State.{Closes, Stands, frame_start, inside};
-ghost use Rattle.demangle_text.specs.State.{IsLiving, Lives, shape, IsRun, SameFrame, saved, scopes, main_bytes, frame, outermost};
+ghost use Rattle.demangle_text.specs.State.{IsLiving, Lives, shape, IsRun, SameFrame, saved, scopes, main_bytes, frame};
 ghost use Rattle.demangle_text.specs.Calls.{IsLast};
-ghost use Rattle.demangle_edit.specs.Built.{separated};
+ghost use Rattle.demangle_edit.specs.Built.{separated, separator};
 ghost use Rattle.itanium_syntax.specs.Names.{segment_case};
 ghost use Rattle.itanium_syntax.specs.Types.{builtin_text, past_builtin};
 ghost use Rattle.itanium_grammar.specs.Answer.{max_text};
 ghost use Rattle.itanium_reader.specs.Cases.{EndOfSegments};
 ghost use Rattle.itanium_reader.specs.Parser as spec;
-ghost use Rattle.itanium_reader.specs.Outcome.{state, Enters, Gives, Measures, OnlyTakes, HasRoom, Bounds, SavedBounds};
+ghost use Rattle.itanium_reader.specs.Outcome.{state, Enters, Gives, Measures, OnlyTakes, HasRoom, TakesSome, SavedBounds};
 
 use crate::stop::Stop;
 use demangle_edit::Quals;
@@ -21,7 +21,7 @@ use itanium_syntax::names::{SubstitutionCase, source_text, substitution_case};
 use itanium_syntax::numerals::{Radix, index_of};
 use itanium_syntax::scalar::source_name;
 use itanium_syntax::types::{builtin_text, past_builtin};
-use std::alloc::{AllocError, Global};
+use std::alloc::AllocError;
 
 /// The most bytes that a counted production of a symbol may print, also one that is dropped: a name, a type, an
 /// argument list, a pack, a thunk or an expression.
@@ -56,33 +56,10 @@ pub struct Reader<'a> {
     /// The most components that were saved at the `E` of a nested name, with the one that waited: `most_saved` is the
     /// most at any moment.
     pub most_noted: usize,
-    pub alloc: Global,
 }
 
 #[tactic(auto, using(crate::proofs::Rules::buffers))]
 impl<'a> Reader<'a> {
-    /// A reader at the front of the bytes, over a buffer that is cleared.
-    #[inline(always)]
-    pub fn new(alloc: Global, buffer: Box<Buffer>, bytes: &'a [u8]) -> Self
-        ensures state { state result ≡ spec.begun bytes.entry.now }
-        ensures main { main_bytes result.buffer.value ≡ [] }
-        ensures no_mark { frame result.buffer.value ≡ outermost }
-        ensures found { IsLiving result.buffer.value result.found }
-    {
-        let mut buffer = buffer;
-        buffer.clear();
-        let found = buffer.empty();
-        Reader {
-            rest: bytes,
-            buffer,
-            found,
-            quals: None,
-            entered: 0,
-            most_noted: 0,
-            alloc,
-        }
-    }
-
     /// Goes past n bytes, or to the end.
     #[inline(always)]
     pub fn skip(&mut self, n: usize)
@@ -129,6 +106,20 @@ impl<'a> Reader<'a> {
         Ok(())
     }
 
+    /// Copies what was found to the end of the output: what follows it in a name goes right after it.
+    #[inline(always)]
+    pub fn copy_found(&mut self) -> Result<(), AllocError>
+        requires living { IsLiving self.old.buffer.value self.old.found }
+        ensures shape { OnOk result (Lives self.new.buffer.value self.new.found
+            (shape self.old.buffer.value self.old.found)) }
+        ensures last { OnOk result (IsLast self.new.buffer.value self.new.found) }
+        ensures state { OnOk result (state self.new ≡ state self.old) }
+        ensures kept { OnOk result (SameFrame self.old.buffer.value self.new.buffer.value) }
+    {
+        self.found = self.buffer.copy(self.found)?;
+        Ok(())
+    }
+
     /// Takes the innermost mark back: what was found becomes all of the main text since then.
     #[inline(always)]
     pub fn close_found(&mut self, mark: Mark) -> Result<(), AllocError>
@@ -158,6 +149,7 @@ impl<'a> Reader<'a> {
         ensures state { OnOk result (state self.new ≡ spec.waiting waits
             (shape self.old.buffer.value self.old.found) (state self.old)) }
         ensures found { OnOk result (self.new.found ≡ self.old.found) }
+        ensures main { main_bytes self.new.buffer.value ≡ main_bytes self.old.buffer.value }
         ensures kept { OnOk result (SameFrame self.old.buffer.value self.new.buffer.value) }
     {
         if waits {
@@ -232,7 +224,8 @@ impl<'a> Reader<'a> {
     pub fn read_source(&mut self) -> Result<(), Stop>
         ensures reads { Gives result self.new (spec.parse_source (state self.old)) }
         ensures kept { OnOk result (SameFrame self.old.buffer.value self.new.buffer.value) }
-        ensures bounds { Bounds 2 result (state self.old) (state self.new) }
+        ensures last { OnOk result (IsLast self.new.buffer.value self.new.found) }
+        ensures bounds { TakesSome 0 result (state self.old) (state self.new) }
         ensures saved { SavedBounds 2 result (state self.old) (state self.new) }
     {
         let bytes = self.rest;
@@ -251,7 +244,7 @@ impl<'a> Reader<'a> {
     pub fn read_substitution(&mut self) -> Result<(), Stop>
         ensures reads { Gives result self.new (spec.parse_substitution (state self.old)) }
         ensures kept { OnOk result (SameFrame self.old.buffer.value self.new.buffer.value) }
-        ensures bounds { Bounds 2 result (state self.old) (state self.new) }
+        ensures bounds { TakesSome 0 result (state self.old) (state self.new) }
         ensures saved { SavedBounds 2 result (state self.old) (state self.new) }
     {
         self.skip(1);
@@ -301,7 +294,7 @@ impl<'a> Reader<'a> {
     pub fn read_parameter(&mut self, context: Context) -> Result<(), Stop>
         ensures reads { Gives result self.new (spec.parse_parameter context (state self.old)) }
         ensures kept { OnOk result (SameFrame self.old.buffer.value self.new.buffer.value) }
-        ensures bounds { Bounds 2 result (state self.old) (state self.new) }
+        ensures bounds { TakesSome 0 result (state self.old) (state self.new) }
         ensures saved { SavedBounds 2 result (state self.old) (state self.new) }
     {
         self.skip(1);
@@ -351,6 +344,22 @@ impl<'a> Reader<'a> {
         }
         let separated = self.buffer.append(plain, b", ")?;
         Ok(separated)
+    }
+
+    /// Puts what stands in front of a list's next text at the end of the output: `, `, or nothing in front of the
+    /// first.
+    #[tactic(auto, using(crate::proofs::Rules::separators))]
+    #[inline(always)]
+    pub fn separate(&mut self, first: bool) -> Result<(), AllocError>
+        ensures main { OnOk result (main_bytes self.new.buffer.value
+            ≡ main_bytes self.old.buffer.value ++ separator first) }
+        ensures state { OnOk result (state self.new ≡ state self.old) }
+        ensures kept { OnOk result (SameFrame self.old.buffer.value self.new.buffer.value) }
+    {
+        if !first {
+            self.buffer.push(b", ")?;
+        }
+        Ok(())
     }
 
     /// A list begins, and opens a scope where it is to.

@@ -1,12 +1,12 @@
 //! Special names, and what follows the prefix of a symbol (Itanium C++ ABI 5.1.4, "Other Special Functions and
 //! Entities").
 ghost use Rattle.std.specs.Prelude.{◌≡◌, ◌<◌, ◌++◌, OnOk, IfOk, codes, decimal, length};
-ghost use Rattle.demangle_text.specs.Shape.{text, appended};
+ghost use Rattle.demangle_text.specs.Shape.{text, appended, plain_shape};
 ghost use Rattle.demangle_text.specs.State.{IsLiving, Lives, shape, IsEdit, IsRun};
-ghost use Rattle.demangle_text.specs.Calls.{AreAdjacent, IsLast};
+ghost use Rattle.demangle_text.specs.Calls.{IsInner, IsLast, text_after};
 ghost use Rattle.itanium_grammar.specs.Tree.{offset_sign, offset_text, worded_shape};
 ghost use Rattle.itanium_reader.specs.Parser as spec;
-ghost use Rattle.itanium_reader.specs.Outcome.{state, Gives, Bounds, SavedBounds};
+ghost use Rattle.itanium_reader.specs.Outcome.{state, Gives, TakesSome, SavedBounds};
 
 use crate::reader::Reader;
 use crate::stop::Stop;
@@ -68,20 +68,22 @@ fn append_offset(buf: &mut Buffer, words: Piece, offset: CallOffset) -> Result<P
 
 #[tactic(auto, using(crate::proofs::Rules::buffers))]
 impl<'a> Reader<'a> {
-    /// The words with what was found right after them, and the words that close it.
+    /// The words with what was found, whose text stands after them up to the end of the output, and the words that
+    /// close it.
     #[tactic(auto, using(crate::proofs::Rules::words))]
     #[inline(always)]
     pub fn print_worded(&mut self, words: Piece, close: &[u8]) -> Result<(), AllocError>
         requires words { IsLiving self.old.buffer.value words }
-        requires living { IsLiving self.old.buffer.value self.old.found }
-        requires adjacent { AreAdjacent self.old.buffer.value words self.old.found }
+        requires plain { shape self.old.buffer.value words ≡ plain_shape (text (shape self.old.buffer.value words)) }
+        requires inner { IsInner self.old.buffer.value words }
+        requires after { text_after self.old.buffer.value words ≡ text (shape self.old.buffer.value self.old.found) }
         ensures shape { OnOk result (Lives self.new.buffer.value self.new.found
             (worded_shape (text (shape self.old.buffer.value words))
             (shape self.old.buffer.value self.old.found) close.now)) }
         ensures state { OnOk result (state self.new ≡ state self.old) }
         ensures run { OnOk result (IsRun self.old.buffer.value self.new.buffer.value) }
     {
-        let worded = self.buffer.join_adjacent(words, self.found);
+        let worded = self.buffer.up_to_end(words);
         let closed = self.buffer.append(worded, close)?;
         self.found = self.buffer.whole(closed);
         Ok(())
@@ -94,9 +96,11 @@ impl<'a> Reader<'a> {
     pub fn open_thunk(&mut self) -> Result<(), Stop>
         requires some { 0 < length self.old.rest.now }
         ensures reads { Gives result self.new (spec.thunk_front (state self.old)) }
+        ensures plain { OnOk result (shape self.new.buffer.value self.new.found
+            ≡ plain_shape (text (shape self.new.buffer.value self.new.found))) }
         ensures last { OnOk result (IsLast self.new.buffer.value self.new.found) }
         ensures run { OnOk result (IsRun self.old.buffer.value self.new.buffer.value) }
-        ensures bounds { Bounds 2 result (state self.old) (state self.new) }
+        ensures bounds { TakesSome 0 result (state self.old) (state self.new) }
         ensures saved { SavedBounds 1 result (state self.old) (state self.new) }
     {
         self.skip(1);
@@ -127,7 +131,7 @@ impl<'a> Reader<'a> {
         ensures reads { Gives result self.new
             (spec.temporary_end (shape self.old.buffer.value self.old.found) (state self.old)) }
         ensures run { OnOk result (IsRun self.old.buffer.value self.new.buffer.value) }
-        ensures bounds { Bounds 2 result (state self.old) (state self.new) }
+        ensures bounds { TakesSome 0 result (state self.old) (state self.new) }
         ensures saved { SavedBounds 1 result (state self.old) (state self.new) }
     {
         let Some((number, rest)) = index_of(Radix::Base36, self.rest) else {

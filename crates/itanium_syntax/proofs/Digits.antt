@@ -1,5 +1,5 @@
 -- Digits that are read one after another.
-use Rattle.std.proofs.Common.{◌≡◌, ◌<◌, ◌≤◌, ℕ, zero, suc, ◌+◌, ◌*◌, ◌^◌, List, [], ◌∷◌, length, drop, get_or, refl, ap, ◌∙◌, arith, Option, Some, None, add-one, drop-cons, true, false, nat_lt, ◌&&◌}
+use Rattle.std.proofs.Common.{◌≡◌, ◌<◌, ◌≤◌, ℕ, zero, suc, ◌+◌, ◌-◌, ◌*◌, ◌^◌, List, [], ◌∷◌, length, take, drop, get_or, refl, ap, ◌∙◌, arith, Option, Some, None, option_map, add-one, take_all, drop-cons, true, false, nat_lt, ◌&&◌}
 use Rattle.std.proofs.Math.Nat.{pow-succ', pow-zero, le-mul_of_pos_right}
 use Rattle.std.proofs.Math.ListN.{drop_of_length-le}
 use Rattle.std.proofs.lemmas.List.{drop-drop, length-drop}
@@ -36,48 +36,51 @@ pow_positive n (suc k) h = omega (arith, pow-succ' n k, le-mul_of_pos_right n (p
 pub weighted_least : (n v : ℕ) (ds : List ℕ) → 0 < n → v ≤ v * n ^ length ds + weighted n ds
 weighted_least n v ds h = omega (arith, le-mul_of_pos_right v (pow_positive n (length ds) h))
 
--- What is read and what is left make the whole numeral.
-pub record NumeralSoFar (r : Radix) (bytes : List ℕ) (i count value : ℕ) : Type 0 where
+-- What is read and what is left make the whole number.
+pub record NumberSoFar (r : Radix) (bytes rest : List ℕ) (i value : ℕ) : Type 0 where
   pub fits : value < 2 ^ 64
-  pub counted : count ≡ i
-  pub digits : count + length (front_digits r (drop i bytes)) ≡ length (front_digits r bytes)
-  pub whole : value * base r ^ length (front_digits r (drop i bytes)) + weighted (base r) (front_digits r (drop i bytes)) ≡ weighted (base r) (front_digits r bytes)
+  pub some : 0 < length (front_digits r bytes)
+  pub whole : value * base r ^ length (front_digits r (drop i rest)) + weighted (base r) (front_digits r (drop i rest)) ≡ weighted (base r) (front_digits r bytes)
 
 base_positive : (r : Radix) → 0 < base r
 base_positive Decimal = omega arith
 base_positive Base36 = omega arith
 
-pub numeral_more : {r : Radix} {bytes : List ℕ} {i count value next d : ℕ} → NumeralSoFar r bytes i count value → i < length bytes → digit_of r (get_or bytes i 0) ≡ Some d
-    → next ≡ value * base r + d → next < 2 ^ 64 → NumeralSoFar r bytes (i + 1) (count + 1) next
-numeral_more {r} {bytes} {i} {count} {value} {next} {d} sofar h some is fits =
-    let e = one_digit r bytes i d h some in
-    let tail = front_digits r (drop (i + 1) bytes) in
+pub number_first : {r : Radix} {bytes : List ℕ} {d : ℕ} → 0 < length bytes → digit_of r (get_or bytes 0 0) ≡ Some d → d < 2 ^ 64
+    → NumberSoFar r bytes (take (length bytes - 1) (drop 1 bytes)) 0 d
+unfolding front_digits weighted
+number_first {r} {bytes} {d} h is fits =
+    let e : front_digits r bytes ≡ d ∷ front_digits r (drop 1 bytes) = one_digit r bytes 0 d h is in
+    rw (take_all (length bytes - 1) (drop 1 bytes) (omega (arith, length-drop 1 bytes))) (record { fits = fits; some = rw e (omega arith); whole = rw e refl })
+
+pub number_more : {r : Radix} {bytes rest : List ℕ} {i value next d : ℕ} → NumberSoFar r bytes rest i value → i < length rest → digit_of r (get_or rest i 0) ≡ Some d
+    → next ≡ value * base r + d → next < 2 ^ 64 → NumberSoFar r bytes rest (i + 1) next
+number_more {r} {bytes} {rest} {i} {value} {next} {d} sofar h some is fits =
+    let e = one_digit r rest i d h some in
+    let tail = front_digits r (drop (i + 1) rest) in
     record {
       fits = fits;
-      counted = omega (arith, sofar.counted);
-      digits = omega (arith, rw e at sofar.digits);
+      some = sofar.some;
       whole = rw is (omega (arith, weighted_step (base r) value d tail, rw e at sofar.whole));
     }
 
-pub numeral_large : {r : Radix} {bytes : List ℕ} {i count value d : ℕ} → NumeralSoFar r bytes i count value → i < length bytes → digit_of r (get_or bytes i 0) ≡ Some d
-    → ¬ (value * base r + d < 2 ^ 64) → None ≡ numeral r bytes
-numeral_large {r} {bytes} {i} {count} {value} {d} sofar h some large =
-    let e = one_digit r bytes i d h some in
-    let tail = front_digits r (drop (i + 1) bytes) in
+pub number_large : {r : Radix} {bytes rest : List ℕ} {i value d : ℕ} → NumberSoFar r bytes rest i value → i < length rest → digit_of r (get_or rest i 0) ≡ Some d
+    → ¬ (value * base r + d < 2 ^ 64) → None ≡ option_map (λ found. found.0) (numeral r bytes)
+number_large {r} {bytes} {rest} {i} {value} {d} sofar h some large =
+    let e = one_digit r rest i d h some in
+    let tail = front_digits r (drop (i + 1) rest) in
     let least : value * base r + d ≤ weighted (base r) (front_digits r bytes) =
     omega (arith, weighted_least (base r) (value * base r + d) tail (base_positive r), weighted_step (base r) value d tail, rw e at sofar.whole) in
     grind (arith, common_steps)
 
-pub numeral_end : {r : Radix} {bytes : List ℕ} {i count value : ℕ} → NumeralSoFar r bytes i count value → front_digits r (drop i bytes) ≡ [] → 0 < count
-    → Some (value, drop count bytes) ≡ numeral r bytes
-numeral_end {r} {bytes} {i} {count} {value} sofar none some =
-    let len : count ≡ length (front_digits r bytes) = omega (arith, rw none at sofar.digits) in
+pub number_end : {r : Radix} {bytes rest : List ℕ} {i value : ℕ} → NumberSoFar r bytes rest i value → front_digits r (drop i rest) ≡ [] → Some value ≡ option_map (λ found. found.0) (numeral r bytes)
+number_end {r} {bytes} {rest} {i} {value} sofar none =
     let is : value ≡ weighted (base r) (front_digits r bytes) = omega (arith, weighted_none (base r) value, rw none at sofar.whole) in
     let fits = sofar.fits in
-    rw (← len, ← is) (grind (arith, common_steps))
+    let some = sofar.some in
+    rw (← is) (grind (arith, common_steps))
 
-pub numeral_empty : {r : Radix} {bytes : List ℕ} {i count value : ℕ} → NumeralSoFar r bytes i count value → front_digits r (drop i bytes) ≡ [] → count ≡ 0 → None ≡ numeral r bytes
-numeral_empty {r} {bytes} sofar none empty =
-    let len : length (front_digits r bytes) ≡ 0 = omega (arith, rw none at sofar.digits) in rw len refl
+pub number_none : (r : Radix) (bytes : List ℕ) → front_digits r bytes ≡ [] → None ≡ option_map (λ found. found.0) (numeral r bytes)
+number_none r bytes none = rw none refl
 
 pub ruleset dropped = (drop-drop, length-drop)

@@ -31,29 +31,52 @@ fn base(radix: Radix) -> u64
     }
 }
 
-/// The number that the digits in front write, and how many digits, so bytes, there are. `None` where none stands there
-/// or the number is past 2^64 - 1.
+/// How many digits stand in front, so bytes.
+#[tactic(auto, unfolding(crate::specs::Scalars::front_digits))]
 #[cold]
 #[inline(never)]
+fn digits_len(radix: Radix, bytes: &[u8]) -> usize
+    ensures value { result ≡ length (spec.front_digits radix bytes.now) }
+    ensures within { result ≤ length bytes.now }
+{
+    for place in 0..bytes.len() {
+        if digit(radix, bytes[place]).is_none() {
+            return place;
+        }
+    }
+    bytes.len()
+}
+
+/// The number that the digits in front write. `None` where none stands there or the number is past 2^64 - 1.
+#[cold]
+#[inline(never)]
+fn digits_value(radix: Radix, bytes: &[u8]) -> Option<u64>
+    ensures value { result ≡ option_map (λ found. found.0) (spec.numeral radix bytes.now) }
+{
+    let [first, rest @ ..] = bytes else {
+        return None;
+    };
+    let base = base(radix);
+    let mut value = digit(radix, *first)?;
+    for byte in rest {
+        let Some(worth) = digit(radix, *byte) else {
+            break;
+        };
+        value = value.checked_mul(base)?.checked_add(worth)?;
+    }
+    Some(value)
+}
+
+/// The number that the digits in front write, and how many digits, so bytes, there are. `None` where none stands there
+/// or the number is past 2^64 - 1.
+#[inline(always)]
 pub fn numeral(radix: Radix, bytes: &[u8]) -> Option<(u64, usize)>
     ensures value { option_map (λ found. (found.0, drop found.1 bytes.now)) result ≡ spec.numeral radix bytes.now }
     ensures taken { IfSome result (λ found. 0 < found.1) }
     ensures within { IfSome result (λ found. found.1 ≤ length bytes.now) }
 {
-    let base = base(radix);
-    let mut value: u64 = 0;
-    let mut count: usize = 0;
-    for byte in bytes {
-        let Some(worth) = digit(radix, *byte) else {
-            break;
-        };
-        value = value.checked_mul(base)?.checked_add(worth)?;
-        count += 1;
-    }
-    if count == 0 {
-        return None;
-    }
-    Some((value, count))
+    let value = digits_value(radix, bytes)?;
+    Some((value, digits_len(radix, bytes)))
 }
 
 /// The number that the decimal digits in front write, and how many digits there are. `None` where none stands there or
@@ -75,9 +98,7 @@ pub fn short_numeral(bytes: &[u8]) -> Option<(u64, usize)>
             return Some((tens * 10 + ones, 2));
         }
     }
-    // The pair is made anew, so that a short number isn't returned through memory.
-    let (value, count) = numeral(Radix::Decimal, bytes)?;
-    Some((value, count))
+    numeral(Radix::Decimal, bytes)
 }
 
 /// `[<numeral>] _`: 0 where the numeral is left out, else the number that follows it, and what is after the `_`. `None`

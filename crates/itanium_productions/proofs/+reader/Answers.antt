@@ -1,55 +1,57 @@
-use Rattle.std.proofs.Common.{◌≡◌, ◌<◌, ◌+◌, ◌*◌, ◌^◌, ◌∙◌, ℕ, List, [], ◌∷◌, length, drop, refl, rules, sym, ap, arith, true, Some}
+use Rattle.std.proofs.Common.{◌≡◌, ◌<◌, ◌+◌, ◌*◌, ◌^◌, ◌∙◌, ℕ, List, [], ◌∷◌, ◌++◌, length, drop, refl, rules, sym, ap, subst, arith, append_assoc, max, true, Option, Some}
 use Rattle.std.proofs.Common.{codes}
-use Rattle.std.proofs.lemmas.List.{length-append, length-drop}
+use Rattle.std.proofs.lemmas.List.{append-nil, length-append, length-drop}
 use Rattle.std.proofs.lemmas.Result.{err_from_is_err_and}
-use Rattle.demangle_text.specs.State.{shape, SameFrame, saved, scopes}
-use Rattle.demangle_text.specs.Shape.{Shape, text, text_len}
-use Rattle.demangle_text.proofs.Laws.{runs}
+use Rattle.demangle_text.specs.State.{shape, SameFrame, KeepsAll, IsEdit, Opens, main_bytes, saved, scopes}
+use Rattle.demangle_text.specs.Shape.{Shape, plain_shape, text, text_len, appended}
+use Rattle.demangle_text.specs.Calls.{joined, text_after}
+use Rattle.demangle_text.specs.declared.buffer.Buffer.{Buffer}
+use Rattle.demangle_edit.proofs.Built.{appended_text}
+use Rattle.itanium_syntax.specs.Offsets.{past_base_offset}
+use Rattle.demangle_text.proofs.Laws.{runs, IsRun-edit, IsRun-same, IsRun-trans, IsSince-opens, IsSince-run, SameFrame-closed, Lives-same, IsLast-stays, IsLast-push, IsInner-last, IsInner-same, text_after-follows}
+use Rattle.demangle_text.proofs.Laws.{text_after-more, text_after-same, text_after-last}
+use Rattle.demangle_edit.specs.Built.{arguments_opened, separator}
 use Rattle.demangle_quals.specs.declared.quals.Quals.{Quals}
 use Rattle.demangle_edit.specs.Names.{default_arg_opened, default_arg_shape, enclosed}
 use Rattle.itanium_syntax.specs.Scalars.{ordinal}
 use Rattle.itanium_syntax.specs.Encodings.{entity_case}
 use Rattle.itanium_reader.specs.Cases.{DefaultArgumentEntity}
 use Rattle.itanium_reader.specs.Outcome.{state}
+use Rattle.itanium_reader.specs.declared.reader.Reader.{Reader}
 use Rattle.itanium_reader.specs.Parser as spec
 use Rattle.itanium_reader.proofs.Unfold.{stops, too_long, thunk_read, thunk_wide}
 use Rattle.itanium_reader.proofs.Texts.{begun_front}
 use Rattle.itanium_reader.proofs.Turns.{source_segment, later_is, attached_start, attached_end, attached_more}
-use Rattle.itanium_reader.proofs.Turns.{attached_fail, attached_plain, attached_front, pack_start, segments_end}
+use Rattle.itanium_reader.proofs.Turns.{attached_fail, pack_start, segments_end}
 use Rattle.itanium_reader.proofs.Turns.{segments_read, segments_none, items_more, items_fail, typed_end, typed_more}
 use Rattle.itanium_reader.proofs.Turns.{typed_fail, attached_wide, attached_more_wide, segments_wide, pack_ends}
 use Rattle.itanium_reader.proofs.Turns.{pack_wide, typed_wide, items_wide}
 use Rattle.itanium_syntax.specs.Context.{inside_lambda}
-use Rattle.itanium_reader.specs.Cases.{ArgsSegment, NameSegment, EndOfSegments}
+use Rattle.itanium_reader.specs.Cases.{SegmentCase, ArgsSegment, NameSegment, EndOfSegments}
 use Rattle.itanium_syntax.specs.Names.{segment_case}
 use Rattle.itanium_productions.proofs.+reader.Goals.{names::read_prefix-in-ArgsSegment+in_ok-save_waiting-in-ArgsSegment+in_ok-read_attached-in-ArgsSegment, names::read_prefix-in-NameSegment+in_ok-save_waiting-in-NameSegment+in_ok-read_segment-in-NameSegment}
 use Rattle.itanium_reader.proofs.Rules.{buffers, types}
-use Rattle.itanium_grammar.specs.Tree.{worded_shape}
+use Rattle.itanium_grammar.specs.Tree.{worded_shape, construction_shape}
 use Rattle.itanium_productions.proofs.+reader.Goals as goal
 
 pub args::read_attached-loop-reader-init : goal.args::read_attached-loop-reader-init
-args::read_attached-loop-reader-init t c = record {
-  below = search rules;
-  front = begun_front (shape c.args.reader.now.buffer.value c.args.reader.now.found) (shape c.begin_arguments.new.buf c.in_ok-list.list) (search rules) (search rules);
-  widest = search rules;
-  reads = attached_start _ _ _ _ (shape c.args.reader.now.buffer.value c.args.reader.now.found) (search rules) (search rules) (search rules) (search rules) (search rules) (search rules);
-  living = search rules;
-  last = search rules;
-  run = search rules;
-  scopes_stand = search rules;
-  scopes_kept = search rules;
-  opened = search rules;
-  taken = search rules;
-  counted = search rules;
-  list = search rules;
-  most = search rules;
-}
-
-pub args::read_attached-end_arguments-requires-clause-plain : goal.args::read_attached-end_arguments-requires-clause-plain
-args::read_attached-end_arguments-requires-clause-plain t c = attached_plain _ _ _ c.loop-reader.invariant.reads (search rules)
-
-pub args::read_attached-end_arguments-requires-clause-front : goal.args::read_attached-end_arguments-requires-clause-front
-args::read_attached-end_arguments-requires-clause-front t c = attached_front _ _ _ c.loop-reader.invariant.reads (search rules) (search rules)
+args::read_attached-loop-reader-init t c =
+    let last = IsLast-stays _ _ _ _ (c.in_ok-list.ensures {u = tt}).edit (c.in_ok-list.ensures {u = tt}).in_place in record {
+      below = search rules;
+      front = begun_front (shape c.args.reader.now.buffer.value c.args.reader.now.found) (shape c.open_arguments.new.buf c.in_ok-list.list) (search rules) (search rules);
+      widest = search rules;
+      reads = attached_start _ _ _ _ (shape c.args.reader.now.buffer.value c.args.reader.now.found) (search rules) (search rules) (search rules) (text_after-last _ _ last) (search rules) (search rules);
+      begun = search rules;
+      inner = IsInner-last _ _ last;
+      run = search rules;
+      scopes_stand = search rules;
+      scopes_kept = search rules;
+      opened = search rules;
+      taken = search rules;
+      counted = search rules;
+      list = search rules;
+      most = search rules;
+    }
 
 pub args::read_attached-returns-in-EndOfArguments-clause-reads : goal.args::read_attached-returns-in-EndOfArguments-clause-reads
 args::read_attached-returns-in-EndOfArguments-clause-reads t c =
@@ -57,20 +59,37 @@ args::read_attached-returns-in-EndOfArguments-clause-reads t c =
 
 pub args::read_attached-returns-then-len-widest-clause-reads : goal.args::read_attached-returns-then-len-widest-clause-reads
 args::read_attached-returns-then-len-widest-clause-reads t c =
-    let last = shape c.end_arguments.new.buf c.in_ok-reader-in-EndOfArguments.field-0 in
+    let last = shape c.close_arguments.new.buf c.in_ok-reader-in-EndOfArguments.field-0 in
     let long : c.len.result ≡ text_len last = search rules in
     attached_wide _ _ _ c.loop-reader.invariant.reads {last = last} (sym c.in-EndOfArguments.ensures.case) (search rules)
     (omega (arith, c.if-len-widest.true, c.loop-reader.invariant.widest, long, c.loop-reader.invariant.front))
 
 pub args::read_attached-returns-then-len-widest-2-clause-reads : goal.args::read_attached-returns-then-len-widest-2-clause-reads
 args::read_attached-returns-then-len-widest-2-clause-reads t c =
-    let more = shape c.add_argument.new.self.buffer.value c.join_adjacent-list.result in
-    let long : c.len-in-NextArgument.result ≡ text_len more = search rules in
-    attached_more_wide _ _ _ c.loop-reader.invariant.reads
-    {next = shape c.framed_argument.new.reader.buffer.value c.framed_argument.new.reader.found} {more = more}
-    {mid = state c.framed_argument.new.reader}
-    (sym c.in-NextArgument.ensures.case) (search rules) (search rules)
-    (omega (arith, c.if-len-widest-2.true, c.loop-reader.invariant.widest, long, c.loop-reader.invariant.front))
+    let so_far = c.loop-reader.invariant in
+    let list = c.in_ok-list.list in
+    let old = c.loop-reader.reader.buffer.value in
+    let separated = c.separate.new.self.buffer.value in
+    let framed = c.framed_argument.new.reader in
+    let new = c.add_argument.new.self.buffer.value in
+    let next = shape framed.buffer.value framed.found in
+    let kept = (c.in_ok-separate-in-NextArgument.ensures {u = tt}).kept in
+    let one = text_after-more old separated list (separator c.loop-reader.first) so_far.begun.living so_far.inner (c.in_ok-separate-in-NextArgument.ensures {u = tt}).main in
+    let two = text_after-more separated framed.buffer.value list (text next) (kept.pieces list so_far.begun.living).living
+    (IsInner-same old separated list so_far.inner kept) (c.in_ok-framed_argument-in-NextArgument.ensures {u = tt}).main in
+    let three = text_after-same framed.buffer.value new list (c.in_ok-add_argument-in-NextArgument.ensures {u = tt}).main in
+    let longer : text_after new list ≡ (text_after old list ++ separator c.loop-reader.first) ++ text next =
+    three ∙ two ∙ ap (λ (v : List ℕ). v ++ text next) one in
+    let begun = Lives-same _ _ _ _ (c.in_ok-add_argument-in-NextArgument.ensures {u = tt}).kept
+    (Lives-same _ _ _ _ (c.in_ok-framed_argument-in-NextArgument.ensures {u = tt}).kept (Lives-same _ _ _ _ kept so_far.begun)) in
+    let all = shape new c.up_to_end.result in
+    let built : all ≡ appended (text_after new list) (arguments_opened (shape c.args.reader.now.buffer.value c.args.reader.now.found)) =
+    subst (λ (b : Buffer). shape b c.up_to_end.result ≡ appended (text_after b list) (shape b list)) c.deref-in-NextArgument-2.ensures c.up_to_end.ensures.shape.shape_is
+    ∙ ap (appended (text_after new list)) begun.shape_is in
+    let long : c.len-in-NextArgument.result ≡ text_len all = search rules in
+    attached_more_wide _ _ _ so_far.reads {next = next} {all = all} {mid = state framed}
+    (sym c.in-NextArgument.ensures.case) (search rules) longer built
+    (omega (arith, c.if-len-widest-2.true, so_far.widest, long, so_far.front))
 
 pub args::read_attached-returns-in_err-framed_argument-in-NextArgument-clause-reads : goal.args::read_attached-returns-in_err-framed_argument-in-NextArgument-clause-reads
 args::read_attached-returns-in_err-framed_argument-in-NextArgument-clause-reads t c =
@@ -81,23 +100,44 @@ args::read_attached-returns-in_err-framed_argument-in-NextArgument-clause-reads 
     (λ none. attached_fail {whole = whole} _ _ _ c.loop-reader.invariant.reads (sym c.in-NextArgument.ensures.case) (search rules)))
 
 pub args::read_attached-loop-reader-preserved : goal.args::read_attached-loop-reader-preserved
-args::read_attached-loop-reader-preserved t c = record {
-  below = search rules;
-  front = c.loop-reader.invariant.front;
-  widest = c.loop-reader.invariant.widest;
-  reads = attached_more _ _ _ c.loop-reader.invariant.reads {next = shape c.framed_argument.new.reader.buffer.value c.framed_argument.new.reader.found} {mid = state c.framed_argument.new.reader}
-      (sym c.in-NextArgument.ensures.case) (search rules) (search rules) (search rules) (search rules) (search rules) (search rules);
-  living = search rules;
-  last = search rules;
-  run = search rules;
-  scopes_stand = search rules;
-  scopes_kept = search rules;
-  opened = search rules;
-  taken = search rules;
-  counted = search rules;
-  list = search rules;
-  most = search rules;
-}
+args::read_attached-loop-reader-preserved t c =
+    let so_far = c.loop-reader.invariant in
+    let list = c.in_ok-list.list in
+    let old = c.loop-reader.reader.buffer.value in
+    let separated = c.separate.new.self.buffer.value in
+    let framed = c.framed_argument.new.reader in
+    let new = c.add_argument.new.self.buffer.value in
+    let next = shape framed.buffer.value framed.found in
+    let kept = (c.in_ok-separate-in-NextArgument.ensures {u = tt}).kept in
+    let one = text_after-more old separated list (separator c.loop-reader.first) so_far.begun.living so_far.inner (c.in_ok-separate-in-NextArgument.ensures {u = tt}).main in
+    let two = text_after-more separated framed.buffer.value list (text next) (kept.pieces list so_far.begun.living).living
+    (IsInner-same old separated list so_far.inner kept) (c.in_ok-framed_argument-in-NextArgument.ensures {u = tt}).main in
+    let three = text_after-same framed.buffer.value new list (c.in_ok-add_argument-in-NextArgument.ensures {u = tt}).main in
+    let longer : text_after new list ≡ (text_after old list ++ separator c.loop-reader.first) ++ text next =
+    three ∙ two ∙ ap (λ (v : List ℕ). v ++ text next) one in
+    let begun = Lives-same _ _ _ _ (c.in_ok-add_argument-in-NextArgument.ensures {u = tt}).kept
+    (Lives-same _ _ _ _ (c.in_ok-framed_argument-in-NextArgument.ensures {u = tt}).kept (Lives-same _ _ _ _ kept so_far.begun)) in
+    let all = shape new c.up_to_end.result in
+    let built : all ≡ appended (text_after new list) (arguments_opened (shape c.args.reader.now.buffer.value c.args.reader.now.found)) =
+    subst (λ (b : Buffer). shape b c.up_to_end.result ≡ appended (text_after b list) (shape b list)) c.deref-in-NextArgument-2.ensures c.up_to_end.ensures.shape.shape_is
+    ∙ ap (appended (text_after new list)) begun.shape_is in
+    let long : c.len-in-NextArgument.result ≡ text_len all = search rules in record {
+      below = search rules;
+      front = c.loop-reader.invariant.front;
+      widest = c.loop-reader.invariant.widest;
+      reads = attached_more _ _ _ so_far.reads {next = next} {all = all} {mid = state framed} (sym c.in-NextArgument.ensures.case) (search rules) (search rules) longer built
+          (omega (arith, c.if-len-widest-2.false, so_far.widest, long, so_far.front)) (search rules) (search rules);
+      begun = begun;
+      inner = search rules;
+      run = search rules;
+      scopes_stand = search rules;
+      scopes_kept = search rules;
+      opened = search rules;
+      taken = search rules;
+      counted = search rules;
+      list = search rules;
+      most = search rules;
+    }
 
 pub args::read_pack-loop-reader-init : goal.args::read_pack-loop-reader-init
 args::read_pack-loop-reader-init t c = record {
@@ -105,11 +145,8 @@ args::read_pack-loop-reader-init t c = record {
   reads = pack_start _ _ _ (search rules) (search rules) (search rules) (search rules) (search rules);
   living = search rules;
   run = search rules;
-  scopes_stand = search rules;
-  taken = search rules;
-  counted = search rules;
-  list = search rules;
-  most = search rules;
+  cost = search rules;
+  growth = search rules;
 }
 
 pub args::read_pack-returns-in-EndOfArguments-clause-reads : goal.args::read_pack-returns-in-EndOfArguments-clause-reads
@@ -130,11 +167,8 @@ args::read_pack-loop-reader-preserved t c = record {
       (sym c.in-NextArgument.ensures.case) (search rules) (search rules) (search rules) (search rules) (search rules) (search rules);
   living = search rules;
   run = search rules;
-  scopes_stand = search rules;
-  taken = search rules;
-  counted = search rules;
-  list = search rules;
-  most = search rules;
+  cost = search rules;
+  growth = search rules;
 }
 
 pub types::read_params-returns-in-EndOfTypes-clause-reads : goal.types::read_params-returns-in-EndOfTypes-clause-reads
@@ -161,11 +195,8 @@ types::read_params-loop-list-preserved t c = record {
       (sym c.in-NextType.ensures.case) (search rules) (search rules) (search rules) (search rules);
   living = search rules;
   run = search rules;
-  scopes_stand = search rules;
-  taken = search rules;
-  counted = search rules;
-  list = search rules;
-  most = search rules;
+  cost = search rules;
+  growth = search rules;
 }
 
 pub args::read_pack-returns-in_err-measure-in-EndOfArguments-clause-reads : goal.args::read_pack-returns-in_err-measure-in-EndOfArguments-clause-reads
@@ -256,17 +287,26 @@ names::read_prefix-loop-reader-preserved-then-begins_source t c =
       reads = segments_read _ _ c.loop-reader.invariant.reads {next = shape new.buffer.value new.found} {mid = state new} case.0 (case.1 ∙ read.reads.1) (search rules)
           (rw case.2 (search rules)) refl (search rules);
       living = search rules;
+      last = search rules;
       run = search rules;
-      taken = search rules;
-      counted = search rules;
-      scopes_stand = search rules;
-      list = omega (arith, longer, read.saved.0, c.loop-reader.invariant.list);
-      most = omega (arith, longer, read.saved.0, read.saved.1, c.loop-reader.invariant.list, c.loop-reader.invariant.most);
+      cost = search rules;
+      list = omega (arith, longer, read.saved.list, c.loop-reader.invariant.list);
+      most = omega (arith, longer, read.saved.list, read.saved.most, c.loop-reader.invariant.list, c.loop-reader.invariant.most);
     }
 
 pub names::read_prefix-returns-in-EndOfSegments-clause-reads : goal.names::read_prefix-returns-in-EndOfSegments-clause-reads
 names::read_prefix-returns-in-EndOfSegments-clause-reads t c =
     (search rules, segments_end _ _ c.loop-reader.invariant.reads (search rules) (search rules) (search rules))
+
+-- a later segment is there, and this is read of it
+record IsLater (unqualified : spec.ParsesName) (args : spec.Parses Shape) (name : Shape) (s : spec.ParserState) (read : Option (Shape × spec.ParserState)) : Type 0 where
+  goes_on : segment_case s.rest ≡ EndOfSegments → ⊥
+  gives : spec.later_segment (segment_case s.rest) unqualified args name s ≡ read
+
+is_later : (unqualified : spec.ParsesName) (args : spec.Parses Shape) (name : Shape) (s : spec.ParserState) (case : SegmentCase) (r : Reader) {read : Option (Shape × spec.ParserState)}
+    → spec.later_segment case unqualified args (shape r.buffer.value r.found) (state r) ≡ read → (case ≡ EndOfSegments → ⊥)
+    → segment_case s.rest ≡ case → shape r.buffer.value r.found ≡ name → state r ≡ s → IsLater unqualified args name s read
+is_later unqualified args name s case r gives goes_on there same left = record { goes_on = λ ended. goes_on (sym there ∙ ended); gives = later_is unqualified args name s there same left ∙ gives }
 
 pub names::read_prefix-returns-in_err-read_attached-in-ArgsSegment-clause-reads : goal.names::read_prefix-returns-in_err-read_attached-in-ArgsSegment-clause-reads
 names::read_prefix-returns-in_err-read_attached-in-ArgsSegment-clause-reads t c =
@@ -276,13 +316,11 @@ names::read_prefix-returns-in_err-read_attached-in-ArgsSegment-clause-reads t c 
     let r = c.loop-reader.reader in
     let name = shape r.buffer.value r.found in
     let s = spec.past_initializer (spec.waiting c.loop-reader.waits name (state r)) in
-    let waited = c.save_waiting.new.self in
-    let is : segment_case s.rest ≡ ArgsSegment = search rules in
     let f = c.from_residual-in_err-read_attached-in-ArgsSegment in
     let e = err_from_is_err_and f.result f.ensures.1 in
     rw (e.1, e.2) (stops _ _ (c.in_err-read_attached-in-ArgsSegment.ensures {u = tt}).reads
-    (λ none. segments_none _ _ c.loop-reader.invariant.reads (λ ended. cc (ended, is))
-    (later_is (spec.parse_unqualified type param) args name s {case = ArgsSegment} {found = shape waited.buffer.value waited.found} {after = state waited} is (search rules) (search rules) ∙ none)))
+    (λ none. let later = is_later (spec.parse_unqualified type param) args name s ArgsSegment c.save_waiting.new.self none (λ ended. cc ended) (search rules) (search rules) (search rules) in
+    segments_none _ _ c.loop-reader.invariant.reads later.goes_on later.gives))
 
 pub names::read_prefix-returns-in_err-read_segment-in-NameSegment-clause-reads : goal.names::read_prefix-returns-in_err-read_segment-in-NameSegment-clause-reads
 names::read_prefix-returns-in_err-read_segment-in-NameSegment-clause-reads t c =
@@ -292,13 +330,11 @@ names::read_prefix-returns-in_err-read_segment-in-NameSegment-clause-reads t c =
     let r = c.loop-reader.reader in
     let name = shape r.buffer.value r.found in
     let s = spec.past_initializer (spec.waiting c.loop-reader.waits name (state r)) in
-    let waited = c.save_waiting-in-NameSegment.new.self in
-    let is : segment_case s.rest ≡ NameSegment = search rules in
     let f = c.from_residual-in_err-read_segment-in-NameSegment in
     let e = err_from_is_err_and f.result f.ensures.1 in
     rw (e.1, e.2) (stops _ _ (c.in_err-read_segment-in-NameSegment.ensures {u = tt}).reads
-    (λ none. segments_none _ _ c.loop-reader.invariant.reads (λ ended. cc (ended, is))
-    (later_is (spec.parse_unqualified type param) args name s {case = NameSegment} {found = shape waited.buffer.value waited.found} {after = state waited} is (search rules) (search rules) ∙ none)))
+    (λ none. let later = is_later (spec.parse_unqualified type param) args name s NameSegment c.save_waiting-in-NameSegment.new.self none (λ ended. cc ended) (search rules) (search rules) (search rules) in
+    segments_none _ _ c.loop-reader.invariant.reads later.goes_on later.gives))
 
 pub names::read_prefix-returns-in_err-measure-2-clause-reads : goal.names::read_prefix-returns-in_err-measure-2-clause-reads
 names::read_prefix-returns-in_err-measure-2-clause-reads t c =
@@ -309,26 +345,16 @@ names::read_prefix-returns-in_err-measure-2-clause-reads t c =
     let name = shape r.buffer.value r.found in
     let s = spec.past_initializer (spec.waiting c.loop-reader.waits name (state r)) in
     let m = c.match-segment_case.reader in
-    let later : segment_case s.rest ≡ EndOfSegments → ⊥ = elim c.match-segment_case.branch [
+    let later : IsLater (spec.parse_unqualified type param) args name s (Some (shape m.buffer.value m.found, state m)) = elim c.match-segment_case.branch [
       | names::read_prefix-in-ArgsSegment+in_ok-save_waiting-in-ArgsSegment+in_ok-read_attached-in-ArgsSegment w ↦
-          let is : segment_case s.rest ≡ ArgsSegment = search rules in λ ended. cc (ended, is)
+          rw w.reader-is (is_later _ args name s ArgsSegment w.save_waiting.new.self (w.in_ok-read_attached-in-ArgsSegment.ensures {u = tt}).reads.1 (λ ended. cc ended) (search rules) (search rules) (search rules))
       | names::read_prefix-in-NameSegment+in_ok-save_waiting-in-NameSegment+in_ok-read_segment-in-NameSegment w ↦
-          let is : segment_case s.rest ≡ NameSegment = search rules in λ ended. cc (ended, is)
-    ] in
-    let read : spec.later_segment (segment_case s.rest) (spec.parse_unqualified type param) args name s ≡ Some (shape m.buffer.value m.found, state m) = elim c.match-segment_case.branch [
-      | names::read_prefix-in-ArgsSegment+in_ok-save_waiting-in-ArgsSegment+in_ok-read_attached-in-ArgsSegment w ↦
-          let waited = w.save_waiting.new.self in
-          rw w.reader-is (later_is (spec.parse_unqualified type param) args name s {case = ArgsSegment} {found = shape waited.buffer.value waited.found} {after = state waited} (search rules) (search rules) (search rules)
-          ∙ (w.in_ok-read_attached-in-ArgsSegment.ensures {u = tt}).reads.1)
-      | names::read_prefix-in-NameSegment+in_ok-save_waiting-in-NameSegment+in_ok-read_segment-in-NameSegment w ↦
-          let waited = w.save_waiting-in-NameSegment.new.self in
-          rw w.reader-is (later_is (spec.parse_unqualified type param) args name s {case = NameSegment} {found = shape waited.buffer.value waited.found} {after = state waited} (search rules) (search rules) (search rules)
-          ∙ (w.in_ok-read_segment-in-NameSegment.ensures {u = tt}).reads.1)
+          rw w.reader-is (is_later _ args name s NameSegment w.save_waiting-in-NameSegment.new.self (w.in_ok-read_segment-in-NameSegment.ensures {u = tt}).reads.1 (λ ended. cc ended) (search rules) (search rules) (search rules))
     ] in
     let f = c.from_residual-in_err-measure-2 in
     let e = err_from_is_err_and f.result f.ensures.1 in
     rw (e.1, e.2) (too_long _ (shape m.buffer.value m.found) _ (c.in_err-measure-2.ensures {u = tt}).fits
-    (λ wide. segments_wide _ _ c.loop-reader.invariant.reads {next = shape m.buffer.value m.found} {mid = state m} later read wide))
+    (λ wide. segments_wide _ _ c.loop-reader.invariant.reads {next = shape m.buffer.value m.found} {mid = state m} later.goes_on later.gives wide))
 
 pub names::read_prefix-loop-reader-preserved : goal.names::read_prefix-loop-reader-preserved
 names::read_prefix-loop-reader-preserved t c =
@@ -339,30 +365,19 @@ names::read_prefix-loop-reader-preserved t c =
     let name = shape r.buffer.value r.found in
     let s = spec.past_initializer (spec.waiting c.loop-reader.waits name (state r)) in
     let m = c.match-segment_case.reader in
-    let later : segment_case s.rest ≡ EndOfSegments → ⊥ = elim c.match-segment_case.branch [
+    let later : IsLater (spec.parse_unqualified type param) args name s (Some (shape m.buffer.value m.found, state m)) = elim c.match-segment_case.branch [
       | names::read_prefix-in-ArgsSegment+in_ok-save_waiting-in-ArgsSegment+in_ok-read_attached-in-ArgsSegment w ↦
-          let is : segment_case s.rest ≡ ArgsSegment = search rules in λ ended. cc (ended, is)
+          rw w.reader-is (is_later _ args name s ArgsSegment w.save_waiting.new.self (w.in_ok-read_attached-in-ArgsSegment.ensures {u = tt}).reads.1 (λ ended. cc ended) (search rules) (search rules) (search rules))
       | names::read_prefix-in-NameSegment+in_ok-save_waiting-in-NameSegment+in_ok-read_segment-in-NameSegment w ↦
-          let is : segment_case s.rest ≡ NameSegment = search rules in λ ended. cc (ended, is)
-    ] in
-    let read : spec.later_segment (segment_case s.rest) (spec.parse_unqualified type param) args name s ≡ Some (shape m.buffer.value m.found, state m) = elim c.match-segment_case.branch [
-      | names::read_prefix-in-ArgsSegment+in_ok-save_waiting-in-ArgsSegment+in_ok-read_attached-in-ArgsSegment w ↦
-          let waited = w.save_waiting.new.self in
-          rw w.reader-is (later_is (spec.parse_unqualified type param) args name s {case = ArgsSegment} {found = shape waited.buffer.value waited.found} {after = state waited} (search rules) (search rules) (search rules)
-          ∙ (w.in_ok-read_attached-in-ArgsSegment.ensures {u = tt}).reads.1)
-      | names::read_prefix-in-NameSegment+in_ok-save_waiting-in-NameSegment+in_ok-read_segment-in-NameSegment w ↦
-          let waited = w.save_waiting-in-NameSegment.new.self in
-          rw w.reader-is (later_is (spec.parse_unqualified type param) args name s {case = NameSegment} {found = shape waited.buffer.value waited.found} {after = state waited} (search rules) (search rules) (search rules)
-          ∙ (w.in_ok-read_segment-in-NameSegment.ensures {u = tt}).reads.1)
+          rw w.reader-is (is_later _ args name s NameSegment w.save_waiting-in-NameSegment.new.self (w.in_ok-read_segment-in-NameSegment.ensures {u = tt}).reads.1 (λ ended. cc ended) (search rules) (search rules) (search rules))
     ] in
     let longer = length-append (saved m.buffer.value) (shape m.buffer.value m.found ∷ []) in
     record {
-      reads = segments_read _ _ c.loop-reader.invariant.reads {next = shape m.buffer.value m.found} {mid = state m} later read (search rules) (search rules) refl (search rules);
+      reads = segments_read _ _ c.loop-reader.invariant.reads {next = shape m.buffer.value m.found} {mid = state m} later.goes_on later.gives (search rules) (search rules) refl (search rules);
       living = search rules;
+      last = search rules;
       run = search rules;
-      taken = search rules;
-      counted = search rules;
-      scopes_stand = search rules;
+      cost = search rules;
       list = search (rules, longer);
       most = search (rules, longer);
     }
@@ -374,7 +389,7 @@ specials::read_construction-framed_type-requires t c =
     let two = length-drop 2 c.args.reader.now.rest.now in
     let class = (c.in_ok-read_type.ensures {u = tt}).bounds in
     let room : c.read_type.new.reader.entered + 2 * length c.in-Some.rest.now + 2 < 2 ^ 64 =
-    omega (arith, left, entered, two, class, c.in-Some.ensures.shorter, c.requires.room) in
+    omega (arith, left, entered, two, class.taken, class.counted, c.in-Some.ensures.shorter, c.requires.room) in
     search rules
 
 pub specials::read_construction-returns-clause-bounds : goal.specials::read_construction-returns-clause-bounds
@@ -386,11 +401,12 @@ specials::read_construction-returns-clause-bounds t c =
     let base = (c.in_ok-framed_type.ensures {u = tt}).bounds in
     let before = ap (λ (s : spec.ParserState). length s.scopes) c.skip.ensures.state in
     let pushed : scopes c.push.new.self ≡ scopes c.read_type.new.reader.buffer.value = cc (c.in_ok-begun.ensures.kept.lists.scopes_same, c.deref_mut.ensures.value) in
-    let joined : scopes c.join.new.self ≡ scopes c.framed_type.new.reader.buffer.value = cc (c.in_ok-reader.ensures.edit.lists.scopes_same, c.deref_mut-2.ensures.value) in (
-      omega (arith, left, two, class.0, base.0, c.in-Some.ensures.shorter, c.requires.some),
-      omega (arith, left, entered, two, class.1, base.1, c.in-Some.ensures.shorter, c.requires.some),
-      omega (arith, before, class.2, ap length pushed, base.2, ap length joined),
-    )
+    let joined : scopes c.join.new.self ≡ scopes c.framed_type.new.reader.buffer.value = cc (c.in_ok-reader.ensures.edit.lists.scopes_same, c.deref_mut-2.ensures.value) in
+    record {
+      taken = omega (arith, left, two, class.taken, base.taken, c.in-Some.ensures.shorter, c.requires.some);
+      counted = omega (arith, left, entered, two, class.counted, base.counted, c.in-Some.ensures.shorter, c.requires.some);
+      scopes_stand = omega (arith, before, class.scopes_stand, ap length pushed, base.scopes_stand, ap length joined);
+    }
 
 pub specials::read_construction-returns-clause-saved : goal.specials::read_construction-returns-clause-saved
 specials::read_construction-returns-clause-saved t c =
@@ -401,10 +417,11 @@ specials::read_construction-returns-clause-saved t c =
     let before = ap (λ (s : spec.ParserState). length s.saved) c.skip.ensures.state in
     let most = ap (λ (s : spec.ParserState). s.most_saved) c.skip.ensures.state in
     let pushed : saved c.push.new.self ≡ saved c.read_type.new.reader.buffer.value = cc (c.in_ok-begun.ensures.kept.lists.saved_same, c.deref_mut.ensures.value) in
-    let joined : saved c.join.new.self ≡ saved c.framed_type.new.reader.buffer.value = cc (c.in_ok-reader.ensures.edit.lists.saved_same, c.deref_mut-2.ensures.value) in (
-      omega (arith, left, two, before, class.0, ap length pushed, base.0, ap length joined, c.in-Some.ensures.shorter, c.requires.some),
-      omega (arith, left, two, before, most, class, ap length pushed, base, ap length joined, c.in-Some.ensures.shorter),
-    )
+    let joined : saved c.join.new.self ≡ saved c.framed_type.new.reader.buffer.value = cc (c.in_ok-reader.ensures.edit.lists.saved_same, c.deref_mut-2.ensures.value) in
+    record {
+      list = omega (arith, left, two, before, class.list, ap length pushed, base.list, ap length joined, c.in-Some.ensures.shorter, c.requires.some);
+      most = omega (arith, left, two, before, most, class.list, class.most, ap length pushed, base.list, base.most, ap length joined, c.in-Some.ensures.shorter);
+    }
 
 pub specials::read_thunk-returns-in_err-measure-clause-reads : goal.specials::read_thunk-returns-in_err-measure-clause-reads
 specials::read_thunk-returns-in_err-measure-clause-reads t c =
@@ -434,4 +451,108 @@ specials::read_thunk-returns-clause-reads t c =
       thunk_read c.args.depth c.args.context (state c.args.reader.now) {front = shape opened.buffer.value opened.found} {t = shape symbol.buffer.value symbol.found}
           {mid = state opened} {after = state c.print_worded.new.self}
           (search rules) (search rules) (search (rules, buffers)) built (c.in_ok-measure.ensures {u = tt}).fits,
+    )
+
+pub specials::read_thunk-print_worded-requires-clause-after : goal.specials::read_thunk-print_worded-requires-clause-after
+specials::read_thunk-print_worded-requires-clause-after t c =
+    let opened = c.open_thunk.new.self in
+    let symbol = c.close_found.new.self in
+    let main : main_bytes symbol.buffer.value ≡ main_bytes opened.buffer.value ++ text (shape symbol.buffer.value symbol.found) = search (rules, runs) in
+    let words = c.in_ok-open_thunk.ensures {u = tt} in
+    text_after-follows opened.buffer.value symbol.buffer.value opened.found _ words.reads.0 words.last main
+
+pub specials::read_thunk-returns-clause-run : goal.specials::read_thunk-returns-clause-run
+specials::read_thunk-returns-clause-run t c =
+    let kept : SameFrame c.open_thunk.new.self.buffer.value c.close_found.new.self.buffer.value = search (rules, runs) in
+    search (rules, runs, kept)
+
+pub names::read_free_segment-returns-clause-run : goal.names::read_free_segment-returns-clause-run
+names::read_free_segment-returns-clause-run t c =
+    let parent = c.open_parent.new.buf in
+    let last = c.close_opened.new.buf in
+    let opens : Opens parent c.open-mark.new.self c.open-mark.result =
+    subst (λ (b : Buffer). Opens b c.open-mark.new.self c.open-mark.result) c.deref_mut-2.ensures.value c.open-mark.ensures.opens in
+    let since = IsSince-run _ _ _ _ (IsSince-opens _ _ _ opens) (c.in_ok-read_free_name.ensures {u = tt}).run in
+    let kept : SameFrame parent c.close_found.new.self.buffer.value = SameFrame-closed _ _ _ _ since (c.in_ok-close_found.ensures {u = tt}).closed in
+    let before : IsEdit c.args.reader.now.buffer.value parent =
+    subst (λ (b : Buffer). IsEdit b parent) c.deref_mut.ensures.value (c.in_ok-opened.ensures {u = tt}).edit in
+    let after : IsEdit c.close_found.new.self.buffer.value last =
+    subst (λ (b : Buffer). IsEdit b last) c.deref_mut-3.ensures.value (c.in_ok-reader.ensures {u = tt}).edit in
+    IsRun-trans _ _ _ (IsRun-edit _ _ before) (IsRun-trans _ _ _ (IsRun-same _ _ kept) (IsRun-edit _ _ after))
+
+-- an operator, and what was read right after it
+pub expressions::read_pre-print_worded-requires-clause-after : goal.expressions::read_pre-print_worded-requires-clause-after
+expressions::read_pre-print_worded-requires-clause-after t c =
+    let front = c.in_ok-front.ensures {u = tt} in
+    text_after-follows c.push.new.self c.framed_expression.new.reader.buffer.value c.in_ok-front.front _ front.shape.living
+    (IsLast-push _ _ _ front.kept front.mark front.stands) (c.in_ok-framed_expression.ensures {u = tt}).main
+
+pub expressions::read_unary-print_worded-requires-clause-after : goal.expressions::read_unary-print_worded-requires-clause-after
+expressions::read_unary-print_worded-requires-clause-after t c =
+    let front = c.in_ok-front.ensures {u = tt} in
+    text_after-follows c.push.new.self c.framed_operand.new.reader.buffer.value c.in_ok-front.front _ front.shape.living
+    (IsLast-push _ _ _ front.kept front.mark front.stands) (c.in_ok-framed_operand.ensures {u = tt}).main
+
+-- a construction vtable, part by part
+construction_read : (type : spec.Parses Shape) (s : spec.ParserState) {first second found : Shape} {mid after : spec.ParserState} {rest : List ℕ} → type (spec.skip 2 s) ≡ Some (first, mid)
+    → past_base_offset mid.rest ≡ Some rest → type (spec.with_rest rest mid) ≡ Some (second, after) → found ≡ construction_shape second first → spec.parse_construction type s ≡ Some (found, after)
+construction_read type s one base two built = rw (one, base, two, built) refl
+
+pub specials::read_construction-returns-clause-reads : goal.specials::read_construction-returns-clause-reads
+specials::read_construction-returns-clause-reads t c =
+    let type = spec.parse_type c.args.depth c.args.context in
+    let class_read = c.in_ok-read_type.ensures {u = tt} in
+    let push = c.in_ok-begun.ensures {u = tt} in
+    let base_read = c.in_ok-framed_type.ensures {u = tt} in
+    let join = c.in_ok-reader.ensures {u = tt} in
+    let one = c.read_type.new.reader in
+    let two = c.framed_type.new.reader in
+    let pushed = c.push.new.self in
+    let joined_in = c.join.new.self in
+    let b = two.buffer.value in
+    let begun = c.in_ok-begun.begun in
+    let whole = c.up_to_end-whole.result in
+    let class = shape one.buffer.value one.found in
+    let base = shape b two.found in
+    let word = codes "construction vtable for " in
+    let kept : KeepsAll one.buffer.value pushed = subst (λ (s : Buffer). KeepsAll s pushed) c.deref_mut.ensures.value push.kept in
+    let first_kept = kept.pieces one.found class_read.reads.0 in
+    let class_is : shape b one.found ≡ class = (base_read.kept.pieces one.found first_kept.living).shape_is ∙ first_kept.shape_is in
+    let words : shape b begun ≡ plain_shape word = (base_read.kept.pieces begun push.shape.living).shape_is ∙ push.shape.shape_is in
+    let after : text_after b begun ≡ text base =
+    text_after-follows pushed b begun _ push.shape.living (IsLast-push _ _ _ push.kept push.mark push.stands) base_read.main in
+    let taken : shape b whole ≡ appended (text_after b begun) (shape b begun) =
+    subst (λ (s : Buffer). shape s whole ≡ appended (text_after s begun) (shape s begun)) c.deref.ensures c.up_to_end-whole.ensures.shape.shape_is in
+    let printed : text (shape b whole) ≡ word ++ text base =
+    ap (λ (s : Shape). text s) taken ∙ appended_text (text_after b begun) (shape b begun)
+    ∙ ap (λ (s : Shape). text s ++ text_after b begun) words ∙ ap (λ (v : List ℕ). word ++ v) after in
+    let joins : shape joined_in c.in_ok-reader.field-0 ≡ joined (shape b whole) (codes "-in-") (shape b one.found) =
+    subst (λ (s : Buffer). shape joined_in c.in_ok-reader.field-0 ≡ joined (shape s whole) (codes "-in-") (shape s one.found)) c.deref_mut-2.ensures.value join.shape.shape_is in
+    let built : shape joined_in c.in_ok-reader.field-0 ≡ construction_shape base class =
+    joins ∙ ap (λ (v : List ℕ). plain_shape ((v ++ codes "-in-") ++ text (shape b one.found))) printed
+    ∙ ap (λ (s : Shape). plain_shape (((word ++ text base) ++ codes "-in-") ++ text s)) class_is
+    ∙ ap plain_shape (append_assoc (word ++ text base) (codes "-in-") (text class) ∙ append_assoc word (text base) (codes "-in-" ++ text class))
+    ∙ ap (λ (v : List ℕ). plain_shape (word ++ (text base ++ (codes "-in-" ++ v)))) (sym (append-nil (text class))) in
+    let saved_as : saved pushed ≡ saved one.buffer.value = kept.lists.saved_same in
+    let scopes_as : scopes pushed ≡ scopes one.buffer.value = kept.lists.scopes_same in
+    let before : record {
+      rest = c.in-Some.rest.now;
+      saved = saved pushed;
+      scopes = scopes pushed;
+      entered = one.entered;
+      most_saved = max one.most_noted (length (saved pushed));
+    } ≡ spec.with_rest c.in-Some.rest.now (state one) = rw (saved_as, scopes_as) refl in
+    let saved_end : saved joined_in ≡ saved b = cc (join.edit.lists.saved_same, c.deref_mut-2.ensures.value) in
+    let scopes_end : scopes joined_in ≡ scopes b = cc (join.edit.lists.scopes_same, c.deref_mut-2.ensures.value) in
+    let ended : record {
+      rest = two.rest.now;
+      saved = saved joined_in;
+      scopes = scopes joined_in;
+      entered = two.entered;
+      most_saved = max two.most_noted (length (saved joined_in));
+    } ≡ state two = rw (saved_end, scopes_end) refl in
+    let offset : past_base_offset one.rest.now ≡ Some c.in-Some.rest.now = search rules in (
+      join.shape.living,
+      construction_read type (state c.args.reader.now) (ap type (sym c.skip.ensures.state) ∙ class_read.reads.1) offset (ap type (sym before) ∙ base_read.reads.1) built
+          ∙ ap (λ (a : spec.ParserState). Some (shape joined_in c.in_ok-reader.field-0, a)) (sym ended),
     )

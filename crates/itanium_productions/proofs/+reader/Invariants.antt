@@ -1,8 +1,10 @@
 use Rattle.std.proofs.Common.{ℕ, ◌≡◌, ◌+◌, ◌*◌, ◌<◌, ◌≤◌, length, max, Bool, true}
-use Rattle.demangle_text.specs.State.{IsLiving, IsRun, shape, saved, scopes}
+use Rattle.demangle_text.specs.State.{IsLiving, Lives, IsRun, shape, saved, scopes}
+use Rattle.demangle_text.specs.Calls.{IsInner, text_after}
+use Rattle.demangle_edit.specs.Built.{arguments_opened}
 use Rattle.demangle_text.specs.Calls.{IsLast}
 use Rattle.itanium_reader.specs.Parser as spec
-use Rattle.itanium_reader.specs.Outcome.{state, LoopSoFar}
+use Rattle.itanium_reader.specs.Outcome.{state, LoopSoFar, Cost, Growth}
 use Rattle.itanium_syntax.specs.Types.{params_case}
 use Rattle.itanium_grammar.specs.Answer.{max_text}
 use Rattle.itanium_reader.proofs.Loops.{ListSoFar}
@@ -110,10 +112,9 @@ invariant-names::read_prefix-loop-reader l = record {
       (spec.segment_turn (spec.unqualified_name l.depth l.context) (spec.parse_args l.depth l.context true))
       (l.waits, shape l.reader.buffer.value l.reader.found) (spec.past_initializer (waits_so_far l.waits l.reader));
   living : IsLiving l.reader.buffer.value l.reader.found;
+  last : IsLast l.reader.buffer.value l.reader.found;
   run : IsRun l.fn.reader.buffer.value l.reader.buffer.value;
-  taken : length l.reader.rest.now < length l.fn.reader.rest.now;
-  counted : l.reader.entered + 2 * length l.reader.rest.now + 1 ≤ l.fn.reader.entered + 2 * length l.fn.reader.rest.now;
-  scopes_stand : length (scopes l.fn.reader.buffer.value) ≤ length (scopes l.reader.buffer.value);
+  cost : Cost 1 1 (state l.fn.reader) (state l.reader);
   list : length (waits_so_far l.waits l.reader).saved + length l.reader.rest.now ≤ length (saved l.fn.reader.buffer.value) + length l.fn.reader.rest.now;
   most : (waits_so_far l.waits l.reader).most_saved ≤ max (state l.fn.reader).most_saved (length (saved l.fn.reader.buffer.value) + length l.fn.reader.rest.now);
 }
@@ -129,11 +130,11 @@ invariant-args::read_attached-loop-reader l = record {
   below : l.depth < l.fn.depth;
   reads : AttachedSoFar (spec.attached_by (spec.parse_args l.fn.depth l.context l.of_name) (shape l.fn.reader.buffer.value l.fn.reader.found) (state l.fn.reader))
       (spec.add_argument l.opens l.scopes) (spec.parse_argument l.depth l.context) (shape l.fn.reader.buffer.value l.fn.reader.found) l.first
-      (shape l.reader.buffer.value l.list) (state l.reader);
+      (text_after l.reader.buffer.value l.list) (state l.reader);
   front : l.front ≡ front_len (shape l.fn.reader.buffer.value l.fn.reader.found);
   widest : l.widest ≡ l.front + max_text;
-  living : IsLiving l.reader.buffer.value l.list;
-  last : IsLast l.reader.buffer.value l.list;
+  begun : Lives l.reader.buffer.value l.list (arguments_opened (shape l.fn.reader.buffer.value l.fn.reader.found));
+  inner : IsInner l.reader.buffer.value l.list;
   run : IsRun l.fn.reader.buffer.value l.reader.buffer.value;
   scopes_stand : length (scopes l.fn.reader.buffer.value) ≤ l.scopes;
   scopes_kept : l.scopes ≤ length (scopes l.reader.buffer.value);
@@ -206,11 +207,8 @@ invariant-args::read_pack-loop-reader l = record {
       pack_end (l.first, shape l.reader.buffer.value l.list) (state l.reader);
   living : IsLiving l.reader.buffer.value l.list;
   run : IsRun l.fn.reader.buffer.value l.reader.buffer.value;
-  scopes_stand : length (scopes l.fn.reader.buffer.value) ≤ length (scopes l.reader.buffer.value);
-  taken : length l.reader.rest.now < length l.fn.reader.rest.now;
-  counted : l.reader.entered + 2 * length l.reader.rest.now + 1 ≤ l.fn.reader.entered + 2 * length l.fn.reader.rest.now;
-  list : length (saved l.reader.buffer.value) + length l.reader.rest.now + 1 ≤ length (saved l.fn.reader.buffer.value) + length l.fn.reader.rest.now;
-  most : (state l.reader).most_saved ≤ max (state l.fn.reader).most_saved (length (saved l.fn.reader.buffer.value) + length l.fn.reader.rest.now);
+  cost : Cost 1 1 (state l.fn.reader) (state l.reader);
+  growth : Growth 1 (state l.fn.reader) (state l.reader);
 }
 
 abbrev pub decreases-args::read_pack-loop-reader : goal.decreases-args::read_pack-loop-reader
@@ -223,11 +221,8 @@ invariant-types::read_params-loop-list l = record {
       (spec.typed_turn l.of_function (spec.parse_type l.depth l.context)) (l.first, shape l.reader.buffer.value l.list) (state l.reader);
   living : IsLiving l.reader.buffer.value l.list;
   run : IsRun l.fn.reader.buffer.value l.reader.buffer.value;
-  scopes_stand : length (scopes l.fn.reader.buffer.value) ≤ length (scopes l.reader.buffer.value);
-  taken : length l.reader.rest.now ≤ length l.fn.reader.rest.now;
-  counted : l.reader.entered + 2 * length l.reader.rest.now ≤ l.fn.reader.entered + 2 * length l.fn.reader.rest.now;
-  list : length (saved l.reader.buffer.value) + length l.reader.rest.now ≤ length (saved l.fn.reader.buffer.value) + length l.fn.reader.rest.now;
-  most : (state l.reader).most_saved ≤ max (state l.fn.reader).most_saved (length (saved l.fn.reader.buffer.value) + length l.fn.reader.rest.now);
+  cost : Cost 0 0 (state l.fn.reader) (state l.reader);
+  growth : Growth 0 (state l.fn.reader) (state l.reader);
 }
 
 abbrev pub decreases-types::read_params-loop-list : goal.decreases-types::read_params-loop-list

@@ -1,8 +1,7 @@
 -- The text with the bytes after it stands at the end, and its outline is that of the shape with the bytes.
-use Rattle.std.proofs.Common.{◌≡◌, ◌-◌, ◌++◌, [], List, ℕ, length, refl, ap, ◌∙◌, subst, arith}
-use Rattle.std.proofs.lemmas.List.{append-nil}
+use Rattle.std.proofs.Common.{◌≡◌, ◌-◌, ℕ, length, refl, ap, ◌∙◌, subst, arith}
 use Rattle.demangle_text.specs.declared.shape.Place.TheVariants.{End}
-use Rattle.demangle_text.specs.Pieces.{Store, IsAt, IsSplice, outline_of, own_at}
+use Rattle.demangle_text.specs.Pieces.{Store, IsAt, outline_of, own_at}
 use Rattle.demangle_text.specs.Shape.{moved}
 use Rattle.demangle_text.proofs.Tails.{Lives-inserted, IsEditOf-spliced, own-fits, layout_at_end}
 use Rattle.demangle_text.proofs.buffer.Buffer.append.Goals as goal
@@ -10,8 +9,8 @@ use Rattle.demangle_text.proofs.buffer.Buffer.append.Goals as goal
 pub extended-requires-clause-own_fits : goal.extended-requires-clause-own_fits
 extended-requires-clause-own_fits c =
     let p = c.args.piece in
-    let fits = own-fits c.args.self.now c.extend.new.self p (p.to_byte - p.from_byte) (c.args.bytes.now ++ []) c.in_ok-from.from c.requires.living c.in_ok-from.ensures.splice in
-    omega (arith, fits, ap length (append-nil c.args.bytes.now), c.len.ensures.value, ap (λ (b : Store). length b.main_text) c.self.view_is)
+    let fits = own-fits c.args.self.now c.extend.new.self p (p.to_byte - p.from_byte) c.args.bytes.now c.in_ok-from.from c.requires.living c.in_ok-from.ensures.splice in
+    omega (arith, fits, c.len.ensures.value, ap (λ (b : Store). length b.main_text) c.self.view_is)
 
 pub returns-clause-shape : goal.returns-clause-shape
 returns-clause-shape c =
@@ -22,7 +21,7 @@ returns-clause-shape c =
     let bytes = c.args.bytes.now in
     let m = c.extended.ensures in
     let k : c.len.result ≡ length n.main_text = c.len.ensures.value ∙ ap (λ (s : Store). length s.main_text) c.self.view_is in
-    let splice = subst (λ (v : List ℕ). IsSplice b n p (p.to_byte - p.from_byte) v from) (append-nil bytes) c.in_ok-from.ensures.splice in
+    let splice = c.in_ok-from.ensures.splice in
     Lives-inserted b n p (p.to_byte - p.from_byte) bytes from c.requires.living splice c.extended.result (subst (IsAt c.extended.result from) k m.stands)
     End tt refl (m.layout ∙ layout_at_end (length bytes) (outline_of p).layout)
     (m.own ∙ ap (λ (j : ℕ). own_at (outline_of p).layout (j - from) (moved (p.to_byte - p.from_byte) (length bytes) (outline_of p).own)) k) m.templ m.ctor
@@ -36,5 +35,5 @@ returns-clause-edit_of c =
     let from = c.in_ok-from.from in
     let at = p.to_byte - p.from_byte in
     let k : c.len.result ≡ length n.main_text = c.len.ensures.value ∙ ap (λ (s : Store). length s.main_text) c.self.view_is in
-    let splice = subst (λ (v : List ℕ). IsSplice b n p at v from) (append-nil c.args.bytes.now) c.in_ok-from.ensures.splice in
+    let splice = c.in_ok-from.ensures.splice in
     IsEditOf-spliced b n p q at from c.args.bytes.now splice (subst (IsAt q from) k c.extended.ensures.stands)

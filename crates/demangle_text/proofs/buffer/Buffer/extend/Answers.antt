@@ -11,25 +11,25 @@ pub returns-in_err-taken_back-clause-err : goal.returns-in_err-taken_back-clause
 returns-in_err-taken_back-clause-err c =
     let s = store_of c.self.inside in
     let mid = c.at_end.new.main in
-    let done = c.add_pair-added.new.self in
-    let failed : done ≡ mid = subst (λ r. OnErr r (done ≡ mid)) (sym c.in_err-taken_back.ensures.same) c.add_pair-added.ensures.err in
+    let done = c.add-added.new.self in
+    let failed : done ≡ mid = subst (λ r. OnErr r (done ≡ mid)) (sym c.in_err-taken_back.ensures.same) c.add-added.ensures.err in
     on_err_from c.from_residual-in_err-taken_back.result (rw (← c.self.view_is)
     (KeepsAll-left s mid done c.taken_back.new.main c.len-len.result c.len-len.ensures.value c.in_ok-from.ensures.brought.longer failed c.in_err-taken_back.ensures.err))
 
 pub invariant_of-self-2 : goal.invariant_of-self-2
 invariant_of-self-2 c =
     let mid = c.at_end.new.main in
-    let more = c.args.first.now ++ c.args.second.now in
-    let done = c.add_pair-added.new.self in
-    let is = c.in_ok-taken_back.ensures.ok ∙ subst (λ r. OnOk r (done ≡ mid ++ more)) (sym c.in_ok-taken_back.ensures.same) c.add_pair-added.ensures.ok in
+    let more = c.args.bytes.now in
+    let done = c.add-added.new.self in
+    let is = c.in_ok-taken_back.ensures.ok ∙ subst (λ r. OnOk r (done ≡ mid ++ more)) (sym c.in_ok-taken_back.ensures.same) c.add-added.ensures.ok in
     IsStore-extended (store_of c.self.inside) mid more _ c.self.invariant c.in_ok-from.ensures.brought.longer is
 
 pub returns-clause-edit : goal.returns-clause-edit
 returns-clause-edit c =
     let mid = c.at_end.new.main in
-    let more = c.args.first.now ++ c.args.second.now in
-    let done = c.add_pair-added.new.self in
-    let is = c.in_ok-taken_back.ensures.ok ∙ subst (λ r. OnOk r (done ≡ mid ++ more)) (sym c.in_ok-taken_back.ensures.same) c.add_pair-added.ensures.ok in
+    let more = c.args.bytes.now in
+    let done = c.add-added.new.self in
+    let is = c.in_ok-taken_back.ensures.ok ∙ subst (λ r. OnOk r (done ≡ mid ++ more)) (sym c.in_ok-taken_back.ensures.same) c.add-added.ensures.ok in
     rw (← c.self.view_is) (IsEdit-extended (store_of c.self.inside) mid more _ c.self.invariant c.in_ok-from.ensures.brought.longer is)
 
 pub returns-clause-splice : goal.returns-clause-splice
@@ -37,9 +37,9 @@ returns-clause-splice c =
     let s = store_of c.self.inside in
     let p = c.args.piece in
     let mid = c.at_end.new.main in
-    let more = c.args.first.now ++ c.args.second.now in
-    let done = c.add_pair-added.new.self in
-    let is = c.in_ok-taken_back.ensures.ok ∙ subst (λ r. OnOk r (done ≡ mid ++ more)) (sym c.in_ok-taken_back.ensures.same) c.add_pair-added.ensures.ok in
+    let more = c.args.bytes.now in
+    let done = c.add-added.new.self in
+    let is = c.in_ok-taken_back.ensures.ok ∙ subst (λ r. OnOk r (done ≡ mid ++ more)) (sym c.in_ok-taken_back.ensures.same) c.add-added.ensures.ok in
     let lies = subst (λ (b : Store). IsLiving b p) (sym c.self.view_is) c.requires.living in
     let brought = c.in_ok-from.ensures.brought in
     rw (← c.self.view_is) (IsSplice-extended s (record s { main_text = c.taken_back.new.main }) p mid more c.in_ok-from.from lies brought is)

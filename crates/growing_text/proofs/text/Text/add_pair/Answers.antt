@@ -1,50 +1,24 @@
--- Both texts fill the room for them.
-use Rattle.std.proofs.Common.{◌+◌, ◌++◌, [], length, take, drop, arith, ap, refl}
-use Rattle.std.proofs.lemmas.List.{length-append, length-drop, length-take-le}
-use Rattle.growing_text.proofs.Rooms.{length-HasRoom, HasRoom-made, pair-put}
+-- Both texts stand after what was there, one after the other.
+use Rattle.std.proofs.Common.{rules, ◌≡◌, ◌+◌, ◌++◌, List, ℕ, length, take, drop, arith, sym, ap, ◌∙◌, append_assoc}
+use Rattle.std.proofs.lemmas.List.{length-append, length-take-le, take_at, with_items_is, places}
 use Rattle.growing_text.proofs.text.Text.add_pair.Goals as goal
-
-pub put-middle-requires : goal.put-middle-requires
-put-middle-requires c =
-    let s = c.self.inside in
-    let n = length c.args.first.now + length c.args.second.now in
-    let room = HasRoom-made s.bytes.items c.make_room.new.bytes.items c.args.self.now s.len n c.make_room.ensures.front c.self.view_is c.in_ok-make_room.ensures.room in
-    let at = length-take-le s.len s.bytes.items c.self.invariant in
-    record { within = omega (arith, length-HasRoom c.args.self.now [] _ n room, at, ap length c.self.view_is) }
-
-pub put-requires : goal.put-requires
-put-requires c =
-    let s = c.self.inside in
-    let n = length c.args.first.now + length c.args.second.now in
-    let room = HasRoom-made s.bytes.items c.make_room.new.bytes.items c.args.self.now s.len n c.make_room.ensures.front c.self.view_is c.in_ok-make_room.ensures.room in
-    let at = length-take-le s.len s.bytes.items c.self.invariant in
-    let all = take (s.len + n) c.make_room.new.bytes.items in
-    let one = c.args.first.now in
-    let long = length-HasRoom c.args.self.now [] all n room in
-    let rest = drop (s.len + length one) all in
-    record {
-      within = omega (
-        arith,
-        long,
-        at,
-        ap length c.self.view_is,
-        ap length c.put-middle.ensures.value,
-        c.put-middle.ensures.ends,
-        length-append (take s.len all) (one ++ rest),
-        length-append one rest,
-        length-take-le s.len all (omega (arith, long, at, ap length c.self.view_is)),
-        length-drop (s.len + length one) all,
-      );
-    }
 
 pub returns-clause-ok : goal.returns-clause-ok
 returns-clause-ok c =
     let s = c.self.inside in
+    let old = c.args.self.now in
     let one = c.args.first.now in
     let two = c.args.second.now in
-    let n = length one + length two in
-    let room = HasRoom-made s.bytes.items c.make_room.new.bytes.items c.args.self.now s.len n c.make_room.ensures.front c.self.view_is c.in_ok-make_room.ensures.room in
-    let at = length-take-le s.len s.bytes.items c.self.invariant in
-    let middle = c.put-middle in
-    pair-put c.args.self.now _ one two middle.new.self _ n s.len middle.result
-    room (omega (arith, at, ap length c.self.view_is)) refl middle.ensures.value middle.ensures.ends c.put.ensures.value
+    let front = c.split_at_mut-room.result.0.now in
+    let tail = drop (length two) c.split_at_mut-front.result.1.now in
+    let end = s.len + (length one + length two) in
+    let front_is : front ≡ old =
+    c.split_at_mut-room.ensures.front ∙ ap (take s.len) c.deref_mut.ensures.value ∙ c.make_room.ensures.front ∙ c.self.view_is in
+    let items = with_items_is c.make_room.new.bytes (front ++ (c.copy_text.new.room ++ (c.copy_text-2.new.room ++ tail))) (search (rules, places)) in
+    let long : length (old ++ (one ++ two)) ≡ end =
+    omega (arith, length-append old (one ++ two), length-append one two, ap length c.self.view_is, length-take-le s.len s.bytes.items c.self.invariant) in
+    ap (take end) (items ∙ ap (λ (v : List ℕ). v ++ (c.copy_text.new.room ++ (c.copy_text-2.new.room ++ tail))) front_is
+    ∙ ap (λ (v : List ℕ). old ++ (v ++ (c.copy_text-2.new.room ++ tail))) c.copy_text.ensures.value
+    ∙ ap (λ (v : List ℕ). old ++ (one ++ (v ++ tail))) c.copy_text-2.ensures.value
+    ∙ ap (λ (v : List ℕ). old ++ v) (sym (append_assoc one two tail)) ∙ sym (append_assoc old (one ++ two) tail))
+    ∙ take_at (old ++ (one ++ two)) tail end long

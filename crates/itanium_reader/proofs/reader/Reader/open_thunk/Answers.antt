@@ -20,11 +20,31 @@ returns-in_ok-words-in-Covariant-clause-bounds c =
     ) in
     let left = ap (λ (s : ParserState). length s.rest) c.skip.ensures.state in
     let entered = ap (λ (s : ParserState). s.entered) c.skip.ensures.state in
-    let one = length-drop 1 c.args.self.now.rest.now in (
-      omega (arith, left, one, c.in-Some.ensures.within, c.requires.some),
-      omega (arith, left, one, entered, c.in-Some.ensures.within, c.requires.some),
-      omega (arith, ap length same),
-    )
+    let one = length-drop 1 c.args.self.now.rest.now in
+    record {
+      taken = omega (arith, left, one, c.in-Some.ensures.within, c.requires.some);
+      counted = omega (arith, left, one, entered, c.in-Some.ensures.within, c.requires.some);
+      scopes_stand = omega (arith, ap length same);
+    }
+
+pub returns-in_ok-words-in-Single-clause-saved : goal.returns-in_ok-words-in-Single-clause-saved
+returns-in_ok-words-in-Single-clause-saved c =
+    let lists = c.in_ok-begun.ensures.kept.lists in
+    let edited = c.in_ok-words-in-Single.ensures.edit.lists in
+    let same : saved c.append_offset.new.buf ≡ saved c.args.self.now.buffer.value = cc (
+      edited.saved_same,
+      c.deref_mut-in-Single.ensures.value,
+      lists.saved_same,
+      c.deref_mut.ensures.value,
+      c.skip.ensures.buffer,
+    ) in
+    let left = ap (λ (s : ParserState). length s.rest) c.skip.ensures.state in
+    let most = ap (λ (s : ParserState). s.most_saved) c.skip.ensures.state in
+    let one = length-drop 1 c.args.self.now.rest.now in
+    record {
+      list = omega (arith, left, one, ap length same, c.in-Some.ensures.within, c.requires.some);
+      most = omega (arith, most, ap length same, ap (λ (s : ParserState). length s.saved) c.skip.ensures.state);
+    }
 
 pub returns-in_ok-words-in-Covariant-clause-saved : goal.returns-in_ok-words-in-Covariant-clause-saved
 returns-in_ok-words-in-Covariant-clause-saved c =
@@ -42,7 +62,8 @@ returns-in_ok-words-in-Covariant-clause-saved c =
     ) in
     let left = ap (λ (s : ParserState). length s.rest) c.skip.ensures.state in
     let most = ap (λ (s : ParserState). s.most_saved) c.skip.ensures.state in
-    let one = length-drop 1 c.args.self.now.rest.now in (
-      omega (arith, left, one, ap length same, c.in-Some.ensures.within, c.requires.some),
-      omega (arith, most, ap length same, ap (λ (s : ParserState). length s.saved) c.skip.ensures.state),
-    )
+    let one = length-drop 1 c.args.self.now.rest.now in
+    record {
+      list = omega (arith, left, one, ap length same, c.in-Some.ensures.within, c.requires.some);
+      most = omega (arith, most, ap length same, ap (λ (s : ParserState). length s.saved) c.skip.ensures.state);
+    }

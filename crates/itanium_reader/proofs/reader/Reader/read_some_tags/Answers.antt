@@ -21,6 +21,7 @@ loop-self-preserved c =
           {rest = drop to bytes} (sym c.in-NextTag.ensures.case) (search rules) (search rules) all (search rules)
           (search rules) (search rules) (search rules) (search rules);
       living = search rules;
+      last = search rules;
       run = search rules;
       taken = search rules;
       lists = search rules;

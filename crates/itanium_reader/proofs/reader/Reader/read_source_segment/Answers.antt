@@ -5,6 +5,7 @@ use Rattle.std.proofs.lemmas.List.{length-drop}
 use Rattle.demangle_text.specs.State.{shape}
 use Rattle.itanium_reader.specs.Parser as spec
 use Rattle.itanium_reader.specs.Outcome.{state}
+use Rattle.itanium_reader.proofs.Texts.{named_is}
 use Rattle.itanium_reader.proofs.Unfold.{source_in_read, gives_same}
 use Rattle.itanium_reader.proofs.reader.Reader.read_source_segment.Goals as goal
 
@@ -16,4 +17,4 @@ returns-clause-reads c =
     let parent = shape c.args.self.now.buffer.value c.args.self.now.found in
     gives_same _ _ c.read_tags.ensures.reads
     (source_in_read parent (spec.waiting c.args.waits parent (state c.args.self.now)) {name = slice_range bytes c.in-Some.from to} {rest = drop to bytes} {mid = state c.save_waiting-2.new.self}
-    (search rules) (search rules) (c.in_ok-save_waiting-2.ensures {u = tt}).state (search (rules, all)))
+    (search rules) (search (rules, named_is)) (c.in_ok-save_waiting-2.ensures {u = tt}).state (search (rules, all)))

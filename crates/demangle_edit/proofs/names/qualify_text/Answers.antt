@@ -1,0 +1,8 @@
+use Rattle.demangle_text.proofs.Laws.{StaysInPlace-edit, StaysInPlace-trans}
+use Rattle.demangle_edit.proofs.names.qualify_text.Goals as goal
+
+-- the piece stays where it stands
+pub returns-clause-in_place : goal.returns-clause-in_place
+returns-clause-in_place c =
+    StaysInPlace-trans _ _ _ _ _ _ c.in_ok-name.ensures.edit
+    (StaysInPlace-edit _ _ _ _ _ c.in_ok-name.ensures.edit_of) (StaysInPlace-edit _ _ _ _ _ c.in_ok-append_name.ensures.edit_of)

@@ -1,6 +1,0 @@
-use Rattle.demangle_text.proofs.Laws.{StaysInPlace-edit}
-use Rattle.demangle_edit.proofs.names.qualify_text_in_place.Goals as goal
-
--- the piece stays where it stands
-pub returns-clause-in_place : goal.returns-clause-in_place
-returns-clause-in_place c = StaysInPlace-edit _ _ _ _ _ c.in_ok-append_name_in_place.ensures.edit_of
