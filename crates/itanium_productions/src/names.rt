@@ -217,6 +217,7 @@ pub(crate) fn read_nested(reader: &mut Reader, depth: usize, context: Context) -
     ensures saved { SavedBounds 1 result (state reader.old) (state reader.new) }
 {
     match name_quals(reader.rest) {
+        // Most names have none: then nothing is kept while the prefix is read.
         (None, rest) => {
             reader.rest = rest;
             read_prefix(reader, depth, context)?;
