@@ -19,16 +19,31 @@ fn with_tabs(alloc: Global, text: &str) -> Result<String, AllocError> {
     text.replace(alloc, "\\t", "\t")
 }
 
-/// What is wrong with two values that were asked the same symbol, of so many bytes.
-fn fault(new: &Demangler, kept: &Demangler, len: usize) -> Option<&'static str> {
+/// How many fields the line has, with tabs between them.
+fn fields(line: &str) -> usize {
+    let mut fields: usize = 1;
+    for byte in line.bytes() {
+        if byte == b'\t' {
+            fields = fields.saturating_add(1);
+        }
+    }
+    fields
+}
+
+/// What is wrong with two values that were asked the same symbol.
+fn fault(new: &Demangler, kept: &Demangler, symbol: &str) -> Option<&'static str> {
     if new.text() != kept.text() {
         Some("a new value has another answer")
     } else if new.entered() != kept.entered() || new.most_saved() != kept.most_saved() {
         Some("a new value has other counts")
-    } else if kept.entered() > len.saturating_mul(2) {
+    } else if kept.entered() > symbol.len().saturating_mul(2) {
         Some("more than two productions are entered for each byte")
-    } else if kept.most_saved() > len {
+    } else if kept.most_saved() > symbol.len() {
         Some("more components are saved than it has bytes")
+    } else if kept.text() == Some(symbol) {
+        Some("its answer is the symbol itself")
+    } else if kept.text().is_none() && kept.component(0).is_some() {
+        Some("it has no answer and leaves a component")
     } else {
         None
     }
@@ -51,7 +66,7 @@ impl Asked {
             return self.ask_beginnings(rt, &all);
         };
         let symbol = with_tabs(rt.alloc(), symbol)?;
-        self.ask(rt, &symbol, Some(all.as_str()))
+        self.ask(rt, &symbol, Some((all.as_str(), fields(line))))
     }
 
     /// Asks each beginning of the symbol that ends between two characters: the empty one, and so on up to the whole.
@@ -64,19 +79,20 @@ impl Asked {
         Ok(())
     }
 
-    /// Asks a new value and the one that is kept, and writes what is wrong with their answers, or with the record.
+    /// Asks a new value and the one that is kept, and writes what is wrong with their answers, or with the record. That
+    /// is given with the number of its fields.
     fn ask<R: Print + AllocGlobal>(
         &mut self,
         rt: &R,
         symbol: &str,
-        recorded: Option<&str>,
+        recorded: Option<(&str, usize)>,
     ) -> io::Result<()> {
         let mut new = Demangler::new();
         new.prepare(rt.alloc(), symbol)?;
         self.kept.prepare(rt.alloc(), symbol)?;
-        let mut found = fault(&new, &self.kept, symbol.len());
-        if let Some(recorded) = recorded {
-            let made = record(rt.alloc(), &self.kept, symbol)?;
+        let mut found = fault(&new, &self.kept, symbol);
+        if let Some((recorded, fields)) = recorded {
+            let made = record(rt.alloc(), &self.kept, symbol, fields)?;
             if made.as_str() != recorded {
                 found = Some("its record is another");
             }

@@ -1,9 +1,9 @@
 //! Asks the demangler symbols that were made to break it, and what is left of them when they are cut.
 //!
 //! A line of standard input is a symbol: each beginning of it is asked that ends between two characters. Or it is a
-//! record, with tabs between its fields: a symbol, the line that the filter writes for it, and where that is an answer,
-//! `entered`, `most_saved` and each component that is left. Then the symbol is asked, and its record must be the same.
-//! In a line `\t` stands for a tab.
+//! record, with tabs between its fields: a symbol and the line that the filter writes for it; then, if they are asked,
+//! `entered`; and then, if they are asked, `most_saved` and each component that is left. Then the symbol is asked, and
+//! its record must be the same. In a line `\t` stands for a tab.
 //!
 //! All is asked of a new value and of one that has answered all before it. One line for each failure is written, then
 //! `N passed, M failed`; with failures it ends with status 1. It takes no arguments.

@@ -8,7 +8,7 @@ use Rattle.demangle_text.specs.declared.shape.Place.TheVariants.{Start, Close, S
 use Rattle.demangle_text.specs.Shape.{Shape, Form, Plain, Declared, form_text, form_with, moved, grouped, appended, inserted, flattened, flagged, with_own, text, text_len}
 use Rattle.demangle_text.specs.Calls.{joined, CanInsert}
 
--- the last own name, when bytes are inserted at a place and then more of them after these
+-- the base name, when bytes are inserted at a place and then more of them after these
 moved_twice : (at next n m all : ℕ) (own : ℕ × ℕ) → next ≡ at + n → all ≡ n + m → moved next m (moved at n own) ≡ moved at all own
 moved_twice at next n m all (from, to) follows both = grind (arith, nat_tests)
 
@@ -75,7 +75,7 @@ inserted_thrice place a b c s follows fits =
 
 pub ruleset insertions = (inserted_twice, inserted_thrice, can_again)
 
--- a text after a plain text, whose last own name and flags stay
+-- a text after a plain text, whose base name and flags stay
 pub piece_after : (first second whole named : Shape) (between : List ℕ) (before len : ℕ) (old own : ℕ × ℕ) (templ ctor : Bool)
     → whole ≡ joined first between second → before ≡ text_len first → len ≡ text_len whole → old ≡ first.own
     → own ≡ moved before (len - before) old → templ ≡ first.templ → ctor ≡ first.ctor → named ≡ with_own own.0 own.1 whole

@@ -60,7 +60,7 @@ function_step ret params quals = if is_plain ret.form then Some (function_shape 
 abbrev pub opening_step : Shape → Option Shape
 opening_step ret = if is_plain ret.form then Some (function_opened ret) else None
 
--- where a literal is put, by its form: around its type, where that is shown, and else after the main text
+-- where a literal is put, by its form: around its type, where that is shown, and else after the output
 abbrev pub IsPut : LiteralForm → Buffer → Buffer → Piece → Piece → Type 0
 IsPut Boolean old new type literal = Appends old new literal
 IsPut Null old new type literal = Appends old new literal

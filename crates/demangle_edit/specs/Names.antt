@@ -28,7 +28,7 @@ enclosed opened name = inserted Start (text opened) (flattened name)
 abbrev pub default_arg_shape : Shape → ℕ → Shape → Shape
 default_arg_shape parent number entity = enclosed (default_arg_opened parent number) entity
 
--- the constructor of a parent, or its destructor: the last own name is all after the `::`
+-- the constructor of a parent, or its destructor: the base name is all after the `::`
 abbrev pub qualified_ctor : Shape → Bool → Shape
 qualified_ctor parent destructor =
     let before = text parent ++ codes "::" in

@@ -99,7 +99,7 @@ member_in (Declared k before group after) token s = opened_group token s
 abbrev pub member_pointer_shape : Shape → Shape → Shape
 member_pointer_shape class member = member_in member.form (text class ++ codes "::*") member
 
--- the function type: its last own name is its whole text
+-- the function type: its base name is its whole text
 abbrev pub function_shape : Shape → List Shape → Quals → Shape
 function_shape ret params quals =
     whole_shape (record {

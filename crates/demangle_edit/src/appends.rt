@@ -6,7 +6,7 @@ ghost use Rattle.demangle_text.specs.State.{IsLiving, shape, Lives, IsEdit, Join
 use demangle_text::{Buffer, Piece};
 use std::alloc::AllocError;
 
-/// A plain piece: the text of the first piece, the bytes, and the text of the second. The last own
+/// A plain piece: the text of the first piece, the bytes, and the text of the second. The base
 /// name and the flags are those of the first.
 #[inline(always)]
 #[tactic(auto, using(demangle_text::proofs::Laws::laws))]

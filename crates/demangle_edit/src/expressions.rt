@@ -66,8 +66,7 @@ fn digit_bytes(value: &[u8]) -> &[u8]
     if is_minus(value) { &value[1..] } else { value }
 }
 
-// The text of the piece in parentheses, as a plain piece whose last own name is the whole, with no
-// flag set.
+// The text of the piece in parentheses, as a plain piece whose base name is the whole, with no flag set.
 #[tactic(auto, using(demangle_text::proofs::Laws::laws))]
 fn parenthesize(buf: &mut Buffer, piece: Piece) -> Result<Piece, AllocError>
     requires piece { IsLiving buf.old piece }
@@ -82,7 +81,7 @@ fn parenthesize(buf: &mut Buffer, piece: Piece) -> Result<Piece, AllocError>
     Ok(buf.with_flags(whole, false, false))
 }
 
-// The piece with a value after its text. Its last own name is the whole text then.
+// The piece with a value after its text. Its base name is the whole text then.
 #[tactic(auto, using(demangle_text::proofs::Laws::laws, crate::proofs::Insertions::insertions))]
 #[inline(always)]
 fn append_value(buf: &mut Buffer, piece: Piece, value: &[u8]) -> Result<Piece, AllocError>
@@ -127,12 +126,11 @@ fn print_cast(buf: &mut Buffer, paren: Piece, ty: Piece, value: &[u8]) -> Result
     append_value(buf, cast, value)
 }
 
-/// The literal of a type with this value, in which one leading `n` is the minus and the rest are the
-/// digits, printed as they stand. By the text of the type: of `bool` without minus `false` for `0`
-/// and `true` for `1`; of `std::nullptr_t` `nullptr`, whatever the value; of `int` the digits; of
-/// `float`, `double` and `long double` the digits in square brackets; of all others the type in
-/// parentheses and then the digits. `-` stands in front of the digits, or of their brackets. A plain
-/// piece whose last own name is the whole, with no flag set.
+/// The literal of a type with this value, in which one leading `n` is the minus and the rest are the digits, printed as
+/// they stand. By the text of the type: of `bool` without minus `false` for `0` and `true` for `1`; of `std::nullptr_t`
+/// `nullptr`, whatever the value; of `int` the digits; of `float`, `double` and `long double` the digits in square
+/// brackets; of all others the type in parentheses and then the digits. `-` stands in front of the digits, or of their
+/// brackets. A plain piece whose base name is the whole, with no flag set.
 ///
 /// `None`, and all stays, for a `bool` without minus whose value is neither `0` nor `1`.
 #[tactic(auto, using(demangle_text::proofs::Laws::laws))]
@@ -194,7 +192,7 @@ pub fn write_opened_literal(
 }
 
 /// An operand of an expression: where `paren` holds its text in parentheses, as a plain piece whose
-/// last own name is the whole, with no flag set; else the piece itself.
+/// base name is the whole, with no flag set; else the piece itself.
 #[tactic(auto, using(demangle_text::proofs::Laws::laws))]
 pub fn subexpr(buf: &mut Buffer, piece: Piece, paren: bool) -> Result<Piece, AllocError>
     requires piece { IsLiving buf.old piece }
@@ -211,7 +209,7 @@ pub fn subexpr(buf: &mut Buffer, piece: Piece, paren: bool) -> Result<Piece, All
 }
 
 /// The address of what the piece names, `&` in front of its text. What it declares and the flags
-/// stay, and its last own name moves on; of a function it is the whole text.
+/// stay, and its base name moves on; of a function it is the whole text.
 #[tactic(auto, using(demangle_text::proofs::Laws::laws))]
 pub fn address(buf: &mut Buffer, piece: Piece) -> Result<Piece, AllocError>
     requires piece { IsLiving buf.old piece }

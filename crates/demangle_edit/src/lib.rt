@@ -4,7 +4,7 @@
 //! older keeps its shape, and so do the saved components and the arguments of the scopes. An error comes only where
 //! memory is refused, and then `clear` of the buffer is the only call that is promised.
 //!
-//! Most edits of a piece that stands up to the end of the main text, from that mark or later, are done where it stands,
+//! Most edits of a piece that stands up to the end of the output, from that mark or later, are done where it stands,
 //! and leave no other byte there (`in_place`). The others put their text at the end (`appends`).
 //!
 //! An entity in a default argument is put together from pieces (`default_arg`), or what opens it is made before the

@@ -1,13 +1,11 @@
 //! Texts that follow one another, and lists that are built as they are read.
 ghost use Rattle.std.specs.Prelude.{◌≡◌, ◌<◌, ◌++◌, All, map, decimal, IfOk, OnOk};
 ghost use Rattle.demangle_text.specs.Shape.{text_len, appended};
-ghost use Rattle.demangle_text.specs.State.{IsLiving, shape, Lives, IsEdit, KeepsAll};
-ghost use Rattle.demangle_text.specs.State.{StaysInPlace, Appends};
+ghost use Rattle.demangle_text.specs.State.{IsLiving, shape, Lives, IsEdit, KeepsAll, StaysInPlace, Appends};
 ghost use Rattle.demangle_text.specs.Calls.{IsLast, IsInner, text_after};
 ghost use Rattle.demangle_edit.specs.Lists.{glued, arguments_closed, pack_shape};
 ghost use Rattle.demangle_edit.specs.Calls.{part_text, IsLivingPart};
-ghost use Rattle.demangle_edit.specs.Built.{arguments_opened};
-ghost use Rattle.demangle_edit.specs.Built.{params_opened, params_closed, lambda_closed};
+ghost use Rattle.demangle_edit.specs.Built.{arguments_opened, params_opened, params_closed, lambda_closed};
 
 use crate::appends::append_piece;
 use crate::dimensions::{MOST_DIGITS, number_bytes};
@@ -16,7 +14,7 @@ use demangle_quals::{Quals, reference_bytes};
 use demangle_text::{Buffer, Piece};
 use std::alloc::AllocError;
 
-/// The parts, one after the other, as a plain piece whose last own name is the whole, with no flag
+/// The parts, one after the other, as a plain piece whose base name is the whole, with no flag
 /// set. Of no parts it is empty.
 #[tactic(auto, using(demangle_text::proofs::Laws::laws))]
 pub fn glue(buf: &mut Buffer, parts: &[Glue]) -> Result<Piece, AllocError>
@@ -60,7 +58,7 @@ pub(crate) fn list_pieces(buf: &mut Buffer, pieces: &[Piece]) -> Result<Piece, A
 }
 
 /// The name with the `<` of its template arguments, after a space where the name ends in `<`. A
-/// plain piece with the last own name and the flag `ctor` of the name; `templ` holds.
+/// plain piece with the base name and the flag `ctor` of the name; `templ` holds.
 ///
 /// The list is built as a text after it: `, ` before each argument but the first, and the text of
 /// each, up to the end of the output. `close_arguments` takes all of it in.
@@ -107,7 +105,7 @@ pub fn close_arguments(buf: &mut Buffer, list: Piece) -> Result<Piece, AllocErro
     Ok(buf.up_to_end(list))
 }
 
-/// The name with the `(` of its parameters. A plain piece with the last own name and the flag `ctor`
+/// The name with the `(` of its parameters. A plain piece with the base name and the flag `ctor`
 /// of the name; `templ` doesn't hold.
 ///
 /// With `, ` before each parameter but the first, the text of each and then `close_params` it is what
@@ -125,8 +123,7 @@ pub fn open_params(buf: &mut Buffer, name: Piece) -> Result<Piece, AllocError>
     Ok(buf.with_flags(opened, false, ctor))
 }
 
-/// The list of parameters with its `)` and the qualifiers of the function: the words and then the
-/// reference.
+/// The list of parameters with its `)` and the qualifiers of the function: the words and then the reference.
 #[tactic(auto, using(demangle_text::proofs::Laws::laws, crate::proofs::Insertions::insertions))]
 pub fn close_params(buf: &mut Buffer, list: Piece, quals: Quals) -> Result<Piece, AllocError>
     requires list { IsLiving buf.old list }
@@ -153,8 +150,7 @@ pub fn append_number(buf: &mut Buffer, piece: Piece, number: u64) -> Result<Piec
     buf.append(piece, digits)
 }
 
-/// The list of a lambda's parameters with `)#`, the lambda's number and `}`. The whole text is its
-/// last own name.
+/// The list of a lambda's parameters with `)#`, the lambda's number and `}`. The whole text is its base name.
 #[tactic(auto, using(demangle_text::proofs::Laws::laws, crate::proofs::Insertions::insertions))]
 pub fn close_lambda(buf: &mut Buffer, list: Piece, number: u64) -> Result<Piece, AllocError>
     requires list { IsLiving buf.old list }

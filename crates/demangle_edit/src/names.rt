@@ -2,11 +2,9 @@
 ghost use Rattle.std.specs.Prelude.{◌≡◌, All, map, false, IfOk, OnOk, OnErr};
 ghost use Rattle.demangle_quals.specs.Quals.{has_quals};
 ghost use Rattle.demangle_text.specs.Shape.{plain_shape};
-ghost use Rattle.demangle_text.specs.State.{IsLiving, shape, Lives, IsEdit};
-ghost use Rattle.demangle_text.specs.State.{StaysInPlace, IsLeftOrStays, JoinsInPlace, Appends};
+ghost use Rattle.demangle_text.specs.State.{IsLiving, shape, Lives, IsEdit, StaysInPlace, IsLeftOrStays, JoinsInPlace, Appends};
 ghost use Rattle.demangle_edit.specs.Names.{qualified, qualified_ctor, angle_gap, attached, tagged};
-ghost use Rattle.demangle_edit.specs.Names.{encoding_shape, with_name_qualifiers};
-ghost use Rattle.demangle_edit.specs.Names.{default_arg_opened, default_arg_shape};
+ghost use Rattle.demangle_edit.specs.Names.{encoding_shape, with_name_qualifiers, default_arg_opened, default_arg_shape};
 ghost use Rattle.demangle_edit.specs.Names.{parent_opened, enclosed};
 
 use crate::appends::append_piece;
@@ -15,7 +13,7 @@ use demangle_quals::{Quals, reference_bytes};
 use demangle_text::{Buffer, Piece};
 use std::alloc::AllocError;
 
-/// The leaf in its parent, `parent::leaf`, as a plain piece with the last own name and the flags of
+/// The leaf in its parent, `parent::leaf`, as a plain piece with the base name and the flags of
 /// the leaf. It is offered to others: no reader calls it, since each opens the parent first (`open_parent`).
 #[tactic(auto, using(demangle_text::proofs::Laws::laws))]
 pub fn qualify(buf: &mut Buffer, parent: Piece, leaf: Piece) -> Result<Piece, AllocError>
@@ -52,7 +50,7 @@ pub fn qualify_text(buf: &mut Buffer, parent: Piece, text: &[u8]) -> Result<Piec
 }
 
 /// What stands in front of an entity in a default argument of a parent, `parent::{default arg#k}::` with k for its
-/// number, as a plain piece with the last own name and the flags of the parent.
+/// number, as a plain piece with the base name and the flags of the parent.
 #[tactic(auto, using(demangle_text::proofs::Laws::laws, crate::proofs::Insertions::insertions))]
 pub fn open_default_arg(buf: &mut Buffer, parent: Piece, number: u64) -> Result<Piece, AllocError>
     requires parent { IsLiving buf.old parent }
@@ -66,7 +64,7 @@ pub fn open_default_arg(buf: &mut Buffer, parent: Piece, number: u64) -> Result<
     buf.append(numbered, b"}::")
 }
 
-/// A name after what was opened for it by `open_parent` or `open_default_arg`, as a plain piece with the last own name
+/// A name after what was opened for it by `open_parent` or `open_default_arg`, as a plain piece with the base name
 /// and the flags of the name.
 #[tactic(auto, using(demangle_text::proofs::Laws::laws))]
 pub fn close_opened(buf: &mut Buffer, opened: Piece, name: Piece) -> Result<Piece, AllocError>
@@ -86,7 +84,7 @@ pub fn close_opened(buf: &mut Buffer, opened: Piece, name: Piece) -> Result<Piec
     Ok(buf.with_flags(named, templ, ctor))
 }
 
-/// A parent with the `::` after it that stands in front of a leaf, as a plain piece with the last own name and the
+/// A parent with the `::` after it that stands in front of a leaf, as a plain piece with the base name and the
 /// flags of the parent. `close_opened` puts the leaf after it: the two give what `qualify` gives.
 #[tactic(auto, using(demangle_text::proofs::Laws::laws))]
 pub fn open_parent(buf: &mut Buffer, parent: Piece) -> Result<Piece, AllocError>
@@ -100,7 +98,7 @@ pub fn open_parent(buf: &mut Buffer, parent: Piece) -> Result<Piece, AllocError>
 }
 
 /// The entity in a default argument of a parent, `parent::{default arg#k}::entity` with k for its number, as a plain
-/// piece with the last own name and the flags of the entity. It is offered to others: the readers here put what stands
+/// piece with the base name and the flags of the entity. It is offered to others: the readers here put what stands
 /// in front of the entity first (`open_default_arg`).
 #[tactic(auto, using(demangle_text::proofs::Laws::laws))]
 pub fn default_arg(
@@ -122,9 +120,8 @@ pub fn default_arg(
     buf.close(mark, named)
 }
 
-/// The constructor of a parent, `parent::name` with the last own name of the parent, or its
-/// destructor, which has a `~` in front of that name. A plain piece; its last own name is all after
-/// the `::`. Of the flags `ctor` holds alone.
+/// The constructor of a parent, `parent::name` with the base name of the parent, or its destructor, which has a `~` in
+/// front of that name. A plain piece; its base name is all after the `::`. Of the flags `ctor` holds alone.
 #[tactic(auto, using(demangle_text::proofs::Laws::laws))]
 pub fn qualify_ctor(buf: &mut Buffer, parent: Piece, destructor: bool) -> Result<Piece, AllocError>
     requires parent { IsLiving buf.old parent }
@@ -143,7 +140,7 @@ pub fn qualify_ctor(buf: &mut Buffer, parent: Piece, destructor: bool) -> Result
 }
 
 /// The name with the list of its template arguments after it, and a space between them where the
-/// name ends in `<`. A plain piece with the last own name and the flag `ctor` of the name; `templ`
+/// name ends in `<`. A plain piece with the base name and the flag `ctor` of the name; `templ`
 /// holds. It is offered to others: the readers here build the list on the name (`open_arguments`).
 #[inline(always)]
 #[tactic(auto, using(demangle_text::proofs::Laws::laws))]
@@ -165,10 +162,9 @@ pub fn attach_template_args(buf: &mut Buffer, name: Piece, args: Piece) -> Resul
     Ok(buf.with_flags(whole, true, ctor))
 }
 
-/// The name of a function with its parameters in parentheses, `, ` between them, and its
-/// qualifiers: the words and then the reference. A plain piece with the last own name and the flag
-/// `ctor` of the name; `templ` doesn't hold. Of no parameters it is `name()`. It is offered to
-/// others: the readers here build the list on the name (`open_params`).
+/// The name of a function with its parameters in parentheses, `, ` between them, and its qualifiers: the words and then
+/// the reference. A plain piece with the base name and the flag `ctor` of the name; `templ` doesn't hold. Of no
+/// parameters it is `name()`. It is offered to others: the readers here build the list on the name (`open_params`).
 #[tactic(auto, using(demangle_text::proofs::Laws::laws))]
 pub fn format_params(
     buf: &mut Buffer,
@@ -193,8 +189,7 @@ pub fn format_params(
     buf.close(mark, whole)
 }
 
-/// The name with an ABI tag after it, `name[abi:tag]`, as a plain piece with the last own name and
-/// the flags of the name.
+/// The name with an ABI tag after it, `name[abi:tag]`, as a plain piece with the base name and the flags of the name.
 #[tactic(auto, using(demangle_text::proofs::Laws::laws, crate::proofs::Insertions::insertions))]
 pub fn tag(buf: &mut Buffer, name: Piece, text: &[u8]) -> Result<Piece, AllocError>
     requires name { IsLiving buf.old name }
@@ -209,7 +204,7 @@ pub fn tag(buf: &mut Buffer, name: Piece, text: &[u8]) -> Result<Piece, AllocErr
 }
 
 /// The name with its qualifiers after it: the words ` const`, ` volatile` and ` restrict` only
-/// where they are shown, and then the reference. A plain piece with the last own name and the flags
+/// where they are shown, and then the reference. A plain piece with the base name and the flags
 /// of the name, also where nothing is printed. Without qualifiers the answer is the name itself.
 #[tactic(auto, using(demangle_text::proofs::Laws::laws))]
 pub fn apply_name_qualifiers(

@@ -1,5 +1,4 @@
-//! Edits that make a type out of types: pointers, references, qualifiers, arrays and functions
-//! (Itanium C++ ABI 5.1.5).
+//! Edits that make a type out of types: pointers, references, qualifiers, arrays and functions (Itanium C++ ABI 5.1.5).
 ghost use Rattle.std.specs.Prelude.{◌≡◌, ◌≢◌, ◌+◌, ◌++◌, All, map, codes, is_some, true, false, IfOk, OnOk};
 ghost use Rattle.demangle_text.specs.Shape.{text, plain_shape, inserted};
 ghost use Rattle.demangle_text.specs.Calls.{CanInsert, IsPlain, IsDeclared, kind_of, group_of, front_text};
@@ -66,9 +65,8 @@ pub fn wrap_pointer(buf: &mut Buffer, inner: Piece, kind: Pointer) -> Result<Pie
     }
 }
 
-/// What is left of a reference to a plain text that ends in `&`: of `&` to a text that ends in `&&`
-/// the text without its last byte, in all other cases the piece itself. `rvalue` says that the
-/// reference is `&&`.
+/// What is left of a reference to a plain text that ends in `&`: of `&` to a text that ends in `&&` the text without
+/// its last byte, in all other cases the piece itself. `rvalue` says that the reference is `&&`.
 ///
 /// `None`, and all stays, where the piece is a declarator or its text doesn't end in `&`.
 #[tactic(auto, using(demangle_text::proofs::Laws::laws, crate::proofs::Declarators::declarators))]
@@ -301,9 +299,8 @@ fn open_member(buf: &mut Buffer, class: Piece, member: Piece) -> Result<Piece, A
     Ok(buf.with_flags(declared, templ, ctor))
 }
 
-/// The pointer to a member of the class: the class and `::*`, at the end of a plain text (after a
-/// space, unless the text ends in a space or `(`), or in a new group of a function. The flags are
-/// those of the member.
+/// The pointer to a member of the class: the class and `::*`, at the end of a plain text (after a space, unless the
+/// text ends in a space or `(`), or in a new group of a function. The flags are those of the member.
 ///
 /// `None`, and all stays, for an array.
 #[tactic(auto, using(demangle_text::proofs::Laws::laws, crate::proofs::Declarators::declarators))]
@@ -337,9 +334,8 @@ pub fn wrap_member_pointer(
     }
 }
 
-/// The function type with these parameters and qualifiers: what it returns and a space, then the
-/// parameters in parentheses with `, ` between them, then the qualifiers. Its last own name is its
-/// whole text, and no flag holds.
+/// The function type with these parameters and qualifiers: what it returns and a space, then the parameters in
+/// parentheses with `, ` between them, then the qualifiers. Its base name is its whole text, and no flag holds.
 ///
 /// `None`, and all stays, where what is returned is a declarator.
 ///
@@ -374,7 +370,7 @@ pub fn function_type(
     Ok(Some(buf.declare(whole, Kind::Function, before + 1)))
 }
 
-/// What a function returns with the ` (` of its parameters, as a plain piece whose last own name is the whole, with no
+/// What a function returns with the ` (` of its parameters, as a plain piece whose base name is the whole, with no
 /// flag set.
 ///
 /// With `, ` before each parameter but the first, the text of each and then `close_function` it is what
@@ -400,7 +396,7 @@ pub fn open_function(buf: &mut Buffer, ret: Piece) -> Result<Option<Piece>, Allo
 
 /// The function type whose parameters are this list: the list with its `)` and the qualifiers, the words and then the
 /// reference. What it returns has `front` bytes, and `after` begins one byte later, at the parenthesis; where the list
-/// is no longer than that all of it is `before`. Its last own name is its whole text, and no flag holds.
+/// is no longer than that all of it is `before`. Its base name is its whole text, and no flag holds.
 #[tactic(auto, using(demangle_text::proofs::Laws::laws, crate::proofs::Cuts::declared_within))]
 pub fn close_function(
     buf: &mut Buffer,
@@ -422,7 +418,7 @@ pub fn close_function(
 }
 
 /// The expansion of a pack, `...` at the end of the text of the type. What it declares and the
-/// flags stay, and but for a function the last own name.
+/// flags stay, and but for a function the base name.
 pub fn expand(buf: &mut Buffer, inner: Piece) -> Result<Piece, AllocError>
     requires inner { IsLiving buf.old inner }
     ensures shape { IfOk result (λ p. Lives buf.new p (expansion_shape (shape buf.old inner))) }

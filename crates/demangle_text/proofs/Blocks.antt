@@ -11,16 +11,16 @@ pub record IsBlock (s mid : Store) (text : List ℕ) (at from to : ℕ) : Type 0
   pub keeps : KeepsAll s mid
   pub store : IsStore mid
   pub inner : mid.frame_main ≤ at
-  pub low : at ≤ length mid.main_text
+  pub low : at ≤ length mid.output_text
   pub ordered : from ≤ to
-  pub within : to ≤ length mid.main_text
-  pub has : take at mid.main_text ++ slice_range mid.main_text from to ≡ take at s.main_text ++ text
+  pub within : to ≤ length mid.output_text
+  pub has : take at mid.output_text ++ slice_range mid.output_text from to ≡ take at s.output_text ++ text
 
 -- a part of the output, where it stands
 pub IsBlock-here : (s : Store) (aside : Bool) (at from to : ℕ) → IsStore s → s.frame_main ≡ at → aside ≡ false → from ≤ to
-    → to ≤ length (home_bytes s.main_text s.side_text aside) → IsBlock s s (slice_range (home_bytes s.main_text s.side_text aside) from to) at from to
+    → to ≤ length (home_bytes s.output_text s.spill_text aside) → IsBlock s s (slice_range (home_bytes s.output_text s.spill_text aside) from to) at from to
 IsBlock-here s aside at from to i mark home ordered within =
-    let here = ap (home_bytes s.main_text s.side_text) home in
+    let here = ap (home_bytes s.output_text s.spill_text) home in
     record {
       keeps = unchanged s s refl refl refl refl refl refl;
       store = i;
@@ -28,20 +28,20 @@ IsBlock-here s aside at from to i mark home ordered within =
       low = omega (arith, mark, i.main_frame);
       ordered = ordered;
       within = omega (arith, within, ap length here);
-      has = ap (λ (v : List ℕ). take at s.main_text ++ slice_range v from to) (sym here);
+      has = ap (λ (v : List ℕ). take at s.output_text ++ slice_range v from to) (sym here);
     }
 
 -- a copy of a text at the end
 pub IsBlock-copied : (s : Store) (t main : List ℕ) (at from to : ℕ) → IsStore s → s.frame_main ≡ at
-    → main ≡ s.main_text ++ t → from ≡ length s.main_text → to ≡ length main → IsBlock s (record s { main_text = main }) t at from to
+    → main ≡ s.output_text ++ t → from ≡ length s.output_text → to ≡ length main → IsBlock s (record s { output_text = main }) t at from to
 IsBlock-copied s t main at from to i mark is starts ends =
-    let long = ap length is ∙ length-append s.main_text t in
+    let long = ap length is ∙ length-append s.output_text t in
     record {
-      keeps = subst (λ (v : List ℕ). KeepsAll s (record s { main_text = v })) (sym is) (KeepsAll-longer s t i);
-      store = subst (λ (v : List ℕ). IsStore (record s { main_text = v })) (sym is) (IsStore-longer s t i);
+      keeps = subst (λ (v : List ℕ). KeepsAll s (record s { output_text = v })) (sym is) (KeepsAll-longer s t i);
+      store = subst (λ (v : List ℕ). IsStore (record s { output_text = v })) (sym is) (IsStore-longer s t i);
       inner = omega (arith, mark);
       low = omega (arith, mark, i.main_frame, long);
       ordered = omega (arith, starts, ends, long);
       within = omega (arith, ends);
-      has = kept_only-copy s.main_text main t at from to is (omega (arith, mark, i.main_frame)) starts ends;
+      has = kept_only-copy s.output_text main t at from to is (omega (arith, mark, i.main_frame)) starts ends;
     }

@@ -1,4 +1,4 @@
--- A text that was brought to the end of the main text, and what is put after it or into it there.
+-- A text that was brought to the end of the output, and what is put after it or into it there.
 use Rattle.std.proofs.Common.{◌≡◌, ℕ, ◌+◌, ◌-◌, ◌≤◌, Bool, true, false, List, ◌++◌, length, take, drop, slice_range, refl, sym, ap, ◌∙◌, subst, arith, append_assoc}
 use Rattle.std.proofs.lemmas.List.{length-append, length-drop, length-take-le, take_at, drop_at, take_all, drop_all, append-nil, take-append-le, drop-append-le, take-append-drop}
 use Rattle.demangle_text.specs.declared.shape.Piece.{Piece}
@@ -12,10 +12,10 @@ use Rattle.demangle_text.proofs.States.{KeepsAll-longer, IsStore-longer, Extends
 use Rattle.demangle_text.proofs.Tails.{IsSplice-inserted, IsSplice-copied, length-text}
 
 -- whether a piece ends the output is asked by the output's length
-pub tail-is : (s b : Store) (p : Piece) (len : ℕ) → s ≡ b → len ≡ length s.main_text → IsTailAt s.frame_main len p → IsTail b p
+pub tail-is : (s b : Store) (p : Piece) (len : ℕ) → s ≡ b → len ≡ length s.output_text → IsTailAt s.frame_main len p → IsTail b p
 tail-is s b p len same by h = subst (λ (v : Store). IsTail v p) same (subst (λ (k : ℕ). IsTailAt s.frame_main k p) by h)
 
-pub is-tail : (s b : Store) (p : Piece) (len : ℕ) → s ≡ b → len ≡ length s.main_text → IsTail b p → IsTailAt s.frame_main len p
+pub is-tail : (s b : Store) (p : Piece) (len : ℕ) → s ≡ b → len ≡ length s.output_text → IsTail b p → IsTailAt s.frame_main len p
 is-tail s b p len same by h = subst (λ (k : ℕ). IsTailAt s.frame_main k p) (sym by) (subst (λ (v : Store). IsTail v p) (sym same) h)
 
 -- one that ends it already
@@ -49,21 +49,21 @@ pub taken-back : (main mid new : List ℕ) (len : ℕ) → len ≡ length main �
 taken-back main mid new len long e is = is ∙ ap (take len) e.all ∙ take_at main e.more len (sym long)
 
 -- bytes after it
-module _ (s : Store) (mid bytes main : List ℕ) (i : IsStore s) (e : Extends s.main_text mid) (is : main ≡ mid ++ bytes) where
-  all : main ≡ s.main_text ++ (e.more ++ bytes)
-  all = is ∙ ap (λ (v : List ℕ). v ++ bytes) e.all ∙ append_assoc s.main_text e.more bytes
+module _ (s : Store) (mid bytes main : List ℕ) (i : IsStore s) (e : Extends s.output_text mid) (is : main ≡ mid ++ bytes) where
+  all : main ≡ s.output_text ++ (e.more ++ bytes)
+  all = is ∙ ap (λ (v : List ℕ). v ++ bytes) e.all ∙ append_assoc s.output_text e.more bytes
 
-  pub IsStore-extended : IsStore (record s { main_text = main })
-  IsStore-extended = subst (λ (v : List ℕ). IsStore (record s { main_text = v })) (sym all) (IsStore-longer s (e.more ++ bytes) i)
+  pub IsStore-extended : IsStore (record s { output_text = main })
+  IsStore-extended = subst (λ (v : List ℕ). IsStore (record s { output_text = v })) (sym all) (IsStore-longer s (e.more ++ bytes) i)
 
-  pub IsEdit-extended : IsEdit s (record s { main_text = main })
-  IsEdit-extended = subst (λ (v : List ℕ). IsEdit s (record s { main_text = v })) (sym all) (IsEdit-keeps s _ (KeepsAll-longer s (e.more ++ bytes) i))
+  pub IsEdit-extended : IsEdit s (record s { output_text = main })
+  IsEdit-extended = subst (λ (v : List ℕ). IsEdit s (record s { output_text = v })) (sym all) (IsEdit-keeps s _ (KeepsAll-longer s (e.more ++ bytes) i))
 
-pub IsSplice-extended : (s t : Store) (p : Piece) (mid bytes : List ℕ) (from : ℕ) → IsLiving s p → IsBrought s.main_text s.side_text s.frame_main p mid from
-    → t.main_text ≡ mid ++ bytes → IsSplice s t p (p.to_byte - p.from_byte) bytes from
+pub IsSplice-extended : (s t : Store) (p : Piece) (mid bytes : List ℕ) (from : ℕ) → IsLiving s p → IsBrought s.output_text s.spill_text s.frame_main p mid from
+    → t.output_text ≡ mid ++ bytes → IsSplice s t p (p.to_byte - p.from_byte) bytes from
 unfolding IsLiving
 IsSplice-extended s t p mid bytes from lies b is =
-    let text = piece_text s.main_text s.side_text p in
+    let text = piece_text s.output_text s.spill_text p in
     let k = p.to_byte - p.from_byte in
     let within : from ≤ length mid = omega (arith, b.begins) in
     let whole : length text ≤ k = omega (arith, length-text s p lies) in
@@ -81,7 +81,7 @@ IsSplice-extended s t p mid bytes from lies b is =
           (stays.0, longer ∙ ap (λ (v : List ℕ). length v + length bytes) stays.1);
     }
 
--- a part stays when the main text grows
+-- a part stays when the output grows
 part-longer : (main side more : List ℕ) (h : Bool) (a b : ℕ) → a ≤ b → b ≤ length (home_bytes main side h)
     → slice_range (home_bytes (main ++ more) side h) a b ≡ slice_range (home_bytes main side h) a b
 part-longer main side more false a b ordered within = part-append main more a b ordered within
@@ -91,34 +91,34 @@ within-longer : (main side more : List ℕ) (h : Bool) (b : ℕ) → b ≤ lengt
 within-longer main side more false b within = omega (arith, length-append main more, within)
 within-longer main side more true b within = within
 
-pub text-brought : (s : Store) (mid : List ℕ) (p : Piece) → IsLiving s p → Extends s.main_text mid → piece_text mid s.side_text p ≡ piece_text s.main_text s.side_text p
+pub text-brought : (s : Store) (mid : List ℕ) (p : Piece) → IsLiving s p → Extends s.output_text mid → piece_text mid s.spill_text p ≡ piece_text s.output_text s.spill_text p
 unfolding IsLiving
 text-brought s mid p lies e =
-    ap (λ (v : List ℕ). piece_text v s.side_text p) e.all ∙ part-longer s.main_text s.side_text e.more p.aside p.from_byte p.to_byte lies.ordered lies.within
+    ap (λ (v : List ℕ). piece_text v s.spill_text p) e.all ∙ part-longer s.output_text s.spill_text e.more p.aside p.from_byte p.to_byte lies.ordered lies.within
 
-pub within-brought : (s : Store) (mid : List ℕ) (p : Piece) → IsLiving s p → Extends s.main_text mid → p.to_byte ≤ length (home_bytes mid s.side_text p.aside)
+pub within-brought : (s : Store) (mid : List ℕ) (p : Piece) → IsLiving s p → Extends s.output_text mid → p.to_byte ≤ length (home_bytes mid s.spill_text p.aside)
 unfolding IsLiving
 within-brought s mid p lies e =
-    subst (λ (v : List ℕ). p.to_byte ≤ length (home_bytes v s.side_text p.aside)) (sym e.all) (within-longer s.main_text s.side_text e.more p.aside p.to_byte lies.within)
+    subst (λ (v : List ℕ). p.to_byte ≤ length (home_bytes v s.spill_text p.aside)) (sym e.all) (within-longer s.output_text s.spill_text e.more p.aside p.to_byte lies.within)
 
 -- bytes and another text after it, put there one after the other
 pub Extends-more : (old mid new bytes : List ℕ) → Extends old mid → new ≡ mid ++ bytes → Extends old new
 Extends-more old mid new bytes e is = Extends-trans old mid new e (record { more = bytes; all = is })
 
-pub both-added : (s : Store) (mid bytes one two : List ℕ) (other : Piece) → IsLiving s other → Extends s.main_text mid → one ≡ mid ++ bytes
-    → two ≡ one ++ piece_text one s.side_text other → two ≡ mid ++ (bytes ++ piece_text s.main_text s.side_text other)
+pub both-added : (s : Store) (mid bytes one two : List ℕ) (other : Piece) → IsLiving s other → Extends s.output_text mid → one ≡ mid ++ bytes
+    → two ≡ one ++ piece_text one s.spill_text other → two ≡ mid ++ (bytes ++ piece_text s.output_text s.spill_text other)
 both-added s mid bytes one two other lies e is_one is_two =
-    let same = text-brought s one other lies (Extends-more s.main_text mid one bytes e is_one) in
-    is_two ∙ ap (λ (v : List ℕ). one ++ v) same ∙ ap (λ (v : List ℕ). v ++ piece_text s.main_text s.side_text other) is_one
-    ∙ append_assoc mid bytes (piece_text s.main_text s.side_text other)
+    let same = text-brought s one other lies (Extends-more s.output_text mid one bytes e is_one) in
+    is_two ∙ ap (λ (v : List ℕ). one ++ v) same ∙ ap (λ (v : List ℕ). v ++ piece_text s.output_text s.spill_text other) is_one
+    ∙ append_assoc mid bytes (piece_text s.output_text s.spill_text other)
 
 -- bytes and another text after it join both
 pub IsJoint-spliced : (s t : Store) (first : Piece) (bytes : List ℕ) (second : Piece) (from : ℕ) → (IsAdjacent s first second → ⊥)
     → (IsTail s second → EndsBy second.from_byte first → ⊥) → IsLiving s first
-    → IsSplice s t first (first.to_byte - first.from_byte) (bytes ++ piece_text s.main_text s.side_text second) from → IsJoint s t first bytes second from
+    → IsSplice s t first (first.to_byte - first.from_byte) (bytes ++ piece_text s.output_text s.spill_text second) from → IsJoint s t first bytes second from
 IsJoint-spliced s t first bytes second from apart later lies h =
-    let one = piece_text s.main_text s.side_text first in
-    let two = piece_text s.main_text s.side_text second in
+    let one = piece_text s.output_text s.spill_text first in
+    let two = piece_text s.output_text s.spill_text second in
     let k = first.to_byte - first.from_byte in
     let whole : length one ≤ k = omega (arith, length-text s first lies) in
     record {
@@ -131,18 +131,18 @@ IsJoint-spliced s t first bytes second from apart later lies h =
       in_front = λ tail before _. absurd (later tail before);
       after = λ tail.
           let stays = h.in_place tail in
-          (stays.0, stays.1 ∙ ap (λ (n : ℕ). length s.main_text + n) (length-append bytes two));
+          (stays.0, stays.1 ∙ ap (λ (n : ℕ). length s.output_text + n) (length-append bytes two));
     }
 
--- a gap in a text that ends the main text
+-- a gap in a text that ends the output
 pub IsOpen-tail : (s t : Store) (p : Piece) (at n : ℕ) → IsTail s p → p.from_byte ≤ p.to_byte → at ≤ p.to_byte - p.from_byte → IsGap s t (p.from_byte + at) n → IsOpen s t p at n p.from_byte
 IsOpen-tail s t p at n h ordered place gap = record {
-  main = s.main_text;
+  main = s.output_text;
   within = omega (arith, h.ends);
   room = gap.room;
   consistent = gap.consistent;
   edit = gap.edit;
-  splice = λ bytes long. IsSplice-inserted s (with_gap_filled s.main_text (p.from_byte + at) bytes t) p at bytes h ordered place refl;
+  splice = λ bytes long. IsSplice-inserted s (with_gap_filled s.output_text (p.from_byte + at) bytes t) p at bytes h ordered place refl;
 }
 
 -- bytes in the copy of a text
@@ -159,33 +159,33 @@ in-copy main text bytes from at starts within =
 
 -- a gap in a copy
 module _ (s : Store) (p : Piece) (mid all : List ℕ) (at n from : ℕ) (i : IsStore s) (lies : IsLiving s p) (apart : IsTail s p → ⊥)
-    (starts : from ≡ length s.main_text) (place : at ≤ p.to_byte - p.from_byte) (copied : mid ≡ s.main_text ++ piece_text s.main_text s.side_text p)
+    (starts : from ≡ length s.output_text) (place : at ≤ p.to_byte - p.from_byte) (copied : mid ≡ s.output_text ++ piece_text s.output_text s.spill_text p)
     (room : HasRoom (take (from + at) mid) (drop (from + at) mid) all n) where
   abbrev text : List ℕ
-  text = piece_text s.main_text s.side_text p
+  text = piece_text s.output_text s.spill_text p
 
   abbrev filled : List ℕ → List ℕ
   filled bytes = take (from + at) mid ++ (bytes ++ drop (from + at) mid)
 
-  filled-is : (bytes : List ℕ) → filled bytes ≡ s.main_text ++ (take at text ++ (bytes ++ drop at text))
+  filled-is : (bytes : List ℕ) → filled bytes ≡ s.output_text ++ (take at text ++ (bytes ++ drop at text))
   filled-is bytes =
       ap (λ (v : List ℕ). take (from + at) v ++ (bytes ++ drop (from + at) v)) copied
-      ∙ in-copy s.main_text text bytes from at starts (omega (arith, length-text s p lies))
+      ∙ in-copy s.output_text text bytes from at starts (omega (arith, length-text s p lies))
 
-  pub IsOpen-copied : IsOpen s (record s { main_text = all }) p at n from
+  pub IsOpen-copied : IsOpen s (record s { output_text = all }) p at n from
   IsOpen-copied = record {
     main = mid;
-    within = omega (arith, ap length copied, length-append s.main_text text, length-text s p lies, starts, place);
+    within = omega (arith, ap length copied, length-append s.output_text text, length-text s p lies, starts, place);
     room = room;
-    consistent = λ bytes long. subst (λ (v : List ℕ). IsStore (record s { main_text = v })) (sym (filled-is bytes)) (IsStore-longer s _ i);
-    edit = λ bytes long. subst (λ (v : List ℕ). IsEdit s (record s { main_text = v })) (sym (filled-is bytes)) (IsEdit-keeps s _ (KeepsAll-longer s _ i));
-    splice = λ bytes long. IsSplice-copied s (record s { main_text = filled bytes }) p at bytes from apart i.main_frame starts (filled-is bytes);
+    consistent = λ bytes long. subst (λ (v : List ℕ). IsStore (record s { output_text = v })) (sym (filled-is bytes)) (IsStore-longer s _ i);
+    edit = λ bytes long. subst (λ (v : List ℕ). IsEdit s (record s { output_text = v })) (sym (filled-is bytes)) (IsEdit-keeps s _ (KeepsAll-longer s _ i));
+    splice = λ bytes long. IsSplice-copied s (record s { output_text = filled bytes }) p at bytes from apart i.main_frame starts (filled-is bytes);
   }
 
   -- it is consistent whatever stands in the gap
-  pub IsStore-copied : IsStore (record s { main_text = all })
+  pub IsStore-copied : IsStore (record s { output_text = all })
   IsStore-copied =
-      subst (λ (v : List ℕ). IsStore (record s { main_text = v })) (sym (room.parts ∙ filled-is room.room)) (IsStore-longer s _ i)
+      subst (λ (v : List ℕ). IsStore (record s { output_text = v })) (sym (room.parts ∙ filled-is room.room)) (IsStore-longer s _ i)
 
 -- the same store has the gap
 pub IsOpen-same : (old s new : Store) (p : Piece) (at n from : ℕ) → s ≡ new → IsOpen old new p at n from → IsOpen old s p at n from
@@ -194,21 +194,21 @@ IsOpen-same old s new p at n from same open_gap = subst (λ (b : Store). IsOpen 
 -- the gap is filled
 module _ (old s : Store) (p : Piece) (at n from : ℕ) (o : IsOpen old s p at n from) (bytes main : List ℕ) (long : length bytes ≡ n)
     (is : main ≡ take (from + at) o.main ++ (bytes ++ drop (from + at) o.main)) where
-  pub IsStore-put : IsStore (record s { main_text = main })
-  IsStore-put = subst (λ (v : List ℕ). IsStore (record s { main_text = v })) (sym is) (o.consistent bytes long)
+  pub IsStore-put : IsStore (record s { output_text = main })
+  IsStore-put = subst (λ (v : List ℕ). IsStore (record s { output_text = v })) (sym is) (o.consistent bytes long)
 
-  pub IsEdit-put : IsEdit old (record s { main_text = main })
-  IsEdit-put = subst (λ (v : List ℕ). IsEdit old (record s { main_text = v })) (sym is) (o.edit bytes long)
+  pub IsEdit-put : IsEdit old (record s { output_text = main })
+  IsEdit-put = subst (λ (v : List ℕ). IsEdit old (record s { output_text = v })) (sym is) (o.edit bytes long)
 
-  pub IsSplice-put : IsSplice old (record s { main_text = main }) p at bytes from
-  IsSplice-put = subst (λ (v : List ℕ). IsSplice old (record s { main_text = v }) p at bytes from) (sym is) (o.splice bytes long)
+  pub IsSplice-put : IsSplice old (record s { output_text = main }) p at bytes from
+  IsSplice-put = subst (λ (v : List ℕ). IsSplice old (record s { output_text = v }) p at bytes from) (sym is) (o.splice bytes long)
 
 -- what failed after it left nothing
 pub nothing-left : (main mid done new : List ℕ) (len : ℕ) → len ≡ length main → Extends main mid → done ≡ mid → new ≡ take len done → new ≡ main
 nothing-left main mid done new len long e failed is = taken-back main mid new len long e (is ∙ ap (take len) failed)
 
 -- so all is as it was
-pub KeepsAll-left : (s : Store) (mid done new : List ℕ) (len : ℕ) → len ≡ length s.main_text → Extends s.main_text mid → done ≡ mid → new ≡ take len done
-    → KeepsAll s (record s { main_text = new })
+pub KeepsAll-left : (s : Store) (mid done new : List ℕ) (len : ℕ) → len ≡ length s.output_text → Extends s.output_text mid → done ≡ mid → new ≡ take len done
+    → KeepsAll s (record s { output_text = new })
 KeepsAll-left s mid done new len long e failed is =
-    unchanged s (record s { main_text = new }) (nothing-left s.main_text mid done new len long e failed is) refl refl refl refl refl
+    unchanged s (record s { output_text = new }) (nothing-left s.output_text mid done new len long e failed is) refl refl refl refl refl

@@ -1,4 +1,4 @@
--- A block of the main text is moved, and the pieces in it with it.
+-- A block of the output is moved, and the pieces in it with it.
 use Rattle.std.proofs.Common.{◌≡◌, ℕ, ◌+◌, ◌-◌, ◌<◌, ◌≤◌, Bool, true, false, List, [], ◌∷◌, ◌++◌, length, take, drop, slice_range, leb, All, map, refl, sym, ap, ◌∙◌, subst, arith, append_assoc}
 use Rattle.std.proofs.lemmas.Bool.{leb-true, leb-false}
 use Rattle.std.proofs.lemmas.List.{length-append, length-map, length-take-le, length-drop, take_at, drop_at, take_all}
@@ -65,25 +65,25 @@ le_trans : (a b c : ℕ) → a ≤ b → b ≤ c → a ≤ c
 le_trans a b c h k = omega arith
 
 -- a call that moves a block: the kept pieces go with it, and what is older than the frame stays
-module _ (s t : Store) (low from to dest : ℕ) (m : Moves s.main_text t.main_text low from to dest) (inner : s.frame_main ≤ low)
+module _ (s t : Store) (low from to dest : ℕ) (m : Moves s.output_text t.output_text low from to dest) (inner : s.frame_main ≤ low)
     (saved_apart : All (IsApart low from to) s.saved_pieces) (args_apart : All (IsApart low from to) s.arg_pieces)
-    (by_side : t.side_text ≡ s.side_text) (by_saved : t.saved_pieces ≡ map (carried low from dest) s.saved_pieces) (by_args : t.arg_pieces ≡ map (carried low from dest) s.arg_pieces)
+    (by_side : t.spill_text ≡ s.spill_text) (by_saved : t.saved_pieces ≡ map (carried low from dest) s.saved_pieces) (by_args : t.arg_pieces ≡ map (carried low from dest) s.arg_pieces)
     (by_starts : t.scope_starts ≡ s.scope_starts) (by_frame_main : t.frame_main ≡ s.frame_main) where
   IsStore-moved : IsStore s → IsStore t
   IsStore-moved i =
       let n : length t.arg_pieces ≡ length s.arg_pieces = ap length by_args ∙ length-map s.arg_pieces (carried low from dest) in
       record {
-        saved_lie = rw (by_side, by_saved) (All-carried s.main_text t.main_text s.side_text low from to dest m s.saved_pieces i.saved_lie saved_apart);
-        args_lie = rw (by_side, by_args) (All-carried s.main_text t.main_text s.side_text low from to dest m s.arg_pieces i.args_lie args_apart);
+        saved_lie = rw (by_side, by_saved) (All-carried s.output_text t.output_text s.spill_text low from to dest m s.saved_pieces i.saved_lie saved_apart);
+        args_lie = rw (by_side, by_args) (All-carried s.output_text t.output_text s.spill_text low from to dest m s.arg_pieces i.args_lie args_apart);
         starts_fit = rw (by_starts, n) i.starts_fit;
         main_frame = omega (arith, m.low_new);
       }
 
-  older_text : (h : Bool) (a b : ℕ) → a ≤ b → (h ≡ false → b ≤ low) → slice_range (home_bytes t.main_text t.side_text h) a b ≡ slice_range (home_bytes s.main_text s.side_text h) a b
-  older_text false a b ordered below = part-below s.main_text t.main_text low a b ordered (below refl) m.low_old m.low_new m.below
+  older_text : (h : Bool) (a b : ℕ) → a ≤ b → (h ≡ false → b ≤ low) → slice_range (home_bytes t.output_text t.spill_text h) a b ≡ slice_range (home_bytes s.output_text s.spill_text h) a b
+  older_text false a b ordered below = part-below s.output_text t.output_text low a b ordered (below refl) m.low_old m.low_new m.below
   older_text true a b ordered below = ap (λ (v : List ℕ). slice_range v a b) by_side
 
-  older_within : (h : Bool) (b : ℕ) → b ≤ length (home_bytes s.main_text s.side_text h) → (h ≡ false → b ≤ low) → b ≤ length (home_bytes t.main_text t.side_text h)
+  older_within : (h : Bool) (b : ℕ) → b ≤ length (home_bytes s.output_text s.spill_text h) → (h ≡ false → b ≤ low) → b ≤ length (home_bytes t.output_text t.spill_text h)
   older_within false b within below = let k = below refl in omega (arith, m.low_new)
   older_within true b within below = rw by_side within
 
@@ -102,10 +102,10 @@ module _ (s t : Store) (low from to dest : ℕ) (m : Moves s.main_text t.main_te
     pieces = λ p h o. Lives-below p h (λ e. le_trans _ _ _ (o e) inner);
     frame_same = cc;
     lists = record {
-      saved_same = rw (by_side, by_saved) (shapes-carried s.main_text t.main_text s.side_text low from to dest m s.saved_pieces i.saved_lie saved_apart);
-      scopes_same = rw (by_side, by_args, by_starts) (ap (parts_at s.scope_starts) (shapes-carried s.main_text t.main_text s.side_text low from to dest m s.arg_pieces i.args_lie args_apart));
+      saved_same = rw (by_side, by_saved) (shapes-carried s.output_text t.output_text s.spill_text low from to dest m s.saved_pieces i.saved_lie saved_apart);
+      scopes_same = rw (by_side, by_args, by_starts) (ap (parts_at s.scope_starts) (shapes-carried s.output_text t.output_text s.spill_text low from to dest m s.arg_pieces i.args_lie args_apart));
     };
-    front = front_below s.main_text t.main_text s.frame_main low inner m.below;
+    front = front_below s.output_text t.output_text s.frame_main low inner m.below;
   }
 
 -- bytes are inserted: all after them moves on
@@ -154,20 +154,20 @@ Moves-kept main new at from to h ordered within by_new = rw by_new moves
           block = rw after (take_all (at + (to - from) - at) (slice_range main from to) (omega (arith, k)));
         }
 
--- texts that would be torn are set aside: m is the main text as it was read
-module _ (s : Store) (m side : List ℕ) (saved args : List Piece) (same : m ≡ s.main_text) (a : IsAside m s.side_text side s.saved_pieces saved s.arg_pieces args) where
+-- texts that would be torn are set aside: m is the output as it was read
+module _ (s : Store) (m side : List ℕ) (saved args : List Piece) (same : m ≡ s.output_text) (a : IsAside m s.spill_text side s.saved_pieces saved s.arg_pieces args) where
   abbrev pub aside : Store
-  aside = record s { side_text = side; saved_pieces = saved; arg_pieces = args }
+  aside = record s { spill_text = side; saved_pieces = saved; arg_pieces = args }
 
   pub KeepsAll-aside : KeepsAll s aside
   KeepsAll-aside =
       KeepsAll-elsewhere s aside refl a.side
-      (subst (λ (v : List ℕ). map (shape_in v side) saved ≡ map (shape_in v s.side_text) s.saved_pieces) same a.saved_shapes)
-      (subst (λ (v : List ℕ). map (shape_in v side) args ≡ map (shape_in v s.side_text) s.arg_pieces) same a.args_shapes) refl refl
+      (subst (λ (v : List ℕ). map (shape_in v side) saved ≡ map (shape_in v s.spill_text) s.saved_pieces) same a.saved_shapes)
+      (subst (λ (v : List ℕ). map (shape_in v side) args ≡ map (shape_in v s.spill_text) s.arg_pieces) same a.args_shapes) refl refl
 
   IsStore-aside : IsStore s → IsStore aside
   IsStore-aside i =
-      let n = ap length a.side.all ∙ length-append s.side_text a.side.more in
+      let n = ap length a.side.all ∙ length-append s.spill_text a.side.more in
       record {
         saved_lie = subst (λ (v : List ℕ). All (IsPiece v side) saved) same a.saved_lie;
         args_lie = subst (λ (v : List ℕ). All (IsPiece v side) args) same a.args_lie;
@@ -179,9 +179,9 @@ module _ (s : Store) (m side : List ℕ) (saved args : List Piece) (same : m ≡
   module _ (low from to dest : ℕ) (main : List ℕ) (saved' args' : List Piece) (i : IsStore s)
       (saved_apart : All (IsApart low from to) saved) (args_apart : All (IsApart low from to) args)
       (by_saved : saved' ≡ map (carried low from dest) saved) (by_args : args' ≡ map (carried low from dest) args)
-      (moves : Moves s.main_text main low from to dest) (inner : s.frame_main ≤ low) where
+      (moves : Moves s.output_text main low from to dest) (inner : s.frame_main ≤ low) where
     abbrev after_move : Store
-    after_move = record s { main_text = main; side_text = side; saved_pieces = saved'; arg_pieces = args' }
+    after_move = record s { output_text = main; spill_text = side; saved_pieces = saved'; arg_pieces = args' }
 
     pub IsStore-after : IsStore after_move
     IsStore-after = IsStore-moved aside after_move low from to dest moves inner saved_apart args_apart refl by_saved by_args refl refl (IsStore-aside i)

@@ -1,4 +1,4 @@
--- A gap in the main text, and what fills it.
+-- A gap in the output, and what fills it.
 use Rattle.std.proofs.Common.{◌≡◌, ℕ, ◌+◌, ◌≤◌, Bool, true, false, List, ◌++◌, length, take, drop, slice_range, All, map}
 use Rattle.std.proofs.Common.{refl, sym, ap, ◌∙◌, subst, arith, append_assoc}
 use Rattle.std.proofs.lemmas.List.{length-append, length-drop, length-take-le, take_at}
@@ -21,20 +21,20 @@ length-gap old new at n within h =
 
 -- what would be torn is set aside, and all after a place moves on by n bytes
 module _ (s : Store) (m side : List ℕ) (saved args saved' args' : List Piece) (at n len dest : ℕ)
-    (same : m ≡ s.main_text) (a : IsAside m s.side_text side s.saved_pieces saved s.arg_pieces args)
+    (same : m ≡ s.output_text) (a : IsAside m s.spill_text side s.saved_pieces saved s.arg_pieces args)
     (saved_apart : All (IsApart at at len) saved) (args_apart : All (IsApart at at len) args)
     (by_saved : saved' ≡ map (carried at at dest) saved) (by_args : args' ≡ map (carried at at dest) args)
-    (i : IsStore s) (inner : s.frame_main ≤ at) (within : at ≤ length s.main_text)
-    (by_len : len ≡ length s.main_text) (by_dest : dest ≡ at + n) where
+    (i : IsStore s) (inner : s.frame_main ≤ at) (within : at ≤ length s.output_text)
+    (by_len : len ≡ length s.output_text) (by_dest : dest ≡ at + n) where
   abbrev gapped : List ℕ → Store
-  gapped main = record s { main_text = main; side_text = side; saved_pieces = saved'; arg_pieces = args' }
+  gapped main = record s { output_text = main; spill_text = side; saved_pieces = saved'; arg_pieces = args' }
 
   module _ (main bytes : List ℕ) (long : length bytes ≡ n)
-      (is : main ≡ take at s.main_text ++ (bytes ++ drop at s.main_text)) where
-    moves : Moves s.main_text main at at len dest
+      (is : main ≡ take at s.output_text ++ (bytes ++ drop at s.output_text)) where
+    moves : Moves s.output_text main at at len dest
     moves =
-        subst (λ (d : ℕ). Moves s.main_text main at at len d) (ap (λ (k : ℕ). at + k) long ∙ sym by_dest)
-        (Moves-inserted s.main_text bytes main at len within by_len is)
+        subst (λ (d : ℕ). Moves s.output_text main at at len d) (ap (λ (k : ℕ). at + k) long ∙ sym by_dest)
+        (Moves-inserted s.output_text bytes main at len within by_len is)
 
     IsStore-gapped : IsStore (gapped main)
     IsStore-gapped =
@@ -46,7 +46,7 @@ module _ (s : Store) (m side : List ℕ) (saved args saved' args' : List Piece) 
         IsEdit-after s m side saved args same a at at len dest main saved' args' i
         saved_apart args_apart by_saved by_args moves inner
 
-  module _ (main : List ℕ) (h : HasRoom (take at s.main_text) (drop at s.main_text) main n) where
+  module _ (main : List ℕ) (h : HasRoom (take at s.output_text) (drop at s.output_text) main n) where
     pub IsStore-opened : IsStore (gapped main)
     IsStore-opened = IsStore-gapped main h.room h.long h.parts
 
@@ -64,12 +64,12 @@ IsGap-same old new s at n same gap = subst (λ (b : Store). IsGap old b at n) (s
 
 -- the gap is filled
 module _ (old s : Store) (at n : ℕ) (gap : IsGap old s at n) (bytes main : List ℕ) (long : length bytes ≡ n)
-    (is : main ≡ take at old.main_text ++ (bytes ++ drop at old.main_text)) where
-  pub IsStore-filled : IsStore (record s { main_text = main })
-  IsStore-filled = subst (λ (v : List ℕ). IsStore (record s { main_text = v })) (sym is) (gap.consistent bytes long)
+    (is : main ≡ take at old.output_text ++ (bytes ++ drop at old.output_text)) where
+  pub IsStore-filled : IsStore (record s { output_text = main })
+  IsStore-filled = subst (λ (v : List ℕ). IsStore (record s { output_text = v })) (sym is) (gap.consistent bytes long)
 
-  pub IsEdit-filled : IsEdit old (record s { main_text = main })
-  IsEdit-filled = subst (λ (v : List ℕ). IsEdit old (record s { main_text = v })) (sym is) (gap.edit bytes long)
+  pub IsEdit-filled : IsEdit old (record s { output_text = main })
+  IsEdit-filled = subst (λ (v : List ℕ). IsEdit old (record s { output_text = v })) (sym is) (gap.edit bytes long)
 
 -- by one text
 pub one-put : (old all bytes new : List ℕ) (at : ℕ) → at ≤ length old
@@ -90,30 +90,30 @@ part-before old new at n a b place h ordered before =
     ap (take at) h.parts ∙ take_at (take at old) (h.room ++ drop at old) at low in
     part-below old new at a b ordered before place (omega (arith, length-gap old new at n place h)) same
 
-part-kept : (old new : Store) (at n a b : ℕ) (h : Bool) → IsGap old new at n → at ≤ length old.main_text → a ≤ b
-    → b ≤ length (home_bytes old.main_text old.side_text h) → (h ≡ false → b ≤ at)
-    → slice_range (home_bytes new.main_text new.side_text h) a b ≡ slice_range (home_bytes old.main_text old.side_text h) a b
+part-kept : (old new : Store) (at n a b : ℕ) (h : Bool) → IsGap old new at n → at ≤ length old.output_text → a ≤ b
+    → b ≤ length (home_bytes old.output_text old.spill_text h) → (h ≡ false → b ≤ at)
+    → slice_range (home_bytes new.output_text new.spill_text h) a b ≡ slice_range (home_bytes old.output_text old.spill_text h) a b
 part-kept old new at n a b false gap place ordered within before =
-    part-before old.main_text new.main_text at n a b place gap.room ordered (before refl)
+    part-before old.output_text new.output_text at n a b place gap.room ordered (before refl)
 part-kept old new at n a b true gap place ordered within before =
     ap (λ (v : List ℕ). slice_range v a b) gap.side.all
-    ∙ part-append old.side_text gap.side.more a b ordered within
+    ∙ part-append old.spill_text gap.side.more a b ordered within
 
-home-longer : (old new : Store) (at n b : ℕ) (h : Bool) → IsGap old new at n → at ≤ length old.main_text
-    → b ≤ length (home_bytes old.main_text old.side_text h) → b ≤ length (home_bytes new.main_text new.side_text h)
+home-longer : (old new : Store) (at n b : ℕ) (h : Bool) → IsGap old new at n → at ≤ length old.output_text
+    → b ≤ length (home_bytes old.output_text old.spill_text h) → b ≤ length (home_bytes new.output_text new.spill_text h)
 home-longer old new at n b false gap place within =
-    omega (arith, length-gap old.main_text new.main_text at n place gap.room, within)
+    omega (arith, length-gap old.output_text new.output_text at n place gap.room, within)
 home-longer old new at n b true gap place within =
-    omega (arith, ap length gap.side.all, length-append old.side_text gap.side.more, within)
+    omega (arith, ap length gap.side.all, length-append old.spill_text gap.side.more, within)
 
 -- a piece that ends by the place keeps its text
-module _ (old new : Store) (at n : ℕ) (gap : IsGap old new at n) (place : at ≤ length old.main_text)
+module _ (old new : Store) (at n : ℕ) (gap : IsGap old new at n) (place : at ≤ length old.output_text)
     (p : Piece) (lies : IsLiving old p) where
-  pub text-kept : EndsBy at p → piece_text new.main_text new.side_text p ≡ piece_text old.main_text old.side_text p
+  pub text-kept : EndsBy at p → piece_text new.output_text new.spill_text p ≡ piece_text old.output_text old.spill_text p
   unfolding IsLiving
   text-kept before =
       part-kept old new at n p.from_byte p.to_byte p.aside gap place lies.ordered lies.within before
 
-  pub within-kept : p.to_byte ≤ length (home_bytes new.main_text new.side_text p.aside)
+  pub within-kept : p.to_byte ≤ length (home_bytes new.output_text new.spill_text p.aside)
   unfolding IsLiving
   within-kept = home-longer old new at n p.to_byte p.aside gap place lies.within

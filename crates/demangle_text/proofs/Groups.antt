@@ -84,7 +84,7 @@ layout-opened bytes (Declared k b (Some g) a) h = by_place (length b + length g 
         let ends : at + length (group_text bytes (b ++ grouped (Some g))) ≡ length ((b ++ grouped (Some g)) ++ gap_after (b ++ grouped (Some g))) + length bytes + 2 = omega arith in
         cc
 
--- the last own name
+-- the base name
 own-opened : (bytes : List ℕ) (f : Form) (own : ℕ × ℕ) → IsDeclared f → opened_own bytes f own ≡ moved (after_place f) (length (group_text bytes (front_text f))) own
 own-opened bytes (Plain t) own h = elim h [ ]
 own-opened bytes (Declared k b g a) own h = refl

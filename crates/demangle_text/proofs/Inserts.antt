@@ -119,7 +119,7 @@ text-form_with Suffix bytes (Plain t) h = elim h [ ]
 text-form_with Suffix bytes (Declared k b None a) h = at_split b a bytes (length b) refl ∙ sym (append_assoc b bytes a)
 text-form_with Suffix bytes (Declared k b (Some g) a) h = elim h [ ]
 
--- the last own name of the form with the bytes
+-- the base name of the form with the bytes
 pub own_at-form_with : (place : Place) (bytes : List ℕ) (f : Form) (own : ℕ × ℕ) → CanInsert place f
     → own_at (layout_for f) (length (form_text (form_with place bytes f))) own ≡ own_in (form_with place bytes f) own
 own_at-form_with Start bytes (Plain t) own h = refl
@@ -204,7 +204,7 @@ module _ (place : Place) (bytes t u : List ℕ) (m w : Outline) where
       let fits : range.1 ≤ length (form_text (form_with place bytes (form_of t m.layout))) = omega (arith, n, ap length e, within) in
       rw (e, k) (IsOutlined-outline_for (form_with place bytes (form_of t m.layout)) range m.templ m.ctor (moved_ordered (place_in place (form_of t m.layout)) (length bytes) m.own h.own_ordered) fits)
 
--- the last own name, when bytes are inserted at a place and then more of them after these
+-- the base name, when bytes are inserted at a place and then more of them after these
 pub moved_twice : (at next n m all : ℕ) (own : ℕ × ℕ) → next ≡ at + n → all ≡ n + m → moved next m (moved at n own) ≡ moved at all own
 moved_twice at next n m all (from, to) follows both = grind (arith, nat_tests)
 

@@ -36,7 +36,7 @@ SameLists-trans old mid new a b = record { saved_same = b.saved_same ∙ a.saved
 pub IsEdit-keeps : (old new : Store) → KeepsAll old new → IsEdit old new
 IsEdit-keeps old new u = record { pieces = λ p h _. u.pieces p h; frame_same = u.frame_same; lists = u.lists; front = u.front }
 
--- the main text before a mark that stays the innermost one, over two calls
+-- the output before a mark that stays the innermost one, over two calls
 KeepsFront-trans : (old mid new : Store) → frame mid ≡ frame old → KeepsFront old mid → KeepsFront mid new → KeepsFront old new
 KeepsFront-trans old mid new same a b =
     subst (λ (f : Frame). take (frame_start f) (main_bytes new) ≡ take (frame_start f) (main_bytes mid)) same b ∙ a
@@ -151,7 +151,7 @@ main-closed old mid new m p s o h main =
 pub Lives-same : (old new : Store) (p : Piece) (s : Shape) → SameFrame old new → Lives old p s → Lives new p s
 Lives-same old new p s u h = Lives-trans old new p s h (u.pieces p)
 
--- what ends the main text, edited afterwards
+-- what ends the output, edited afterwards
 EndsMain-edit : (old mid new : Store) (p q : Piece) → IsEdit old mid → EndsMain old mid p → StaysInPlace mid new p q → EndsMain old new q
 EndsMain-edit old mid new p q e a s =
     let k = s.stays a.from (subst (λ (f : Frame). frame_start f ≤ a.from) (sym e.frame_same) a.inner) a.stands in
@@ -262,7 +262,7 @@ pub Appends-named : (old new : Store) (p q : Piece) → Appends old new p → St
 Appends-named old new p q a as_piece =
     record { front = a.front; inner = a.inner; stands = as_piece (length (main_bytes old)) (length (main_bytes new)) a.stands }
 
--- a text inside a mark at the end of the main text, which is closed again
+-- a text inside a mark at the end of the output, which is closed again
 pub Appends-closed : (old mid new : Store) (m : Mark) (p : Piece) → frame_start (inside m) ≡ length (main_bytes old) → Opens old mid m → Closes mid new m
     → Stands p (frame_start (inside m)) (length (main_bytes new)) → Appends old new p
 Appends-closed old mid new m p starts o c stands = record {
@@ -277,7 +277,7 @@ pub Appends-close : {E : Type 0} (old mid new : Store) (m : Mark) (r : Result Pi
 Appends-close old mid new m (Ok p) starts o c stands = Appends-closed old mid new m p starts o c stands
 Appends-close old mid new m (Err e) starts o c stands = tt
 
--- a piece and what was put after the main text, joined
+-- a piece and what was put after the output, joined
 module _ (old mid new : Store) (p q r : Piece) (n : ℕ) (lies : IsLiving old p) (same : frame mid ≡ frame old) (a : Appends old mid q) (j : IsJoinOf mid new p q r n) where
   -- a piece that stood at the end stays there
   joined_stays : (at : ℕ) → frame_start (frame old) ≤ at → Stands p at (length (main_bytes old))
@@ -339,7 +339,7 @@ IsLast-push old new p u inner stands = record {
 pub IsLast-named : (b : Store) (p q : Piece) → IsLast b p → StandsAs p q → IsLast b q
 IsLast-named b p q l as_piece = record { from = l.from; inner = l.inner; stands = as_piece l.from (length (main_bytes b)) l.stands }
 
--- it stands last as long as the main text stays
+-- it stands last as long as the output stays
 pub IsLast-same : (old new : Store) (p : Piece) → IsLast old p → SameFrame old new → main_bytes new ≡ main_bytes old → IsLast new p
 IsLast-same old new p l k main = record {
   from = l.from;

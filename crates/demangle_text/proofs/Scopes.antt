@@ -120,12 +120,12 @@ parts_at-push (s ∷ t ∷ rest) xs x h some =
     both ∙ sym (with_arg-more x (slice_range xs s t) (parts_at (t ∷ rest) xs) some)
 
 -- a buffer whose arguments or their places change, and nothing else
-module _ (s new : Store) (main : new.main_text ≡ s.main_text) (side : new.side_text ≡ s.side_text) (frame_main : new.frame_main ≡ s.frame_main) where
+module _ (s new : Store) (main : new.output_text ≡ s.output_text) (side : new.spill_text ≡ s.spill_text) (frame_main : new.frame_main ≡ s.frame_main) where
   shape_same : shape new ≡ shape s
   unfolding shape
-  shape_same = ap (λ (ts : List ℕ). λ (p : Piece). shape_in ts new.side_text p) main ∙ ap (λ (ts : List ℕ). λ (p : Piece). shape_in s.main_text ts p) side
+  shape_same = ap (λ (ts : List ℕ). λ (p : Piece). shape_in ts new.spill_text p) main ∙ ap (λ (ts : List ℕ). λ (p : Piece). shape_in s.output_text ts p) side
 
-  frame_fits : IsStore s → new.frame_main ≤ length new.main_text
+  frame_fits : IsStore s → new.frame_main ≤ length new.output_text
   frame_fits i = rw (frame_main, main) i.main_frame
 
   -- the scopes, by the arguments and their places
@@ -164,7 +164,7 @@ module _ (s new : Store) (main : new.main_text ≡ s.main_text) (side : new.side
   unfolding IsLiving
   IsStore-arg i p lies saved args starts = record {
     saved_lie = rw (main, side, saved) i.saved_lie;
-    args_lie = rw (main, side, args) (All-push (IsPiece s.main_text s.side_text) s.arg_pieces p i.args_lie lies);
+    args_lie = rw (main, side, args) (All-push (IsPiece s.output_text s.spill_text) s.arg_pieces p i.args_lie lies);
     starts_fit = rw (args, starts) (AreStarts-more s.scope_starts (length s.arg_pieces) (length (s.arg_pieces ++ p ∷ [])) (omega (arith, length-append s.arg_pieces (p ∷ []))) i.starts_fit);
     main_frame = frame_fits i;
   }
@@ -187,7 +187,7 @@ module _ (s new : Store) (main : new.main_text ≡ s.main_text) (side : new.side
       let m : length (take from s.arg_pieces) ≡ get_or s.scope_starts n 0 = length-take-le from s.arg_pieces within ∙ e in
       record {
         saved_lie = rw (main, side, saved) i.saved_lie;
-        args_lie = rw (main, side, args) (All-take (IsPiece s.main_text s.side_text) from s.arg_pieces i.args_lie);
+        args_lie = rw (main, side, args) (All-take (IsPiece s.output_text s.spill_text) from s.arg_pieces i.args_lie);
         starts_fit = rw (args, starts, m) (AreStarts-take s.scope_starts (length s.arg_pieces) n i.starts_fit there);
         main_frame = frame_fits i;
       }
@@ -215,4 +215,4 @@ module _ (s : Store) (i n from : ℕ) (all : n ≡ length s.scope_starts) (some 
 
   pub arg_lives : IsStore s → IfSome (slice_get (drop from s.arg_pieces) i) (IsLiving s)
   unfolding IsLiving
-  arg_lives h = slice_get-All (IsPiece s.main_text s.side_text) (drop from s.arg_pieces) i (All-drop (IsPiece s.main_text s.side_text) from s.arg_pieces h.args_lie)
+  arg_lives h = slice_get-All (IsPiece s.output_text s.spill_text) (drop from s.arg_pieces) i (All-drop (IsPiece s.output_text s.spill_text) from s.arg_pieces h.args_lie)

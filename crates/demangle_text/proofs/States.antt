@@ -39,7 +39,7 @@ module _ (main side m n : List ℕ) (p : Piece) (h : IsPiece main side p) where
   pub shape_in-grown : shape_in (main ++ m) (side ++ n) p ≡ shape_in main side p
   shape_in-grown = ap (λ (t : List ℕ). shape_of t (outline_of p)) piece_text-grown
 
--- the same when the side text goes on
+-- the same when the spill goes on
 module _ (main side new : List ℕ) (e : Extends side new) where
   shape_in-extends : (p : Piece) → IsPiece main side p → shape_in main new p ≡ shape_in main side p
   shape_in-extends p h =
@@ -62,7 +62,7 @@ module _ (main side new : List ℕ) (e : Extends side new) where
   pub shapes-extends : (ps : List Piece) → All (IsPiece main side) ps → map (shape_in main new) ps ≡ map (shape_in main side) ps
   shapes-extends ps h = map_same (IsPiece main side) (shape_in main new) (shape_in main side) shape_in-extends ps h
 
--- a piece of the main text, whose text was put at the end of the side text
+-- a piece of the output, whose text was put at the end of the spill
 module _ (main side new : List ℕ) (p : Piece) (from to : ℕ) (lies : IsPiece main side p) (home : p.aside ≡ false)
     (is : new ≡ side ++ slice_range main p.from_byte p.to_byte) (starts : from ≡ length side) (ends : to ≡ length new) where
   abbrev pub set_aside : Piece
@@ -104,38 +104,38 @@ Extends-same a = record { more = []; all = sym (append-nil a) }
 
 -- the store with longer texts
 abbrev grown : Store → List ℕ → List ℕ → Store
-grown s m n = record s { main_text = s.main_text ++ m; side_text = s.side_text ++ n }
+grown s m n = record s { output_text = s.output_text ++ m; spill_text = s.spill_text ++ n }
 
 KeepsAll-grown : (s : Store) (m n : List ℕ) → IsStore s → KeepsAll s (grown s m n)
 unfolding IsLiving shape saved scopes main_bytes frame frame_start Frame
 KeepsAll-grown s m n i =
-    let same = (λ (p : Piece) (h : IsPiece s.main_text s.side_text p). shape_in-grown s.main_text s.side_text m n p h) in
-    let f = shape_in (s.main_text ++ m) (s.side_text ++ n) in
-    let g = shape_in s.main_text s.side_text in
+    let same = (λ (p : Piece) (h : IsPiece s.output_text s.spill_text p). shape_in-grown s.output_text s.spill_text m n p h) in
+    let f = shape_in (s.output_text ++ m) (s.spill_text ++ n) in
+    let g = shape_in s.output_text s.spill_text in
     record {
-      pieces = λ p h. record { living = IsPiece-grown s.main_text s.side_text m n p h; shape_is = same p h };
+      pieces = λ p h. record { living = IsPiece-grown s.output_text s.spill_text m n p h; shape_is = same p h };
       frame_same = refl;
       lists = record {
-        saved_same = map_same (IsPiece s.main_text s.side_text) f g same s.saved_pieces i.saved_lie;
-        scopes_same = ap (parts_at s.scope_starts) (map_same (IsPiece s.main_text s.side_text) f g same s.arg_pieces i.args_lie);
+        saved_same = map_same (IsPiece s.output_text s.spill_text) f g same s.saved_pieces i.saved_lie;
+        scopes_same = ap (parts_at s.scope_starts) (map_same (IsPiece s.output_text s.spill_text) f g same s.arg_pieces i.args_lie);
       };
-      front = take-append-le s.frame_main s.main_text m i.main_frame;
+      front = take-append-le s.frame_main s.output_text m i.main_frame;
     }
 
 IsStore-grown : (s : Store) (m n : List ℕ) → IsStore s → IsStore (grown s m n)
 IsStore-grown s m n i = record {
-  saved_lie = λ k d h. IsPiece-grown s.main_text s.side_text m n _ (i.saved_lie k d h);
-  args_lie = λ k d h. IsPiece-grown s.main_text s.side_text m n _ (i.args_lie k d h);
+  saved_lie = λ k d h. IsPiece-grown s.output_text s.spill_text m n _ (i.saved_lie k d h);
+  args_lie = λ k d h. IsPiece-grown s.output_text s.spill_text m n _ (i.args_lie k d h);
   starts_fit = i.starts_fit;
-  main_frame = omega (arith, length-append s.main_text m, i.main_frame);
+  main_frame = omega (arith, length-append s.output_text m, i.main_frame);
 }
 
--- the store with a longer main text
+-- the store with a longer output
 abbrev pub longer : Store → List ℕ → Store
-longer s m = record s { main_text = s.main_text ++ m }
+longer s m = record s { output_text = s.output_text ++ m }
 
 longer-is : (s : Store) (m : List ℕ) → grown s m [] ≡ longer s m
-longer-is s m = ap (λ (v : List ℕ). let t : Store = record s { main_text = s.main_text ++ m; side_text = v } in t) (append-nil s.side_text)
+longer-is s m = ap (λ (v : List ℕ). let t : Store = record s { output_text = s.output_text ++ m; spill_text = v } in t) (append-nil s.spill_text)
 
 pub KeepsAll-longer : (s : Store) (m : List ℕ) → IsStore s → KeepsAll s (longer s m)
 KeepsAll-longer s m i = subst (KeepsAll s) (longer-is s m) (KeepsAll-grown s m [] i)
@@ -144,58 +144,58 @@ pub IsStore-longer : (s : Store) (m : List ℕ) → IsStore s → IsStore (longe
 IsStore-longer s m i = subst IsStore (longer-is s m) (IsStore-grown s m [] i)
 
 -- the kept pieces may lie elsewhere, with the same shapes
-pub KeepsAll-elsewhere : (s t : Store) → t.main_text ≡ s.main_text → Extends s.side_text t.side_text
-    → map (shape_in t.main_text t.side_text) t.saved_pieces ≡ map (shape_in s.main_text s.side_text) s.saved_pieces
-    → map (shape_in t.main_text t.side_text) t.arg_pieces ≡ map (shape_in s.main_text s.side_text) s.arg_pieces
+pub KeepsAll-elsewhere : (s t : Store) → t.output_text ≡ s.output_text → Extends s.spill_text t.spill_text
+    → map (shape_in t.output_text t.spill_text) t.saved_pieces ≡ map (shape_in s.output_text s.spill_text) s.saved_pieces
+    → map (shape_in t.output_text t.spill_text) t.arg_pieces ≡ map (shape_in s.output_text s.spill_text) s.arg_pieces
     → t.scope_starts ≡ s.scope_starts → t.frame_main ≡ s.frame_main → KeepsAll s t
 unfolding IsLiving shape saved scopes main_bytes frame frame_start Frame
 KeepsAll-elsewhere s t by_main by_side by_saved by_args by_starts by_frame_main =
     record {
       pieces = λ p h. record {
-        living = rw by_main (IsPiece-extends s.main_text s.side_text t.side_text by_side p h);
-        shape_is = rw by_main (shape_in-extends s.main_text s.side_text t.side_text by_side p h);
+        living = rw by_main (IsPiece-extends s.output_text s.spill_text t.spill_text by_side p h);
+        shape_is = rw by_main (shape_in-extends s.output_text s.spill_text t.spill_text by_side p h);
       };
       frame_same = cc;
       lists = record { saved_same = by_saved; scopes_same = cc };
       front = ap (take s.frame_main) by_main;
     }
 
--- a piece of the main text that ends it, by its text
-pub Lives-at_end : (s : Store) (p : Piece) (t : List ℕ) → IsAt p p.from_byte (length s.main_text) → p.from_byte ≤ length s.main_text
-    → drop p.from_byte s.main_text ≡ t → IsOutlined t (outline_of p) → Lives s p (shape_of t (outline_of p))
+-- a piece of the output that ends it, by its text
+pub Lives-at_end : (s : Store) (p : Piece) (t : List ℕ) → IsAt p p.from_byte (length s.output_text) → p.from_byte ≤ length s.output_text
+    → drop p.from_byte s.output_text ≡ t → IsOutlined t (outline_of p) → Lives s p (shape_of t (outline_of p))
 unfolding IsLiving shape
 Lives-at_end s p t stands within is outlined =
-    let home : piece_text s.main_text s.side_text p ≡ slice_range s.main_text p.from_byte p.to_byte =
-    ap (λ (h : Bool). slice_range (home_bytes s.main_text s.side_text h) p.from_byte p.to_byte) stands.in_main in
-    let here : piece_text s.main_text s.side_text p ≡ t =
-    home ∙ take_all (p.to_byte - p.from_byte) (drop p.from_byte s.main_text) (omega (arith, stands.ends, length-drop p.from_byte s.main_text)) ∙ is in
+    let home : piece_text s.output_text s.spill_text p ≡ slice_range s.output_text p.from_byte p.to_byte =
+    ap (λ (h : Bool). slice_range (home_bytes s.output_text s.spill_text h) p.from_byte p.to_byte) stands.in_main in
+    let here : piece_text s.output_text s.spill_text p ≡ t =
+    home ∙ take_all (p.to_byte - p.from_byte) (drop p.from_byte s.output_text) (omega (arith, stands.ends, length-drop p.from_byte s.output_text)) ∙ is in
     record {
       living = record { ordered = omega (arith, stands.ends); within = rw stands.in_main (omega (arith, stands.ends)); outlined = rw here outlined };
       shape_is = ap (λ (u : List ℕ). shape_of u (outline_of p)) here;
     }
 
--- the same where the main text has just grown by its text
-pub Lives-grown : (s : Store) (t : List ℕ) (p : Piece) → IsAt p (length s.main_text) (length (s.main_text ++ t)) → IsOutlined t (outline_of p) → Lives (longer s t) p (shape_of t (outline_of p))
+-- the same where the output has just grown by its text
+pub Lives-grown : (s : Store) (t : List ℕ) (p : Piece) → IsAt p (length s.output_text) (length (s.output_text ++ t)) → IsOutlined t (outline_of p) → Lives (longer s t) p (shape_of t (outline_of p))
 Lives-grown s t p stands outlined =
-    let there : IsAt p p.from_byte (length (s.main_text ++ t)) = record { in_main = stands.in_main; begins = refl; ends = stands.ends } in
-    Lives-at_end (longer s t) p t there (omega (arith, stands.begins, length-append s.main_text t)) (drop_at s.main_text t p.from_byte (sym stands.begins)) outlined
+    let there : IsAt p p.from_byte (length (s.output_text ++ t)) = record { in_main = stands.in_main; begins = refl; ends = stands.ends } in
+    Lives-at_end (longer s t) p t there (omega (arith, stands.begins, length-append s.output_text t)) (drop_at s.output_text t p.from_byte (sym stands.begins)) outlined
 
--- what lives in the main text lies before its end
+-- what lives in the output lies before its end
 below_end : (main side : List ℕ) (end n : ℕ) (h : Bool) → end ≡ length main → n ≤ length (home_bytes main side h) → h ≡ false → n ≤ end
 below_end main side end n h by_main within e = omega (arith, by_main, rw e at within)
 
--- a mark is opened at the end of the main text
-pub Opens-here : (s : Store) (m : Mark) → IsStore s → m.inside_main ≡ length s.main_text → m.outside_main ≡ s.frame_main
+-- a mark is opened at the end of the output
+pub Opens-here : (s : Store) (m : Mark) → IsStore s → m.inside_main ≡ length s.output_text → m.outside_main ≡ s.frame_main
     → Opens s (record s { frame_main = m.inside_main }) m
 unfolding IsLiving shape saved scopes main_bytes frame frame_start inside outside IsOlder Frame
 Opens-here s m i by_main outer = record {
   pieces = λ p h. record { living = h; shape_is = refl };
-  older = λ p h. below_end s.main_text s.side_text m.inside_main p.to_byte p.aside by_main h.within;
+  older = λ p h. below_end s.output_text s.spill_text m.inside_main p.to_byte p.aside by_main h.within;
   inside_is = refl;
   outside_is = outer;
   lists = record { saved_same = refl; scopes_same = refl };
   nested = omega (arith, by_main, i.main_frame);
-  front = take_all m.inside_main s.main_text (omega (arith, by_main));
+  front = take_all m.inside_main s.output_text (omega (arith, by_main));
 }
 
 -- a mark is closed after an edit inside it
@@ -207,7 +207,7 @@ Closes-edit s t m innermost e = record {
       record { living = k.living; shape_is = k.shape_is };
   outside_is = refl;
   lists = record { saved_same = e.lists.saved_same; scopes_same = e.lists.scopes_same };
-  front = subst (λ (f : Frame). take (frame_start f) t.main_text ≡ take (frame_start f) s.main_text) innermost e.front;
+  front = subst (λ (f : Frame). take (frame_start f) t.output_text ≡ take (frame_start f) s.output_text) innermost e.front;
 }
 
 -- a piece stands at one place
@@ -220,16 +220,16 @@ pub Stands-ordered : (s : Store) (p : Piece) (from to : ℕ) → IsLiving s p �
 unfolding IsLiving Stands
 Stands-ordered s p from to lies stands = omega (arith, lies.ordered, stands.begins, stands.ends)
 
--- it stands up to the end of the main text, from the innermost mark or later, or else before that end
+-- it stands up to the end of the output, from the innermost mark or later, or else before that end
 pub Stands-tail : (s : Store) (p : Piece) (P : Type 0) → IsLiving s p → ((from : ℕ) → frame_start (frame s) ≤ from → Stands p from (length (main_bytes s)) → P)
     → (StandsBefore s p (length (main_bytes s)) → P) → P
 unfolding IsLiving Stands main_bytes frame frame_start Frame
-Stands-tail s p P lies tail before = by p.aside (leb s.frame_main p.from_byte) (leb (length s.main_text) p.to_byte) refl refl refl
+Stands-tail s p P lies tail before = by p.aside (leb s.frame_main p.from_byte) (leb (length s.output_text) p.to_byte) refl refl refl
   where
-    within : p.aside ≡ false → p.to_byte ≤ length s.main_text
-    within home = subst (λ (h : Bool). p.to_byte ≤ length (home_bytes s.main_text s.side_text h)) home lies.within
+    within : p.aside ≡ false → p.to_byte ≤ length s.output_text
+    within home = subst (λ (h : Bool). p.to_byte ≤ length (home_bytes s.output_text s.spill_text h)) home lies.within
 
-    by : (aside inner ends : Bool) → p.aside ≡ aside → leb s.frame_main p.from_byte ≡ inner → leb (length s.main_text) p.to_byte ≡ ends → P
+    by : (aside inner ends : Bool) → p.aside ≡ aside → leb s.frame_main p.from_byte ≡ inner → leb (length s.output_text) p.to_byte ≡ ends → P
     by true inner ends home from to = before (λ a b at. cc)
     by false true true home from to =
         tail p.from_byte (leb-true _ _ from) (record { in_main = home; begins = refl; ends = omega (arith, within home, leb-true _ _ to) })
@@ -241,8 +241,8 @@ Stands-tail s p P lies tail before = by p.aside (leb s.frame_main p.from_byte) (
 pub text_after-more : (s t : Store) (p : Piece) (bytes : List ℕ) → IsLiving s p → IsInner s p → main_bytes t ≡ main_bytes s ++ bytes → text_after t p ≡ text_after s p ++ bytes
 unfolding IsLiving Stands main_bytes text_after
 text_after-more s t p bytes lies i main =
-    let within : p.to_byte ≤ length s.main_text = subst (λ (h : Bool). p.to_byte ≤ length (home_bytes s.main_text s.side_text h)) i.stands.in_main lies.within in
-    ap (drop p.to_byte) main ∙ drop-append-le p.to_byte s.main_text bytes within
+    let within : p.to_byte ≤ length s.output_text = subst (λ (h : Bool). p.to_byte ≤ length (home_bytes s.output_text s.spill_text h)) i.stands.in_main lies.within in
+    ap (drop p.to_byte) main ∙ drop-append-le p.to_byte s.output_text bytes within
 
 -- and stays with it
 pub text_after-same : (s t : Store) (p : Piece) → main_bytes t ≡ main_bytes s → text_after t p ≡ text_after s p
@@ -252,19 +252,19 @@ text_after-same s t p main = ap (drop p.to_byte) main
 -- nothing stands after what ends the output
 pub text_after-last : (s : Store) (p : Piece) → IsLast s p → text_after s p ≡ []
 unfolding Stands main_bytes text_after
-text_after-last s p l = drop_all p.to_byte s.main_text (omega (arith, l.stands.ends))
+text_after-last s p l = drop_all p.to_byte s.output_text (omega (arith, l.stands.ends))
 
 -- the output from an inner piece on is its text and what stands after it
-pub inner_text : (s : Store) (p : Piece) → IsLiving s p → IsInner s p → drop p.from_byte s.main_text ≡ piece_text s.main_text s.side_text p ++ drop p.to_byte s.main_text
+pub inner_text : (s : Store) (p : Piece) → IsLiving s p → IsInner s p → drop p.from_byte s.output_text ≡ piece_text s.output_text s.spill_text p ++ drop p.to_byte s.output_text
 unfolding IsLiving Stands
 inner_text s p lies i =
-    let main = s.main_text in
+    let main = s.output_text in
     let at = p.to_byte - p.from_byte in
     let rest = drop p.from_byte main in
-    let here : piece_text main s.side_text p ≡ take at rest = ap (λ (h : Bool). slice_range (home_bytes main s.side_text h) p.from_byte p.to_byte) i.stands.in_main in
+    let here : piece_text main s.spill_text p ≡ take at rest = ap (λ (h : Bool). slice_range (home_bytes main s.spill_text h) p.from_byte p.to_byte) i.stands.in_main in
     let split : p.to_byte ≡ p.from_byte + at = omega (arith, lies.ordered) in
     let after : drop p.to_byte main ≡ drop at rest = ap (λ (k : ℕ). drop k main) split ∙ sym (drop-drop at p.from_byte main) in
-    sym (take-append-drop at rest) ∙ ap (λ (v : List ℕ). v ++ drop at rest) (sym here) ∙ ap (λ (v : List ℕ). piece_text main s.side_text p ++ v) (sym after)
+    sym (take-append-drop at rest) ∙ ap (λ (v : List ℕ). v ++ drop at rest) (sym here) ∙ ap (λ (v : List ℕ). piece_text main s.spill_text p ++ v) (sym after)
 
 -- a fact at the exit of a `?`
 pub on_err_from : {T E Q : Type 0} (r : Result T E) → Q → OnErr r Q
@@ -272,26 +272,26 @@ on_err_from (Ok x) q = tt
 on_err_from (Err e) q = q
 
 -- the text of a living piece is that of its bytes
-pub text_is : (s : Store) (p : Piece) → IsLiving s p → text (shape s p) ≡ piece_text s.main_text s.side_text p
+pub text_is : (s : Store) (p : Piece) → IsLiving s p → text (shape s p) ≡ piece_text s.output_text s.spill_text p
 unfolding IsLiving shape
-text_is s p h = text-form_of (piece_text s.main_text s.side_text p) (outline_of p).layout h.outlined.layout
+text_is s p h = text-form_of (piece_text s.output_text s.spill_text p) (outline_of p).layout h.outlined.layout
 
 -- the output is what stands before an inner piece, its text and what stands after it
 pub main_split : (s : Store) (p : Piece) → IsLiving s p → (i : IsInner s p) → main_bytes s ≡ take i.from (main_bytes s) ++ (text (shape s p) ++ text_after s p)
 unfolding Stands main_bytes text_after
 main_split s p lies i =
-    let main = s.main_text in
+    let main = s.output_text in
     sym (take-append-drop i.from main) ∙ ap (λ (v : List ℕ). take i.from main ++ v)
     (ap (λ (k : ℕ). drop k main) (sym i.stands.begins) ∙ inner_text s p lies i ∙ ap (λ (v : List ℕ). v ++ drop p.to_byte main) (sym (text_is s p lies)))
 
 -- the same as it was
-pub unchanged : (s new : Store) → new.main_text ≡ s.main_text → new.side_text ≡ s.side_text → new.saved_pieces ≡ s.saved_pieces → new.arg_pieces ≡ s.arg_pieces
+pub unchanged : (s new : Store) → new.output_text ≡ s.output_text → new.spill_text ≡ s.spill_text → new.saved_pieces ≡ s.saved_pieces → new.arg_pieces ≡ s.arg_pieces
     → new.scope_starts ≡ s.scope_starts → new.frame_main ≡ s.frame_main → KeepsAll s new
 unfolding IsLiving shape
 unchanged s new by_main by_side by_saved by_args by_starts by_frame_main =
     let e : new ≡ s = λ j. record {
-      main_text = by_main j;
-      side_text = by_side j;
+      output_text = by_main j;
+      spill_text = by_side j;
       saved_pieces = by_saved j;
       arg_pieces = by_args j;
       scope_starts = by_starts j;

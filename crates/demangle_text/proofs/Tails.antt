@@ -1,4 +1,4 @@
--- What stands at the end of the main text after an insertion, a copy or a join.
+-- What stands at the end of the output after an insertion, a copy or a join.
 use Rattle.std.specs.Prelude.{Some, None}
 use Rattle.std.proofs.Common.{◌≡◌, ℕ, ◌+◌, ◌-◌, ◌≤◌, Bool, false, List, [], ◌++◌, length, take, drop, slice_range, refl, sym, ap, ◌∙◌, subst, arith, append_assoc}
 use Rattle.std.proofs.lemmas.List.{length-append, length-drop, length-take-le, drop_at, take-append-drop}
@@ -39,17 +39,17 @@ front_inserted main bytes low at below h =
 front_longer : (main more : List ℕ) (low : ℕ) → low ≤ length main → take low (main ++ more) ≡ take low main
 front_longer main more low h = take-append-le low main more h
 
--- the text of a piece that ends the main text
-tail_text : (s : Store) (p : Piece) → IsTail s p → piece_text s.main_text s.side_text p ≡ drop p.from_byte s.main_text
+-- the text of a piece that ends the output
+tail_text : (s : Store) (p : Piece) → IsTail s p → piece_text s.output_text s.spill_text p ≡ drop p.from_byte s.output_text
 tail_text s p h =
-    ap (λ (home : Bool). slice_range (home_bytes s.main_text s.side_text home) p.from_byte p.to_byte) h.in_main
-    ∙ take_all (p.to_byte - p.from_byte) (drop p.from_byte s.main_text) (omega (arith, h.ends, length-drop p.from_byte s.main_text))
+    ap (λ (home : Bool). slice_range (home_bytes s.output_text s.spill_text home) p.from_byte p.to_byte) h.in_main
+    ∙ take_all (p.to_byte - p.from_byte) (drop p.from_byte s.output_text) (omega (arith, h.ends, length-drop p.from_byte s.output_text))
 
--- an insertion into a piece that ends the main text
+-- an insertion into a piece that ends the output
 pub IsSplice-inserted : (s t : Store) (p : Piece) (at : ℕ) (bytes : List ℕ) → IsTail s p → p.from_byte ≤ p.to_byte → at ≤ p.to_byte - p.from_byte
-    → t.main_text ≡ take (p.from_byte + at) s.main_text ++ (bytes ++ drop (p.from_byte + at) s.main_text) → IsSplice s t p at bytes p.from_byte
+    → t.output_text ≡ take (p.from_byte + at) s.output_text ++ (bytes ++ drop (p.from_byte + at) s.output_text) → IsSplice s t p at bytes p.from_byte
 IsSplice-inserted s t p at bytes h ordered within is =
-    let main = s.main_text in
+    let main = s.output_text in
     let there : p.from_byte + at ≤ length main = omega (arith, h.ends) in
     let n = ap length is ∙ length-inserted main bytes (p.from_byte + at) in
     record {
@@ -65,12 +65,12 @@ IsSplice-inserted s t p at bytes h ordered within is =
 pub IsSplice-taken : (s : Store) (p : Piece) → IsLiving s p → IsInner s p → IsSplice s s p (p.to_byte - p.from_byte) (text_after s p) p.from_byte
 unfolding IsLiving frame frame_start Frame Stands text_after
 IsSplice-taken s p lies i =
-    let main = s.main_text in
-    let t = piece_text main s.side_text p in
+    let main = s.output_text in
+    let t = piece_text main s.spill_text p in
     let at = p.to_byte - p.from_byte in
     let more = drop p.to_byte main in
-    let within : p.to_byte ≤ length main = subst (λ (h : Bool). p.to_byte ≤ length (home_bytes main s.side_text h)) i.stands.in_main lies.within in
-    let long : length t ≡ at = length-between (home_bytes main s.side_text p.aside) p.from_byte p.to_byte lies.within in
+    let within : p.to_byte ≤ length main = subst (λ (h : Bool). p.to_byte ≤ length (home_bytes main s.spill_text h)) i.stands.in_main lies.within in
+    let long : length t ≡ at = length-between (home_bytes main s.spill_text p.aside) p.from_byte p.to_byte lies.within in
     let front : take at t ≡ t = take_all at t (omega (arith, long)) in
     let none : drop at t ≡ [] = drop_all at t (omega (arith, long)) in
     record {
@@ -83,40 +83,40 @@ IsSplice-taken s p lies i =
     }
 
 -- an edit that spliced bytes into the text of a piece
-pub IsEditOf-spliced : (b n : Store) (p q : Piece) (at from : ℕ) (bytes : List ℕ) → IsSplice b n p at bytes from → IsAt q from (length n.main_text) → IsEditOf b n p q (length bytes)
+pub IsEditOf-spliced : (b n : Store) (p q : Piece) (at from : ℕ) (bytes : List ℕ) → IsSplice b n p at bytes from → IsAt q from (length n.output_text) → IsEditOf b n p q (length bytes)
 unfolding main_bytes frame frame_start Frame Stands
 IsEditOf-spliced b n p q at from bytes s stands = record {
-  front = front_below b.main_text n.main_text b.frame_main from s.inner s.front;
+  front = front_below b.output_text n.output_text b.frame_main from s.inner s.front;
   ends = record { from = from; inner = s.inner; front = s.front; stands = stands };
   in_place = λ i inner there.
       let tail : IsTail b p = record { in_main = there.in_main; inner = omega (arith, inner, there.begins); ends = there.ends } in
       let stays = s.in_place tail in
-      (subst (λ (k : ℕ). IsAt q k (length n.main_text)) (stays.0 ∙ there.begins) stands, stays.1);
+      (subst (λ (k : ℕ). IsAt q k (length n.output_text)) (stays.0 ∙ there.begins) stands, stays.1);
 }
 
 -- a copy with the bytes in it, of a piece that doesn't
-pub IsSplice-copied : (s t : Store) (p : Piece) (at : ℕ) (bytes : List ℕ) (from : ℕ) → (IsTail s p → ⊥) → s.frame_main ≤ length s.main_text → from ≡ length s.main_text
-    → t.main_text ≡ s.main_text ++ (take at (piece_text s.main_text s.side_text p) ++ (bytes ++ drop at (piece_text s.main_text s.side_text p))) → IsSplice s t p at bytes from
+pub IsSplice-copied : (s t : Store) (p : Piece) (at : ℕ) (bytes : List ℕ) (from : ℕ) → (IsTail s p → ⊥) → s.frame_main ≤ length s.output_text → from ≡ length s.output_text
+    → t.output_text ≡ s.output_text ++ (take at (piece_text s.output_text s.spill_text p) ++ (bytes ++ drop at (piece_text s.output_text s.spill_text p))) → IsSplice s t p at bytes from
 IsSplice-copied s t p at bytes from apart inner starts is =
-    let text = piece_text s.main_text s.side_text p in
+    let text = piece_text s.output_text s.spill_text p in
     let more = take at text ++ (bytes ++ drop at text) in
     record {
-      within = omega (arith, ap length is ∙ length-append s.main_text more);
-      text = ap (drop from) is ∙ drop_at s.main_text more from (sym starts);
+      within = omega (arith, ap length is ∙ length-append s.output_text more);
+      text = ap (drop from) is ∙ drop_at s.output_text more from (sym starts);
       inner = omega (arith, inner, starts);
-      front = ap (take from) is ∙ front_longer s.main_text more from (omega (arith, starts));
+      front = ap (take from) is ∙ front_longer s.output_text more from (omega (arith, starts));
       in_place = λ h. absurd (apart h);
     }
 
--- the texts of two pieces that meet and end the main text
+-- the texts of two pieces that meet and end the output
 adjacent_text : (s : Store) (first second : Piece) → IsAdjacent s first second → first.from_byte ≤ first.to_byte → second.from_byte ≤ second.to_byte
-    → (piece_text s.main_text s.side_text first ≡ take (second.from_byte - first.from_byte) (drop first.from_byte s.main_text))
-    × (piece_text s.main_text s.side_text second ≡ drop (second.from_byte - first.from_byte) (drop first.from_byte s.main_text))
+    → (piece_text s.output_text s.spill_text first ≡ take (second.from_byte - first.from_byte) (drop first.from_byte s.output_text))
+    × (piece_text s.output_text s.spill_text second ≡ drop (second.from_byte - first.from_byte) (drop first.from_byte s.output_text))
 adjacent_text s first second h ordered after =
-    let main = s.main_text in
+    let main = s.output_text in
     let k = second.from_byte - first.from_byte in
-    let by_first = ap (λ (home : Bool). slice_range (home_bytes main s.side_text home) first.from_byte first.to_byte) h.first_in_main in
-    let by_second = ap (λ (home : Bool). slice_range (home_bytes main s.side_text home) second.from_byte second.to_byte) h.second_in_main in
+    let by_first = ap (λ (home : Bool). slice_range (home_bytes main s.spill_text home) first.from_byte first.to_byte) h.first_in_main in
+    let by_second = ap (λ (home : Bool). slice_range (home_bytes main s.spill_text home) second.from_byte second.to_byte) h.second_in_main in
     let whole = take_all (second.to_byte - second.from_byte) (drop second.from_byte main) (omega (arith, h.ends, length-drop second.from_byte main)) in
     let split : second.from_byte ≡ first.from_byte + k = omega (arith, h.meets) in (
       by_first ∙ ap (λ (i : ℕ). take (i - first.from_byte) (drop first.from_byte main)) h.meets,
@@ -125,9 +125,9 @@ adjacent_text s first second h ordered after =
 
 -- an insertion between them
 pub IsJoint-inserted : (s t : Store) (first : Piece) (bytes : List ℕ) (second : Piece) → IsAdjacent s first second → first.from_byte ≤ first.to_byte → second.from_byte ≤ second.to_byte
-    → t.main_text ≡ take second.from_byte s.main_text ++ (bytes ++ drop second.from_byte s.main_text) → IsJoint s t first bytes second first.from_byte
+    → t.output_text ≡ take second.from_byte s.output_text ++ (bytes ++ drop second.from_byte s.output_text) → IsJoint s t first bytes second first.from_byte
 IsJoint-inserted s t first bytes second h ordered after is =
-    let main = s.main_text in
+    let main = s.output_text in
     let k = second.from_byte - first.from_byte in
     let split : second.from_byte ≡ first.from_byte + k = omega (arith, h.meets) in
     let there : first.from_byte + k ≤ length main = omega (arith, h.ends, h.meets) in
@@ -139,8 +139,8 @@ IsJoint-inserted s t first bytes second h ordered after is =
           ∙ ap (λ (i : ℕ). drop first.from_byte (take i main ++ (bytes ++ drop i main))) split
           ∙ tail_inserted main bytes first.from_byte k there
           ∙ ap (λ (v : List ℕ). v ++ (bytes ++ drop k (drop first.from_byte main))) (sym texts.0)
-          ∙ ap (λ (v : List ℕ). piece_text main s.side_text first ++ (bytes ++ v)) (sym texts.1)
-          ∙ sym (append_assoc (piece_text main s.side_text first) bytes (piece_text main s.side_text second));
+          ∙ ap (λ (v : List ℕ). piece_text main s.spill_text first ++ (bytes ++ v)) (sym texts.1)
+          ∙ sym (append_assoc (piece_text main s.spill_text first) bytes (piece_text main s.spill_text second));
       inner = h.inner;
       front = ap (take first.from_byte) is ∙ front_inserted main bytes first.from_byte second.from_byte (omega (arith, h.meets)) (omega (arith, split));
       in_place = λ _. (refl, n);
@@ -155,14 +155,14 @@ tails-meet s first second ordered two before one =
     let by = before one.in_main in
     record { first_in_main = one.in_main; second_in_main = two.in_main; inner = one.inner; meets = omega (arith, by, ordered, one.ends, two.ends); ends = two.ends }
 
--- the first text and the bytes in front of a second one that ends the main text
+-- the first text and the bytes in front of a second one that ends the output
 pub IsJoint-moved : (s t : Store) (first : Piece) (bytes : List ℕ) (second : Piece) → (IsAdjacent s first second → ⊥) → IsTail s second → EndsBy second.from_byte first
     → second.from_byte ≤ second.to_byte
-    → t.main_text ≡ take second.from_byte s.main_text ++ ((piece_text s.main_text s.side_text first ++ bytes) ++ drop second.from_byte s.main_text)
+    → t.output_text ≡ take second.from_byte s.output_text ++ ((piece_text s.output_text s.spill_text first ++ bytes) ++ drop second.from_byte s.output_text)
     → IsJoint s t first bytes second second.from_byte
 IsJoint-moved s t first bytes second apart h before ordered is =
-    let main = s.main_text in
-    let more = piece_text main s.side_text first ++ bytes in
+    let main = s.output_text in
+    let more = piece_text main s.spill_text first ++ bytes in
     let at = second.from_byte in
     let there : at ≤ length main = omega (arith, h.ends) in
     let low = length-take-le at main there in
@@ -172,23 +172,23 @@ IsJoint-moved s t first bytes second apart h before ordered is =
       inner = h.inner;
       front = ap (take at) is ∙ front_inserted main more at at (omega arith) there;
       in_place = λ k. absurd (apart k);
-      in_front = λ _ _ _. (refl, ap length is ∙ length-inserted main more at ∙ ap (λ (k : ℕ). length main + k) (length-append (piece_text main s.side_text first) bytes));
+      in_front = λ _ _ _. (refl, ap length is ∙ length-inserted main more at ∙ ap (λ (k : ℕ). length main + k) (length-append (piece_text main s.spill_text first) bytes));
       after = λ tail. absurd (apart (tails-meet s first second ordered h before tail));
     }
 
 -- a join of two texts
 pub IsJoinOf-joint : (b n : Store) (first second q : Piece) (bytes : List ℕ) (from : ℕ) → IsLiving b first → IsLiving b second → IsJoint b n first bytes second from
-    → IsAt q from (length n.main_text)
+    → IsAt q from (length n.output_text)
     → IsJoinOf b n first second q (length bytes)
 unfolding main_bytes frame frame_start Frame Stands
 IsJoinOf-joint b n first second q bytes from lies two_lies s stands = record {
-  front = front_below b.main_text n.main_text b.frame_main from s.inner s.front;
+  front = front_below b.output_text n.output_text b.frame_main from s.inner s.front;
   ends = record { from = from; inner = s.inner; front = s.front; stands = stands };
   in_place = λ i middle inner one two.
       let meet : IsAdjacent b first second =
       record { first_in_main = one.in_main; second_in_main = two.in_main; inner = omega (arith, inner, one.begins); meets = one.ends ∙ sym two.begins; ends = two.ends } in
       let stays = s.in_place meet in
-      (subst (λ (k : ℕ). IsAt q k (length n.main_text)) (stays.0 ∙ one.begins) stands, stays.1);
+      (subst (λ (k : ℕ). IsAt q k (length n.output_text)) (stays.0 ∙ one.begins) stands, stays.1);
   in_front = λ at inner two before.
       let tail : IsTail b second = record { in_main = two.in_main; inner = omega (arith, inner, two.begins); ends = two.ends } in
       let ends : EndsBy second.from_byte first = λ home. omega (arith, (before first.from_byte first.to_byte (record { in_main = home; begins = refl; ends = refl })).0, two.begins) in
@@ -196,15 +196,15 @@ IsJoinOf-joint b n first second q bytes from lies two_lies s stands = record {
       let less = (before first.from_byte first.to_byte (record { in_main = h.first_in_main; begins = refl; ends = refl })).1 h.inner in
       let k : ⊥ = omega (arith, less, h.meets, two.begins) in k in
       let stays = s.in_front tail ends apart in
-      let long : length (piece_text b.main_text b.side_text first) ≡ text_len (shape b first) = ap length (sym (text_is b first lies)) in (
-        subst (λ (k : ℕ). IsAt q k (length n.main_text)) (stays.0 ∙ two.begins) stands,
-        stays.1 ∙ ap (λ (k : ℕ). length b.main_text + (k + length bytes)) long,
+      let long : length (piece_text b.output_text b.spill_text first) ≡ text_len (shape b first) = ap length (sym (text_is b first lies)) in (
+        subst (λ (k : ℕ). IsAt q k (length n.output_text)) (stays.0 ∙ two.begins) stands,
+        stays.1 ∙ ap (λ (k : ℕ). length b.output_text + (k + length bytes)) long,
       );
   after = λ at inner one.
       let stays = s.after (record { in_main = one.in_main; inner = omega (arith, inner, one.begins); ends = one.ends }) in
-      let long : length (piece_text b.main_text b.side_text second) ≡ text_len (shape b second) = ap length (sym (text_is b second two_lies)) in (
-        subst (λ (k : ℕ). IsAt q k (length n.main_text)) (stays.0 ∙ one.begins) stands,
-        stays.1 ∙ ap (λ (k : ℕ). length b.main_text + (length bytes + k)) long,
+      let long : length (piece_text b.output_text b.spill_text second) ≡ text_len (shape b second) = ap length (sym (text_is b second two_lies)) in (
+        subst (λ (k : ℕ). IsAt q k (length n.output_text)) (stays.0 ∙ one.begins) stands,
+        stays.1 ∙ ap (λ (k : ℕ). length b.output_text + (length bytes + k)) long,
       );
 }
 
@@ -220,43 +220,43 @@ layout_at_end n Flat = refl
 layout_at_end n (Cut kind group at) = refl
 
 -- how long the text of a piece is
-pub length-text : (s : Store) (p : Piece) → IsLiving s p → length (piece_text s.main_text s.side_text p) ≡ p.to_byte - p.from_byte
+pub length-text : (s : Store) (p : Piece) → IsLiving s p → length (piece_text s.output_text s.spill_text p) ≡ p.to_byte - p.from_byte
 unfolding IsLiving
-length-text s p h = length-between (home_bytes s.main_text s.side_text p.aside) p.from_byte p.to_byte h.within
+length-text s p h = length-between (home_bytes s.output_text s.spill_text p.aside) p.from_byte p.to_byte h.within
 
 -- a splice of a living piece
 module _ (b n : Store) (p : Piece) (at : ℕ) (bytes : List ℕ) (from : ℕ) (lies : IsLiving b p) (i : IsSplice b n p at bytes from) where
   abbrev t : List ℕ
-  t = piece_text b.main_text b.side_text p
+  t = piece_text b.output_text b.spill_text p
 
-  pub splice-long : length n.main_text - from ≡ p.to_byte - p.from_byte + length bytes
-  splice-long = sym (length-drop from n.main_text) ∙ ap length i.text ∙ length-inserted t bytes at ∙ ap (λ (k : ℕ). k + length bytes) (length-text b p lies)
+  pub splice-long : length n.output_text - from ≡ p.to_byte - p.from_byte + length bytes
+  splice-long = sym (length-drop from n.output_text) ∙ ap length i.text ∙ length-inserted t bytes at ∙ ap (λ (k : ℕ). k + length bytes) (length-text b p lies)
 
-  pub own-fits : p.own_end + length bytes ≤ length n.main_text
+  pub own-fits : p.own_end + length bytes ≤ length n.output_text
   unfolding IsLiving
   own-fits = omega (arith, splice-long, i.within, lies.outlined.own_within, length-text b p lies)
 
-  pub layout-fits : layout_end (outline_of p).layout + length bytes ≤ length n.main_text
+  pub layout-fits : layout_end (outline_of p).layout + length bytes ≤ length n.output_text
   unfolding IsLiving
   layout-fits = omega (arith, splice-long, i.within, layout_end_within t (outline_of p).layout lies.outlined.layout, length-text b p lies)
 
-  module _ (q : Piece) (stands : IsAt q from (length n.main_text)) where
+  module _ (q : Piece) (stands : IsAt q from (length n.output_text)) where
     abbrev u : List ℕ
-    u = drop from n.main_text
+    u = drop from n.output_text
 
-    long : length n.main_text - from ≡ length u
-    long = sym (length-drop from n.main_text)
+    long : length n.output_text - from ≡ length u
+    long = sym (length-drop from n.output_text)
 
-    there : IsAt q q.from_byte (length n.main_text)
+    there : IsAt q q.from_byte (length n.output_text)
     there = record { in_main = stands.in_main; begins = refl; ends = stands.ends }
 
     at_end : IsOutlined u (outline_of q) → Lives n q (shape_of u (outline_of q))
-    at_end outlined = Lives-at_end n q u there (omega (arith, i.within, stands.begins)) (ap (λ (k : ℕ). drop k n.main_text) stands.begins) outlined
+    at_end outlined = Lives-at_end n q u there (omega (arith, i.within, stands.begins)) (ap (λ (k : ℕ). drop k n.output_text) stands.begins) outlined
 
     -- the bytes at a place
     pub Lives-inserted : (place : Place) → CanInsert place (shape b p).form → at ≡ place_at place (outline_of p).layout (p.to_byte - p.from_byte)
         → (outline_of q).layout ≡ layout_with place (length bytes) (outline_of p).layout
-        → (outline_of q).own ≡ own_at (outline_of p).layout (length n.main_text - from) (moved at (length bytes) (outline_of p).own)
+        → (outline_of q).own ≡ own_at (outline_of p).layout (length n.output_text - from) (moved at (length bytes) (outline_of p).own)
         → q.templ ≡ p.templ → q.ctor ≡ p.ctor → Lives n q (inserted place bytes (shape b p))
     unfolding IsLiving shape
     Lives-inserted place can at_is layout own templ ctor =
@@ -272,9 +272,9 @@ module _ (b n : Store) (p : Piece) (at : ℕ) (bytes : List ℕ) (from : ℕ) (l
         } in
         rw (← shape-inserted place bytes t u m w lies.outlined can k) (at_end (IsOutlined-inserted place bytes t u m w lies.outlined can k))
 
-    -- bytes and a name at the end, which is the last own name then
+    -- bytes and a name at the end, which is the base name then
     pub Lives-named : (between name : List ℕ) → bytes ≡ between ++ name → at ≡ p.to_byte - p.from_byte → (outline_of q).layout ≡ Flat
-        → (outline_of q).own ≡ (length n.main_text - from - length name, length n.main_text - from)
+        → (outline_of q).own ≡ (length n.output_text - from - length name, length n.output_text - from)
         → q.templ ≡ false → q.ctor ≡ false → Lives n q (named between name (shape b p))
     unfolding IsLiving shape
     Lives-named between name is at_is layout own templ ctor =
@@ -289,8 +289,8 @@ module _ (b n : Store) (p : Piece) (at : ℕ) (bytes : List ℕ) (from : ℕ) (l
         let whole : u ≡ all = i.text ∙ ap (λ (v : List ℕ). v ++ (bytes ++ drop at t)) front ∙ ap (λ (v : List ℕ). t ++ (bytes ++ v)) none
         ∙ ap (λ (v : List ℕ). t ++ v) (append-nil bytes ∙ is) ∙ sym (append_assoc t between name) in
         let m : Outline = record { layout = Flat; own = (length before, length all); templ = false; ctor = false } in
-        let starts : length n.main_text - from - length name ≡ length before = omega (arith, splice-long, n_before, n_t, n_bytes) in
-        let ends : length n.main_text - from ≡ length all = omega (arith, splice-long, n_all, n_before, n_t, n_bytes) in
+        let starts : length n.output_text - from - length name ≡ length before = omega (arith, splice-long, n_before, n_t, n_bytes) in
+        let ends : length n.output_text - from ≡ length all = omega (arith, splice-long, n_all, n_before, n_t, n_bytes) in
         let own_is : (outline_of q).own ≡ (length before, length all) = own ∙ (λ j. (starts j, ends j)) in
         let outline : outline_of q ≡ m = λ j. record { layout = layout j; own = own_is j; templ = templ j; ctor = ctor j } in
         let outlined : IsOutlined all m = record { layout = tt; own_ordered = omega (arith, n_all); own_within = omega arith; own_whole = tt } in
@@ -307,7 +307,7 @@ module _ (b n : Store) (p : Piece) (at : ℕ) (bytes : List ℕ) (from : ℕ) (l
     -- a group before `after`, where the bytes are the gap and the group in its parentheses
     pub Lives-opened : (group : List ℕ) → IsDeclared (shape b p).form → at ≡ place_at Suffix (outline_of p).layout (p.to_byte - p.from_byte) → bytes ≡ group_text group (take at t)
         → (outline_of q).layout ≡ layout_opened (length bytes) (length group + 2) (outline_of p).layout
-        → (outline_of q).own ≡ own_at (outline_of p).layout (length n.main_text - from) (moved at (length bytes) (outline_of p).own)
+        → (outline_of q).own ≡ own_at (outline_of p).layout (length n.output_text - from) (moved at (length bytes) (outline_of p).own)
         → q.templ ≡ p.templ → q.ctor ≡ p.ctor → Lives n q (opened_group group (shape b p))
     unfolding IsLiving shape
     Lives-opened group declared at_is is layout own templ ctor =
@@ -335,43 +335,43 @@ module _ (b n : Store) (p : Piece) (at : ℕ) (bytes : List ℕ) (from : ℕ) (l
 
 -- both texts with bytes between them
 pub Lives-joined : (b n : Store) (first second q : Piece) (bytes : List ℕ) (from : ℕ) → IsLiving b first → IsLiving b second → IsJoint b n first bytes second from
-    → IsAt q from (length n.main_text) → outline_of q ≡ whole_outline (length n.main_text - from) → Lives n q (joined (shape b first) bytes (shape b second))
+    → IsAt q from (length n.output_text) → outline_of q ≡ whole_outline (length n.output_text - from) → Lives n q (joined (shape b first) bytes (shape b second))
 Lives-joined b n first second q bytes from one two i stands outline =
-    let u = piece_text b.main_text b.side_text first ++ bytes ++ piece_text b.main_text b.side_text second in
+    let u = piece_text b.output_text b.spill_text first ++ bytes ++ piece_text b.output_text b.spill_text second in
     let texts : u ≡ text (shape b first) ++ bytes ++ text (shape b second) =
-    ap (λ (v : List ℕ). v ++ bytes ++ piece_text b.main_text b.side_text second) (sym (text_is b first one))
+    ap (λ (v : List ℕ). v ++ bytes ++ piece_text b.output_text b.spill_text second) (sym (text_is b first one))
     ∙ ap (λ (v : List ℕ). text (shape b first) ++ bytes ++ v) (sym (text_is b second two)) in
-    let n_is : length n.main_text - from ≡ length u = sym (length-drop from n.main_text) ∙ ap length i.text in
+    let n_is : length n.output_text - from ≡ length u = sym (length-drop from n.output_text) ∙ ap length i.text in
     let outline_is : outline_of q ≡ whole_outline (length u) = outline ∙ ap whole_outline n_is in
     let whole : IsOutlined u (whole_outline (length u)) = record { layout = tt; own_ordered = omega arith; own_within = omega arith; own_whole = tt } in
-    let there : IsAt q q.from_byte (length n.main_text) = record { in_main = stands.in_main; begins = refl; ends = stands.ends } in
-    let lives = Lives-at_end n q u there (omega (arith, i.within, stands.begins)) (ap (λ (k : ℕ). drop k n.main_text) stands.begins ∙ i.text) (subst (IsOutlined u) (sym outline_is) whole) in
+    let there : IsAt q q.from_byte (length n.output_text) = record { in_main = stands.in_main; begins = refl; ends = stands.ends } in
+    let lives = Lives-at_end n q u there (omega (arith, i.within, stands.begins)) (ap (λ (k : ℕ). drop k n.output_text) stands.begins ∙ i.text) (subst (IsOutlined u) (sym outline_is) whole) in
     record {
       living = lives.living;
       shape_is = lives.shape_is ∙ ap (shape_of u) outline_is ∙ ap plain_shape texts;
     }
 
--- a text that became all of the main text since a place
-pub Lives-kept_only : (b n : Store) (p q : Piece) (at : ℕ) → IsLiving b p → at ≤ length b.main_text → n.main_text ≡ take at b.main_text ++ piece_text b.main_text b.side_text p
-    → IsAt q at (length n.main_text) → outline_of q ≡ outline_of p → Lives n q (shape b p)
+-- a text that became all of the output since a place
+pub Lives-kept_only : (b n : Store) (p q : Piece) (at : ℕ) → IsLiving b p → at ≤ length b.output_text → n.output_text ≡ take at b.output_text ++ piece_text b.output_text b.spill_text p
+    → IsAt q at (length n.output_text) → outline_of q ≡ outline_of p → Lives n q (shape b p)
 unfolding IsLiving shape
 Lives-kept_only b n p q at lies within is stands outline =
-    let t = piece_text b.main_text b.side_text p in
-    let low = length-take-le at b.main_text within in
-    let there : IsAt q q.from_byte (length n.main_text) = record { in_main = stands.in_main; begins = refl; ends = stands.ends } in
-    let text : drop q.from_byte n.main_text ≡ t = ap (λ (k : ℕ). drop k n.main_text) stands.begins ∙ ap (drop at) is ∙ drop_at (take at b.main_text) t at low in
-    let lives = Lives-at_end n q t there (omega (arith, ap length is, length-append (take at b.main_text) t, stands.begins)) text (subst (IsOutlined t) (sym outline) lies.outlined) in
+    let t = piece_text b.output_text b.spill_text p in
+    let low = length-take-le at b.output_text within in
+    let there : IsAt q q.from_byte (length n.output_text) = record { in_main = stands.in_main; begins = refl; ends = stands.ends } in
+    let text : drop q.from_byte n.output_text ≡ t = ap (λ (k : ℕ). drop k n.output_text) stands.begins ∙ ap (drop at) is ∙ drop_at (take at b.output_text) t at low in
+    let lives = Lives-at_end n q t there (omega (arith, ap length is, length-append (take at b.output_text) t, stands.begins)) text (subst (IsOutlined t) (sym outline) lies.outlined) in
     record { living = lives.living; shape_is = lives.shape_is ∙ ap (shape_of t) outline }
 
 -- a text that stands there already
 pub kept_only-already : (b : Store) (p : Piece) (at : ℕ) → p.aside ≡ false → p.from_byte ≡ at
-    → p.to_byte ≡ length b.main_text → b.main_text ≡ take at b.main_text ++ piece_text b.main_text b.side_text p
+    → p.to_byte ≡ length b.output_text → b.output_text ≡ take at b.output_text ++ piece_text b.output_text b.spill_text p
 kept_only-already b p at home begins ends =
-    let text : piece_text b.main_text b.side_text p ≡ drop at b.main_text =
-    ap (λ (h : Bool). slice_range (home_bytes b.main_text b.side_text h) p.from_byte p.to_byte) home
-    ∙ take_all (p.to_byte - p.from_byte) (drop p.from_byte b.main_text) (omega (arith, ends, length-drop p.from_byte b.main_text))
-    ∙ ap (λ (k : ℕ). drop k b.main_text) begins in
-    sym (take-append-drop at b.main_text) ∙ ap (λ (v : List ℕ). take at b.main_text ++ v) (sym text)
+    let text : piece_text b.output_text b.spill_text p ≡ drop at b.output_text =
+    ap (λ (h : Bool). slice_range (home_bytes b.output_text b.spill_text h) p.from_byte p.to_byte) home
+    ∙ take_all (p.to_byte - p.from_byte) (drop p.from_byte b.output_text) (omega (arith, ends, length-drop p.from_byte b.output_text))
+    ∙ ap (λ (k : ℕ). drop k b.output_text) begins in
+    sym (take-append-drop at b.output_text) ∙ ap (λ (v : List ℕ). take at b.output_text ++ v) (sym text)
 
 -- a copy at the end that becomes the block
 pub kept_only-copy : (main mid t : List ℕ) (at from to : ℕ) → mid ≡ main ++ t → at ≤ length main → from ≡ length main → to ≡ length mid → take at mid ++ slice_range mid from to ≡ take at main ++ t
@@ -380,36 +380,36 @@ kept_only-copy main mid t at from to is within starts ends =
     let block = take_all (to - from) (drop from mid) (omega (arith, ends, length-drop from mid)) ∙ ap (drop from) is ∙ drop_at main t from (sym starts) in
     ap (λ (v : List ℕ). v ++ slice_range mid from to) low ∙ ap (λ (v : List ℕ). take at main ++ v) block
 
--- they are the text of the last own name
-pub own_text-is : (b : Store) (p : Piece) → IsLiving b p → own_text b.main_text b.side_text p ≡ text (own_shape (shape b p))
+-- they are the text of the base name
+pub own_text-is : (b : Store) (p : Piece) → IsLiving b p → own_text b.output_text b.spill_text p ≡ text (own_shape (shape b p))
 unfolding IsLiving shape
 own_text-is b p lies = ap (λ (v : List ℕ). slice_range v p.own_start p.own_end) (sym (text_is b p lies))
 
--- so a text with that after it has the last own name after it
+-- so a text with that after it has the base name after it
 pub own-spliced : (b n : Store) (p q : Piece) (between : List ℕ) (at from : ℕ) → IsLiving b p → Lives b q (own_shape (shape b p))
-    → IsSplice b n p at (between ++ piece_text b.main_text b.side_text q) from → IsSplice b n p at (between ++ own_text b.main_text b.side_text p) from
+    → IsSplice b n p at (between ++ piece_text b.output_text b.spill_text q) from → IsSplice b n p at (between ++ own_text b.output_text b.spill_text p) from
 own-spliced b n p q between at from lies name h =
     let same = sym (text_is b q name.living) ∙ ap text name.shape_is ∙ sym (own_text-is b p lies) in
     subst (λ (v : List ℕ). IsSplice b n p at (between ++ v) from) same h
 
 -- how long it is
-pub length-own : (b : Store) (p : Piece) → IsLiving b p → length (own_text b.main_text b.side_text p) ≡ p.own_end - p.own_start
+pub length-own : (b : Store) (p : Piece) → IsLiving b p → length (own_text b.output_text b.spill_text p) ≡ p.own_end - p.own_start
 unfolding IsLiving
-length-own b p lies = length-between (piece_text b.main_text b.side_text p) p.own_start p.own_end lies.outlined.own_within
+length-own b p lies = length-between (piece_text b.output_text b.spill_text p) p.own_start p.own_end lies.outlined.own_within
 
--- the last own name as a piece of its own
+-- the base name as a piece of its own
 pub Lives-own : (b : Store) (p q : Piece) → IsLiving b p → q.aside ≡ p.aside → q.from_byte ≡ p.from_byte + p.own_start → q.to_byte ≡ p.from_byte + p.own_end
     → outline_of q ≡ whole_outline (p.from_byte + p.own_end - (p.from_byte + p.own_start)) → Lives b q (own_shape (shape b p))
 unfolding IsLiving shape
 Lives-own b p q lies home begins ends outline =
-    let bytes = home_bytes b.main_text b.side_text p.aside in
-    let t = piece_text b.main_text b.side_text p in
+    let bytes = home_bytes b.output_text b.spill_text p.aside in
+    let t = piece_text b.output_text b.spill_text p in
     let u = slice_range bytes (p.from_byte + p.own_start) (p.from_byte + p.own_end) in
     let n = length-text b p lies in
     let inside : p.from_byte + p.own_end ≤ p.to_byte = omega (arith, n, lies.outlined.own_within, lies.ordered) in
     let m : length u ≡ p.from_byte + p.own_end - (p.from_byte + p.own_start) = length-between bytes (p.from_byte + p.own_start) (p.from_byte + p.own_end) (omega (arith, inside, lies.within)) in
-    let here : piece_text b.main_text b.side_text q ≡ u =
-    ap (λ (h : Bool). slice_range (home_bytes b.main_text b.side_text h) q.from_byte q.to_byte) home
+    let here : piece_text b.output_text b.spill_text q ≡ u =
+    ap (λ (h : Bool). slice_range (home_bytes b.output_text b.spill_text h) q.from_byte q.to_byte) home
     ∙ ap (λ (k : ℕ). slice_range bytes k q.to_byte) begins ∙ ap (λ (k : ℕ). slice_range bytes (p.from_byte + p.own_start) k) ends in
     let outline_is : outline_of q ≡ whole_outline (length u) = outline ∙ ap whole_outline (sym m) in
     let whole : IsOutlined u (whole_outline (length u)) = record { layout = tt; own_ordered = omega arith; own_within = omega arith; own_whole = tt } in

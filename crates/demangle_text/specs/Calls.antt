@@ -10,7 +10,7 @@ use Rattle.demangle_text.specs.Shape.{Form, Plain, Declared, Shape, grouped, tex
 use Rattle.demangle_text.specs.Pieces.{Store}
 use Rattle.demangle_text.specs.State.{Stands, frame, frame_start, main_bytes}
 
--- the piece stands up to the end of the main text, from the innermost mark or later
+-- the piece stands up to the end of the output, from the innermost mark or later
 pub record IsLast (b : Store) (p : Piece) : Type 0 where
   pub from : ℕ
   pub inner : frame_start (frame b) ≤ from
@@ -25,13 +25,13 @@ pub record IsInner (b : Store) (p : Piece) : Type 0 where
 
 -- the bytes of the output after a piece that stands in it
 unfoldable pub text_after : Store → Piece → List ℕ
-text_after b p = drop p.to_byte b.main_text
+text_after b p = drop p.to_byte b.output_text
 
 -- two texts with bytes between them
 abbrev pub joined : Shape → List ℕ → Shape → Shape
 joined first bytes second = plain_shape (text first ++ bytes ++ text second)
 
--- its text, bytes and a name after it as a plain shape: the name is its last own name
+-- its text, bytes and a name after it as a plain shape: the name is its base name
 abbrev pub named : List ℕ → List ℕ → Shape → Shape
 named between name s =
     let before = text s ++ between in

@@ -1,27 +1,27 @@
--- A gap in the main text, what fills it, and what else stays as it is.
+-- A gap in the output, what fills it, and what else stays as it is.
 use Rattle.std.specs.Prelude.{◌≡◌, ℕ, ◌+◌, ◌≤◌, List, ◌++◌, length, take, drop}
 use Rattle.demangle_text.specs.Pieces.{Store, IsStore, IsSplice, Extends}
 use Rattle.growing_text.specs.Room.{HasRoom}
 use Rattle.demangle_text.specs.State.{IsEdit}
 use Rattle.demangle_text.specs.declared.shape.Piece.{Piece}
 
--- the store where bytes stand at a place of this main text
+-- the store where bytes stand at a place of this output
 abbrev pub with_gap_filled : List ℕ → ℕ → List ℕ → Store → Store
-with_gap_filled main at bytes s = record s { main_text = take at main ++ (bytes ++ drop at main) }
+with_gap_filled main at bytes s = record s { output_text = take at main ++ (bytes ++ drop at main) }
 
--- the main text has a gap of n bytes at a place, and the call is an edit, whatever bytes fill the gap
+-- the output has a gap of n bytes at a place, and the call is an edit, whatever bytes fill the gap
 pub record IsGap (old new : Store) (at n : ℕ) : Type 0 where
-  pub room : HasRoom (take at old.main_text) (drop at old.main_text) new.main_text n
-  pub side : Extends old.side_text new.side_text
-  pub consistent : (bytes : List ℕ) → length bytes ≡ n → IsStore (with_gap_filled old.main_text at bytes new)
-  pub edit : (bytes : List ℕ) → length bytes ≡ n → IsEdit old (with_gap_filled old.main_text at bytes new)
+  pub room : HasRoom (take at old.output_text) (drop at old.output_text) new.output_text n
+  pub side : Extends old.spill_text new.spill_text
+  pub consistent : (bytes : List ℕ) → length bytes ≡ n → IsStore (with_gap_filled old.output_text at bytes new)
+  pub edit : (bytes : List ℕ) → length bytes ≡ n → IsEdit old (with_gap_filled old.output_text at bytes new)
 
--- the main text ends in the text of the piece, from a byte on, with a gap of n bytes at a place of it. Whatever bytes
+-- the output ends in the text of the piece, from a byte on, with a gap of n bytes at a place of it. Whatever bytes
 -- fill the gap, the call is an edit, and they are in the text then
 pub record IsOpen (old new : Store) (p : Piece) (at n from : ℕ) : Type 0 where
   pub main : List ℕ
   pub within : from + at ≤ length main
-  pub room : HasRoom (take (from + at) main) (drop (from + at) main) new.main_text n
+  pub room : HasRoom (take (from + at) main) (drop (from + at) main) new.output_text n
   pub consistent : (bytes : List ℕ) → length bytes ≡ n → IsStore (with_gap_filled main (from + at) bytes new)
   pub edit : (bytes : List ℕ) → length bytes ≡ n → IsEdit old (with_gap_filled main (from + at) bytes new)
   pub splice :

@@ -61,7 +61,7 @@ IsLayout t (Cut kind None at) = at ≤ length t
 IsLayout t (Cut kind (Some group) at) =
     (group + 1 < at) × (at ≤ length t) × (slice_index t group ≡ 40) × (slice_index t (at - 1) ≡ 41)
 
--- the last own name of a function is its whole text
+-- the base name of a function is its whole text
 abbrev pub IsOwn : List ℕ → Layout → ℕ × ℕ → Type 0
 IsOwn t Flat own = Unit {0}
 IsOwn t (Cut Array group at) own = Unit {0}
@@ -74,7 +74,7 @@ pub record IsOutlined (t : List ℕ) (m : Outline) : Type 0 where
   pub own_within : m.own.1 ≤ length t
   pub own_whole : IsOwn t m.layout m.own
 
--- the outline of a plain text of this length, all of which is its last own name
+-- the outline of a plain text of this length, all of which is its base name
 abbrev pub whole_outline : ℕ → Outline
 whole_outline len = record { layout = Flat; own = (0, len); templ = false; ctor = false }
 
@@ -112,12 +112,12 @@ layout_end Flat = 0
 layout_end (Cut kind None at) = at
 layout_end (Cut kind (Some group) at) = max group at
 
--- the last own name of a declarator whose text has this length
+-- the base name of a declarator whose text has this length
 abbrev pub own_of : Kind → ℕ → ℕ × ℕ → ℕ × ℕ
 own_of Array len own = own
 own_of Function len own = (0, len)
 
--- the last own name in a text of this length
+-- the base name in a text of this length
 abbrev pub own_at : Layout → ℕ → ℕ × ℕ → ℕ × ℕ
 own_at Flat len own = own
 own_at (Cut kind group at) len own = own_of kind len own
@@ -131,7 +131,7 @@ home_bytes main side true = side
 abbrev pub piece_text : List ℕ → List ℕ → Piece → List ℕ
 piece_text main side p = slice_range (home_bytes main side p.aside) p.from_byte p.to_byte
 
--- the last own name of a piece
+-- the base name of a piece
 abbrev pub own_text : List ℕ → List ℕ → Piece → List ℕ
 own_text main side p = slice_range (piece_text main side p) p.own_start p.own_end
 
@@ -145,7 +145,7 @@ pub record IsPiece (main side : List ℕ) (p : Piece) : Type 0 where
 abbrev pub shape_in : List ℕ → List ℕ → Piece → Shape
 shape_in main side p = shape_of (piece_text main side p) (outline_of p)
 
--- the piece lies in the main text, at these bytes
+-- the piece lies in the output, at these bytes
 pub record IsAt (p : Piece) (from to : ℕ) : Type 0 where
   pub in_main : p.aside ≡ false
   pub begins : p.from_byte ≡ from
@@ -158,10 +158,10 @@ AreStarts (start ∷ []) count = start ≤ count
 AreStarts (start ∷ next ∷ rest) count = (start ≤ next) × AreStarts (next ∷ rest) count
 
 -- what a buffer keeps: its two texts, the saved pieces, the arguments of all scopes with the places
--- where the scopes begin, and how long the main text was at the innermost mark
+-- where the scopes begin, and how long the output was at the innermost mark
 pub record Store : Type 0 where
-  pub main_text : List ℕ
-  pub side_text : List ℕ
+  pub output_text : List ℕ
+  pub spill_text : List ℕ
   pub saved_pieces : List Piece
   pub arg_pieces : List Piece
   pub scope_starts : List ℕ
@@ -169,27 +169,27 @@ pub record Store : Type 0 where
 
 -- what is kept lies in the texts
 pub record IsStore (s : Store) : Type 0 where
-  pub saved_lie : All (IsPiece s.main_text s.side_text) s.saved_pieces
-  pub args_lie : All (IsPiece s.main_text s.side_text) s.arg_pieces
+  pub saved_lie : All (IsPiece s.output_text s.spill_text) s.saved_pieces
+  pub args_lie : All (IsPiece s.output_text s.spill_text) s.arg_pieces
   pub starts_fit : AreStarts s.scope_starts (length s.arg_pieces)
-  pub main_frame : s.frame_main ≤ length s.main_text
+  pub main_frame : s.frame_main ≤ length s.output_text
 
--- the piece ends a main text of this length, from the mark's byte or later
+-- the piece ends a output of this length, from the mark's byte or later
 pub record IsTailAt (mark end : ℕ) (p : Piece) : Type 0 where
   pub in_main : p.aside ≡ false
   pub inner : mark ≤ p.from_byte
   pub ends : p.to_byte ≡ end
 
--- the piece lies in the main text, from the innermost mark or later up to the end
+-- the piece lies in the output, from the innermost mark or later up to the end
 abbrev pub IsTail : Store → Piece → Type 0
-IsTail s p = IsTailAt s.frame_main (length s.main_text) p
+IsTail s p = IsTailAt s.frame_main (length s.output_text) p
 
 -- the text begins with the other
 pub record Extends (old new : List ℕ) : Type 0 where
   pub more : List ℕ
   pub all : new ≡ old ++ more
 
--- the main text ends in the text of the piece, from a byte on, at the mark or later: where the piece ended it, nothing
+-- the output ends in the text of the piece, from a byte on, at the mark or later: where the piece ended it, nothing
 -- changed
 pub record IsBrought (old side : List ℕ) (mark : ℕ) (p : Piece) (new : List ℕ) (from : ℕ) : Type 0 where
   pub begins : from + (p.to_byte - p.from_byte) ≡ length new
@@ -199,11 +199,11 @@ pub record IsBrought (old side : List ℕ) (mark : ℕ) (p : Piece) (new : List 
   pub longer : Extends old new
   pub in_place : IsTailAt mark (length old) p → (from ≡ p.from_byte) × (new ≡ old)
 
--- a piece in the main text ends by `low`, or lies in the block from `from` to `to`
+-- a piece in the output ends by `low`, or lies in the block from `from` to `to`
 abbrev pub IsApart : ℕ → ℕ → ℕ → Piece → Type 0
 IsApart low from to p = p.aside ≡ false → low < p.to_byte → (from ≤ p.from_byte) × (p.to_byte ≤ to)
 
--- both lists keep their shapes while texts of theirs are put at the end of the side text
+-- both lists keep their shapes while texts of theirs are put at the end of the spill
 pub record IsAside (main old_side new_side : List ℕ) (old_saved new_saved old_args new_args : List Piece) : Type 0 where
   pub side : Extends old_side new_side
   pub saved_lie : All (IsPiece main new_side) new_saved
@@ -212,7 +212,7 @@ pub record IsAside (main old_side new_side : List ℕ) (old_saved new_saved old_
   pub args_shapes : map (shape_in main new_side) new_args ≡ map (shape_in main old_side) old_args
   pub args_long : length new_args ≡ length old_args
 
--- the piece lies in the side text, or ends by a byte of the main text
+-- the piece lies in the spill, or ends by a byte of the output
 abbrev pub EndsBy : ℕ → Piece → Type 0
 EndsBy end p = p.aside ≡ false → p.to_byte ≤ end
 
@@ -245,36 +245,36 @@ carried low from dest p =
       to_byte = carried_from p.aside ends from dest p.to_byte;
     }
 
--- the second piece begins where the first ends, and both lie in the main text, from the innermost mark up to the end
+-- the second piece begins where the first ends, and both lie in the output, from the innermost mark up to the end
 pub record IsAdjacent (s : Store) (first second : Piece) : Type 0 where
   pub first_in_main : first.aside ≡ false
   pub second_in_main : second.aside ≡ false
   pub inner : s.frame_main ≤ first.from_byte
   pub meets : first.to_byte ≡ second.from_byte
-  pub ends : second.to_byte ≡ length s.main_text
+  pub ends : second.to_byte ≡ length s.output_text
 
--- the main text ends in the text of the piece with bytes at a place of it, from a byte on: a piece at the end stayed
+-- the output ends in the text of the piece with bytes at a place of it, from a byte on: a piece at the end stayed
 pub record IsSplice (old new : Store) (p : Piece) (at : ℕ) (bytes : List ℕ) (from : ℕ) : Type 0 where
-  pub within : from ≤ length new.main_text
-  pub text : drop from new.main_text
-      ≡ take at (piece_text old.main_text old.side_text p)
-      ++ (bytes ++ drop at (piece_text old.main_text old.side_text p))
+  pub within : from ≤ length new.output_text
+  pub text : drop from new.output_text
+      ≡ take at (piece_text old.output_text old.spill_text p)
+      ++ (bytes ++ drop at (piece_text old.output_text old.spill_text p))
   pub inner : old.frame_main ≤ from
-  pub front : take from new.main_text ≡ take from old.main_text
-  pub in_place : IsTail old p → (from ≡ p.from_byte) × (length new.main_text ≡ length old.main_text + length bytes)
+  pub front : take from new.output_text ≡ take from old.output_text
+  pub in_place : IsTail old p → (from ≡ p.from_byte) × (length new.output_text ≡ length old.output_text + length bytes)
 
--- the main text ends in both texts with bytes between them, from a byte on: adjacent pieces at the end stayed, and so
+-- the output ends in both texts with bytes between them, from a byte on: adjacent pieces at the end stayed, and so
 -- did a second one at the end with the first before it, and a first one at the end
 pub record IsJoint (old new : Store) (first : Piece) (bytes : List ℕ) (second : Piece) (from : ℕ) : Type 0 where
-  pub within : from ≤ length new.main_text
-  pub text : drop from new.main_text
-      ≡ piece_text old.main_text old.side_text first ++ bytes ++ piece_text old.main_text old.side_text second
+  pub within : from ≤ length new.output_text
+  pub text : drop from new.output_text
+      ≡ piece_text old.output_text old.spill_text first ++ bytes ++ piece_text old.output_text old.spill_text second
   pub inner : old.frame_main ≤ from
-  pub front : take from new.main_text ≡ take from old.main_text
+  pub front : take from new.output_text ≡ take from old.output_text
   pub in_place : IsAdjacent old first second
-      → (from ≡ first.from_byte) × (length new.main_text ≡ length old.main_text + length bytes)
+      → (from ≡ first.from_byte) × (length new.output_text ≡ length old.output_text + length bytes)
   pub in_front : IsTail old second → EndsBy second.from_byte first → (IsAdjacent old first second → ⊥)
-      → (from ≡ second.from_byte) × (length new.main_text
-      ≡ length old.main_text + (length (piece_text old.main_text old.side_text first) + length bytes))
-  pub after : IsTail old first → (from ≡ first.from_byte) × (length new.main_text
-      ≡ length old.main_text + (length bytes + length (piece_text old.main_text old.side_text second)))
+      → (from ≡ second.from_byte) × (length new.output_text
+      ≡ length old.output_text + (length (piece_text old.output_text old.spill_text first) + length bytes))
+  pub after : IsTail old first → (from ≡ first.from_byte) × (length new.output_text
+      ≡ length old.output_text + (length bytes + length (piece_text old.output_text old.spill_text second)))

@@ -14,7 +14,7 @@ pub data Form : Type 0 where
   -- an array or a function: `before`, the group if there is one, and `after`
   Declared : Kind → List ℕ → Option (List ℕ) → List ℕ → Form
 
--- a form, the last own name as a range of its text, whether it ends in template arguments, and whether it names a
+-- a form, the base name as a range of its text, whether it ends in template arguments, and whether it names a
 -- constructor, a destructor or a conversion
 pub record Shape : Type 0 where
   pub form : Form
@@ -40,7 +40,7 @@ text s = form_text s.form
 abbrev pub text_len : Shape → ℕ
 text_len s = length (form_text s.form)
 
--- a plain shape whose last own name is the whole text
+-- a plain shape whose base name is the whole text
 abbrev pub plain_shape : List ℕ → Shape
 plain_shape t = record { form = Plain t; own = (0, length t); templ = false; ctor = false }
 
@@ -72,7 +72,7 @@ abbrev pub moved : ℕ → ℕ → ℕ × ℕ → ℕ × ℕ
 moved at n (from, to) =
     if nat_le at from then (from + n, to + n) else (if nat_le to at then (from, to) else (from, to + n))
 
--- the last own name of a function is its whole text
+-- the base name of a function is its whole text
 abbrev pub own_in : Form → ℕ × ℕ → ℕ × ℕ
 own_in (Plain t) own = own
 own_in (Declared Array before group after) own = own
@@ -88,7 +88,7 @@ inserted place bytes s =
 abbrev pub appended : List ℕ → Shape → Shape
 appended bytes s = inserted End bytes s
 
--- without the last n bytes: the last own name is what is left of it
+-- without the last n bytes: the base name is what is left of it
 abbrev pub shortened : ℕ → Shape → Shape
 shortened n s =
     let left = text_len s - n in
@@ -98,15 +98,15 @@ shortened n s =
 abbrev pub flattened : Shape → Shape
 flattened s = record s { form = Plain (text s) }
 
--- with the whole text as its last own name
+-- with the whole text as its base name
 abbrev pub whole_shape : Shape → Shape
 whole_shape s = record s { own = (0, text_len s) }
 
--- its last own name as a plain shape
+-- its base name as a plain shape
 abbrev pub own_shape : Shape → Shape
 own_shape s = plain_shape (slice_range (text s) s.own.0 s.own.1)
 
--- with a range as its last own name
+-- with a range as its base name
 abbrev pub with_own : ℕ → ℕ → Shape → Shape
 with_own from to s = record s { own = (from, to) }
 
@@ -143,7 +143,7 @@ opened_form bytes (Plain t) = Plain t
 opened_form bytes (Declared k before group after) =
     Declared k ((before ++ grouped group) ++ gap_after (before ++ grouped group)) (Some bytes) after
 
--- the last own name when the gap and the new group are inserted in front of `after`
+-- the base name when the gap and the new group are inserted in front of `after`
 abbrev pub opened_own : List ℕ → Form → ℕ × ℕ → ℕ × ℕ
 opened_own bytes (Plain t) own = own
 opened_own bytes (Declared k before group after) own =

@@ -8,11 +8,11 @@ use Rattle.demangle_text.specs.declared.shape.Mark.{Mark}
 
 -- the piece lives in the buffer
 unfoldable pub IsLiving : Store → Piece → Type 0
-IsLiving b p = IsPiece b.main_text b.side_text p
+IsLiving b p = IsPiece b.output_text b.spill_text p
 
 -- the shape that a living piece stands for
 unfoldable pub shape : Store → Piece → Shape
-shape b p = shape_in b.main_text b.side_text p
+shape b p = shape_in b.output_text b.spill_text p
 
 -- the saved shapes, the first one saved first
 unfoldable pub saved : Store → List Shape
@@ -28,11 +28,11 @@ parts_at (start ∷ next ∷ rest) xs = slice_range xs start next ∷ parts_at (
 unfoldable pub scopes : Store → List (List Shape)
 scopes b = parts_at b.scope_starts (map (shape b) b.arg_pieces)
 
--- the bytes of the main text
+-- the bytes of the output
 unfoldable pub main_bytes : Store → List ℕ
-main_bytes b = b.main_text
+main_bytes b = b.output_text
 
--- the piece stands at these bytes of the main text, from the first one up to the second
+-- the piece stands at these bytes of the output, from the first one up to the second
 unfoldable pub Stands : Piece → ℕ → ℕ → Type 0
 Stands p from to = IsAt p from to
 
@@ -59,12 +59,12 @@ unfoldable pub outside : Mark → Frame
 unfolding Frame
 outside m = m.outside_main
 
--- the byte of the main text at which a frame begins
+-- the byte of the output at which a frame begins
 unfoldable pub frame_start : Frame → ℕ
 unfolding Frame
 frame_start f = f
 
--- the piece was made before the frame began, or lies in the side text, whose bytes stay
+-- the piece was made before the frame began, or lies in the spill, whose bytes stay
 unfoldable pub IsOlder : Piece → Frame → Type 0
 unfolding Frame
 IsOlder p f = EndsBy f p
@@ -86,7 +86,7 @@ KeepsPieces old new = (p : Piece) → IsLiving old p → Lives new p (shape old 
 abbrev pub KeepsOlder : Frame → Store → Store → Type 0
 KeepsOlder f old new = (p : Piece) → IsLiving old p → IsOlder p f → Lives new p (shape old p)
 
--- no byte of the main text before the innermost mark changes
+-- no byte of the output before the innermost mark changes
 abbrev pub KeepsFront : Store → Store → Type 0
 KeepsFront old new = take (frame_start (frame old)) (main_bytes new) ≡ take (frame_start (frame old)) (main_bytes old)
 
@@ -101,14 +101,14 @@ pub record SameFrame (old new : Store) : Type 0 where
   pub frame_same : frame new ≡ frame old
   pub front : KeepsFront old new
 
--- pieces, innermost mark, both lists and the main text before that mark stay
+-- pieces, innermost mark, both lists and the output before that mark stay
 pub record KeepsAll (old new : Store) : Type 0 where
   pub pieces : KeepsPieces old new
   pub frame_same : frame new ≡ frame old
   pub lists : SameLists old new
   pub front : KeepsFront old new
 
--- a call inside the innermost mark: what was made before it keeps its shape, both lists stay, and so does the main text
+-- a call inside the innermost mark: what was made before it keeps its shape, both lists stay, and so does the output
 -- before it
 pub record IsEdit (old new : Store) : Type 0 where
   pub pieces : KeepsOlder (frame old) old new
@@ -133,7 +133,7 @@ pub record IsSince (old new : Store) (m : Mark) : Type 0 where
   pub nested : frame_start (frame old) ≤ frame_start (inside m)
   pub front : take (frame_start (inside m)) (main_bytes new) ≡ main_bytes old
 
--- a mark is opened: each living piece is older than it, it stands at the mark outside it or later, and the main text
+-- a mark is opened: each living piece is older than it, it stands at the mark outside it or later, and the output
 -- before it is all that there was
 pub record Opens (old new : Store) (m : Mark) : Type 0 where
   pub pieces : KeepsPieces old new
@@ -144,39 +144,39 @@ pub record Opens (old new : Store) (m : Mark) : Type 0 where
   pub nested : frame_start (frame old) ≤ frame_start (inside m)
   pub front : take (frame_start (inside m)) (main_bytes new) ≡ main_bytes old
 
--- a mark is closed: what was made before it keeps its shape, and the main text before it stays
+-- a mark is closed: what was made before it keeps its shape, and the output before it stays
 pub record Closes (old new : Store) (m : Mark) : Type 0 where
   pub pieces : KeepsOlder (inside m) old new
   pub outside_is : frame new ≡ outside m
   pub lists : SameLists old new
   pub front : take (frame_start (inside m)) (main_bytes new) ≡ take (frame_start (inside m)) (main_bytes old)
 
--- the piece stands up to the end of the main text, from the innermost mark or later, and no byte before it changes
+-- the piece stands up to the end of the output, from the innermost mark or later, and no byte before it changes
 pub record EndsMain (old new : Store) (p : Piece) : Type 0 where
   pub from : ℕ
   pub inner : frame_start (frame old) ≤ from
   pub front : take from (main_bytes new) ≡ take from (main_bytes old)
   pub stands : Stands p from (length (main_bytes new))
 
--- an edit of a piece, which puts n bytes into its text: the answer stands up to the end of the main text; a piece
--- that stands there, from the innermost mark or later, keeps its start, and the main text grows as its text does
+-- an edit of a piece, which puts n bytes into its text: the answer stands up to the end of the output; a piece
+-- that stands there, from the innermost mark or later, keeps its start, and the output grows as its text does
 pub record IsEditOf (old new : Store) (piece answer : Piece) (n : ℕ) : Type 0 where
   pub front : KeepsFront old new
   pub ends : EndsMain old new answer
   pub in_place : (at : ℕ) → frame_start (frame old) ≤ at → Stands piece at (length (main_bytes old))
       → Stands answer at (length (main_bytes new)) × (length (main_bytes new) ≡ length (main_bytes old) + n)
 
--- where the piece stands in the main text, it ends by this byte, and before it unless it begins before the innermost
+-- where the piece stands in the output, it ends by this byte, and before it unless it begins before the innermost
 -- mark
 abbrev pub StandsBefore : Store → Piece → ℕ → Type 0
 StandsBefore b p at = (from to : ℕ) → Stands p from to → (to ≤ at) × (frame_start (frame b) ≤ from → to < at)
 
--- both pieces in one, with n bytes between them: the answer stands up to the end of the main text. Where the second
+-- both pieces in one, with n bytes between them: the answer stands up to the end of the output. Where the second
 -- begins at the end of the first and stands up to that end, and the first stands from the innermost mark or later, the
--- start of the first stays, and the main text grows by n bytes. Else, where the second stands up to that end, from the
--- innermost mark or later, and the first stands before it or nowhere in the main text, the start of the second stays,
--- and the main text grows by the first text and n bytes. Where the first stands up to that end, from the innermost mark
--- or later, its start stays, and the main text grows by n bytes and the second text
+-- start of the first stays, and the output grows by n bytes. Else, where the second stands up to that end, from the
+-- innermost mark or later, and the first stands before it or nowhere in the output, the start of the second stays,
+-- and the output grows by the first text and n bytes. Where the first stands up to that end, from the innermost mark
+-- or later, its start stays, and the output grows by n bytes and the second text
 pub record IsJoinOf (old new : Store) (first second answer : Piece) (n : ℕ) : Type 0 where
   pub front : KeepsFront old new
   pub ends : EndsMain old new answer
@@ -198,7 +198,7 @@ StandsAs p q = (from to : ℕ) → Stands p from to → Stands q from to
 abbrev pub StandsShortened : ℕ → Piece → Piece → Type 0
 StandsShortened n p q = (from to : ℕ) → Stands p from to → Stands q from (to - n)
 
--- the answer stands up to the end of the main text, from the innermost mark or later, and no byte before it changes;
+-- the answer stands up to the end of the output, from the innermost mark or later, and no byte before it changes;
 -- where the piece stood up to that end, from the innermost mark or later, the answer stands from the same byte
 pub record StaysInPlace (old new : Store) (piece answer : Piece) : Type 0 where
   pub ends : EndsMain old new answer
@@ -207,13 +207,13 @@ pub record StaysInPlace (old new : Store) (piece answer : Piece) : Type 0 where
 
 -- what becomes of a piece that may be right as it is
 pub data IsLeftOrStays (old new : Store) (piece answer : Piece) : Type 0 where
-  -- the answer is the piece, and no byte of the main text changes
+  -- the answer is the piece, and no byte of the output changes
   left : main_bytes new ≡ main_bytes old → answer ≡ piece → IsLeftOrStays old new piece answer
   -- the piece was edited
   edited : StaysInPlace old new piece answer → IsLeftOrStays old new piece answer
 
--- the answer stands up to the end of the main text, from the innermost mark or later, and no byte before it changes;
--- where the first piece stood from the innermost mark or later, and up to the end of the main text or to where the
+-- the answer stands up to the end of the output, from the innermost mark or later, and no byte before it changes;
+-- where the first piece stood from the innermost mark or later, and up to the end of the output or to where the
 -- second began, which stood up to that end, the answer stands from the start of the first
 pub record JoinsInPlace (old new : Store) (first second answer : Piece) : Type 0 where
   pub ends : EndsMain old new answer
@@ -223,7 +223,7 @@ pub record JoinsInPlace (old new : Store) (first second answer : Piece) : Type 0
   pub after : (from : ℕ) → frame_start (frame old) ≤ from → Stands first from (length (main_bytes old))
       → Stands answer from (length (main_bytes new)) × (take from (main_bytes new) ≡ take from (main_bytes old))
 
--- the main text becomes all that it was and then the text of the answer, which stands at the innermost mark or later
+-- the output becomes all that it was and then the text of the answer, which stands at the innermost mark or later
 pub record Appends (old new : Store) (answer : Piece) : Type 0 where
   pub front : take (length (main_bytes old)) (main_bytes new) ≡ main_bytes old
   pub inner : frame_start (frame old) ≤ length (main_bytes old)

@@ -1,4 +1,4 @@
-//! A buffer of pieces over one main text and one side text.
+//! A buffer of pieces over one output and one spill.
 ghost use Rattle.std.specs.Prelude.{◌≡◌, ℕ, ◌+◌, ◌-◌, ◌^◌, ◌<◌, ◌≤◌, [], ◌++◌, length, take, IfOk};
 ghost use Rattle.std.specs.Prelude.{OnOk, OnErr, slice_range, slice_index, is_some, codes};
 ghost use Rattle.demangle_text.specs.Shape.{gap_after};
@@ -14,13 +14,13 @@ use std::marker::Model;
 /// A buffer of pieces, with a list of saved shapes and a list of scopes.
 #[derive(Drop)]
 pub struct Buffer {
-    // What is made stands in the main text.
+    // What is made stands in the output.
     pub(crate) main: Text,
     // What is saved and the arguments of all scopes, with the texts of these that a move would have torn.
     pub(crate) lists: Lists,
     // Where the arguments of each scope begin.
     pub(crate) starts: Vec<usize>,
-    // How long the main text was at the innermost mark.
+    // How long the output was at the innermost mark.
     pub(crate) frame_main: usize,
 }
 
@@ -55,8 +55,7 @@ impl Buffer {
     ghost use Rattle.demangle_text.specs.State.{StandsAs, StandsShortened, frame_start, Frame, IsOlder, KeepsFront};
     ghost use Rattle.demangle_text.specs.State.{IsEditOf, IsJoinOf};
     ghost use Rattle.demangle_text.specs.Shape.{text, text_len, plain_shape, inserted, appended, opened_group};
-    ghost use Rattle.demangle_text.specs.Shape.{shortened, flagged, with_own, flattened, whole_shape, own_shape};
-    ghost use Rattle.demangle_text.specs.Shape.{declared_at};
+    ghost use Rattle.demangle_text.specs.Shape.{shortened, flagged, with_own, flattened, whole_shape, own_shape, declared_at};
     ghost use Rattle.demangle_text.specs.Calls.{joined, named, CanInsert, IsPlain, IsDeclared, IsNotFunction, kind_of};
     ghost use Rattle.demangle_text.specs.Calls.{group_of, after_of, declared_group, IsLast, IsInner, text_after};
 
@@ -80,7 +79,7 @@ impl Buffer {
         }
     }
 
-    /// Ends all pieces and marks: nothing is saved, no scope and no mark is open, and the main text
+    /// Ends all pieces and marks: nothing is saved, no scope and no mark is open, and the output
     /// is empty. What was reserved stays.
     pub fn clear(&mut self)
         ensures no_saved { saved self.new ≡ [] }
@@ -97,8 +96,7 @@ impl Buffer {
         self.frame_main = 0;
     }
 
-    /// Opens a mark, which is the innermost one then, at the end of the main text. All living
-    /// pieces are older than it.
+    /// Opens a mark, which is the innermost one then, at the end of the output. All living pieces are older than it.
     #[inline(always)]
     pub fn open(&mut self) -> Mark
         ensures opens { Opens self.old self.new result }
@@ -113,7 +111,7 @@ impl Buffer {
         mark
     }
 
-    /// Takes the innermost mark back: the piece, with its shape, becomes all of the main text since
+    /// Takes the innermost mark back: the piece, with its shape, becomes all of the output since
     /// the mark, and counts as made under the mark outside. The other pieces made since the mark
     /// end. After `AllocError`, `clear` is the only call that is promised.
     #[inline(always)]
@@ -147,7 +145,7 @@ impl Buffer {
         Ok(())
     }
 
-    /// A plain piece of the bytes, which go to the end of the main text. Its last own name is the
+    /// A plain piece of the bytes, which go to the end of the output. Its base name is the
     /// whole text, and both flags are off. After `AllocError` all is as it was.
     #[inline(always)]
     pub fn push(&mut self, bytes: &[u8]) -> Result<Piece, AllocError>
@@ -163,7 +161,7 @@ impl Buffer {
         Ok(Piece::whole_at(from, self.main.len()))
     }
 
-    /// A plain piece of no bytes, at the start of the main text.
+    /// A plain piece of no bytes, at the start of the output.
     #[inline(always)]
     pub fn empty(&self) -> Piece
         ensures shape { Lives self.now result (plain_shape []) }
@@ -173,9 +171,8 @@ impl Buffer {
         Piece::whole_at(0, 0)
     }
 
-    /// A new piece of the same shape, whose text goes to the end of the main text. After
+    /// A new piece of the same shape, whose text goes to the end of the output. After
     /// `AllocError` all is as it was. It is offered to others: nothing here calls it.
-    #[inline(always)]
     pub fn copy(&mut self, piece: Piece) -> Result<Piece, AllocError>
         requires living { IsLiving self.old piece }
         ensures shape { IfOk result (λ p. Lives self.new p (shape self.old piece)) }
@@ -185,6 +182,24 @@ impl Buffer {
         ensures mark { frame_start (frame self.old) ≤ length (main_bytes self.old) }
         ensures stands { IfOk result (λ p. Stands p (length (main_bytes self.old)) (length (main_bytes self.new))) }
     {
+        let mut copied = piece;
+        self.bring_to_end(&mut copied)?;
+        Ok(copied)
+    }
+
+    /// Puts a copy of the piece's text at the end of the output, where the piece stands then. The other pieces stay as
+    /// they are. After `AllocError` all is as it was.
+    #[inline(never)]
+    pub fn bring_to_end(&mut self, piece: &mut Piece) -> Result<(), AllocError>
+        requires living { IsLiving self.old piece.old }
+        ensures shape { OnOk result (Lives self.new piece.new (shape self.old piece.old)) }
+        ensures kept { KeepsAll self.old self.new }
+        ensures main { OnOk result (main_bytes self.new ≡ main_bytes self.old ++ text (shape self.old piece.old)) }
+        ensures main_err { OnErr result (main_bytes self.new ≡ main_bytes self.old) }
+        ensures mark { frame_start (frame self.old) ≤ length (main_bytes self.old) }
+        ensures stands { OnOk result (Stands piece.new (length (main_bytes self.old)) (length (main_bytes self.new))) }
+        ensures same { OnErr result (piece.new ≡ piece.old) }
+    {
         let from = self.main.len();
         add_text(
             &mut self.main,
@@ -193,13 +208,15 @@ impl Buffer {
             piece.from_byte,
             piece.to_byte,
         )?;
-        Ok(piece.moved_to(from, self.main.len()))
+        piece.from_byte = from;
+        piece.to_byte = self.main.len();
+        piece.aside = false;
+        Ok(())
     }
 
-    /// The piece with the bytes at the end of its text. It ends the other pieces made since the
-    /// innermost mark. A piece that stands up to the end of the main text, from the innermost mark
-    /// or later, stays there; the text of any other is copied to the end first. After `AllocError`
-    /// all is as it was.
+    /// The piece with the bytes at the end of its text. It ends the other pieces made since the innermost mark. A piece
+    /// that stands up to the end of the output, from the innermost mark or later, stays there; the text of any other is
+    /// copied to the end first. After `AllocError` all is as it was.
     #[inline(always)]
     pub fn append(&mut self, piece: Piece, bytes: &[u8]) -> Result<Piece, AllocError>
         requires living { IsLiving self.old piece }
@@ -245,7 +262,7 @@ impl Buffer {
         Ok(())
     }
 
-    /// The piece with the bytes and then its own last own name at the end of its text. Ends pieces,
+    /// The piece with the bytes and then its own base name at the end of its text. Ends pieces,
     /// copies a text, and keeps all after `AllocError`, as `append` does.
     #[inline(always)]
     pub fn append_own(&mut self, piece: Piece, between: &[u8]) -> Result<Piece, AllocError>
@@ -264,10 +281,9 @@ impl Buffer {
         Ok(piece.extended(n, from, to))
     }
 
-    /// The piece with the bytes at a place of its text: `Close` asks for a group, `Suffix` for a
-    /// declarator without one. The last own name moves on where it begins at the place or later,
-    /// and grows where the place lies inside it. Ends pieces, copies a text, and keeps all after
-    /// `AllocError`, as `append` does.
+    /// The piece with the bytes at a place of its text: `Close` asks for a group, `Suffix` for a declarator without
+    /// one. The base name moves on where it begins at the place or later, and grows where the place lies inside it.
+    /// Ends pieces, copies a text, and keeps all after `AllocError`, as `append` does.
     #[inline(always)]
     pub fn insert(&mut self, piece: Piece, place: Place, bytes: &[u8]) -> Result<Piece, AllocError>
         requires living { IsLiving self.old piece }
@@ -325,9 +341,8 @@ impl Buffer {
         })
     }
 
-    /// The plain piece without its last n bytes. Its last own name is what is left of it. The main
-    /// text stays as it is, with those bytes. Ends pieces, and keeps all after `AllocError`, as
-    /// `append` does.
+    /// The plain piece without its last n bytes. Its base name is what is left of it. The output stays as it is,
+    /// with those bytes. Ends pieces, and keeps all after `AllocError`, as `append` does.
     #[inline(always)]
     pub fn cut(&mut self, piece: Piece, n: usize) -> Result<Piece, AllocError>
         requires living { IsLiving self.old piece }
@@ -342,23 +357,21 @@ impl Buffer {
         ensures main_err { OnErr result (main_bytes self.new ≡ main_bytes self.old) }
     {
         let left = piece.text_len() - n;
-        Ok(Piece {
-            to_byte: piece.to_byte - n,
-            own_start: piece.own_start.min(left),
-            own_end: piece.own_end.min(left),
-            kind: None,
-            ..piece
-        })
+        let mut shorter = piece;
+        shorter.to_byte = piece.to_byte - n;
+        shorter.own_start = piece.own_start.min(left);
+        shorter.own_end = piece.own_end.min(left);
+        shorter.kind = None;
+        Ok(shorter)
     }
 
-    /// A plain piece: the text of the first piece, the bytes, and the text of the second. Its last
-    /// own name is the whole text, and both flags are off. Where the first ends where the second
-    /// begins, and the second stands up to the end of the main text, both from the innermost mark or
-    /// later, they stay there. Else, where the second stands up to that end, from the innermost mark
-    /// or later, and the first lies before it or in the side text, the text of the first and the bytes
-    /// go in front of it; and where the first stands up to that end, from the innermost mark or later,
-    /// the bytes and the text of the second go after it. Else both are copied to the end. Ends pieces,
-    /// and keeps all after `AllocError`, as `append` does.
+    /// A plain piece: the text of the first piece, the bytes, and the text of the second. Its base name is the whole
+    /// text, and both flags are off. Where the first ends where the second begins, and the second stands up to the end
+    /// of the output, both from the innermost mark or later, they stay there. Else, where the second stands up to that
+    /// end, from the innermost mark or later, and the first lies before it or in the spill, the text of the first and
+    /// the bytes go in front of it; and where the first stands up to that end, from the innermost mark or later, the
+    /// bytes and the text of the second go after it. Else both are copied to the end. Ends pieces, and keeps all after
+    /// `AllocError`, as `append` does.
     #[inline(always)]
     pub fn join(&mut self, first: Piece, bytes: &[u8], second: Piece) -> Result<Piece, AllocError>
         requires first_living { IsLiving self.old first }
@@ -397,7 +410,7 @@ impl Buffer {
         piece.extended(to - piece.to_byte, piece.from_byte, to)
     }
 
-    /// The main text.
+    /// The output.
     #[inline(always)]
     pub fn main_bytes(&self) -> &[u8]
         ensures value { result.now ≡ main_bytes self.now }
@@ -462,7 +475,7 @@ impl Buffer {
         }
     }
 
-    /// The bytes of its text from which and up to which its last own name lies.
+    /// The bytes of its text from which and up to which its base name lies.
     #[inline(always)]
     pub fn own_range(&self, piece: Piece) -> (usize, usize)
         requires living { IsLiving self.now piece }
@@ -497,14 +510,13 @@ impl Buffer {
         ensures age { IsAsOld piece result }
         ensures stands { StandsAs piece result }
     {
-        Piece {
-            templ,
-            ctor,
-            ..piece
-        }
+        let mut flagged = piece;
+        flagged.templ = templ;
+        flagged.ctor = ctor;
+        flagged
     }
 
-    /// The shape, which isn't a function's, with these bytes of its text as its last own name.
+    /// The shape, which isn't a function's, with these bytes of its text as its base name.
     /// The answer is as old as the piece.
     #[inline(always)]
     pub fn own_at(&self, piece: Piece, from: usize, to: usize) -> Piece
@@ -516,14 +528,13 @@ impl Buffer {
         ensures age { IsAsOld piece result }
         ensures stands { StandsAs piece result }
     {
-        Piece {
-            own_start: from,
-            own_end: to,
-            ..piece
-        }
+        let mut named = piece;
+        named.own_start = from;
+        named.own_end = to;
+        named
     }
 
-    /// The shape with its whole text as its last own name. The answer is as old as the piece.
+    /// The shape with its whole text as its base name. The answer is as old as the piece.
     #[inline(always)]
     pub fn whole(&self, piece: Piece) -> Piece
         requires living { IsLiving self.now piece }
@@ -531,15 +542,13 @@ impl Buffer {
         ensures age { IsAsOld piece result }
         ensures stands { StandsAs piece result }
     {
-        Piece {
-            own_start: 0,
-            own_end: self.len(piece),
-            ..piece
-        }
+        let mut whole = piece;
+        whole.own_start = 0;
+        whole.own_end = piece.text_len();
+        whole
     }
 
-    /// Its text as a plain shape, with the same last own name and flags. The answer is as old as
-    /// the piece.
+    /// Its text as a plain shape, with the same base name and flags. The answer is as old as the piece.
     #[inline(always)]
     pub fn plain(&self, piece: Piece) -> Piece
         requires living { IsLiving self.now piece }
@@ -547,13 +556,15 @@ impl Buffer {
         ensures age { IsAsOld piece result }
         ensures stands { StandsAs piece result }
     {
-        Piece {
-            kind: None,
-            ..piece
-        }
+        let mut plain = piece;
+        plain.group_start = 0;
+        plain.after_start = 0;
+        plain.kind = None;
+        plain.grouped = false;
+        plain
     }
 
-    /// A plain piece of its last own name, with both flags off. The answer is as old as the piece.
+    /// A plain piece of its base name, with both flags off. The answer is as old as the piece.
     #[inline(always)]
     pub fn own(&self, piece: Piece) -> Piece
         requires living { IsLiving self.now piece }
@@ -568,9 +579,8 @@ impl Buffer {
         }
     }
 
-    /// The plain piece as a declarator of this kind, with no group: its `after` begins at the byte
-    /// `at` of its text. It keeps its flags and, but for a function, its last own name. The answer
-    /// is as old as the piece.
+    /// The plain piece as a declarator of this kind, with no group: its `after` begins at the byte `at` of its text. It
+    /// keeps its flags and, but for a function, its base name. The answer is as old as the piece.
     #[inline(always)]
     pub fn declare(&self, piece: Piece, kind: Kind, at: usize) -> Piece
         requires living { IsLiving self.now piece }

@@ -23,8 +23,7 @@ impl Buffer {
     ghost use Rattle.demangle_text.specs.State.{IsLiving, shape, saved, scopes, KeepsAll, SameFrame, last_args};
     ghost use Rattle.demangle_text.specs.State.{with_arg, main_bytes};
 
-    /// Adds the shape of the piece to the end of the saved ones. After `AllocError` all is as it
-    /// was.
+    /// Adds the shape of the piece to the end of the saved ones. After `AllocError` all is as it was.
     #[inline(always)]
     pub fn save(&mut self, piece: Piece) -> Result<(), AllocError>
         requires living { IsLiving self.old piece }
@@ -82,8 +81,7 @@ impl Buffer {
         self.lists.saved.len()
     }
 
-    /// Opens a scope, which is the last one then and has no argument. After `AllocError` all is as
-    /// it was.
+    /// Opens a scope, which is the last one then and has no argument. After `AllocError` all is as it was.
     pub fn open_scope(&mut self) -> Result<(), AllocError>
         ensures scopes { OnOk result (scopes self.new ≡ scopes self.old ++ [] ∷ []) }
         ensures saved { saved self.new ≡ saved self.old }
@@ -96,8 +94,7 @@ impl Buffer {
         Ok(())
     }
 
-    /// Adds the shape of the piece to the end of the last scope. After `AllocError` all is as it
-    /// was.
+    /// Adds the shape of the piece to the end of the last scope. After `AllocError` all is as it was.
     #[inline(always)]
     pub fn push_arg(&mut self, piece: Piece) -> Result<(), AllocError>
         requires living { IsLiving self.old piece }

@@ -1,6 +1,5 @@
 //! Texts of pieces, put at the end of the output.
-ghost use Rattle.std.specs.Prelude.{◌≡◌, ◌≤◌, ◌++◌, length, take, slice_range, IfOk, OnOk};
-ghost use Rattle.std.specs.Prelude.{OnErr};
+ghost use Rattle.std.specs.Prelude.{◌≡◌, ◌≤◌, ◌++◌, length, take, slice_range, IfOk, OnOk, OnErr};
 ghost use Rattle.demangle_text.specs.Pieces.{home_bytes, IsBrought};
 
 use crate::shape::Piece;

@@ -9,7 +9,7 @@ ghost use Rattle.demangle_text.specs.Shape.{moved};
 pub enum Kind {
     /// An array, whose `after` holds its dimensions.
     Array,
-    /// A function, whose `after` holds its parameters. Its last own name is its whole text.
+    /// A function, whose `after` holds its parameters. Its base name is its whole text.
     Function,
 }
 
@@ -79,20 +79,6 @@ impl Piece {
             aside: false,
             templ: false,
             ctor: false,
-        }
-    }
-
-    // Its outline over other bytes of the output.
-    #[inline(always)]
-    pub(crate) fn moved_to(self, from: usize, to: usize) -> Piece
-        ensures stands { IsAt result from to }
-        ensures outline { outline_of result ≡ outline_of self }
-    {
-        Piece {
-            from_byte: from,
-            to_byte: to,
-            aside: false,
-            ..self
         }
     }
 
@@ -169,13 +155,15 @@ impl Piece {
             Place::Start if self.grouped => (self.group_start + n, self.after_start + n),
             _ => (self.group_start, self.after_start + n),
         };
-        Piece {
-            own_start,
-            own_end,
-            group_start,
-            after_start,
-            ..self.moved_to(from, to)
-        }
+        let mut longer = self;
+        longer.from_byte = from;
+        longer.to_byte = to;
+        longer.aside = false;
+        longer.own_start = own_start;
+        longer.own_end = own_end;
+        longer.group_start = group_start;
+        longer.after_start = after_start;
+        longer
     }
 
     // The piece after n bytes were put at the end of its text, when that lies at these bytes of the output: a base name
@@ -199,11 +187,13 @@ impl Piece {
             _ if self.own_start == self.text_len() => (self.own_start + n, self.own_end + n),
             _ => (self.own_start, self.own_end),
         };
-        Piece {
-            own_start,
-            own_end,
-            ..self.moved_to(from, to)
-        }
+        let mut longer = self;
+        longer.from_byte = from;
+        longer.to_byte = to;
+        longer.aside = false;
+        longer.own_start = own_start;
+        longer.own_end = own_end;
+        longer
     }
 
     // The text as a declarator.
@@ -222,14 +212,13 @@ impl Piece {
             Kind::Function => (0, self.text_len()),
             Kind::Array => (self.own_start, self.own_end),
         };
-        Piece {
-            own_start,
-            own_end,
-            group_start: group.unwrap_or(0),
-            after_start: at,
-            kind: Some(kind),
-            grouped: group.is_some(),
-            ..self
-        }
+        let mut declarator = self;
+        declarator.own_start = own_start;
+        declarator.own_end = own_end;
+        declarator.group_start = group.unwrap_or(0);
+        declarator.after_start = at;
+        declarator.kind = Some(kind);
+        declarator.grouped = group.is_some();
+        declarator
     }
 }

@@ -33,18 +33,20 @@ impl Buffer {
         requires mark { self.old.frame_main ≡ at }
         requires living { IsLiving self.old piece.old }
         ensures edit { OnOk result (IsEdit self.old self.new) }
-        ensures main { OnOk result (self.new.main_text ≡ take at self.old.main_text
-            ++ piece_text self.old.main_text self.old.side_text piece.old) }
-        ensures stands { OnOk result (IsAt piece.new at (length self.new.main_text)) }
+        ensures main { OnOk result (self.new.output_text ≡ take at self.old.output_text
+            ++ piece_text self.old.output_text self.old.spill_text piece.old) }
+        ensures stands { OnOk result (IsAt piece.new at (length self.new.output_text)) }
         ensures outline { OnOk result (outline_of piece.new ≡ outline_of piece.old) }
-        ensures within { at ≤ length self.old.main_text }
+        ensures within { at ≤ length self.old.output_text }
     {
         let len = self.main.len();
         if !piece.aside && piece.from_byte == at && piece.to_byte == len {
             return Ok(());
         }
         self.move_down(at, piece.aside, piece.from_byte, piece.to_byte)?;
-        *piece = piece.moved_to(at, self.main.len());
+        piece.from_byte = at;
+        piece.to_byte = self.main.len();
+        piece.aside = false;
         Ok(())
     }
 
@@ -60,10 +62,10 @@ impl Buffer {
     ) -> Result<(), AllocError>
         requires mark { self.old.frame_main ≡ at }
         requires ordered { from ≤ to }
-        requires within { to ≤ length (home_bytes self.old.main_text self.old.side_text aside) }
+        requires within { to ≤ length (home_bytes self.old.output_text self.old.spill_text aside) }
         ensures edit { OnOk result (IsEdit self.old self.new) }
-        ensures main { OnOk result (self.new.main_text ≡ take at self.old.main_text
-            ++ slice_range (home_bytes self.old.main_text self.old.side_text aside) from to) }
+        ensures main { OnOk result (self.new.output_text ≡ take at self.old.output_text
+            ++ slice_range (home_bytes self.old.output_text self.old.spill_text aside) from to) }
     {
         let mut from = from;
         let mut to = to;
@@ -92,12 +94,12 @@ impl Buffer {
     #[inline(always)]
     pub(crate) fn insert_at(&mut self, at: usize, bytes: &[u8]) -> Result<(), AllocError>
         requires inner { self.old.frame_main ≤ at }
-        requires within { at ≤ length self.old.main_text }
+        requires within { at ≤ length self.old.output_text }
         ensures edit { OnOk result (IsEdit self.old self.new) }
         ensures err { OnErr result (KeepsAll self.old self.new) }
-        ensures main { OnOk result (self.new.main_text ≡ take at self.old.main_text
-            ++ (bytes.now ++ drop at self.old.main_text)) }
-        ensures main_err { OnErr result (self.new.main_text ≡ self.old.main_text) }
+        ensures main { OnOk result (self.new.output_text ≡ take at self.old.output_text
+            ++ (bytes.now ++ drop at self.old.output_text)) }
+        ensures main_err { OnErr result (self.new.output_text ≡ self.old.output_text) }
     {
         if bytes.is_empty() {
             return Ok(());
@@ -111,10 +113,10 @@ impl Buffer {
     #[inline(never)]
     fn open_gap(&mut self, at: usize, n: usize) -> Result<(), AllocError>
         requires inner { self.old.frame_main ≤ at }
-        requires within { at ≤ length self.old.main_text }
+        requires within { at ≤ length self.old.output_text }
         ensures gap { OnOk result (IsGap self.old self.new at n) }
         ensures err { OnErr result (KeepsAll self.old self.new) }
-        ensures main_err { OnErr result (self.new.main_text ≡ self.old.main_text) }
+        ensures main_err { OnErr result (self.new.output_text ≡ self.old.output_text) }
     {
         let len = self.main.len();
         let rest = Block {
@@ -143,7 +145,7 @@ impl Buffer {
         ensures opened { IfOk result (IsOpen self.old self.new piece at n) }
         ensures fits { IfOk result (λ from. from + at < 2 ^ 64) }
         ensures err { OnErr result (KeepsAll self.old self.new) }
-        ensures main_err { OnErr result (self.new.main_text ≡ self.old.main_text) }
+        ensures main_err { OnErr result (self.new.output_text ≡ self.old.output_text) }
     {
         if piece.is_tail(self.frame_main, self.main.len()) {
             self.open_gap(piece.from_byte + at, n)?;
@@ -170,7 +172,7 @@ impl Buffer {
         ensures splice { IfOk result (IsSplice self.old self.new piece (piece.to_byte - piece.from_byte) bytes.now) }
         ensures edit { OnOk result (IsEdit self.old self.new) }
         ensures err { OnErr result (KeepsAll self.old self.new) }
-        ensures main_err { OnErr result (self.new.main_text ≡ self.old.main_text) }
+        ensures main_err { OnErr result (self.new.output_text ≡ self.old.output_text) }
     {
         let len = self.main.len();
         let from = at_end(&mut self.main, &self.lists.side, self.frame_main, piece)?;
@@ -190,10 +192,10 @@ impl Buffer {
         requires living { IsLiving self.old piece }
         requires other_living { IsLiving self.old other }
         ensures splice { IfOk result (IsSplice self.old self.new piece (piece.to_byte - piece.from_byte)
-            (bytes.now ++ piece_text self.old.main_text self.old.side_text other)) }
+            (bytes.now ++ piece_text self.old.output_text self.old.spill_text other)) }
         ensures edit { OnOk result (IsEdit self.old self.new) }
         ensures err { OnErr result (KeepsAll self.old self.new) }
-        ensures main_err { OnErr result (self.new.main_text ≡ self.old.main_text) }
+        ensures main_err { OnErr result (self.new.output_text ≡ self.old.output_text) }
     {
         let len = self.main.len();
         let from = at_end(&mut self.main, &self.lists.side, self.frame_main, piece)?;
@@ -219,15 +221,15 @@ impl Buffer {
         bytes: &[u8],
     ) -> Result<(), AllocError>
         requires inner { self.old.frame_main ≤ at }
-        requires within { at ≤ length self.old.main_text }
+        requires within { at ≤ length self.old.output_text }
         requires living { IsLiving self.old first }
         requires before { EndsBy at first }
         ensures edit { OnOk result (IsEdit self.old self.new) }
         ensures err { OnErr result (KeepsAll self.old self.new) }
-        ensures main { OnOk result (self.new.main_text ≡ take at self.old.main_text
-            ++ ((piece_text self.old.main_text self.old.side_text first ++ bytes.now)
-            ++ drop at self.old.main_text)) }
-        ensures main_err { OnErr result (self.new.main_text ≡ self.old.main_text) }
+        ensures main { OnOk result (self.new.output_text ≡ take at self.old.output_text
+            ++ ((piece_text self.old.output_text self.old.spill_text first ++ bytes.now)
+            ++ drop at self.old.output_text)) }
+        ensures main_err { OnErr result (self.new.output_text ≡ self.old.output_text) }
     {
         let Some(n) = first.text_len().checked_add(bytes.len()) else {
             return Err(AllocError);

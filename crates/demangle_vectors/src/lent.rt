@@ -4,7 +4,7 @@ use itanium_demangle::Demangler;
 use std::alloc::Global;
 use std::process::Abort;
 
-/// The symbol is prepared, and its answer is all of the main text of the buffer; or it has none, and no buffer.
+/// The symbol is prepared, and its answer is all of the output of the buffer; or it has none, and no buffer.
 fn assert_main_text(
     rt: &impl Abort,
     alloc: Global,

@@ -1,5 +1,7 @@
-//! Tests of the demangler: counts and components, limits, one value for symbol after symbol, and the scalars. Symbols
-//! that show a rule each stand with their answers in a list, `corpus/rows.tsv`.
+//! Tests of the demangler, of what no list can ask: values before and after their symbols, the buffer, the limits, and
+//! the scalars. The lists of `corpus/` have symbols with their answers, counts and components: those that show a rule
+//! each in `rows.tsv`, and those at the limits, those that double and those for one value after another in
+//! `patterns.tsv`.
 //!
 //! The expected texts come from the grammar's definition, and not from what the demangler answers.
 #![tactic(auto)]
@@ -7,20 +9,8 @@
 #[cfg(test)]
 mod counts;
 #[cfg(test)]
-mod depth;
-#[cfg(test)]
-mod doubling;
-#[cfg(test)]
 mod lent;
-#[cfg(test)]
-mod limits;
-#[cfg(test)]
-mod long;
 #[cfg(test)]
 mod scalars;
 #[cfg(test)]
 mod serving;
-#[cfg(test)]
-mod tables;
-#[cfg(test)]
-mod widths;

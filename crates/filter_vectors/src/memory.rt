@@ -2,7 +2,6 @@
 ghost use Rattle.std.specs.Prelude.{◌≡◌, ◌<◌, true, false, length, Some};
 
 use std::alloc::Global;
-use std::cell::Cell;
 use symfilter_engine::{Failed, FilterFault, Sink, Source, filter};
 
 /// Whether an end was called once it had failed, with one call more.
@@ -132,88 +131,4 @@ pub fn filter_in_memory(
     ensures sink_in_time { sink.new.called_late ≡ sink.old.called_late }
 {
     filter(alloc, source, sink)
-}
-
-/// Bytes in memory, of which each call gives at most `most`. At each call it looks how many bytes the sink has taken,
-/// and keeps whether these are as expected.
-#[derive(Drop)]
-pub struct WatchingSource<'a> {
-    rest: &'a [u8],
-    most: usize,
-    taken: &'a Cell<usize>,
-    expected: &'a [usize],
-    pub calls: usize,
-    pub as_expected: bool,
-    ghost gives_some: { 0 < most },
-}
-
-impl<'a> WatchingSource<'a> {
-    /// A source of these bytes, which expects so many bytes to be taken at its calls.
-    pub fn new(bytes: &'a [u8], most: usize, taken: &'a Cell<usize>, expected: &'a [usize]) -> Self
-        requires some { 0 < most }
-    {
-        WatchingSource {
-            rest: bytes,
-            most,
-            taken,
-            expected,
-            calls: 0,
-            as_expected: true,
-        }
-    }
-}
-
-impl Source for WatchingSource<'_> {
-    ghost remaining = { λ source. Some source.rest.now };
-
-    ghost failed = { λ _. false };
-
-    ghost calls_left = { λ source. length source.rest.now };
-
-    fn failed(&self) -> bool {
-        false
-    }
-
-    fn take(&mut self, into: &mut [u8]) -> Result<usize, Failed> {
-        if self.expected.get(self.calls) != Some(&self.taken.get()) {
-            self.as_expected = false;
-        }
-        self.calls = self.calls.saturating_add(1);
-        let count = self.rest.len().min(into.len()).min(self.most);
-        let (front, rest) = self.rest.split_at(count);
-        into[..count].copy_from_slice(front);
-        self.rest = rest;
-        Ok(count)
-    }
-}
-
-/// It takes at most `most` bytes a call, and keeps no more than their number.
-#[derive(Drop)]
-pub struct CountingSink<'a> {
-    taken: &'a Cell<usize>,
-    most: usize,
-    ghost takes_some: { 0 < most },
-}
-
-impl<'a> CountingSink<'a> {
-    /// A sink that counts there.
-    pub fn new(taken: &'a Cell<usize>, most: usize) -> Self
-        requires some { 0 < most }
-    {
-        CountingSink { taken, most }
-    }
-}
-
-impl Sink for CountingSink<'_> {
-    ghost failed = { λ _. false };
-
-    fn failed(&self) -> bool {
-        false
-    }
-
-    fn put(&mut self, bytes: &[u8]) -> Result<usize, Failed> {
-        let count = bytes.len().min(self.most);
-        self.taken.set(self.taken.get().saturating_add(count));
-        Ok(count)
-    }
 }

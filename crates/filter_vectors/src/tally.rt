@@ -5,100 +5,35 @@ use std::cell::Cell;
 use std::io;
 use std::io::{ErrorKind, Read, Write};
 use std::process::Abort;
-use symfilter_engine::{Failed, FilterFault, Sink, Source, Tally, filter};
-
-/// The kinds of errors that a source or sink of std fails with here: any is a failure.
-const KINDS: [ErrorKind; 6] = [
-    ErrorKind::Interrupted,
-    ErrorKind::WouldBlock,
-    ErrorKind::TimedOut,
-    ErrorKind::UnexpectedEof,
-    ErrorKind::BrokenPipe,
-    ErrorKind::Other,
-];
-
-/// A source and a sink of std that fails at its second call, and then goes on. Each other read gives a line, and each
-/// other write takes one byte.
-#[derive(Drop)]
-struct FailsOnce {
-    kind: ErrorKind,
-    calls: u8,
-}
-
-impl FailsOnce {
-    fn called(&mut self) -> io::Result<()> {
-        self.calls = self.calls.saturating_add(1);
-        if self.calls == 2 {
-            return Err(self.kind.into());
-        }
-        Ok(())
-    }
-}
-
-impl Read for FailsOnce {
-    fn read(&mut self, buf: &mut [u8]) -> io::Result<usize> {
-        self.called()?;
-        let line = b"_Z3foo\n";
-        if buf.len() < line.len() {
-            return Ok(0);
-        }
-        buf[..line.len()].copy_from_slice(line);
-        Ok(line.len())
-    }
-}
-
-impl Write for FailsOnce {
-    fn write(&mut self, buf: &[u8]) -> io::Result<usize> {
-        self.called()?;
-        Ok(buf.len().min(1))
-    }
-
-    fn flush(&mut self) -> io::Result<()> {
-        Ok(())
-    }
-}
-
-/// A sink of std that takes two bytes, nothing at its second call, and then all.
-#[derive(Drop)]
-struct TakesNothingOnce {
-    bytes: Vec<u8>,
-    calls: u8,
-}
-
-impl Write for TakesNothingOnce {
-    fn write(&mut self, buf: &[u8]) -> io::Result<usize> {
-        self.calls = self.calls.saturating_add(1);
-        let count = match self.calls {
-            1 => buf.len().min(2),
-            2 => 0,
-            _ => buf.len(),
-        };
-        self.bytes.extend_from_slice(&buf[..count])?;
-        Ok(count)
-    }
-
-    fn flush(&mut self) -> io::Result<()> {
-        Ok(())
-    }
-}
-
-/// No call has this number.
-const NEVER: usize = 0;
+use symfilter_engine::{Failed, FilterFault, Sink, Source, Tally};
 
 /// So many calls of a `Tally` are looked at.
 const CALLS: usize = 5;
 
-/// What a source or sink of std does at one of its calls.
-#[derive(Clone, Copy, PartialEq, Eq)]
+/// No call has this number.
+const NEVER: usize = 0;
+
+/// What a reader or writer of std does at one of its calls: any error is a failure.
+const TURNS: [Turn; 7] = [
+    Turn::DoesNothing,
+    Turn::Fails(ErrorKind::Interrupted),
+    Turn::Fails(ErrorKind::WouldBlock),
+    Turn::Fails(ErrorKind::TimedOut),
+    Turn::Fails(ErrorKind::UnexpectedEof),
+    Turn::Fails(ErrorKind::BrokenPipe),
+    Turn::Fails(ErrorKind::Other),
+];
+
+#[derive(Clone, Copy)]
 enum Turn {
-    /// It fails.
-    Fails,
     /// It gives or takes nothing.
     DoesNothing,
+    /// It fails with this error.
+    Fails(ErrorKind),
 }
 
-/// A source and a sink of std that counts its calls. It gives or takes one byte a call, but at the call with this
-/// number.
+/// A reader and a writer of std that counts its calls. It gives or takes two bytes a call, but at the call with this
+/// number, and then it goes on.
 #[derive(Drop)]
 struct Counted<'a> {
     calls: &'a Cell<usize>,
@@ -113,10 +48,10 @@ impl Counted<'_> {
     {
         self.calls.set(self.calls.get().saturating_add(1));
         if self.calls.get() != self.at {
-            return Ok(len.min(1));
+            return Ok(len.min(2));
         }
         match self.turn {
-            Turn::Fails => Err(ErrorKind::Other.into()),
+            Turn::Fails(kind) => Err(kind.into()),
             Turn::DoesNothing => Ok(0),
         }
     }
@@ -138,8 +73,34 @@ impl Write for Counted<'_> {
     }
 }
 
-/// A `Tally` over such a source asks it once a call.
-fn assert_reader_asked(rt: &impl Abort, at: usize, turn: Turn) {
+/// A call of a `Tally`: its number, what it answered, whether the `Tally` has failed since, and how often the end below
+/// was called.
+#[derive(Clone, Copy)]
+struct Call {
+    number: usize,
+    answer: Result<usize, Failed>,
+    has_failed: bool,
+    calls: usize,
+}
+
+/// The end below was asked once a call. The call answers what the end did, and that it has failed once is kept.
+fn assert_call(rt: &impl Abort, call: Call, at: usize, turn: Result<usize, Failed>) {
+    assert_eq!(rt; call.calls, call.number);
+    assert!(rt; call.answer == if call.number == at { turn } else { Ok(2) });
+    let fails = turn.is_err() && at != NEVER;
+    assert_eq!(rt; call.has_failed, fails && at <= call.number);
+}
+
+/// What a `Tally` answers where its reader or writer does that. `nothing` is that where it gives or takes nothing.
+fn answer(turn: Turn, nothing: Result<usize, Failed>) -> Result<usize, Failed> {
+    match turn {
+        Turn::DoesNothing => nothing,
+        Turn::Fails(_) => Err(Failed),
+    }
+}
+
+/// A `Tally` over a reader that does that at this call.
+fn assert_reads(rt: &impl Abort, at: usize, turn: Turn) {
     let calls = Cell::new(0);
     let mut source = Tally::new(Counted {
         calls: &calls,
@@ -147,203 +108,63 @@ fn assert_reader_asked(rt: &impl Abort, at: usize, turn: Turn) {
         turn,
     });
     let mut room = [0u8; 3];
-    for call in 1..=CALLS {
-        let _ = source.take(&mut room);
-        assert_eq!(rt; calls.get(), call);
+    for number in 1..=CALLS {
+        let call = Call {
+            number,
+            answer: source.take(&mut room),
+            has_failed: Source::failed(&source),
+            calls: calls.get(),
+        };
+        assert_call(rt, call, at, answer(turn, Ok(0)));
     }
 }
 
-/// A `Tally` over such a sink asks it once a call.
-fn assert_writer_asked(rt: &impl Abort, at: usize, turn: Turn) {
+/// A `Tally` over a writer that does that at this call. One that takes nothing of what is offered fails.
+fn assert_writes(rt: &impl Abort, at: usize, turn: Turn) {
     let calls = Cell::new(0);
     let mut sink = Tally::new(Counted {
         calls: &calls,
         at,
         turn,
     });
-    for call in 1..=CALLS {
-        let _ = sink.put(b"abc");
-        assert_eq!(rt; calls.get(), call);
+    for number in 1..=CALLS {
+        let call = Call {
+            number,
+            answer: sink.put(b"abc"),
+            has_failed: Sink::failed(&sink),
+            calls: calls.get(),
+        };
+        assert_call(rt, call, at, answer(turn, Err(Failed)));
     }
 }
 
 #[test]
-fn a_tally_asks_its_reader_once_a_call(rt: HostRuntime) {
-    for at in NEVER..=CALLS {
-        assert_reader_asked(&rt, at, Turn::Fails);
-        assert_reader_asked(&rt, at, Turn::DoesNothing);
+fn a_tally_answers_what_its_reader_does(rt: HostRuntime) {
+    for turn in TURNS {
+        for at in NEVER..=CALLS {
+            assert_reads(&rt, at, turn);
+        }
     }
 }
 
 #[test]
-fn a_tally_asks_its_writer_once_a_call(rt: HostRuntime) {
-    for at in NEVER..=CALLS {
-        assert_writer_asked(&rt, at, Turn::Fails);
-        assert_writer_asked(&rt, at, Turn::DoesNothing);
-    }
-}
-
-/// A call fails at this number alone, and that one has failed is kept.
-fn assert_fails_at(rt: &impl Abort, at: usize, call: usize, fails: bool, has_failed: bool) {
-    assert_eq!(rt; fails, call == at);
-    assert_eq!(rt; has_failed, at != NEVER && at <= call);
-}
-
-/// A `Tally` over a source that fails at this call fails there alone.
-fn assert_reader_fails_at(rt: &impl Abort, at: usize) {
-    let calls = Cell::new(0);
-    let mut source = Tally::new(Counted {
-        calls: &calls,
-        at,
-        turn: Turn::Fails,
-    });
-    let mut room = [0u8; 3];
-    for call in 1..=CALLS {
-        let fails = source.take(&mut room) == Err(Failed);
-        assert_fails_at(rt, at, call, fails, Source::failed(&source));
-    }
-}
-
-/// A `Tally` over a sink that fails at this call, or takes nothing, fails there alone.
-fn assert_writer_fails_at(rt: &impl Abort, at: usize, turn: Turn) {
-    let calls = Cell::new(0);
-    let mut sink = Tally::new(Counted {
-        calls: &calls,
-        at,
-        turn,
-    });
-    for call in 1..=CALLS {
-        let fails = sink.put(b"abc") == Err(Failed);
-        assert_fails_at(rt, at, call, fails, Sink::failed(&sink));
+fn a_tally_answers_what_its_writer_does(rt: HostRuntime) {
+    for turn in TURNS {
+        for at in NEVER..=CALLS {
+            assert_writes(&rt, at, turn);
+        }
     }
 }
 
 #[test]
-fn a_tally_fails_where_its_reader_does(rt: HostRuntime) {
-    for at in NEVER..=CALLS {
-        assert_reader_fails_at(&rt, at);
-    }
-}
-
-#[test]
-fn a_tally_fails_where_its_writer_does(rt: HostRuntime) {
-    for at in NEVER..=CALLS {
-        assert_writer_fails_at(&rt, at, Turn::Fails);
-        assert_writer_fails_at(&rt, at, Turn::DoesNothing);
-    }
-}
-
-#[test]
-fn nothing_read_and_nothing_to_write_are_no_failures(rt: HostRuntime) {
-    let calls = Cell::new(0);
-    let mut source = Tally::new(Counted {
-        calls: &calls,
-        at: 1,
-        turn: Turn::DoesNothing,
-    });
-    let mut room = [0u8; 3];
-    assert_eq!(rt; source.take(&mut room), Ok(0));
-    assert!(rt; !Source::failed(&source));
-    let mut sink = Tally::new(Counted {
-        calls: &calls,
-        at: NEVER,
-        turn: Turn::DoesNothing,
-    });
-    assert_eq!(rt; sink.put(b""), Ok(0));
-    assert!(rt; !Sink::failed(&sink));
-}
-
-#[test]
-fn a_tally_reads_and_writes(rt: HostRuntime) {
-    let mut source = Tally::new(b"x\ny".as_slice());
-    let mut bytes = Vec::new(rt.alloc());
-    let mut sink = Tally::new(&mut bytes);
-    assert_eq!(rt; filter(rt.alloc(), &mut source, &mut sink), Ok(()));
-    assert_eq!(rt; bytes.as_slice(), b"x\ny".as_slice());
-}
-
-#[test]
-fn a_full_slice_is_a_failure(rt: HostRuntime) {
+fn nothing_to_write_is_no_failure_and_a_full_slice_is_one(rt: HostRuntime) {
     let mut room = [0u8; 2];
     let mut sink = Tally::new(room.as_mut_slice());
-    assert_eq!(rt; sink.put(b"abc"), Ok(2));
+    assert!(rt; sink.put(b"") == Ok(0));
+    assert!(rt; sink.put(b"abc") == Ok(2));
     assert!(rt; !sink.failed());
-    assert_eq!(rt; sink.put(b"c"), Err(Failed));
+    assert!(rt; sink.put(b"c") == Err(Failed));
     assert!(rt; sink.failed());
-}
-
-#[test]
-fn any_error_of_a_reader_is_a_failure(rt: HostRuntime) {
-    for kind in KINDS {
-        let mut source = Tally::new(FailsOnce { kind, calls: 0 });
-        let mut line = [0u8; 7];
-        assert_eq!(rt; source.take(&mut line), Ok(7));
-        assert!(rt; !Source::failed(&source));
-        assert_eq!(rt; source.take(&mut line), Err(Failed));
-        assert!(rt; Source::failed(&source));
-        // The source goes on, and it has failed all the same.
-        let _ = source.take(&mut line);
-        assert!(rt; Source::failed(&source));
-    }
-}
-
-#[test]
-fn any_error_of_a_writer_is_a_failure(rt: HostRuntime) {
-    for kind in KINDS {
-        let mut sink = Tally::new(FailsOnce { kind, calls: 0 });
-        assert_eq!(rt; sink.put(b"abc"), Ok(1));
-        assert!(rt; !Sink::failed(&sink));
-        assert_eq!(rt; sink.put(b"bc"), Err(Failed));
-        assert!(rt; Sink::failed(&sink));
-        // The sink goes on, and it has failed all the same.
-        let _ = sink.put(b"bc");
-        assert!(rt; Sink::failed(&sink));
-    }
-}
-
-#[test]
-fn the_filter_ends_where_a_source_fails_once(rt: HostRuntime) {
-    for kind in KINDS {
-        let mut inner = FailsOnce { kind, calls: 0 };
-        let mut bytes = Vec::new(rt.alloc());
-        let mut sink = Tally::new(&mut bytes);
-        let outcome = filter(rt.alloc(), &mut Tally::new(&mut inner), &mut sink);
-        assert_eq!(rt; outcome, Err(FilterFault::Read));
-        assert_eq!(rt; bytes.as_slice(), b"foo\n".as_slice());
-        assert_eq!(rt; inner.calls, 2);
-    }
-}
-
-#[test]
-fn the_filter_ends_where_a_sink_fails_once(rt: HostRuntime) {
-    for kind in KINDS {
-        let mut inner = FailsOnce { kind, calls: 0 };
-        let mut source = Tally::new(b"_Z3foo\nx\n".as_slice());
-        let outcome = filter(rt.alloc(), &mut source, &mut Tally::new(&mut inner));
-        assert_eq!(rt; outcome, Err(FilterFault::Write));
-        assert_eq!(rt; inner.calls, 2);
-    }
-}
-
-#[test]
-fn the_filter_ends_where_a_sink_takes_nothing(rt: HostRuntime) {
-    let mut inner = TakesNothingOnce {
-        bytes: Vec::new(rt.alloc()),
-        calls: 0,
-    };
-    let mut source = Tally::new(b"_Z3foo\nx\n".as_slice());
-    let outcome = filter(rt.alloc(), &mut source, &mut Tally::new(&mut inner));
-    assert_eq!(rt; outcome, Err(FilterFault::Write));
-    assert_eq!(rt; inner.bytes.as_slice(), b"fo".as_slice());
-    assert_eq!(rt; inner.calls, 2);
-    drop(inner);
-}
-
-#[test]
-fn the_words_of_the_faults(rt: HostRuntime) {
-    assert_eq!(rt; FilterFault::Read.line(), "symfilter: read failed");
-    assert_eq!(rt; FilterFault::Write.line(), "symfilter: write failed");
-    assert_eq!(rt; FilterFault::Memory.line(), "symfilter: out of memory");
 }
 
 #[test]

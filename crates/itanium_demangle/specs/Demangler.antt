@@ -10,7 +10,7 @@ use Rattle.itanium_grammar.specs.Answer.{after_prefix, HasCounts, HasComponents,
 use Rattle.itanium_demangle.specs.declared.demangler.Demangler.TheInside.{Inside}
 use Rattle.itanium_demangle.specs.LastRun.{LastRun, no_run}
 
--- the answer: all of the buffer's main text, where there is one
+-- the answer: all of the buffer's output, where there is one
 abbrev pub answer_text : Bool → Option (Box Buffer Global) → Option (List ℕ)
 answer_text true (Some buffer) = Some (main_bytes buffer.value)
 answer_text answered buffer = None

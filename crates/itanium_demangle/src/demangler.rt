@@ -28,7 +28,7 @@ pub const MAX_DEPTH: usize = 128;
 /// Answers symbol after symbol from the same buffer, and keeps the last answer.
 #[derive(Drop)]
 pub struct Demangler {
-    // Where there is an answer, it is all of the buffer's main text.
+    // Where there is an answer, it is all of the buffer's output.
     answered: bool,
     entered: usize,
     most_saved: usize,
@@ -59,8 +59,8 @@ fn begin_answer(buffer: &mut Buffer) -> Mark
     buffer.open()
 }
 
-/// Makes the printing that was found, and all that follows from a dot after it, the main text of the buffer, and drops
-/// its scopes. False where the printing isn't UTF-8.
+/// Makes the printing that was found the output of the buffer, with all from a dot on that is right after what was
+/// read, and drops its scopes first, so that `close` moves no argument. False where the printing isn't UTF-8.
 #[inline(always)]
 fn end_answer(reader: &mut Reader, mark: Mark) -> Result<bool, AllocError>
     requires innermost { frame reader.old.buffer.value ≡ inside mark }
@@ -71,7 +71,7 @@ fn end_answer(reader: &mut Reader, mark: Mark) -> Result<bool, AllocError>
         (spec.suffix reader.old.rest.now) (answer_text answered (Some reader.new.buffer))) }
     ensures saved { OnOk result (saved reader.new.buffer.value ≡ saved reader.old.buffer.value) }
     ensures ended { IfOk result (λ answered. IsEnded answered (Some reader.new.buffer)) }
-    ensures entered { OnOk result (reader.new.entered ≡ reader.old.entered) }
+    ensures entered { reader.new.entered ≡ reader.old.entered }
     ensures most_saved { OnOk result ((state reader.new).most_saved ≡ (state reader.old).most_saved) }
 {
     if !is_utf8(reader.buffer.bytes(reader.found)) {
@@ -105,7 +105,7 @@ impl Demangler {
         }
     }
 
-    /// Keeps the counts of a reader that has ended, and its buffer, whose main text is the answer where there is one.
+    /// Keeps the counts of a reader that has ended, and its buffer, whose output is the answer where there is one.
     #[inline(always)]
     fn keep(&mut self, reader: Reader, answered: bool)
         requires text { IsText (answer_text answered (Some reader.buffer)) }
@@ -191,7 +191,7 @@ impl Demangler {
     }
 
     /// Where the last `prepare` or `demangle` had an answer, the buffer that it stands in, lent until the next call:
-    /// the answer is its main text, and nothing else is in that; its saved shapes are those of the trees that the
+    /// the answer is its output, and nothing else is in that; its saved shapes are those of the trees that the
     /// symbol leaves saved, and their texts are the components; no scope and no mark is open. Elsewhere `None`.
     pub fn buffer(&self) -> Option<&Buffer>
         ensures value { option_map (λ buffer. main_bytes buffer.now) result ≡ self.now.text }

@@ -108,7 +108,7 @@ abbrev pub trees : List Tree → Trees
 trees [] = no_trees
 trees (t ∷ ts) = more_trees t (trees ts)
 
--- an abbreviation as it is printed: its last own name stands after `std::`
+-- an abbreviation as it is printed: its base name stands after `std::`
 abbrev pub abbreviation_shape : Abbreviation → Shape
 abbreviation_shape abbreviated =
     with_own 5 (5 + length (abbreviation_own abbreviated)) (plain_shape (abbreviation_text abbreviated))

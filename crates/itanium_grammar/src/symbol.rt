@@ -14,7 +14,7 @@ pub fn after_prefix(symbol: &[u8]) -> Option<&[u8]>
     }
 }
 
-/// What ends an answer: all that follows from a dot right after the bytes that were read, or nothing.
+/// What ends an answer: all from the dot on that is right after the bytes that were read, or nothing.
 pub fn suffix(rest: &[u8]) -> &[u8]
     ensures value { result.now ≡ spec.suffix rest.now }
 {

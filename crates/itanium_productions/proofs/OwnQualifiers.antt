@@ -1,4 +1,4 @@
--- A name whose own qualifiers wait, or are printed after it.
+-- A name whose own qualifiers are left out, or are printed after it.
 use Rattle.std.proofs.Common.{◌≡◌, ℕ, Bool, true, false, refl, Result}
 use Rattle.itanium_syntax.specs.declared.context.Context.{Context}
 use Rattle.itanium_reader.specs.declared.reader.Reader.{Reader}
@@ -8,9 +8,9 @@ use Rattle.itanium_reader.specs.Parser.{ParserState, parse_bare_name, parse_name
 use Rattle.itanium_reader.proofs.Rules.{bare_names}
 use Rattle.itanium_reader.proofs.Unfold.{name_opens}
 
-pub gives_name : (wait : Bool) (result : Result (Unit {0}) Stop) (after : Reader) (d : ℕ) (x : Context) (s : ParserState)
-    → (wait ≡ true → GivesBareName result after (parse_bare_name d x s)) → (wait ≡ false → Gives result after (parse_name d x s)) → GivesName wait result after d x s
-gives_name true result after d x s waits printed = waits refl
-gives_name false result after d x s waits printed = printed refl
+pub gives_name : (bare : Bool) (result : Result (Unit {0}) Stop) (after : Reader) (d : ℕ) (x : Context) (s : ParserState)
+    → (bare ≡ true → GivesBareName result after (parse_bare_name d x s)) → (bare ≡ false → Gives result after (parse_name d x s)) → GivesName bare result after d x s
+gives_name true result after d x s named printed = named refl
+gives_name false result after d x s named printed = printed refl
 
 pub ruleset names = (bare_names, name_opens, gives_name)

@@ -6,7 +6,7 @@ ghost use Rattle.demangle_text.specs.Calls.{IsLast};
 ghost use Rattle.itanium_reader.specs.Parser as spec;
 ghost use Rattle.itanium_reader.specs.Outcome.{state, Gives, HasRoom, TakesSome, SavedBounds};
 
-use crate::expressions::{read_expression, read_primary};
+use crate::expressions::{read_expr_primary, read_expression};
 use crate::types::read_type;
 use demangle_edit::{append_piece, close_arguments, open_arguments};
 use itanium_reader::{Reader, Stop, text_limit};
@@ -17,7 +17,7 @@ use itanium_syntax::context::Context;
 /// productions.
 #[tactic(auto, using(itanium_reader::proofs::Rules::argument_lists))]
 #[cycle(reader)]
-pub(crate) fn read_attached(
+pub(crate) fn read_template_args(
     reader: &mut Reader,
     depth: usize,
     context: Context,
@@ -37,11 +37,12 @@ pub(crate) fn read_attached(
 {
     let depth = reader.enter(depth)?;
     reader.skip(1);
+    // A name outside of a type keeps its arguments as a scope, for the template parameters that follow.
     let opens = context.opens_scope(of_name);
     reader.begin_list(opens)?;
     let scopes = reader.buffer.scopes();
     let list = open_arguments(&mut reader.buffer, reader.found)?;
-    // The list begins with its `<`, after the name.
+    // A list is measured from its `<` on, without the name in front.
     let front = reader.buffer.len(list) - 1;
     let widest = front + text_limit();
     let mut first = true;
@@ -57,7 +58,7 @@ pub(crate) fn read_attached(
             }
             ArgsCase::NextArgument => {
                 reader.separate(first)?;
-                framed_argument(reader, depth, context)?;
+                framed_template_arg(reader, depth, context)?;
                 reader.add_argument(opens, scopes)?;
                 if reader.buffer.len(reader.buffer.up_to_end(list)) > widest {
                     return Err(Stop::Unread);
@@ -73,7 +74,11 @@ pub(crate) fn read_attached(
 #[tactic(auto, using(itanium_reader::proofs::Rules::packs))]
 #[cycle(reader)]
 #[inline(never)]
-pub(crate) fn read_pack(reader: &mut Reader, depth: usize, context: Context) -> Result<(), Stop>
+pub(crate) fn read_argument_pack(
+    reader: &mut Reader,
+    depth: usize,
+    context: Context,
+) -> Result<(), Stop>
     requires room { HasRoom 1 (state reader.old) }
     requires some { 0 < length reader.old.rest.now }
     ensures reads { Gives result reader.new (spec.parse_pack depth context (state reader.old)) }
@@ -97,7 +102,7 @@ pub(crate) fn read_pack(reader: &mut Reader, depth: usize, context: Context) -> 
             }
             ArgsCase::NextArgument => {
                 list = reader.separate_list(list, first)?;
-                framed_argument(reader, depth, inside)?;
+                framed_template_arg(reader, depth, inside)?;
                 list = append_piece(&mut reader.buffer, list, b"", reader.found)?;
                 if reader.is_wide(list) {
                     return Err(Stop::Unread);
@@ -112,7 +117,11 @@ pub(crate) fn read_pack(reader: &mut Reader, depth: usize, context: Context) -> 
 #[tactic(auto, using(itanium_reader::proofs::Rules::arguments))]
 #[cycle(reader)]
 #[inline(always)]
-pub(crate) fn read_argument(reader: &mut Reader, depth: usize, context: Context) -> Result<(), Stop>
+pub(crate) fn read_template_arg(
+    reader: &mut Reader,
+    depth: usize,
+    context: Context,
+) -> Result<(), Stop>
     requires room { HasRoom 2 (state reader.old) }
     ensures reads { Gives result reader.new
         (spec.parse_argument depth context (state reader.old)) }
@@ -121,13 +130,13 @@ pub(crate) fn read_argument(reader: &mut Reader, depth: usize, context: Context)
     ensures saved { SavedBounds 0 result (state reader.old) (state reader.new) }
 {
     match argument_case(reader.rest) {
-        ArgumentCase::PackArgument => read_pack(reader, depth, context),
+        ArgumentCase::PackArgument => read_argument_pack(reader, depth, context),
         ArgumentCase::ExpressionArgument => {
             reader.skip(1);
             read_expression(reader, depth, context)?;
             reader.read_end()
         }
-        ArgumentCase::LiteralArgument => read_primary(reader, depth, context),
+        ArgumentCase::LiteralArgument => read_expr_primary(reader, depth, context),
         ArgumentCase::ConstraintArgument => Err(Stop::Unread),
         ArgumentCase::TypeArgument => read_type(reader, depth, context),
     }
@@ -138,7 +147,7 @@ pub(crate) fn read_argument(reader: &mut Reader, depth: usize, context: Context)
 #[tactic(auto, using(itanium_reader::proofs::Rules::buffers))]
 #[cycle(reader)]
 #[inline(always)]
-pub(crate) fn framed_argument(
+pub(crate) fn framed_template_arg(
     reader: &mut Reader,
     depth: usize,
     context: Context,
@@ -153,7 +162,7 @@ pub(crate) fn framed_argument(
     ensures saved { SavedBounds 0 result (state reader.old) (state reader.new) }
 {
     let mark = reader.buffer.open();
-    read_argument(reader, depth, context)?;
+    read_template_arg(reader, depth, context)?;
     reader.close_found(mark)?;
     Ok(())
 }

@@ -9,7 +9,7 @@ ghost use Rattle.itanium_reader.specs.Parser as spec;
 ghost use Rattle.itanium_reader.specs.Outcome.{state, Gives, GivesBareName, Leaves, HasRoom, TakesSome, MayTakeNone, SavedBounds};
 
 use crate::names::{framed_name, read_name};
-use crate::specials::read_special;
+use crate::specials::read_special_name;
 use crate::types::{read_params, read_type};
 use demangle_edit::{
     Quals, apply_name_qualifiers, close_opened, close_params, open_default_arg, open_params,
@@ -65,7 +65,7 @@ pub(crate) fn read_return(
 }
 
 /// What is after the name of an `<encoding>`: its return type, its parameters, and then the name's own qualifiers,
-/// which wait in `quals`.
+/// which are left in `quals`.
 #[tactic(auto, using(itanium_reader::proofs::Rules::buffers))]
 #[cycle(reader)]
 pub(crate) fn end_encoding(
@@ -111,7 +111,7 @@ pub(crate) fn read_encoding(reader: &mut Reader, depth: usize, context: Context)
     ensures saved { SavedBounds 1 result (state reader.old) (state reader.new) }
 {
     match symbol_case(reader.rest) {
-        SymbolCase::SpecialSymbol => read_special(reader, depth, context),
+        SymbolCase::SpecialSymbol => read_special_name(reader, depth, context),
         SymbolCase::NameSymbol => {
             read_name(reader, depth, context, true)?;
             end_encoding(reader, depth, context, reader.found)
@@ -120,7 +120,7 @@ pub(crate) fn read_encoding(reader: &mut Reader, depth: usize, context: Context)
 }
 
 /// What follows the `<encoding>` of a `<local-name>`: `E s`, `E d [<number>] _ <name>` or `E <name>`. A name's own
-/// qualifiers wait.
+/// qualifiers are left in `quals`.
 #[tactic(auto, using(itanium_reader::proofs::Rules::entities))]
 #[cycle(reader)]
 #[inline(never)]
@@ -168,10 +168,14 @@ pub(crate) fn read_entity(
 }
 
 /// `<local-name> ::= Z <encoding> E <name> | Z <encoding> E s | Z <encoding> E d [<number>] _ <name>`, after its
-/// `Z`: the own qualifiers of its entity wait.
+/// `Z`: the own qualifiers of its entity are left in `quals`.
 #[tactic(auto, using(itanium_reader::proofs::Rules::local_names))]
 #[cycle(reader)]
-pub(crate) fn read_local(reader: &mut Reader, depth: usize, context: Context) -> Result<(), Stop>
+pub(crate) fn read_local_name(
+    reader: &mut Reader,
+    depth: usize,
+    context: Context,
+) -> Result<(), Stop>
     requires room { HasRoom 2 (state reader.old) }
     ensures reads { GivesBareName result reader.new (spec.parse_local
         (spec.parse_encoding depth (inside_encoding context))

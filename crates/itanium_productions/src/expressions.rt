@@ -18,7 +18,11 @@ use itanium_syntax::expressions::{
 /// `<expr-primary> ::= L <type> <value> E | L _Z <encoding> E`
 #[tactic(auto, using(itanium_reader::proofs::Rules::primaries))]
 #[cycle(reader)]
-pub(crate) fn read_primary(reader: &mut Reader, depth: usize, context: Context) -> Result<(), Stop>
+pub(crate) fn read_expr_primary(
+    reader: &mut Reader,
+    depth: usize,
+    context: Context,
+) -> Result<(), Stop>
     requires room { HasRoom 0 (state reader.old) }
     requires some { 0 < length reader.old.rest.now }
     ensures reads { Gives result reader.new (spec.parse_primary depth context (state reader.old)) }
@@ -248,8 +252,8 @@ pub(crate) fn read_expression(
         ExpressionCase::BinaryExpression => read_binary(reader, depth, context)?,
         ExpressionCase::GreaterExpression => read_greater(reader, depth, context)?,
         ExpressionCase::ConditionalExpression => read_conditional(reader, depth, context)?,
-        ExpressionCase::ParameterExpression => reader.read_parameter(context)?,
-        ExpressionCase::LiteralExpression => read_primary(reader, depth, context)?,
+        ExpressionCase::ParameterExpression => reader.read_template_param(context)?,
+        ExpressionCase::LiteralExpression => read_expr_primary(reader, depth, context)?,
         ExpressionCase::NoExpression => return Err(Stop::Unread),
     }
     reader.measure()?;
@@ -273,8 +277,7 @@ pub(crate) fn read_operand(reader: &mut Reader, depth: usize, context: Context) 
     Ok(())
 }
 
-/// An operand in a frame of its own: what lived keeps its shape. The output is all that was
-/// there and then its text.
+/// An operand in a frame of its own: what lived keeps its shape. The output is all that was there and then its text.
 #[tactic(auto, using(itanium_reader::proofs::Rules::buffers))]
 #[cycle(reader)]
 pub(crate) fn framed_operand(

@@ -3,16 +3,15 @@ ghost use Rattle.std.specs.Prelude.{◌≡◌, ◌++◌, length, None, Some, IfO
 ghost use Rattle.demangle_text.specs.State.{IsLiving, shape, IsRun, SameFrame, main_bytes};
 ghost use Rattle.demangle_text.specs.Shape.{text};
 ghost use Rattle.demangle_text.specs.Calls.{IsLast};
-ghost use Rattle.itanium_syntax.specs.Names.{free_case, first_case};
-ghost use Rattle.itanium_syntax.specs.Names.{unscoped_case, saves_first};
+ghost use Rattle.itanium_syntax.specs.Names.{free_case, first_case, unscoped_case, saves_first};
 ghost use Rattle.itanium_syntax.specs.Context.{inside_lambda};
 ghost use Rattle.itanium_reader.specs.Cases.{FreeName};
 ghost use Rattle.itanium_reader.specs.Parser as spec;
-ghost use Rattle.itanium_reader.specs.Outcome.{state, Gives, GivesBareName, GivesName, GivesWaiting, HasRoom, TakesSome};
+ghost use Rattle.itanium_reader.specs.Outcome.{state, Gives, GivesBareName, GivesName, GivesUnsaved, HasRoom, TakesSome};
 ghost use Rattle.itanium_reader.specs.Outcome.{SavedBounds};
 
-use crate::args::read_attached;
-use crate::encodings::read_local;
+use crate::args::read_template_args;
+use crate::encodings::read_local_name;
 use crate::types::{read_params, read_type};
 use demangle_edit::{close_opened, open_parent};
 use demangle_text::Piece;
@@ -21,14 +20,17 @@ use itanium_syntax::args::{AttachedCase, attached_case};
 use itanium_syntax::context::Context;
 use itanium_syntax::names::{
     FirstCase, FreeCase, NameCase, SegmentCase, UnqualifiedCase, UnscopedCase, begins_source,
-    first_case, free_case, name_case, name_quals, past_internal, segment_case, unqualified_case,
-    unscoped_case,
+    first_case, free_case, name_case, name_quals, segment_case, unqualified_case, unscoped_case,
 };
 
 /// `<closure-type-name> ::= Ul <lambda-sig> E [<nonnegative number>] _`, after its `Ul`.
 #[tactic(auto, using(itanium_reader::proofs::Rules::parents))]
 #[cycle(reader)]
-pub(crate) fn read_lambda(reader: &mut Reader, depth: usize, context: Context) -> Result<(), Stop>
+pub(crate) fn read_closure_type_name(
+    reader: &mut Reader,
+    depth: usize,
+    context: Context,
+) -> Result<(), Stop>
     requires room { HasRoom 2 (state reader.old) }
     ensures reads { Gives result reader.new (spec.parse_lambda (spec.parse_type depth context) (state reader.old)) }
     ensures run { OnOk result (IsRun reader.old.buffer.value reader.new.buffer.value) }
@@ -59,14 +61,14 @@ pub(crate) fn read_free_name(
 {
     match free_case(reader.rest) {
         // Its callers read a source name themselves.
-        FreeCase::SourceName => reader.read_source(),
+        FreeCase::SourceName => reader.read_source_name(),
         FreeCase::UnnamedTypeName => {
             reader.skip(2);
             reader.read_unnamed_type()
         }
         FreeCase::LambdaName => {
             reader.skip(2);
-            read_lambda(reader, depth, context.inside_lambda())
+            read_closure_type_name(reader, depth, context.inside_lambda())
         }
         FreeCase::ConversionName => {
             reader.skip(2);
@@ -76,9 +78,9 @@ pub(crate) fn read_free_name(
         }
         FreeCase::LiteralOperatorName => {
             reader.skip(2);
-            reader.read_literal_operator()
+            reader.read_literal_operator_name()
         }
-        FreeCase::OperatorName => reader.read_operator(),
+        FreeCase::OperatorName => reader.read_operator_name(),
         FreeCase::NoName => Err(Stop::Unread),
     }
 }
@@ -87,7 +89,7 @@ pub(crate) fn read_free_name(
 #[tactic(auto, using(itanium_reader::proofs::Rules::outer_names))]
 #[cycle(reader)]
 #[inline(always)]
-pub(crate) fn read_unqualified(
+pub(crate) fn read_unqualified_name(
     reader: &mut Reader,
     depth: usize,
     context: Context,
@@ -100,9 +102,9 @@ pub(crate) fn read_unqualified(
     ensures bounds { TakesSome 0 result (state reader.old) (state reader.new) }
     ensures saved { SavedBounds 1 result (state reader.old) (state reader.new) }
 {
-    reader.rest = past_internal(reader.rest);
+    reader.skip_internal();
     if begins_source(reader.rest) {
-        reader.read_source()?;
+        reader.read_source_name()?;
     } else {
         read_free_name(reader, depth, context)?;
     }
@@ -125,7 +127,7 @@ pub(crate) fn read_segment(reader: &mut Reader, depth: usize, context: Context) 
     ensures bounds { TakesSome 0 result (state reader.old) (state reader.new) }
     ensures saved { SavedBounds 1 result (state reader.old) (state reader.new) }
 {
-    reader.rest = past_internal(reader.rest);
+    reader.skip_internal();
     if begins_source(reader.rest) {
         return reader.read_source_segment(false);
     }
@@ -164,24 +166,29 @@ pub(crate) fn read_free_segment(
     Ok(())
 }
 
-/// The first segment of a `<nested-name>`. The answer says whether the segment waits: it is saved once a further one
-/// follows.
+/// The first segment of a `<nested-name>`. The answer says whether it is saved once a further one follows: `St` and a
+/// `<substitution>` aren't.
 #[tactic(auto, using(itanium_reader::proofs::Rules::first_segments))]
 #[cycle(reader)]
 #[inline(always)]
 pub(crate) fn read_first(reader: &mut Reader, depth: usize, context: Context) -> Result<bool, Stop>
     requires room { HasRoom 2 (state reader.old) }
-    ensures reads { GivesWaiting result reader.new (spec.first_as (first_case reader.old.rest.now)
+    ensures reads { GivesUnsaved result reader.new (spec.first_as (first_case reader.old.rest.now)
         (spec.unqualified_name depth context) context (state reader.old)) }
-    ensures waits { IfOk result (λ waits. waits ≡ saves_first (first_case reader.old.rest.now)) }
+    ensures unsaved { IfOk result (λ unsaved. unsaved ≡ saves_first (first_case reader.old.rest.now)) }
     ensures run { OnOk result (IsRun reader.old.buffer.value reader.new.buffer.value) }
     ensures last { OnOk result (IsLast reader.new.buffer.value reader.new.found) }
     ensures bounds { TakesSome 0 result (state reader.old) (state reader.new) }
     ensures saved { SavedBounds 1 result (state reader.old) (state reader.new) }
 {
+    if begins_source(reader.rest) {
+        reader.read_source_name()?;
+        reader.read_tags()?;
+        return Ok(true);
+    }
     match first_case(reader.rest) {
         FirstCase::ParameterFirst => {
-            reader.read_parameter(context)?;
+            reader.read_template_param(context)?;
             reader.copy_found()?;
             Ok(true)
         }
@@ -196,18 +203,22 @@ pub(crate) fn read_first(reader: &mut Reader, depth: usize, context: Context) ->
             Ok(false)
         }
         FirstCase::NameFirst => {
-            read_unqualified(reader, depth, context)?;
+            read_unqualified_name(reader, depth, context)?;
             Ok(true)
         }
     }
 }
 
-/// `<nested-name> ::= N [<CV-qualifiers>] [<ref-qualifier>] <prefix> E | N H <prefix> E`, after its `N`: its own
-/// qualifiers wait.
+/// `<nested-name> ::= N [<CV-qualifiers>] [<ref-qualifier>] <prefix> E | N H <prefix> E`, after its `N`. Names inside
+/// the prefix overwrite `quals`, so its own qualifiers are put there last.
 #[tactic(auto, using(itanium_reader::proofs::Rules::nested_names))]
 #[cycle(reader)]
 #[inline(always)]
-pub(crate) fn read_nested(reader: &mut Reader, depth: usize, context: Context) -> Result<(), Stop>
+pub(crate) fn read_nested_name(
+    reader: &mut Reader,
+    depth: usize,
+    context: Context,
+) -> Result<(), Stop>
     requires room { HasRoom 2 (state reader.old) }
     ensures reads { GivesBareName result reader.new (spec.parse_nested
         (spec.unqualified_name depth context)
@@ -232,8 +243,8 @@ pub(crate) fn read_nested(reader: &mut Reader, depth: usize, context: Context) -
     Ok(())
 }
 
-/// `<prefix> E`, the segments of a `<nested-name>`. What was found is saved once a further segment follows: right in
-/// front of the `E` it would be taken back. Most segments are `<source-name>`s, so one is asked for first.
+/// `<prefix> E`. In the ABI the last segment stands outside of the `<prefix>`: so each but the last is saved, once a
+/// further one follows. Most segments are `<source-name>`s, so one is asked for first.
 #[tactic(auto, using(itanium_reader::proofs::Rules::segments))]
 #[cycle(reader)]
 #[inline(always)]
@@ -246,39 +257,43 @@ pub(crate) fn read_prefix(reader: &mut Reader, depth: usize, context: Context) -
     ensures bounds { TakesSome 1 result (state reader.old) (state reader.new) }
     ensures saved { SavedBounds 1 result (state reader.old) (state reader.new) }
 {
-    let mut waits = read_first(reader, depth, context)?;
+    let mut unsaved = read_first(reader, depth, context)?;
     loop {
         if begins_source(reader.rest) {
-            reader.read_source_segment(waits)?;
+            reader.read_source_segment(unsaved)?;
             reader.measure()?;
-            waits = true;
+            unsaved = true;
             continue;
         }
         reader.skip_initializer();
         match segment_case(reader.rest) {
             SegmentCase::EndOfSegments => {
-                reader.end_nested(waits);
+                reader.end_nested_name(unsaved);
                 return Ok(());
             }
             SegmentCase::ArgsSegment => {
-                reader.save_waiting(waits)?;
-                read_attached(reader, depth, context, true)?;
+                reader.save_unsaved(unsaved)?;
+                read_template_args(reader, depth, context, true)?;
             }
             SegmentCase::NameSegment => {
-                reader.save_waiting(waits)?;
+                reader.save_unsaved(unsaved)?;
                 read_segment(reader, depth, context)?;
             }
         }
         reader.measure()?;
-        waits = true;
+        unsaved = true;
     }
 }
 
-/// `<unscoped-name> ::= [St] <unqualified-name>` and `<template-args>` after it or none, or a `<substitution>` and
-/// `<template-args>`.
+/// `<unscoped-name> ::= [St] <unqualified-name>`, or an `<unscoped-template-name>` with its `<template-args>`: whether
+/// an `I` follows says which. A `<substitution>` has one after it.
 #[tactic(auto, using(itanium_reader::proofs::Rules::segments))]
 #[cycle(reader)]
-pub(crate) fn read_unscoped(reader: &mut Reader, depth: usize, context: Context) -> Result<(), Stop>
+pub(crate) fn read_unscoped_name(
+    reader: &mut Reader,
+    depth: usize,
+    context: Context,
+) -> Result<(), Stop>
     requires room { HasRoom 0 (state reader.old) }
     ensures reads { Gives result reader.new
         (spec.unscoped_as (unscoped_case reader.old.rest.now)
@@ -298,22 +313,23 @@ pub(crate) fn read_unscoped(reader: &mut Reader, depth: usize, context: Context)
             reader.read_substitution()?;
             return match attached_case(reader.rest) {
                 AttachedCase::NoneAttached => Err(Stop::Unread),
-                AttachedCase::ArgsAttached => read_attached(reader, depth, context, true),
+                AttachedCase::ArgsAttached => read_template_args(reader, depth, context, true),
             };
         }
-        UnscopedCase::PlainName => read_unqualified(reader, depth, context)?,
+        UnscopedCase::PlainName => read_unqualified_name(reader, depth, context)?,
     }
     match attached_case(reader.rest) {
         AttachedCase::NoneAttached => Ok(()),
         AttachedCase::ArgsAttached => {
             reader.save_found()?;
-            read_attached(reader, depth, context, true)
+            read_template_args(reader, depth, context, true)
         }
     }
 }
 
 /// `<name> ::= <nested-name> | <local-name> | <unscoped-name> | <unscoped-template-name> <template-args>`, within
-/// `depth` open productions. Its own qualifiers are printed after it, or they wait: then `quals` holds them.
+/// `depth` open productions. The own qualifiers of a bare name are left in `quals` for the caller. Those of any other
+/// are printed after it: a word as ` const` only where the context is `shown` or the name is local, a reference always.
 #[tactic(auto, using(crate::proofs::OwnQualifiers::names))]
 #[cycle(reader)]
 #[inline(always)]
@@ -321,10 +337,10 @@ pub(crate) fn read_name(
     reader: &mut Reader,
     depth: usize,
     context: Context,
-    wait: bool,
+    bare: bool,
 ) -> Result<(), Stop>
     requires room { HasRoom 1 (state reader.old) }
-    ensures reads { GivesName wait result reader.new depth context (state reader.old) }
+    ensures reads { GivesName bare result reader.new depth context (state reader.old) }
     ensures fits { OnOk result (spec.is_wide (shape reader.new.buffer.value reader.new.found) ≡ false) }
     ensures run { OnOk result (IsRun reader.old.buffer.value reader.new.buffer.value) }
     ensures refused { depth ≡ 0 → reader.new.entered ≡ reader.old.entered }
@@ -335,22 +351,22 @@ pub(crate) fn read_name(
     let shown = match name_case(reader.rest) {
         NameCase::NestedName => {
             reader.skip(1);
-            read_nested(reader, depth, context)?;
+            read_nested_name(reader, depth, context)?;
             context.shown
         }
         NameCase::LocalName => {
             reader.skip(1);
-            read_local(reader, depth, context)?;
+            read_local_name(reader, depth, context)?;
             true
         }
         NameCase::UnscopedName => {
-            read_unscoped(reader, depth, context)?;
+            read_unscoped_name(reader, depth, context)?;
             reader.quals = None;
             context.shown
         }
     };
     reader.measure()?;
-    if wait {
+    if bare {
         return Ok(());
     }
     if let Some(quals) = reader.quals {
@@ -360,18 +376,17 @@ pub(crate) fn read_name(
     Ok(())
 }
 
-/// `<name>` in a frame of its own: what lived keeps its shape. The output is all that was
-/// there and then its text.
+/// `<name>` in a frame of its own: what lived keeps its shape. The output is all that was there and then its text.
 #[tactic(auto, using(itanium_reader::proofs::Rules::buffers))]
 #[cycle(reader)]
 pub(crate) fn framed_name(
     reader: &mut Reader,
     depth: usize,
     context: Context,
-    wait: bool,
+    bare: bool,
 ) -> Result<(), Stop>
     requires room { HasRoom 1 (state reader.old) }
-    ensures reads { GivesName wait result reader.new depth context (state reader.old) }
+    ensures reads { GivesName bare result reader.new depth context (state reader.old) }
     ensures kept { OnOk result (SameFrame reader.old.buffer.value reader.new.buffer.value) }
     ensures main { OnOk result (main_bytes reader.new.buffer.value
         ≡ main_bytes reader.old.buffer.value ++ text (shape reader.new.buffer.value reader.new.found)) }
@@ -379,7 +394,7 @@ pub(crate) fn framed_name(
     ensures saved { SavedBounds 1 result (state reader.old) (state reader.new) }
 {
     let mark = reader.buffer.open();
-    read_name(reader, depth, context, wait)?;
+    read_name(reader, depth, context, bare)?;
     reader.close_found(mark)?;
     Ok(())
 }

@@ -141,7 +141,11 @@ pub(crate) fn read_thunk(reader: &mut Reader, depth: usize, context: Context) ->
 #[tactic(auto, using(itanium_reader::proofs::Rules::specials))]
 #[cycle(reader)]
 #[inline(never)]
-pub(crate) fn read_special(reader: &mut Reader, depth: usize, context: Context) -> Result<(), Stop>
+pub(crate) fn read_special_name(
+    reader: &mut Reader,
+    depth: usize,
+    context: Context,
+) -> Result<(), Stop>
     requires room { HasRoom 1 (state reader.old) }
     ensures reads { Gives result reader.new (spec.parse_special depth context (state reader.old)) }
     ensures run { OnOk result (IsRun reader.old.buffer.value reader.new.buffer.value) }
@@ -159,7 +163,7 @@ pub(crate) fn read_special(reader: &mut Reader, depth: usize, context: Context) 
 }
 
 /// What follows the prefix of a symbol, within `depth` open productions: a special name, or a name without its
-/// parameters. Mostly it is a `<nested-name>`.
+/// parameters. After the offsets of a thunk stands such a one too.
 #[tactic(auto, using(itanium_reader::proofs::Rules::symbols))]
 #[cycle(reader)]
 #[inline(always)]
@@ -171,7 +175,7 @@ pub fn read_symbol(reader: &mut Reader, depth: usize, context: Context) -> Resul
     ensures saved { SavedBounds 1 result (state reader.old) (state reader.new) }
 {
     match symbol_case(reader.rest) {
-        SymbolCase::SpecialSymbol => read_special(reader, depth, context),
+        SymbolCase::SpecialSymbol => read_special_name(reader, depth, context),
         SymbolCase::NameSymbol => read_name(reader, depth, context, false),
     }
 }

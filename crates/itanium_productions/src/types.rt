@@ -7,7 +7,7 @@ ghost use Rattle.itanium_syntax.specs.Types.{params_case, past_cv};
 ghost use Rattle.itanium_reader.specs.Parser as spec;
 ghost use Rattle.itanium_reader.specs.Outcome.{state, Gives, HasRoom, TakesSome, MayTakeNone, SavedBounds};
 
-use crate::args::read_attached;
+use crate::args::read_template_args;
 use crate::names::{framed_name, read_name};
 use demangle_edit::{Pointer, Quals, append_piece, open_function};
 use demangle_text::Piece;
@@ -23,6 +23,7 @@ use itanium_syntax::types::{
 /// `<template-args>` after the type that was found, which is saved with them, or none.
 #[tactic(auto, using(itanium_reader::proofs::Rules::fronts))]
 #[cycle(reader)]
+#[inline(always)]
 pub(crate) fn read_type_attached(
     reader: &mut Reader,
     depth: usize,
@@ -39,7 +40,7 @@ pub(crate) fn read_type_attached(
     match attached_case(reader.rest) {
         AttachedCase::NoneAttached => Ok(()),
         AttachedCase::ArgsAttached => {
-            read_attached(reader, depth, context, false)?;
+            read_template_args(reader, depth, context, false)?;
             reader.save_found()?;
             Ok(())
         }
@@ -66,13 +67,13 @@ pub(crate) fn read_type(reader: &mut Reader, depth: usize, context: Context) -> 
             reader.save_found()?;
             return Ok(());
         }
-        TypeCase::BuiltinType => reader.read_builtin()?,
+        TypeCase::BuiltinType => reader.read_builtin_type()?,
         TypeCase::SubstitutionType => {
             reader.read_substitution()?;
             read_type_attached(reader, depth, context)?;
         }
         TypeCase::ParameterType => {
-            reader.read_parameter(context)?;
+            reader.read_template_param(context)?;
             reader.save_found()?;
             read_type_attached(reader, depth, context)?;
         }
@@ -82,14 +83,14 @@ pub(crate) fn read_type(reader: &mut Reader, depth: usize, context: Context) -> 
             reader.save_found()?;
         }
         TypeCase::FunctionType => {
-            read_function(reader, depth, context, Quals::none())?;
+            read_function_type(reader, depth, context, Quals::none())?;
             reader.save_found()?;
         }
-        TypeCase::ArrayType => read_array(reader, depth, context)?,
-        TypeCase::MemberType => read_member(reader, depth, context)?,
+        TypeCase::ArrayType => read_array_type(reader, depth, context)?,
+        TypeCase::MemberType => read_pointer_to_member_type(reader, depth, context)?,
         TypeCase::ExpansionType => read_expansion(reader, depth, context)?,
         TypeCase::ElaboratedType => read_elaborated(reader, depth, context)?,
-        TypeCase::VendorType => reader.read_vendor()?,
+        TypeCase::VendorType => reader.read_vendor_type()?,
         TypeCase::UnreadType => return Err(Stop::Unread),
     }
     reader.measure()?;
@@ -121,7 +122,11 @@ pub(crate) fn read_expansion(
 /// `<array-type> ::= A [<number>] _ <type>`
 #[tactic(auto, using(itanium_reader::proofs::Rules::buffers))]
 #[cycle(reader)]
-pub(crate) fn read_array(reader: &mut Reader, depth: usize, context: Context) -> Result<(), Stop>
+pub(crate) fn read_array_type(
+    reader: &mut Reader,
+    depth: usize,
+    context: Context,
+) -> Result<(), Stop>
     requires room { HasRoom 1 (state reader.old) }
     requires some { 0 < length reader.old.rest.now }
     ensures reads { Gives result reader.new (spec.parse_array (spec.parse_type depth context) (state reader.old)) }
@@ -183,8 +188,7 @@ pub(crate) fn read_elaborated(
     Ok(())
 }
 
-/// A `<type>` in a frame of its own: what lived keeps its shape. The output is all that was
-/// there and then its text.
+/// A `<type>` in a frame of its own: what lived keeps its shape. The output is all that was there and then its text.
 #[tactic(auto, using(itanium_reader::proofs::Rules::buffers))]
 #[cycle(reader)]
 #[inline(always)]
@@ -206,7 +210,11 @@ pub(crate) fn framed_type(reader: &mut Reader, depth: usize, context: Context) -
 /// `<pointer-to-member-type> ::= M <type> <type>`: the class, and the member in a frame of its own.
 #[tactic(auto, using(itanium_reader::proofs::Rules::buffers))]
 #[cycle(reader)]
-pub(crate) fn read_member(reader: &mut Reader, depth: usize, context: Context) -> Result<(), Stop>
+pub(crate) fn read_pointer_to_member_type(
+    reader: &mut Reader,
+    depth: usize,
+    context: Context,
+) -> Result<(), Stop>
     requires room { HasRoom 1 (state reader.old) }
     requires some { 0 < length reader.old.rest.now }
     ensures reads { Gives result reader.new (spec.parse_member (spec.parse_type depth context) (state reader.old)) }
@@ -235,7 +243,7 @@ pub(crate) fn read_cv(reader: &mut Reader, depth: usize, context: Context) -> Re
     let (quals, rest) = cv_quals(reader.rest);
     reader.rest = rest;
     match cv_case(reader.rest) {
-        CvCase::CvFunction => read_function(reader, depth, context, quals),
+        CvCase::CvFunction => read_function_type(reader, depth, context, quals),
         CvCase::CvOther => {
             read_type(reader, depth, context)?;
             reader.wrap_found(quals)?;
@@ -247,7 +255,7 @@ pub(crate) fn read_cv(reader: &mut Reader, depth: usize, context: Context) -> Re
 /// `<function-type> ::= F <return type> <parameter types> [<ref-qualifier>] E`, with qualifiers in front of it.
 #[tactic(auto, using(itanium_reader::proofs::Rules::buffers))]
 #[cycle(reader)]
-pub(crate) fn read_function(
+pub(crate) fn read_function_type(
     reader: &mut Reader,
     depth: usize,
     context: Context,

@@ -9,7 +9,8 @@ use Rattle.itanium_reader.proofs.Unfold.{expression_opens, no_expression, primar
 use Rattle.itanium_reader.proofs.Unfold.{no_thunk, special_opens, pack_opens, no_pack, type_opens, no_type}
 use Rattle.itanium_reader.proofs.Unfold.{substitution_opens, parameter_opens, unqualified_opens, symbol_opens}
 use Rattle.itanium_reader.proofs.Unfold.{nested_opens, internal_source_opens, outer_source_opens}
-use Rattle.itanium_reader.proofs.Texts.{waiting_back, nothing_in_front, signed_printed, plain_printed}
+use Rattle.itanium_reader.proofs.Unfold.{first_named, first_source_opens}
+use Rattle.itanium_reader.proofs.Texts.{unsaved_back, nothing_in_front, signed_printed, plain_printed}
 use Rattle.itanium_reader.proofs.Texts.{virtual_printed}
 use Rattle.itanium_reader.proofs.Turns.{no_attached, no_tags}
 use Rattle.itanium_reader.proofs.Loops.{loop_start}
@@ -30,9 +31,9 @@ pub ruleset tagged_names = (buffers, no_tags)
 
 pub ruleset segments = (fronts, lasts)
 
-pub ruleset waiting_segments = (buffers, waiting_back)
+pub ruleset last_segments = (buffers, unsaved_back)
 
-pub ruleset first_segments = (fronts, lasts)
+pub ruleset first_segments = (fronts, lasts, first_named, first_source_opens)
 
 pub ruleset lists = (buffers, lasts, nothing_in_front, StaysInPlace-edit)
 

@@ -17,7 +17,7 @@ use Rattle.itanium_grammar.specs.Answer.{max_text}
 use Rattle.itanium_reader.specs.Parser.{ParserState, is_wide}
 use Rattle.itanium_grammar.specs.Tree.{offset_sign, offset_text, worded_shape}
 use Rattle.itanium_reader.specs.Parser.{taken_back}
-use Rattle.itanium_reader.specs.Parser.{waiting}
+use Rattle.itanium_reader.specs.Parser.{save_unsaved}
 
 -- a range moves in front of a place as it does after it
 moved_in : (front len more : ℕ) (own : ℕ × ℕ) → moved (front + len) more (moved 0 front own) ≡ moved 0 front (moved len more own)
@@ -58,9 +58,9 @@ pub wide_by : (t : Shape) → max_text < text_len t → is_wide t ≡ true
 wide_by t long = longer long
 
 -- what waited is taken back
-pub waiting_back : (waits : Bool) (t : Shape) (s : ParserState) → (taken_back waits (waiting waits t s)).saved ≡ s.saved
-waiting_back true t s = take_at s.saved (t ∷ []) (length (s.saved ++ t ∷ []) - 1) (omega (arith, length-append s.saved (t ∷ [])))
-waiting_back false t s = refl
+pub unsaved_back : (unsaved : Bool) (t : Shape) (s : ParserState) → (taken_back unsaved (save_unsaved unsaved t s)).saved ≡ s.saved
+unsaved_back true t s = take_at s.saved (t ∷ []) (length (s.saved ++ t ∷ []) - 1) (omega (arith, length-append s.saved (t ∷ [])))
+unsaved_back false t s = refl
 
 -- a range stays where nothing is put
 nothing_moved : (at : ℕ) (own : ℕ × ℕ) → moved at 0 own ≡ own

@@ -25,9 +25,10 @@ use Rattle.itanium_reader.specs.declared.stop.Stop.{Stop}
 use Rattle.itanium_reader.specs.declared.stop.Stop.TheVariants.{Unread, Memory}
 use Rattle.itanium_reader.specs.Outcome.{Gives, Measures}
 use Rattle.itanium_reader.specs.Cases.{UnqualifiedCase, FreeName, ConstructorName, DestructorName, SourceName, TagCase, NoTag, NextTag}
+use Rattle.itanium_reader.specs.Cases.{NameFirst}
 use Rattle.itanium_reader.specs.Parser.{ParserState, Turn, Parses, ParsesName, ParsesBareName, ◌>>=◌, is_wide, fitting}
 use Rattle.itanium_grammar.specs.Tree.{offset_text, thunk_shape, worded_shape}
-use Rattle.itanium_reader.specs.Parser.{fitting_bare, enter, with_rest, skip}
+use Rattle.itanium_reader.specs.Parser.{fitting_bare, enter, with_rest, skip, save}
 use Rattle.itanium_reader.specs.Parser.{past_initializer, substitution_as, parse_substitution}
 use Rattle.itanium_reader.specs.Parser.{parameter_as, parse_parameter, tag_turn, unqualified_as, parse_unqualified}
 use Rattle.itanium_reader.specs.Parser.{free_as, untagged_as, in_parent, parse_tags, parse_source, parse_source_in}
@@ -297,6 +298,18 @@ outer_source_opens type param s h =
     placed_nowhere : (read : Option (Shape × ParserState)) → ((read >>= placed None) >>= λ name. parse_tags name.0 name.1) ≡ (read >>= λ name. parse_tags name.0 name.1)
     placed_nowhere None = refl
     placed_nowhere (Some name) = refl
+
+-- it is the whole of the first segment of a <nested-name> too
+pub first_named : (bytes : List ℕ) → begins_source bytes ≡ true → first_case bytes ≡ NameFirst
+first_named [] h = cc
+first_named (b ∷ bytes) h = rw (no_letter b 84 h (omega arith), no_letter b 83 h (omega arith)) refl
+
+pub first_source_opens : (type param : Parses Shape) (x : Context) (s : ParserState) → begins_source s.rest ≡ true
+    → first_as (first_case s.rest) (parse_unqualified type param) x s
+    ≡ ((parse_source s >>= λ name. parse_tags name.0 name.1) >>= λ name. Some (name.0, save name.0 name.1))
+first_source_opens type param x s h =
+    let same = (source_case false s.rest h).0 in
+    rw (first_named s.rest h) (ap (λ (read : Option (Shape × ParserState)). read >>= λ name. Some (name.0, save name.0 name.1)) (outer_source_opens type param s (rw same h) ∙ rw same refl))
 
 pub symbol_opens : (d : ℕ) (x : Context) (s : ParserState) → parse_symbol d x s ≡ symbol_as (symbol_case s.rest) (parse_special d x) (parse_name d x) s
 unfolding parse_symbol

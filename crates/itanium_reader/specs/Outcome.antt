@@ -7,7 +7,7 @@ use Rattle.std.specs.Option.{unwrap_or}
 use Rattle.demangle_quals.specs.declared.quals.Quals.{Quals}
 use Rattle.demangle_quals.specs.Quals.{no_quals}
 use Rattle.itanium_syntax.specs.declared.context.Context.{Context}
-use Rattle.itanium_reader.specs.Parser.{ParserState, Parses, Turn, loop, enter, with_rest, waiting, is_wide}
+use Rattle.itanium_reader.specs.Parser.{ParserState, Parses, Turn, loop, enter, with_rest, save_unsaved, is_wide}
 use Rattle.itanium_reader.specs.Parser.{parse_bare_name, parse_name}
 use Rattle.itanium_reader.specs.declared.reader.Reader.{Reader}
 use Rattle.itanium_reader.specs.declared.stop.Stop.{Stop}
@@ -33,7 +33,7 @@ Gives (Ok u) after parsed =
 Gives (Err Unread) after parsed = parsed ≡ None
 Gives (Err Memory) after parsed = Unit {0}
 
--- the same of a name without its own qualifiers, which wait in the reader
+-- the same of a name without its own qualifiers, which are left in the reader's field `quals`
 abbrev pub GivesBareName : Result (Unit {0}) Stop → Reader → Option ((Shape × Quals) × ParserState) → Type 0
 GivesBareName (Ok u) after parsed =
     IsLiving after.buffer.value after.found
@@ -41,21 +41,21 @@ GivesBareName (Ok u) after parsed =
 GivesBareName (Err Unread) after parsed = parsed ≡ None
 GivesBareName (Err Memory) after parsed = Unit {0}
 
--- the same of a <name>, whose own qualifiers wait, or are printed
+-- the same of a <name>: bare, with its own qualifiers left in `quals`, or with them printed
 abbrev pub GivesName : Bool → Result (Unit {0}) Stop → Reader → ℕ → Context → ParserState → Type 0
 GivesName true result after d x s = GivesBareName result after (parse_bare_name d x s)
 GivesName false result after d x s = Gives result after (parse_name d x s)
 
--- the same of the first segment of a <nested-name>: the call answers whether it waits to be saved
-abbrev pub GivesWaiting : Result Bool Stop → Reader → Option (Shape × ParserState) → Type 0
-GivesWaiting (Ok waits) after parsed =
+-- the same of the first segment of a <nested-name>: the call answers whether it is still to be saved
+abbrev pub GivesUnsaved : Result Bool Stop → Reader → Option (Shape × ParserState) → Type 0
+GivesUnsaved (Ok unsaved) after parsed =
     IsLiving after.buffer.value after.found
     × (parsed ≡ Some (
       shape after.buffer.value after.found,
-      waiting waits (shape after.buffer.value after.found) (state after),
+      save_unsaved unsaved (shape after.buffer.value after.found) (state after),
     ))
-GivesWaiting (Err Unread) after parsed = parsed ≡ None
-GivesWaiting (Err Memory) after parsed = Unit {0}
+GivesUnsaved (Err Unread) after parsed = parsed ≡ None
+GivesUnsaved (Err Memory) after parsed = Unit {0}
 
 -- the same of a call that finds no piece: it leaves the state that the parser leaves
 abbrev pub Leaves : Result (Unit {0}) Stop → Reader → Option ParserState → Type 0

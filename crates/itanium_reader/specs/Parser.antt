@@ -99,11 +99,11 @@ enter s = record s { entered = s.entered + 1 }
 abbrev pub taken_back : Bool → ParserState → ParserState
 taken_back takes s = record s { saved = if takes then take (length s.saved - 1) s.saved else s.saved }
 
--- the state once a shape is saved, where it waits for that
-abbrev pub waiting : Bool → Shape → ParserState → ParserState
-waiting waits t s = record s {
-  saved = if waits then s.saved ++ t ∷ [] else s.saved;
-  most_saved = if waits then max s.most_saved (length s.saved + 1) else s.most_saved;
+-- the state once a shape is saved, where it isn't saved yet
+abbrev pub save_unsaved : Bool → Shape → ParserState → ParserState
+save_unsaved unsaved t s = record s {
+  saved = if unsaved then s.saved ++ t ∷ [] else s.saved;
+  most_saved = if unsaved then max s.most_saved (length s.saved + 1) else s.most_saved;
 }
 
 -- the text of the shape is longer than the limit

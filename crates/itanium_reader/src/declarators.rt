@@ -114,14 +114,14 @@ impl<'a> Reader<'a> {
     }
 
     /// `u <source-name>`, which no `<template-args>` follow.
-    pub fn read_vendor(&mut self) -> Result<(), Stop>
+    pub fn read_vendor_type(&mut self) -> Result<(), Stop>
         ensures reads { Gives result self.new (spec.parse_vendor (state self.old)) }
         ensures run { OnOk result (IsRun self.old.buffer.value self.new.buffer.value) }
         ensures bounds { TakesSome 0 result (state self.old) (state self.new) }
         ensures saved { SavedBounds 0 result (state self.old) (state self.new) }
     {
         self.skip(1);
-        self.read_source()?;
+        self.read_source_name()?;
         match attached_case(self.rest) {
             AttachedCase::NoneAttached => {
                 self.save_found()?;

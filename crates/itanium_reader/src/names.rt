@@ -32,27 +32,27 @@ impl<'a> Reader<'a> {
         Ok(())
     }
 
-    /// `<source-name>` and its tags, in the parent that was found. The parent is saved first, where it waits for that.
+    /// `<source-name>` and its tags, in the parent that was found. The parent is saved first, where it isn't yet.
     #[inline(always)]
-    pub fn read_source_segment(&mut self, waits: bool) -> Result<(), Stop>
+    pub fn read_source_segment(&mut self, unsaved: bool) -> Result<(), Stop>
         requires living { IsLiving self.old.buffer.value self.old.found }
         requires last { IsLast self.old.buffer.value self.old.found }
         ensures reads { Gives result self.new (spec.parse_source_in
             (Some (shape self.old.buffer.value self.old.found))
-            (spec.waiting waits (shape self.old.buffer.value self.old.found) (state self.old))) }
+            (spec.save_unsaved unsaved (shape self.old.buffer.value self.old.found) (state self.old))) }
         ensures run { OnOk result (IsRun self.old.buffer.value self.new.buffer.value) }
         ensures last { OnOk result (IsLast self.new.buffer.value self.new.found) }
         ensures bounds { TakesSome 0 result (state self.old) (state self.new) }
         ensures saved { SavedBounds 1 result
-            (spec.waiting waits (shape self.old.buffer.value self.old.found) (state self.old)) (state self.new) }
+            (spec.save_unsaved unsaved (shape self.old.buffer.value self.old.found) (state self.old)) (state self.new) }
     {
         let bytes = self.rest;
         let Some((from, to)) = source_name(bytes, 0) else {
             // The parent counts as saved, although nothing follows it.
-            self.save_waiting(waits)?;
+            self.save_unsaved(unsaved)?;
             return Err(Stop::Unread);
         };
-        self.save_waiting(waits)?;
+        self.save_unsaved(unsaved)?;
         let text = source_text(&bytes[from..to]);
         self.buffer.append_name(&mut self.found, b"::", text)?;
         self.rest = &bytes[to..];
@@ -139,7 +139,7 @@ impl<'a> Reader<'a> {
 
     /// `<operator-name> ::= li <source-name>`, after its `li`.
     #[inline(never)]
-    pub fn read_literal_operator(&mut self) -> Result<(), Stop>
+    pub fn read_literal_operator_name(&mut self) -> Result<(), Stop>
         ensures reads { Gives result self.new (spec.parse_literal_operator (state self.old)) }
         ensures run { OnOk result (IsRun self.old.buffer.value self.new.buffer.value) }
         ensures last { OnOk result (IsLast self.new.buffer.value self.new.found) }
@@ -159,7 +159,7 @@ impl<'a> Reader<'a> {
 
     /// `<operator-name>`, a code of two letters.
     #[inline(never)]
-    pub fn read_operator(&mut self) -> Result<(), Stop>
+    pub fn read_operator_name(&mut self) -> Result<(), Stop>
         ensures reads { Gives result self.new (spec.parse_operator (state self.old)) }
         ensures run { OnOk result (IsRun self.old.buffer.value self.new.buffer.value) }
         ensures last { OnOk result (IsLast self.new.buffer.value self.new.found) }
@@ -195,7 +195,7 @@ impl<'a> Reader<'a> {
         Ok(())
     }
 
-    /// The own qualifiers of the name that was found, after it.
+    /// The name that was found with its own qualifiers, words only where they are `shown`; it becomes plain.
     #[inline(always)]
     pub fn print_quals(&mut self, quals: Quals, shown: bool) -> Result<(), AllocError>
         requires living { IsLiving self.old.buffer.value self.old.found }

@@ -5,7 +5,7 @@ ghost use Rattle.demangle_text.specs.State.{Closes, Stands, frame_start, inside}
 ghost use Rattle.demangle_text.specs.State.{IsLiving, Lives, shape, IsRun, SameFrame, saved, scopes, main_bytes, frame};
 ghost use Rattle.demangle_text.specs.Calls.{IsLast};
 ghost use Rattle.demangle_edit.specs.Built.{separated, separator};
-ghost use Rattle.itanium_syntax.specs.Names.{segment_case};
+ghost use Rattle.itanium_syntax.specs.Names.{past_internal, segment_case};
 ghost use Rattle.itanium_syntax.specs.Types.{builtin_text, past_builtin};
 ghost use Rattle.itanium_grammar.specs.Answer.{max_text};
 ghost use Rattle.itanium_reader.specs.Cases.{EndOfSegments};
@@ -48,13 +48,13 @@ pub struct Reader<'a> {
     pub buffer: Box<Buffer>,
     /// What was read last, as it is printed.
     pub found: Piece,
-    /// The own qualifiers of the last name that was read, or `None`. A caller that asked for a bare name prints them;
-    /// else they are printed already.
+    /// The own qualifiers of the last name that was read, or `None`: any name overwrites them. The caller of a bare
+    /// name prints them, of any other `read_name` has done so.
     pub quals: Option<Quals>,
     /// How many counted productions were entered.
     pub entered: usize,
-    /// The most components that were saved at the `E` of a nested name, with the one that waited: `most_saved` is the
-    /// most at any moment.
+    /// The most components that would be saved at the `E` of a nested name, were its last segment saved: `most_saved`
+    /// is the most at any moment.
     pub most_noted: usize,
 }
 
@@ -88,7 +88,22 @@ impl<'a> Reader<'a> {
         }
     }
 
-    /// Saves what was found for substitutions: it stays found, and the main text stays.
+    /// Goes past the `L` of an internal name, where a digit follows it.
+    #[inline(always)]
+    pub fn skip_internal(&mut self)
+        ensures state { state self.new ≡ spec.with_rest (past_internal self.old.rest.now) (state self.old) }
+        ensures within { length self.new.rest.now ≤ length self.old.rest.now }
+        ensures saved { saved self.new.buffer.value ≡ saved self.old.buffer.value }
+        ensures found { self.new.found ≡ self.old.found }
+        ensures buffer { self.new.buffer.value ≡ self.old.buffer.value }
+    {
+        if let [b'L', b'0'..=b'9', ..] = self.rest {
+            self.rest = &self.rest[1..];
+        }
+    }
+
+    /// Saves what was found for substitutions: it stays found, and the output stays.
+    #[inline(always)]
     pub fn save_found(&mut self) -> Result<(), AllocError>
         requires living { IsLiving self.old.buffer.value self.old.found }
         ensures shape { OnOk result (Lives self.new.buffer.value self.new.found
@@ -116,11 +131,11 @@ impl<'a> Reader<'a> {
         ensures state { OnOk result (state self.new ≡ state self.old) }
         ensures kept { OnOk result (SameFrame self.old.buffer.value self.new.buffer.value) }
     {
-        self.found = self.buffer.copy(self.found)?;
+        self.buffer.bring_to_end(&mut self.found)?;
         Ok(())
     }
 
-    /// Takes the innermost mark back: what was found becomes all of the main text since then.
+    /// Takes the innermost mark back: what was found becomes all of the output since then.
     #[inline(always)]
     pub fn close_found(&mut self, mark: Mark) -> Result<(), AllocError>
         requires innermost { frame self.old.buffer.value ≡ inside mark }
@@ -129,6 +144,7 @@ impl<'a> Reader<'a> {
             (shape self.old.buffer.value self.old.found)) }
         ensures state { OnOk result (state self.new ≡ state self.old) }
         ensures quals { OnOk result (self.new.quals ≡ self.old.quals) }
+        ensures entered { self.new.entered ≡ self.old.entered }
         ensures closed { OnOk result (Closes self.old.buffer.value self.new.buffer.value mark) }
         ensures main { OnOk result (main_bytes self.new.buffer.value
             ≡ take (frame_start (inside mark)) (main_bytes self.old.buffer.value)
@@ -140,19 +156,19 @@ impl<'a> Reader<'a> {
         Ok(())
     }
 
-    /// Saves what was found, where it waits for that.
+    /// Saves what was found, where it isn't saved yet.
     #[inline(always)]
-    pub fn save_waiting(&mut self, waits: bool) -> Result<(), AllocError>
+    pub fn save_unsaved(&mut self, unsaved: bool) -> Result<(), AllocError>
         requires living { IsLiving self.old.buffer.value self.old.found }
         ensures shape { OnOk result (Lives self.new.buffer.value self.new.found
             (shape self.old.buffer.value self.old.found)) }
-        ensures state { OnOk result (state self.new ≡ spec.waiting waits
+        ensures state { OnOk result (state self.new ≡ spec.save_unsaved unsaved
             (shape self.old.buffer.value self.old.found) (state self.old)) }
         ensures found { OnOk result (self.new.found ≡ self.old.found) }
         ensures main { main_bytes self.new.buffer.value ≡ main_bytes self.old.buffer.value }
         ensures kept { OnOk result (SameFrame self.old.buffer.value self.new.buffer.value) }
     {
-        if waits {
+        if unsaved {
             self.save_found()?;
         }
         Ok(())
@@ -160,17 +176,17 @@ impl<'a> Reader<'a> {
 
     /// Goes past the `E` of a `<nested-name>`. The grammar saves the last segment and takes it back at the `E`. Here it
     /// is never saved: it only counts among the most that were saved.
-    #[tactic(auto, using(crate::proofs::Rules::waiting_segments))]
+    #[tactic(auto, using(crate::proofs::Rules::last_segments))]
     #[inline(always)]
-    pub fn end_nested(&mut self, waits: bool)
+    pub fn end_nested_name(&mut self, unsaved: bool)
         requires living { IsLiving self.old.buffer.value self.old.found }
-        ensures state { state self.new ≡ spec.taken_back waits (spec.skip 1 (spec.waiting waits
+        ensures state { state self.new ≡ spec.taken_back unsaved (spec.skip 1 (spec.save_unsaved unsaved
             (shape self.old.buffer.value self.old.found) (state self.old))) }
         ensures found { self.new.found ≡ self.old.found }
         ensures buffer { self.new.buffer.value ≡ self.old.buffer.value }
     {
         self.skip(1);
-        if waits {
+        if unsaved {
             self.most_noted = self.most_noted.max(self.buffer.saved_len() + 1);
         }
     }
@@ -221,7 +237,7 @@ impl<'a> Reader<'a> {
 
     /// `<source-name> ::= <positive length number> <identifier>`
     #[inline(always)]
-    pub fn read_source(&mut self) -> Result<(), Stop>
+    pub fn read_source_name(&mut self) -> Result<(), Stop>
         ensures reads { Gives result self.new (spec.parse_source (state self.old)) }
         ensures kept { OnOk result (SameFrame self.old.buffer.value self.new.buffer.value) }
         ensures last { OnOk result (IsLast self.new.buffer.value self.new.found) }
@@ -291,7 +307,7 @@ impl<'a> Reader<'a> {
 
     /// `<template-param> ::= T [<number>] _`: an argument of the last scope, or `auto` in a lambda's signature.
     #[tactic(auto, using(crate::proofs::Rules::parameters))]
-    pub fn read_parameter(&mut self, context: Context) -> Result<(), Stop>
+    pub fn read_template_param(&mut self, context: Context) -> Result<(), Stop>
         ensures reads { Gives result self.new (spec.parse_parameter context (state self.old)) }
         ensures kept { OnOk result (SameFrame self.old.buffer.value self.new.buffer.value) }
         ensures bounds { TakesSome 0 result (state self.old) (state self.new) }
@@ -314,7 +330,7 @@ impl<'a> Reader<'a> {
     }
 
     /// `<builtin-type>`, which stands there.
-    pub fn read_builtin(&mut self) -> Result<(), AllocError>
+    pub fn read_builtin_type(&mut self) -> Result<(), AllocError>
         ensures shape { OnOk result
             (Lives self.new.buffer.value self.new.found (plain_shape (builtin_text self.old.rest.now))) }
         ensures state { OnOk result (state self.new
@@ -327,7 +343,7 @@ impl<'a> Reader<'a> {
     }
 
     /// What stands in front of a list's next text: nothing in front of the first. A list that stands up to the end of
-    /// the main text, from the innermost mark or later, stays there.
+    /// the output, from the innermost mark or later, stays there.
     #[tactic(auto, using(crate::proofs::Rules::lists))]
     #[inline(always)]
     pub fn separate_list(&mut self, list: Piece, first: bool) -> Result<Piece, AllocError>

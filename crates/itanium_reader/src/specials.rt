@@ -90,7 +90,7 @@ impl<'a> Reader<'a> {
     }
 
     /// `T <call-offset>` or `T c <call-offset> <call-offset>`: what stands in front of the encoding of a thunk with
-    /// these offsets, at the end of the main text.
+    /// these offsets, at the end of the output.
     #[tactic(auto, using(crate::proofs::Rules::endings), unfolding(crate::specs::Parser::thunk_front))]
     #[cold]
     pub fn open_thunk(&mut self) -> Result<(), Stop>

@@ -28,7 +28,7 @@ abbreviation_text Istream = codes "std::basic_istream<char, std::char_traits<cha
 abbreviation_text Ostream = codes "std::ostream"
 abbreviation_text Iostream = codes "std::basic_iostream<char, std::char_traits<char> >"
 
--- the last own name, which stands after std::
+-- the base name, which stands after std::
 abbrev pub abbreviation_own : Abbreviation → List ℕ
 abbreviation_own Allocator = codes "allocator"
 abbreviation_own BasicString = codes "basic_string"

@@ -197,17 +197,6 @@ pub fn substitution_case(bytes: &[u8]) -> SubstitutionCase
     }
 }
 
-/// Past the `L` of an internal name, which a digit follows.
-pub fn past_internal(bytes: &[u8]) -> &[u8]
-    ensures rest { result.now ≡ spec.past_internal bytes.now }
-    ensures within { length result.now ≤ length bytes.now }
-{
-    match bytes {
-        [b'L', b'0'..=b'9', ..] => &bytes[1..],
-        _ => bytes,
-    }
-}
-
 /// The text of a source name: an unnamed namespace has a text of its own.
 pub fn source_text(name: &[u8]) -> &[u8]
     ensures text { result.now ≡ spec.source_text name.now }

@@ -63,8 +63,7 @@ pub fn source_name(input: &[u8], place: usize) -> Option<(usize, usize)>
 
 /// `<call-offset> ::= h <number> _ | v <number> _ <number> _`, where each number may have `n` in front for a minus: the
 /// offset, and the place after its last `_`, in bytes. Zero is never negative. `None` where none stands at `place` or a
-/// number is past 2^64 - 1. (Itanium C++ ABI 5.1.4, "Other Special
-/// Functions and Entities")
+/// number is past 2^64 - 1. (Itanium C++ ABI 5.1.4, "Other Special Functions and Entities")
 #[tactic(auto, using(crate::proofs::Digits::dropped))]
 pub fn call_offset(input: &[u8], place: usize) -> Option<(CallOffset, usize)>
     requires place { place ≤ length input.now }

@@ -52,7 +52,7 @@ pub enum TypesCase {
     NextType,
 }
 
-/// Which `<type>` stands there. One of qualifiers takes a byte for them.
+/// Which `<type>` stands there. A `CvType` has at least one byte of qualifiers.
 #[tactic(auto, using(crate::proofs::Fronts::cv_shorter))]
 #[inline(always)]
 pub fn type_case(bytes: &[u8]) -> TypeCase

@@ -1,5 +1,5 @@
 //! The calls of a buffer, each repeated where memory is refused. Before it is repeated all must be as it was: two
-//! pieces that live, what is saved, the last scope, and how long the main text is. A refused `close` isn't repeated.
+//! pieces that live, what is saved, the last scope, and how long the output is. A refused `close` isn't repeated.
 ghost use Rattle.std.specs.Prelude.{◌≡◌, ◌≤◌, IfOk, OnOk};
 ghost use Rattle.demangle_text.specs.Shape.{plain_shape, text_len};
 ghost use Rattle.demangle_text.specs.Calls.{IsDeclared, IsPlain};
@@ -39,27 +39,32 @@ fn note_refusal(memory: &mut Memory) -> Result<(), Wrong> {
     Ok(())
 }
 
-/// A call was refused memory, and what is seen is as it was.
+/// A call was refused memory, and what is seen of the buffer and these two pieces is as it was.
 fn note_unchanged(
+    buf: &Buffer,
     memory: &mut Memory,
+    one: Piece,
+    other: Piece,
     before: &BufferView,
-    after: &BufferView,
-) -> Result<(), Wrong> {
+) -> Result<(), Stop>
+    requires one { IsLiving buf.now one }
+    requires other { IsLiving buf.now other }
+{
     note_refusal(memory)?;
-    must(*before == *after, "something has changed after the error")
+    let after = view_of(buf, one, other);
+    must(*before == after, "something has changed after the error")?;
+    Ok(())
 }
 
 /// The call, and after an error the call again, while these two pieces live.
 macro_rules! repeated {
     ($buf:ident, $memory:ident, $one:expr, $other:expr, $call:expr) => {{
         let before = view_of($buf, $one, $other);
-        match $call {
-            Ok(answer) => Ok(answer),
-            Err(_) => {
-                note_unchanged($memory, &before, &view_of($buf, $one, $other))?;
-                Ok($call?)
-            }
+        if let Ok(answer) = $call {
+            return Ok(answer);
         }
+        note_unchanged($buf, $memory, $one, $other, &before)?;
+        Ok($call?)
     }};
 }
 

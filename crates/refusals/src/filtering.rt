@@ -2,11 +2,10 @@
 ghost use Rattle.std.specs.Prelude.{◌<◌};
 
 use crate::outcome::{Memory, Wrong, must};
-use crate::watch::{NOTHING, Watch, Watched};
+use crate::watch::{NOTHING, TextSink, TextSource, Watch};
 use filter_vectors::engine::Engine;
-use filter_vectors::memory::MemorySource;
 use std::alloc::Global;
-use symfilter_engine::{FilterFault, Tally};
+use symfilter_engine::FilterFault;
 
 /// Some lines, and what must be written for them.
 #[derive(Clone, Copy)]
@@ -53,61 +52,20 @@ malloc
     },
 ];
 
-/// How many bytes the sink has room for.
-const ROOM: usize = 256;
-
-/// More calls than the source is asked.
-const CALLS: usize = 1000;
-
-/// Filters a text into the room, from a source that gives at most so many bytes a call, and answers how many bytes were
-/// written.
-fn filter_into(
-    alloc: Global,
-    lines: &Lines,
-    most: usize,
-    watch: &Watch,
-    room: &mut [u8; ROOM],
-) -> (Result<(), FilterFault>, usize)
-    requires { 0 < most }
-{
-    let mut source = Watched {
-        end: MemorySource::new(lines.text, most, CALLS),
-        watch,
-    };
-    let mut rest = room.as_mut_slice();
-    let mut sink = Watched {
-        end: Tally::new(&mut rest),
-        watch,
-    };
-    let outcome = lines.engine.run(alloc, &mut source, &mut sink);
-    let left = rest.len();
-    (outcome, ROOM.saturating_sub(left))
-}
-
-/// Whether the bytes are whole lines, and the filtered text begins with them.
-fn are_whole_lines(bytes: &[u8], filtered: &[u8]) -> bool {
-    filtered.starts_with(bytes) && (bytes.is_empty() || bytes.ends_with(b"\n"))
-}
-
-/// Filters once: all of the filtered text is written, or whole lines before the fault.
+/// Filters once, from a source that gives at most so many bytes a call: all of the filtered text is written, or whole
+/// lines before the fault.
 fn run_once(alloc: Global, lines: &Lines, most: usize, watch: &Watch) -> Result<Memory, Wrong>
     requires { 0 < most }
 {
-    let mut room = [0u8; ROOM];
-    let (outcome, len) = filter_into(alloc, lines, most, watch, &mut room);
-    let Some(written) = room.as_slice().get(..len) else {
-        return Err(Wrong("more is written than there is room for"));
-    };
-    match outcome {
+    let mut source = TextSource::new(lines.text, most, watch);
+    let mut sink = TextSink::new(lines.filtered, watch);
+    match lines.engine.run(alloc, &mut source, &mut sink) {
         Ok(()) => {
-            must(written == lines.filtered, "another text is written")?;
+            must(sink.has_all(), "another text is written")?;
             Ok(Memory::Given)
         }
         Err(FilterFault::Memory) => {
-            must(
-                are_whole_lines(written, lines.filtered),
-                "what is written isn't whole lines",
-            )?;
+            must(sink.has_whole_lines(), "what is written isn't whole lines")?;
             Ok(Memory::Refused)
         }
         Err(_) => Err(Wrong("another fault")),

@@ -11,7 +11,7 @@ use crate::outcome::{Memory, Wrong, must};
 use demangle_text::{Buffer, Kind, Piece};
 use std::alloc::Global;
 
-/// What stands in the main text before a script begins is some of this.
+/// What stands in the output before a script begins is some of this.
 const FRONT: [u8; 64] = [b'-'; 64];
 
 /// The piece has this text.
@@ -37,12 +37,27 @@ fn must_have_arg(buf: &Buffer, text: &[u8]) -> Result<(), Wrong> {
     }
 }
 
-/// From this byte on the main text is this.
+/// From this byte on the output is this.
 fn must_end_in(buf: &Buffer, front: usize, text: &[u8]) -> Result<(), Wrong> {
     match buf.main_bytes().get(front..) {
         Some(rest) => must(rest == text, "the main text is another one"),
         None => Err(Wrong("the main text is too short")),
     }
+}
+
+/// The piece has this text, with which the output ends from this byte on, and the first saved shape has that one.
+fn must_end(
+    buf: &Buffer,
+    front: usize,
+    piece: Piece,
+    text: &[u8],
+    saved: &[u8],
+) -> Result<(), Wrong>
+    requires living { IsLiving buf.now piece }
+{
+    must_be(buf, piece, text)?;
+    must_end_in(buf, front, text)?;
+    must_save(buf, saved)
 }
 
 /// The piece is a function, with a group or without one.
@@ -61,10 +76,8 @@ fn saved_name_under_edits_of_its_piece(buf: &mut Buffer, memory: &mut Memory) ->
     save(buf, memory, name, name)?;
     let scoped = append(buf, memory, name, name, b"::B")?;
     let address = insert_first(buf, memory, scoped, b"&")?;
-    must_be(buf, address, b"&A::B")?;
     must_be(buf, buf.own(address), b"A")?;
-    must_save(buf, b"A")?;
-    must_end_in(buf, front, b"&A::B")?;
+    must_end(buf, front, address, b"&A::B", b"A")?;
     Ok(())
 }
 
@@ -76,11 +89,9 @@ fn saved_function_under_a_pointer_to_it(buf: &mut Buffer, memory: &mut Memory) -
     let function = buf.declare(text, Kind::Function, 4);
     save(buf, memory, text, function)?;
     let pointer = open_group(buf, memory, text, function, b"*")?;
-    must_be(buf, pointer, b"int (*)()")?;
     must_be_function(buf, pointer, true)?;
     must_save_function(buf)?;
-    must_save(buf, b"int ()")?;
-    must_end_in(buf, front, b"int (*)()")?;
+    must_end(buf, front, pointer, b"int (*)()", b"int ()")?;
     Ok(())
 }
 
@@ -109,9 +120,7 @@ fn name_that_closes_a_mark(buf: &mut Buffer, memory: &mut Memory) -> Result<Piec
 fn saved_name_after_a_closed_mark(buf: &mut Buffer, memory: &mut Memory) -> Result<(), Stop> {
     let front = buf.main_bytes().len();
     let kept = name_that_closes_a_mark(buf, memory)?;
-    must_be(buf, kept, b"D")?;
-    must_end_in(buf, front, b"D")?;
-    must_save(buf, b"C")?;
+    must_end(buf, front, kept, b"D", b"C")?;
     Ok(())
 }
 
@@ -175,9 +184,7 @@ fn saved_name_that_is_cut_inside_a_mark(buf: &mut Buffer, memory: &mut Memory) -
     save(buf, memory, text, text)?;
     let shorter = cut(buf, memory, text, 1)?;
     let answer = close(buf, memory, mark, shorter)?;
-    must_be(buf, answer, b"A&")?;
-    must_end_in(buf, front, b"A&")?;
-    must_save(buf, b"A&&")?;
+    must_end(buf, front, answer, b"A&", b"A&&")?;
     Ok(())
 }
 

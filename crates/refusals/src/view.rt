@@ -20,7 +20,7 @@ struct PieceView {
 }
 
 /// The shapes of two pieces, of the first saved one and of the first two arguments of the last scope; how many shapes
-/// are saved and how many scopes are open; how long the main text is.
+/// are saved and how many scopes are open; how long the output is.
 #[derive(Clone, Copy, PartialEq, Eq)]
 pub struct BufferView {
     one: PieceView,

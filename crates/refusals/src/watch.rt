@@ -1,4 +1,6 @@
-//! Ends that count what they are asked for, and note whether it was ever as much as in another run.
+//! Ends that count what they are asked for, and note whether it was ever as much as in another run. They take no
+//! memory.
+ghost use Rattle.std.specs.Prelude.{◌<◌, false, length, Some};
 
 use std::cell::Cell;
 use symfilter_engine::{Failed, Sink, Source};
@@ -73,45 +75,100 @@ impl Watch {
     }
 }
 
-/// A source or a sink whose calls are noted before it has them.
+/// A text of which each call gives at most `most` bytes. Each call is noted first.
 #[derive(Drop)]
-pub struct Watched<'a, E> {
-    pub end: E,
-    pub watch: &'a Watch,
+pub struct TextSource<'a> {
+    rest: &'a [u8],
+    most: usize,
+    watch: &'a Watch,
+    ghost gives_some: { 0 < most },
 }
 
-impl<E: Source> Source for Watched<'_, E> {
-    ghost remaining = { λ watched. E.remaining watched.end };
+impl<'a> TextSource<'a> {
+    pub fn new(text: &'a [u8], most: usize, watch: &'a Watch) -> Self
+        requires some { 0 < most }
+    {
+        TextSource {
+            rest: text,
+            most,
+            watch,
+        }
+    }
+}
 
-    ghost failed = { λ watched. E.failed watched.end };
+impl Source for TextSource<'_> {
+    ghost remaining = { λ source. Some source.rest.now };
 
-    ghost called_late = { λ watched. E.called_late watched.end };
+    ghost failed = { λ _. false };
 
-    ghost calls_left = { λ watched. E.calls_left watched.end };
+    ghost calls_left = { λ source. length source.rest.now };
 
     fn failed(&self) -> bool {
-        self.end.failed()
+        false
     }
 
     fn take(&mut self, into: &mut [u8]) -> Result<usize, Failed> {
         self.watch.note_take(into.len());
-        self.end.take(into)
+        let count = self.rest.len().min(into.len()).min(self.most);
+        let (front, rest) = self.rest.split_at(count);
+        into[..count].copy_from_slice(front);
+        self.rest = rest;
+        Ok(count)
     }
 }
 
-impl<E: Sink> Sink for Watched<'_, E> {
-    ghost taken = { λ watched. E.taken watched.end };
+/// A sink that takes all that it is offered, and compares it with the text that it expects. Each call is noted first.
+#[derive(Drop)]
+pub struct TextSink<'a> {
+    // What is expected from here on.
+    rest: &'a [u8],
+    differs: bool,
+    is_at_line: bool,
+    watch: &'a Watch,
+}
 
-    ghost failed = { λ watched. E.failed watched.end };
+impl<'a> TextSink<'a> {
+    pub fn new(expected: &'a [u8], watch: &'a Watch) -> Self {
+        TextSink {
+            rest: expected,
+            differs: false,
+            is_at_line: true,
+            watch,
+        }
+    }
 
-    ghost called_late = { λ watched. E.called_late watched.end };
+    /// Whether it got what it expects, and no more.
+    pub fn has_all(&self) -> bool {
+        !self.differs && self.rest.is_empty()
+    }
+
+    /// Whether it got whole lines of what it expects.
+    pub fn has_whole_lines(&self) -> bool {
+        !self.differs && self.is_at_line
+    }
+
+    /// Compares the bytes with what is expected next.
+    fn compare(&mut self, bytes: &[u8]) {
+        match self.rest.get(bytes.len()..) {
+            Some(rest) if self.rest.starts_with(bytes) => self.rest = rest,
+            _ => self.differs = true,
+        }
+        if !bytes.is_empty() {
+            self.is_at_line = bytes.ends_with(b"\n");
+        }
+    }
+}
+
+impl Sink for TextSink<'_> {
+    ghost failed = { λ _. false };
 
     fn failed(&self) -> bool {
-        self.end.failed()
+        false
     }
 
     fn put(&mut self, bytes: &[u8]) -> Result<usize, Failed> {
         self.watch.note_put(bytes.len());
-        self.end.put(bytes)
+        self.compare(bytes);
+        Ok(bytes.len())
     }
 }

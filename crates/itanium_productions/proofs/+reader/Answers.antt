@@ -16,7 +16,13 @@ use Rattle.demangle_edit.specs.Names.{default_arg_opened, default_arg_shape, enc
 use Rattle.itanium_syntax.specs.Scalars.{ordinal}
 use Rattle.itanium_syntax.specs.Encodings.{entity_case}
 use Rattle.itanium_reader.specs.Cases.{DefaultArgumentEntity}
-use Rattle.itanium_reader.specs.Outcome.{state}
+use Rattle.itanium_reader.specs.Outcome.{state, Gives, GivesUnsaved}
+use Rattle.itanium_reader.specs.declared.stop.Stop.{Stop}
+use Rattle.itanium_reader.specs.declared.stop.Stop.TheVariants.{Unread, Memory}
+use Rattle.itanium_reader.proofs.Unfold.{first_source_opens}
+use Rattle.itanium_syntax.specs.Names.{begins_source, first_case}
+use Rattle.itanium_syntax.specs.declared.context.Context.{Context}
+use Rattle.std.proofs.Common.{Err, None}
 use Rattle.itanium_reader.specs.declared.reader.Reader.{Reader}
 use Rattle.itanium_reader.specs.Parser as spec
 use Rattle.itanium_reader.proofs.Unfold.{stops, too_long, thunk_read, thunk_wide}
@@ -29,13 +35,13 @@ use Rattle.itanium_reader.proofs.Turns.{pack_wide, typed_wide, items_wide}
 use Rattle.itanium_syntax.specs.Context.{inside_lambda}
 use Rattle.itanium_reader.specs.Cases.{SegmentCase, ArgsSegment, NameSegment, EndOfSegments}
 use Rattle.itanium_syntax.specs.Names.{segment_case}
-use Rattle.itanium_productions.proofs.+reader.Goals.{names::read_prefix-in-ArgsSegment+in_ok-save_waiting-in-ArgsSegment+in_ok-read_attached-in-ArgsSegment, names::read_prefix-in-NameSegment+in_ok-save_waiting-in-NameSegment+in_ok-read_segment-in-NameSegment}
+use Rattle.itanium_productions.proofs.+reader.Goals.{names::read_prefix-in-ArgsSegment+in_ok-save_unsaved-in-ArgsSegment+in_ok-read_template_args-in-ArgsSegment, names::read_prefix-in-NameSegment+in_ok-save_unsaved-in-NameSegment+in_ok-read_segment-in-NameSegment}
 use Rattle.itanium_reader.proofs.Rules.{buffers, types}
 use Rattle.itanium_grammar.specs.Tree.{worded_shape, construction_shape}
 use Rattle.itanium_productions.proofs.+reader.Goals as goal
 
-pub args::read_attached-loop-reader-init : goal.args::read_attached-loop-reader-init
-args::read_attached-loop-reader-init t c =
+pub args::read_template_args-loop-reader-init : goal.args::read_template_args-loop-reader-init
+args::read_template_args-loop-reader-init t c =
     let last = IsLast-stays _ _ _ _ (c.in_ok-list.ensures {u = tt}).edit (c.in_ok-list.ensures {u = tt}).in_place in record {
       below = search rules;
       front = begun_front (shape c.args.reader.now.buffer.value c.args.reader.now.found) (shape c.open_arguments.new.buf c.in_ok-list.list) (search rules) (search rules);
@@ -53,35 +59,35 @@ args::read_attached-loop-reader-init t c =
       most = search rules;
     }
 
-pub args::read_attached-returns-in-EndOfArguments-clause-reads : goal.args::read_attached-returns-in-EndOfArguments-clause-reads
-args::read_attached-returns-in-EndOfArguments-clause-reads t c =
+pub args::read_template_args-returns-in-EndOfArguments-clause-reads : goal.args::read_template_args-returns-in-EndOfArguments-clause-reads
+args::read_template_args-returns-in-EndOfArguments-clause-reads t c =
     (search rules, attached_end _ _ _ c.loop-reader.invariant.reads (sym c.in-EndOfArguments.ensures.case) (search rules) (search rules) (search rules))
 
-pub args::read_attached-returns-then-len-widest-clause-reads : goal.args::read_attached-returns-then-len-widest-clause-reads
-args::read_attached-returns-then-len-widest-clause-reads t c =
+pub args::read_template_args-returns-then-len-widest-clause-reads : goal.args::read_template_args-returns-then-len-widest-clause-reads
+args::read_template_args-returns-then-len-widest-clause-reads t c =
     let last = shape c.close_arguments.new.buf c.in_ok-reader-in-EndOfArguments.field-0 in
     let long : c.len.result ≡ text_len last = search rules in
     attached_wide _ _ _ c.loop-reader.invariant.reads {last = last} (sym c.in-EndOfArguments.ensures.case) (search rules)
     (omega (arith, c.if-len-widest.true, c.loop-reader.invariant.widest, long, c.loop-reader.invariant.front))
 
-pub args::read_attached-returns-then-len-widest-2-clause-reads : goal.args::read_attached-returns-then-len-widest-2-clause-reads
-args::read_attached-returns-then-len-widest-2-clause-reads t c =
+pub args::read_template_args-returns-then-len-widest-2-clause-reads : goal.args::read_template_args-returns-then-len-widest-2-clause-reads
+args::read_template_args-returns-then-len-widest-2-clause-reads t c =
     let so_far = c.loop-reader.invariant in
     let list = c.in_ok-list.list in
     let old = c.loop-reader.reader.buffer.value in
     let separated = c.separate.new.self.buffer.value in
-    let framed = c.framed_argument.new.reader in
+    let framed = c.framed_template_arg.new.reader in
     let new = c.add_argument.new.self.buffer.value in
     let next = shape framed.buffer.value framed.found in
     let kept = (c.in_ok-separate-in-NextArgument.ensures {u = tt}).kept in
     let one = text_after-more old separated list (separator c.loop-reader.first) so_far.begun.living so_far.inner (c.in_ok-separate-in-NextArgument.ensures {u = tt}).main in
     let two = text_after-more separated framed.buffer.value list (text next) (kept.pieces list so_far.begun.living).living
-    (IsInner-same old separated list so_far.inner kept) (c.in_ok-framed_argument-in-NextArgument.ensures {u = tt}).main in
+    (IsInner-same old separated list so_far.inner kept) (c.in_ok-framed_template_arg-in-NextArgument.ensures {u = tt}).main in
     let three = text_after-same framed.buffer.value new list (c.in_ok-add_argument-in-NextArgument.ensures {u = tt}).main in
     let longer : text_after new list ≡ (text_after old list ++ separator c.loop-reader.first) ++ text next =
     three ∙ two ∙ ap (λ (v : List ℕ). v ++ text next) one in
     let begun = Lives-same _ _ _ _ (c.in_ok-add_argument-in-NextArgument.ensures {u = tt}).kept
-    (Lives-same _ _ _ _ (c.in_ok-framed_argument-in-NextArgument.ensures {u = tt}).kept (Lives-same _ _ _ _ kept so_far.begun)) in
+    (Lives-same _ _ _ _ (c.in_ok-framed_template_arg-in-NextArgument.ensures {u = tt}).kept (Lives-same _ _ _ _ kept so_far.begun)) in
     let all = shape new c.up_to_end.result in
     let built : all ≡ appended (text_after new list) (arguments_opened (shape c.args.reader.now.buffer.value c.args.reader.now.found)) =
     subst (λ (b : Buffer). shape b c.up_to_end.result ≡ appended (text_after b list) (shape b list)) c.deref-in-NextArgument-2.ensures c.up_to_end.ensures.shape.shape_is
@@ -91,32 +97,32 @@ args::read_attached-returns-then-len-widest-2-clause-reads t c =
     (sym c.in-NextArgument.ensures.case) (search rules) longer built
     (omega (arith, c.if-len-widest-2.true, so_far.widest, long, so_far.front))
 
-pub args::read_attached-returns-in_err-framed_argument-in-NextArgument-clause-reads : goal.args::read_attached-returns-in_err-framed_argument-in-NextArgument-clause-reads
-args::read_attached-returns-in_err-framed_argument-in-NextArgument-clause-reads t c =
-    let r = c.from_residual-in_err-framed_argument-in-NextArgument in
+pub args::read_template_args-returns-in_err-framed_template_arg-in-NextArgument-clause-reads : goal.args::read_template_args-returns-in_err-framed_template_arg-in-NextArgument-clause-reads
+args::read_template_args-returns-in_err-framed_template_arg-in-NextArgument-clause-reads t c =
+    let r = c.from_residual-in_err-framed_template_arg-in-NextArgument in
     let e = err_from_is_err_and r.result r.ensures.1 in
     let whole = spec.attached_by (spec.parse_args c.args.depth c.args.context c.args.of_name) (shape c.args.reader.now.buffer.value c.args.reader.now.found) (state c.args.reader.now) in
-    rw (e.1, e.2) (stops _ {whole = whole} _ (c.in_err-framed_argument-in-NextArgument.ensures {u = tt}).reads
+    rw (e.1, e.2) (stops _ {whole = whole} _ (c.in_err-framed_template_arg-in-NextArgument.ensures {u = tt}).reads
     (λ none. attached_fail {whole = whole} _ _ _ c.loop-reader.invariant.reads (sym c.in-NextArgument.ensures.case) (search rules)))
 
-pub args::read_attached-loop-reader-preserved : goal.args::read_attached-loop-reader-preserved
-args::read_attached-loop-reader-preserved t c =
+pub args::read_template_args-loop-reader-preserved : goal.args::read_template_args-loop-reader-preserved
+args::read_template_args-loop-reader-preserved t c =
     let so_far = c.loop-reader.invariant in
     let list = c.in_ok-list.list in
     let old = c.loop-reader.reader.buffer.value in
     let separated = c.separate.new.self.buffer.value in
-    let framed = c.framed_argument.new.reader in
+    let framed = c.framed_template_arg.new.reader in
     let new = c.add_argument.new.self.buffer.value in
     let next = shape framed.buffer.value framed.found in
     let kept = (c.in_ok-separate-in-NextArgument.ensures {u = tt}).kept in
     let one = text_after-more old separated list (separator c.loop-reader.first) so_far.begun.living so_far.inner (c.in_ok-separate-in-NextArgument.ensures {u = tt}).main in
     let two = text_after-more separated framed.buffer.value list (text next) (kept.pieces list so_far.begun.living).living
-    (IsInner-same old separated list so_far.inner kept) (c.in_ok-framed_argument-in-NextArgument.ensures {u = tt}).main in
+    (IsInner-same old separated list so_far.inner kept) (c.in_ok-framed_template_arg-in-NextArgument.ensures {u = tt}).main in
     let three = text_after-same framed.buffer.value new list (c.in_ok-add_argument-in-NextArgument.ensures {u = tt}).main in
     let longer : text_after new list ≡ (text_after old list ++ separator c.loop-reader.first) ++ text next =
     three ∙ two ∙ ap (λ (v : List ℕ). v ++ text next) one in
     let begun = Lives-same _ _ _ _ (c.in_ok-add_argument-in-NextArgument.ensures {u = tt}).kept
-    (Lives-same _ _ _ _ (c.in_ok-framed_argument-in-NextArgument.ensures {u = tt}).kept (Lives-same _ _ _ _ kept so_far.begun)) in
+    (Lives-same _ _ _ _ (c.in_ok-framed_template_arg-in-NextArgument.ensures {u = tt}).kept (Lives-same _ _ _ _ kept so_far.begun)) in
     let all = shape new c.up_to_end.result in
     let built : all ≡ appended (text_after new list) (arguments_opened (shape c.args.reader.now.buffer.value c.args.reader.now.found)) =
     subst (λ (b : Buffer). shape b c.up_to_end.result ≡ appended (text_after b list) (shape b list)) c.deref-in-NextArgument-2.ensures c.up_to_end.ensures.shape.shape_is
@@ -139,8 +145,8 @@ args::read_attached-loop-reader-preserved t c =
       most = search rules;
     }
 
-pub args::read_pack-loop-reader-init : goal.args::read_pack-loop-reader-init
-args::read_pack-loop-reader-init t c = record {
+pub args::read_argument_pack-loop-reader-init : goal.args::read_argument_pack-loop-reader-init
+args::read_argument_pack-loop-reader-init t c = record {
   below = search rules;
   reads = pack_start _ _ _ (search rules) (search rules) (search rules) (search rules) (search rules);
   living = search rules;
@@ -149,21 +155,21 @@ args::read_pack-loop-reader-init t c = record {
   growth = search rules;
 }
 
-pub args::read_pack-returns-in-EndOfArguments-clause-reads : goal.args::read_pack-returns-in-EndOfArguments-clause-reads
-args::read_pack-returns-in-EndOfArguments-clause-reads t c =
+pub args::read_argument_pack-returns-in-EndOfArguments-clause-reads : goal.args::read_argument_pack-returns-in-EndOfArguments-clause-reads
+args::read_argument_pack-returns-in-EndOfArguments-clause-reads t c =
     (search rules, pack_ends _ c.loop-reader.invariant.reads (sym c.in-EndOfArguments.ensures.case) (search rules) (search rules) (search rules))
 
-pub args::read_pack-returns-in_err-framed_argument-in-NextArgument-clause-reads : goal.args::read_pack-returns-in_err-framed_argument-in-NextArgument-clause-reads
-args::read_pack-returns-in_err-framed_argument-in-NextArgument-clause-reads t c =
-    let r = c.from_residual-in_err-framed_argument-in-NextArgument in
+pub args::read_argument_pack-returns-in_err-framed_template_arg-in-NextArgument-clause-reads : goal.args::read_argument_pack-returns-in_err-framed_template_arg-in-NextArgument-clause-reads
+args::read_argument_pack-returns-in_err-framed_template_arg-in-NextArgument-clause-reads t c =
+    let r = c.from_residual-in_err-framed_template_arg-in-NextArgument in
     let e = err_from_is_err_and r.result r.ensures.1 in
-    rw (e.1, e.2) (stops _ _ (c.in_err-framed_argument-in-NextArgument.ensures {u = tt}).reads
+    rw (e.1, e.2) (stops _ _ (c.in_err-framed_template_arg-in-NextArgument.ensures {u = tt}).reads
     (λ none. items_fail _ _ _ c.loop-reader.invariant.reads (sym c.in-NextArgument.ensures.case) (search rules)))
 
-pub args::read_pack-loop-reader-preserved : goal.args::read_pack-loop-reader-preserved
-args::read_pack-loop-reader-preserved t c = record {
+pub args::read_argument_pack-loop-reader-preserved : goal.args::read_argument_pack-loop-reader-preserved
+args::read_argument_pack-loop-reader-preserved t c = record {
   below = search rules;
-  reads = items_more _ _ _ c.loop-reader.invariant.reads {next = shape c.framed_argument.new.reader.buffer.value c.framed_argument.new.reader.found} {mid = state c.framed_argument.new.reader}
+  reads = items_more _ _ _ c.loop-reader.invariant.reads {next = shape c.framed_template_arg.new.reader.buffer.value c.framed_template_arg.new.reader.found} {mid = state c.framed_template_arg.new.reader}
       (sym c.in-NextArgument.ensures.case) (search rules) (search rules) (search rules) (search rules) (search rules) (search rules);
   living = search rules;
   run = search rules;
@@ -199,8 +205,8 @@ types::read_params-loop-list-preserved t c = record {
   growth = search rules;
 }
 
-pub args::read_pack-returns-in_err-measure-in-EndOfArguments-clause-reads : goal.args::read_pack-returns-in_err-measure-in-EndOfArguments-clause-reads
-args::read_pack-returns-in_err-measure-in-EndOfArguments-clause-reads t c =
+pub args::read_argument_pack-returns-in_err-measure-in-EndOfArguments-clause-reads : goal.args::read_argument_pack-returns-in_err-measure-in-EndOfArguments-clause-reads
+args::read_argument_pack-returns-in_err-measure-in-EndOfArguments-clause-reads t c =
     let list = shape c.skip-in-EndOfArguments.new.self.buffer.value c.whole-reader.result in
     let r = c.from_residual-in_err-measure-in-EndOfArguments in
     let e = err_from_is_err_and r.result r.ensures.1 in
@@ -214,10 +220,10 @@ types::read_type-returns-in_err-measure-clause-reads t c =
     let read = c.match-type_case.reader in
     rw (e.1, e.2) (too_long _ (shape read.buffer.value read.found) _ (c.in_err-measure.ensures {u = tt}).fits (λ wide. grind (arith, types)))
 
-pub args::read_pack-returns-then-is_wide-clause-reads : goal.args::read_pack-returns-then-is_wide-clause-reads
-args::read_pack-returns-then-is_wide-clause-reads t c =
-    items_wide _ _ _ c.loop-reader.invariant.reads {next = shape c.framed_argument.new.reader.buffer.value c.framed_argument.new.reader.found}
-    {found = shape c.append_piece.new.buf c.in_ok-list-in-NextArgument-2.list} {mid = state c.framed_argument.new.reader}
+pub args::read_argument_pack-returns-then-is_wide-clause-reads : goal.args::read_argument_pack-returns-then-is_wide-clause-reads
+args::read_argument_pack-returns-then-is_wide-clause-reads t c =
+    items_wide _ _ _ c.loop-reader.invariant.reads {next = shape c.framed_template_arg.new.reader.buffer.value c.framed_template_arg.new.reader.found}
+    {found = shape c.append_piece.new.buf c.in_ok-list-in-NextArgument-2.list} {mid = state c.framed_template_arg.new.reader}
     (sym c.in-NextArgument.ensures.case) (search rules) (search rules) (search rules)
 
 -- an entity in a default argument is found
@@ -251,7 +257,7 @@ names::read_prefix-returns-in_err-read_source_segment-clause-reads t c =
     let args = spec.parse_args c.args.depth c.args.context true in
     let r = c.loop-reader.reader in
     let name = shape r.buffer.value r.found in
-    let case = source_segment type param args name (spec.waiting c.loop-reader.waits name (state r)) (search rules) in
+    let case = source_segment type param args name (spec.save_unsaved c.loop-reader.unsaved name (state r)) (search rules) in
     let f = c.from_residual-in_err-read_source_segment in
     let e = err_from_is_err_and f.result f.ensures.1 in
     rw (e.1, e.2) (stops _ _ (c.in_err-read_source_segment.ensures {u = tt}).reads
@@ -264,7 +270,7 @@ names::read_prefix-returns-in_err-measure-clause-reads t c =
     let args = spec.parse_args c.args.depth c.args.context true in
     let r = c.loop-reader.reader in
     let name = shape r.buffer.value r.found in
-    let case = source_segment type param args name (spec.waiting c.loop-reader.waits name (state r)) (search rules) in
+    let case = source_segment type param args name (spec.save_unsaved c.loop-reader.unsaved name (state r)) (search rules) in
     let new = c.read_source_segment.new.self in
     let read = (c.in_ok-read_source_segment.ensures {u = tt}) in
     let f = c.from_residual-in_err-measure in
@@ -279,7 +285,7 @@ names::read_prefix-loop-reader-preserved-then-begins_source t c =
     let args = spec.parse_args c.args.depth c.args.context true in
     let r = c.loop-reader.reader in
     let name = shape r.buffer.value r.found in
-    let case = source_segment type param args name (spec.waiting c.loop-reader.waits name (state r)) (search rules) in
+    let case = source_segment type param args name (spec.save_unsaved c.loop-reader.unsaved name (state r)) (search rules) in
     let new = c.read_source_segment.new.self in
     let read = (c.in_ok-read_source_segment.ensures {u = tt}) in
     let longer = length-append (saved new.buffer.value) (shape new.buffer.value new.found ∷ []) in
@@ -308,18 +314,18 @@ is_later : (unqualified : spec.ParsesName) (args : spec.Parses Shape) (name : Sh
     → segment_case s.rest ≡ case → shape r.buffer.value r.found ≡ name → state r ≡ s → IsLater unqualified args name s read
 is_later unqualified args name s case r gives goes_on there same left = record { goes_on = λ ended. goes_on (sym there ∙ ended); gives = later_is unqualified args name s there same left ∙ gives }
 
-pub names::read_prefix-returns-in_err-read_attached-in-ArgsSegment-clause-reads : goal.names::read_prefix-returns-in_err-read_attached-in-ArgsSegment-clause-reads
-names::read_prefix-returns-in_err-read_attached-in-ArgsSegment-clause-reads t c =
+pub names::read_prefix-returns-in_err-read_template_args-in-ArgsSegment-clause-reads : goal.names::read_prefix-returns-in_err-read_template_args-in-ArgsSegment-clause-reads
+names::read_prefix-returns-in_err-read_template_args-in-ArgsSegment-clause-reads t c =
     let type = spec.parse_type c.args.depth c.args.context in
     let param = spec.parse_type c.args.depth (inside_lambda c.args.context) in
     let args = spec.parse_args c.args.depth c.args.context true in
     let r = c.loop-reader.reader in
     let name = shape r.buffer.value r.found in
-    let s = spec.past_initializer (spec.waiting c.loop-reader.waits name (state r)) in
-    let f = c.from_residual-in_err-read_attached-in-ArgsSegment in
+    let s = spec.past_initializer (spec.save_unsaved c.loop-reader.unsaved name (state r)) in
+    let f = c.from_residual-in_err-read_template_args-in-ArgsSegment in
     let e = err_from_is_err_and f.result f.ensures.1 in
-    rw (e.1, e.2) (stops _ _ (c.in_err-read_attached-in-ArgsSegment.ensures {u = tt}).reads
-    (λ none. let later = is_later (spec.parse_unqualified type param) args name s ArgsSegment c.save_waiting.new.self none (λ ended. cc ended) (search rules) (search rules) (search rules) in
+    rw (e.1, e.2) (stops _ _ (c.in_err-read_template_args-in-ArgsSegment.ensures {u = tt}).reads
+    (λ none. let later = is_later (spec.parse_unqualified type param) args name s ArgsSegment c.save_unsaved.new.self none (λ ended. cc ended) (search rules) (search rules) (search rules) in
     segments_none _ _ c.loop-reader.invariant.reads later.goes_on later.gives))
 
 pub names::read_prefix-returns-in_err-read_segment-in-NameSegment-clause-reads : goal.names::read_prefix-returns-in_err-read_segment-in-NameSegment-clause-reads
@@ -329,11 +335,11 @@ names::read_prefix-returns-in_err-read_segment-in-NameSegment-clause-reads t c =
     let args = spec.parse_args c.args.depth c.args.context true in
     let r = c.loop-reader.reader in
     let name = shape r.buffer.value r.found in
-    let s = spec.past_initializer (spec.waiting c.loop-reader.waits name (state r)) in
+    let s = spec.past_initializer (spec.save_unsaved c.loop-reader.unsaved name (state r)) in
     let f = c.from_residual-in_err-read_segment-in-NameSegment in
     let e = err_from_is_err_and f.result f.ensures.1 in
     rw (e.1, e.2) (stops _ _ (c.in_err-read_segment-in-NameSegment.ensures {u = tt}).reads
-    (λ none. let later = is_later (spec.parse_unqualified type param) args name s NameSegment c.save_waiting-in-NameSegment.new.self none (λ ended. cc ended) (search rules) (search rules) (search rules) in
+    (λ none. let later = is_later (spec.parse_unqualified type param) args name s NameSegment c.save_unsaved-in-NameSegment.new.self none (λ ended. cc ended) (search rules) (search rules) (search rules) in
     segments_none _ _ c.loop-reader.invariant.reads later.goes_on later.gives))
 
 pub names::read_prefix-returns-in_err-measure-2-clause-reads : goal.names::read_prefix-returns-in_err-measure-2-clause-reads
@@ -343,13 +349,13 @@ names::read_prefix-returns-in_err-measure-2-clause-reads t c =
     let args = spec.parse_args c.args.depth c.args.context true in
     let r = c.loop-reader.reader in
     let name = shape r.buffer.value r.found in
-    let s = spec.past_initializer (spec.waiting c.loop-reader.waits name (state r)) in
+    let s = spec.past_initializer (spec.save_unsaved c.loop-reader.unsaved name (state r)) in
     let m = c.match-segment_case.reader in
     let later : IsLater (spec.parse_unqualified type param) args name s (Some (shape m.buffer.value m.found, state m)) = elim c.match-segment_case.branch [
-      | names::read_prefix-in-ArgsSegment+in_ok-save_waiting-in-ArgsSegment+in_ok-read_attached-in-ArgsSegment w ↦
-          rw w.reader-is (is_later _ args name s ArgsSegment w.save_waiting.new.self (w.in_ok-read_attached-in-ArgsSegment.ensures {u = tt}).reads.1 (λ ended. cc ended) (search rules) (search rules) (search rules))
-      | names::read_prefix-in-NameSegment+in_ok-save_waiting-in-NameSegment+in_ok-read_segment-in-NameSegment w ↦
-          rw w.reader-is (is_later _ args name s NameSegment w.save_waiting-in-NameSegment.new.self (w.in_ok-read_segment-in-NameSegment.ensures {u = tt}).reads.1 (λ ended. cc ended) (search rules) (search rules) (search rules))
+      | names::read_prefix-in-ArgsSegment+in_ok-save_unsaved-in-ArgsSegment+in_ok-read_template_args-in-ArgsSegment w ↦
+          rw w.reader-is (is_later _ args name s ArgsSegment w.save_unsaved.new.self (w.in_ok-read_template_args-in-ArgsSegment.ensures {u = tt}).reads.1 (λ ended. cc ended) (search rules) (search rules) (search rules))
+      | names::read_prefix-in-NameSegment+in_ok-save_unsaved-in-NameSegment+in_ok-read_segment-in-NameSegment w ↦
+          rw w.reader-is (is_later _ args name s NameSegment w.save_unsaved-in-NameSegment.new.self (w.in_ok-read_segment-in-NameSegment.ensures {u = tt}).reads.1 (λ ended. cc ended) (search rules) (search rules) (search rules))
     ] in
     let f = c.from_residual-in_err-measure-2 in
     let e = err_from_is_err_and f.result f.ensures.1 in
@@ -363,13 +369,13 @@ names::read_prefix-loop-reader-preserved t c =
     let args = spec.parse_args c.args.depth c.args.context true in
     let r = c.loop-reader.reader in
     let name = shape r.buffer.value r.found in
-    let s = spec.past_initializer (spec.waiting c.loop-reader.waits name (state r)) in
+    let s = spec.past_initializer (spec.save_unsaved c.loop-reader.unsaved name (state r)) in
     let m = c.match-segment_case.reader in
     let later : IsLater (spec.parse_unqualified type param) args name s (Some (shape m.buffer.value m.found, state m)) = elim c.match-segment_case.branch [
-      | names::read_prefix-in-ArgsSegment+in_ok-save_waiting-in-ArgsSegment+in_ok-read_attached-in-ArgsSegment w ↦
-          rw w.reader-is (is_later _ args name s ArgsSegment w.save_waiting.new.self (w.in_ok-read_attached-in-ArgsSegment.ensures {u = tt}).reads.1 (λ ended. cc ended) (search rules) (search rules) (search rules))
-      | names::read_prefix-in-NameSegment+in_ok-save_waiting-in-NameSegment+in_ok-read_segment-in-NameSegment w ↦
-          rw w.reader-is (is_later _ args name s NameSegment w.save_waiting-in-NameSegment.new.self (w.in_ok-read_segment-in-NameSegment.ensures {u = tt}).reads.1 (λ ended. cc ended) (search rules) (search rules) (search rules))
+      | names::read_prefix-in-ArgsSegment+in_ok-save_unsaved-in-ArgsSegment+in_ok-read_template_args-in-ArgsSegment w ↦
+          rw w.reader-is (is_later _ args name s ArgsSegment w.save_unsaved.new.self (w.in_ok-read_template_args-in-ArgsSegment.ensures {u = tt}).reads.1 (λ ended. cc ended) (search rules) (search rules) (search rules))
+      | names::read_prefix-in-NameSegment+in_ok-save_unsaved-in-NameSegment+in_ok-read_segment-in-NameSegment w ↦
+          rw w.reader-is (is_later _ args name s NameSegment w.save_unsaved-in-NameSegment.new.self (w.in_ok-read_segment-in-NameSegment.ensures {u = tt}).reads.1 (λ ended. cc ended) (search rules) (search rules) (search rules))
     ] in
     let longer = length-append (saved m.buffer.value) (shape m.buffer.value m.found ∷ []) in
     record {
@@ -556,3 +562,22 @@ specials::read_construction-returns-clause-reads t c =
       construction_read type (state c.args.reader.now) (ap type (sym c.skip.ensures.state) ∙ class_read.reads.1) offset (ap type (sym before) ∙ base_read.reads.1) built
           ∙ ap (λ (a : spec.ParserState). Some (shape joined_in c.in_ok-reader.field-0, a)) (sym ended),
     )
+
+-- a <source-name> is the first segment, and its tags aren't read
+first_untagged : (type param : spec.Parses Shape) (x : Context) (s : spec.ParserState) {name : Shape} {mid : spec.ParserState} → begins_source s.rest ≡ true
+    → spec.parse_source s ≡ Some (name, mid) → spec.parse_tags name mid ≡ None → spec.first_as (first_case s.rest) (spec.parse_unqualified type param) x s ≡ None
+first_untagged type param x s begins read none = first_source_opens type param x s begins ∙ rw (read, none) refl
+
+-- a first segment isn't read where what it calls isn't
+first_stops : (after : Reader) {inner whole : Option (Shape × spec.ParserState)} (e : Stop) → Gives (Err e) after inner → (inner ≡ None → whole ≡ None) → GivesUnsaved (Err e) after whole
+first_stops after Unread none follows = follows none
+first_stops after Memory gives follows = tt
+
+pub names::read_first-returns-in_err-read_tags-clause-reads : goal.names::read_first-returns-in_err-read_tags-clause-reads
+names::read_first-returns-in_err-read_tags-clause-reads t c =
+    let r = c.from_residual-in_err-read_tags in
+    let e = err_from_is_err_and r.result r.ensures.1 in
+    let named = c.read_source_name.new.self in
+    rw (e.1, e.2) (first_stops _ _ (c.in_err-read_tags.ensures {u = tt}).reads
+    (λ none. first_untagged (spec.parse_type c.args.depth c.args.context) (spec.parse_type c.args.depth (inside_lambda c.args.context)) c.args.context (state c.args.reader.now)
+    {name = shape named.buffer.value named.found} {mid = state named} (search rules) (search rules) none))

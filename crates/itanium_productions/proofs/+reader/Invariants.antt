@@ -77,56 +77,56 @@ decreases-encodings::read_encoding l = unqualified l.depth
 abbrev pub decreases-encodings::read_entity : goal.decreases-encodings::read_entity
 decreases-encodings::read_entity l = list l.depth
 
-abbrev pub decreases-encodings::read_local : goal.decreases-encodings::read_local
-decreases-encodings::read_local l = segment l.depth
+abbrev pub decreases-encodings::read_local_name : goal.decreases-encodings::read_local_name
+decreases-encodings::read_local_name l = segment l.depth
 
 abbrev pub decreases-types::read_type : goal.decreases-types::read_type
 decreases-types::read_type l = production l.depth
 
-abbrev pub decreases-args::read_argument : goal.decreases-args::read_argument
-decreases-args::read_argument l = argument l.depth
+abbrev pub decreases-args::read_template_arg : goal.decreases-args::read_template_arg
+decreases-args::read_template_arg l = argument l.depth
 
-abbrev pub decreases-args::framed_argument : goal.decreases-args::framed_argument
-decreases-args::framed_argument l = prefix l.depth
+abbrev pub decreases-args::framed_template_arg : goal.decreases-args::framed_template_arg
+decreases-args::framed_template_arg l = prefix l.depth
 
-abbrev pub decreases-args::read_attached : goal.decreases-args::read_attached
-decreases-args::read_attached l = list l.depth
+abbrev pub decreases-args::read_template_args : goal.decreases-args::read_template_args
+decreases-args::read_template_args l = list l.depth
 
 abbrev pub decreases-types::read_type_attached : goal.decreases-types::read_type_attached
 decreases-types::read_type_attached l = listed l.depth
 
-abbrev pub decreases-names::read_unscoped : goal.decreases-names::read_unscoped
-decreases-names::read_unscoped l = argument l.depth
+abbrev pub decreases-names::read_unscoped_name : goal.decreases-names::read_unscoped_name
+decreases-names::read_unscoped_name l = argument l.depth
 
 abbrev pub decreases-names::read_prefix : goal.decreases-names::read_prefix
 decreases-names::read_prefix l = prefix l.depth
 
--- What was found, and the state once it is saved, where it waits for that.
-abbrev waits_so_far : Bool → Reader → spec.ParserState
-waits_so_far waits r = spec.waiting waits (shape r.buffer.value r.found) (state r)
+-- What was found, and the state once it is saved, where it isn't saved yet.
+abbrev saved_so_far : Bool → Reader → spec.ParserState
+saved_so_far unsaved r = spec.save_unsaved unsaved (shape r.buffer.value r.found) (state r)
 
 abbrev pub invariant-names::read_prefix-loop-reader : goal.invariant-names::read_prefix-loop-reader
 invariant-names::read_prefix-loop-reader l = record {
   reads : LoopSoFar (spec.parse_after_quals (spec.unqualified_name l.depth l.context)
       (spec.parse_args l.depth l.context true) l.context (state l.fn.reader))
       (spec.segment_turn (spec.unqualified_name l.depth l.context) (spec.parse_args l.depth l.context true))
-      (l.waits, shape l.reader.buffer.value l.reader.found) (spec.past_initializer (waits_so_far l.waits l.reader));
+      (l.unsaved, shape l.reader.buffer.value l.reader.found) (spec.past_initializer (saved_so_far l.unsaved l.reader));
   living : IsLiving l.reader.buffer.value l.reader.found;
   last : IsLast l.reader.buffer.value l.reader.found;
   run : IsRun l.fn.reader.buffer.value l.reader.buffer.value;
   cost : Cost 1 1 (state l.fn.reader) (state l.reader);
-  list : length (waits_so_far l.waits l.reader).saved + length l.reader.rest.now ≤ length (saved l.fn.reader.buffer.value) + length l.fn.reader.rest.now;
-  most : (waits_so_far l.waits l.reader).most_saved ≤ max (state l.fn.reader).most_saved (length (saved l.fn.reader.buffer.value) + length l.fn.reader.rest.now);
+  list : length (saved_so_far l.unsaved l.reader).saved + length l.reader.rest.now ≤ length (saved l.fn.reader.buffer.value) + length l.fn.reader.rest.now;
+  most : (saved_so_far l.unsaved l.reader).most_saved ≤ max (state l.fn.reader).most_saved (length (saved l.fn.reader.buffer.value) + length l.fn.reader.rest.now);
 }
 
 abbrev pub decreases-names::read_prefix-loop-reader : goal.decreases-names::read_prefix-loop-reader
 decreases-names::read_prefix-loop-reader l = length l.reader.rest.now
 
-abbrev pub decreases-names::read_nested : goal.decreases-names::read_nested
-decreases-names::read_nested l = nested l.depth
+abbrev pub decreases-names::read_nested_name : goal.decreases-names::read_nested_name
+decreases-names::read_nested_name l = nested l.depth
 
-abbrev pub invariant-args::read_attached-loop-reader : goal.invariant-args::read_attached-loop-reader
-invariant-args::read_attached-loop-reader l = record {
+abbrev pub invariant-args::read_template_args-loop-reader : goal.invariant-args::read_template_args-loop-reader
+invariant-args::read_template_args-loop-reader l = record {
   below : l.depth < l.fn.depth;
   reads : AttachedSoFar (spec.attached_by (spec.parse_args l.fn.depth l.context l.of_name) (shape l.fn.reader.buffer.value l.fn.reader.found) (state l.fn.reader))
       (spec.add_argument l.opens l.scopes) (spec.parse_argument l.depth l.context) (shape l.fn.reader.buffer.value l.fn.reader.found) l.first
@@ -145,23 +145,23 @@ invariant-args::read_attached-loop-reader l = record {
   most : (state l.reader).most_saved + 1 ≤ max ((state l.fn.reader).most_saved + 1) (length (saved l.fn.reader.buffer.value) + length l.fn.reader.rest.now);
 }
 
-abbrev pub decreases-args::read_attached-loop-reader : goal.decreases-args::read_attached-loop-reader
-decreases-args::read_attached-loop-reader l = length l.reader.rest.now
+abbrev pub decreases-args::read_template_args-loop-reader : goal.decreases-args::read_template_args-loop-reader
+decreases-args::read_template_args-loop-reader l = length l.reader.rest.now
 
 abbrev pub decreases-types::framed_type : goal.decreases-types::framed_type
 decreases-types::framed_type l = framed l.depth
 
-abbrev pub decreases-types::read_function : goal.decreases-types::read_function
-decreases-types::read_function l = ended l.depth
+abbrev pub decreases-types::read_function_type : goal.decreases-types::read_function_type
+decreases-types::read_function_type l = ended l.depth
 
 abbrev pub decreases-types::read_cv : goal.decreases-types::read_cv
 decreases-types::read_cv l = free_name l.depth
 
-abbrev pub decreases-types::read_member : goal.decreases-types::read_member
-decreases-types::read_member l = list l.depth
+abbrev pub decreases-types::read_pointer_to_member_type : goal.decreases-types::read_pointer_to_member_type
+decreases-types::read_pointer_to_member_type l = list l.depth
 
-abbrev pub decreases-types::read_array : goal.decreases-types::read_array
-decreases-types::read_array l = framed l.depth
+abbrev pub decreases-types::read_array_type : goal.decreases-types::read_array_type
+decreases-types::read_array_type l = framed l.depth
 
 abbrev pub decreases-types::read_pointer : goal.decreases-types::read_pointer
 decreases-types::read_pointer l = framed l.depth
@@ -172,14 +172,14 @@ decreases-types::read_elaborated l = ended l.depth
 abbrev pub decreases-types::read_params : goal.decreases-types::read_params
 decreases-types::read_params l = list l.depth
 
-abbrev pub decreases-names::read_lambda : goal.decreases-names::read_lambda
-decreases-names::read_lambda l = ended l.depth
+abbrev pub decreases-names::read_closure_type_name : goal.decreases-names::read_closure_type_name
+decreases-names::read_closure_type_name l = ended l.depth
 
 abbrev pub decreases-names::read_free_name : goal.decreases-names::read_free_name
 decreases-names::read_free_name l = free_name l.depth
 
-abbrev pub decreases-names::read_unqualified : goal.decreases-names::read_unqualified
-decreases-names::read_unqualified l = unqualified l.depth
+abbrev pub decreases-names::read_unqualified_name : goal.decreases-names::read_unqualified_name
+decreases-names::read_unqualified_name l = unqualified l.depth
 
 abbrev pub decreases-names::read_first : goal.decreases-names::read_first
 decreases-names::read_first l = segment l.depth
@@ -196,11 +196,11 @@ decreases-names::framed_name l = framed l.depth
 abbrev pub decreases-types::read_expansion : goal.decreases-types::read_expansion
 decreases-types::read_expansion l = framed l.depth
 
-abbrev pub decreases-args::read_pack : goal.decreases-args::read_pack
-decreases-args::read_pack l = production l.depth
+abbrev pub decreases-args::read_argument_pack : goal.decreases-args::read_argument_pack
+decreases-args::read_argument_pack l = production l.depth
 
-abbrev pub invariant-args::read_pack-loop-reader : goal.invariant-args::read_pack-loop-reader
-invariant-args::read_pack-loop-reader l = record {
+abbrev pub invariant-args::read_argument_pack-loop-reader : goal.invariant-args::read_argument_pack-loop-reader
+invariant-args::read_argument_pack-loop-reader l = record {
   below : l.depth < l.fn.depth;
   reads : ListSoFar (spec.parse_pack l.fn.depth l.fn.context (state l.fn.reader))
       (spec.list_turn spec.add_nowhere (spec.parse_argument l.depth l.inside))
@@ -211,8 +211,8 @@ invariant-args::read_pack-loop-reader l = record {
   growth : Growth 1 (state l.fn.reader) (state l.reader);
 }
 
-abbrev pub decreases-args::read_pack-loop-reader : goal.decreases-args::read_pack-loop-reader
-decreases-args::read_pack-loop-reader l = length l.reader.rest.now
+abbrev pub decreases-args::read_argument_pack-loop-reader : goal.decreases-args::read_argument_pack-loop-reader
+decreases-args::read_argument_pack-loop-reader l = length l.reader.rest.now
 
 abbrev pub invariant-types::read_params-loop-list : goal.invariant-types::read_params-loop-list
 invariant-types::read_params-loop-list l = record {
@@ -261,8 +261,8 @@ decreases-expressions::read_greater l = list l.depth
 abbrev pub decreases-expressions::read_conditional : goal.decreases-expressions::read_conditional
 decreases-expressions::read_conditional l = ended l.depth
 
-abbrev pub decreases-expressions::read_primary : goal.decreases-expressions::read_primary
-decreases-expressions::read_primary l = segment l.depth
+abbrev pub decreases-expressions::read_expr_primary : goal.decreases-expressions::read_expr_primary
+decreases-expressions::read_expr_primary l = segment l.depth
 
 abbrev pub decreases-expressions::read_literal : goal.decreases-expressions::read_literal
 decreases-expressions::read_literal l = listed l.depth
@@ -285,8 +285,8 @@ decreases-specials::read_construction l = list l.depth
 abbrev pub decreases-specials::read_thunk : goal.decreases-specials::read_thunk
 decreases-specials::read_thunk l = production l.depth
 
-abbrev pub decreases-specials::read_special : goal.decreases-specials::read_special
-decreases-specials::read_special l = free_name l.depth
+abbrev pub decreases-specials::read_special_name : goal.decreases-specials::read_special_name
+decreases-specials::read_special_name l = free_name l.depth
 
 abbrev pub decreases-specials::read_symbol : goal.decreases-specials::read_symbol
 decreases-specials::read_symbol l = segment l.depth

@@ -10,7 +10,7 @@ pub extended-requires-clause-own_fits : goal.extended-requires-clause-own_fits
 extended-requires-clause-own_fits c =
     let p = c.args.piece in
     let fits = own-fits c.args.self.now c.extend.new.self p (p.to_byte - p.from_byte) c.args.bytes.now c.in_ok-from.from c.requires.living c.in_ok-from.ensures.splice in
-    omega (arith, fits, c.len.ensures.value, ap (λ (b : Store). length b.main_text) c.self.view_is)
+    omega (arith, fits, c.len.ensures.value, ap (λ (b : Store). length b.output_text) c.self.view_is)
 
 pub returns-clause-shape : goal.returns-clause-shape
 returns-clause-shape c =
@@ -20,7 +20,7 @@ returns-clause-shape c =
     let from = c.in_ok-from.from in
     let bytes = c.args.bytes.now in
     let m = c.extended.ensures in
-    let k : c.len.result ≡ length n.main_text = c.len.ensures.value ∙ ap (λ (s : Store). length s.main_text) c.self.view_is in
+    let k : c.len.result ≡ length n.output_text = c.len.ensures.value ∙ ap (λ (s : Store). length s.output_text) c.self.view_is in
     let splice = c.in_ok-from.ensures.splice in
     Lives-inserted b n p (p.to_byte - p.from_byte) bytes from c.requires.living splice c.extended.result (subst (IsAt c.extended.result from) k m.stands)
     End tt refl (m.layout ∙ layout_at_end (length bytes) (outline_of p).layout)
@@ -34,6 +34,6 @@ returns-clause-edit_of c =
     let q = c.extended.result in
     let from = c.in_ok-from.from in
     let at = p.to_byte - p.from_byte in
-    let k : c.len.result ≡ length n.main_text = c.len.ensures.value ∙ ap (λ (s : Store). length s.main_text) c.self.view_is in
+    let k : c.len.result ≡ length n.output_text = c.len.ensures.value ∙ ap (λ (s : Store). length s.output_text) c.self.view_is in
     let splice = c.in_ok-from.ensures.splice in
     IsEditOf-spliced b n p q at from c.args.bytes.now splice (subst (IsAt q from) k c.extended.ensures.stands)

@@ -1,4 +1,4 @@
--- The text with the bytes and its last own name after it stands at the end, and its outline is that of the shape with them.
+-- The text with the bytes and its base name after it stands at the end, and its outline is that of the shape with them.
 use Rattle.std.proofs.Common.{◌≡◌, ◌+◌, ◌-◌, ◌++◌, ℕ, List, length, refl, ap, ◌∙◌, subst, arith}
 use Rattle.std.proofs.lemmas.List.{length-append}
 use Rattle.demangle_text.specs.declared.shape.Place.TheVariants.{End}
@@ -12,17 +12,17 @@ pub overflow_add-n : goal.overflow_add-n
 overflow_add-n c =
     let b = c.args.self.now in
     let p = c.args.piece in
-    let name = own_text b.main_text b.side_text p in
+    let name = own_text b.output_text b.spill_text p in
     let fits = own-fits b c.extend_by.new.self p (p.to_byte - p.from_byte) (c.args.between.now ++ name) c.in_ok-from.from c.requires.living (own-spliced _ _ _ _ _ _ _ c.requires.living c.own.ensures.shape c.in_ok-from.ensures.splice) in
-    omega (arith, fits, length-append c.args.between.now name, length-own b p c.requires.living, c.len-to.ensures.value, c.len-to.type_inv, ap (λ (s : Store). length s.main_text) c.self.view_is)
+    omega (arith, fits, length-append c.args.between.now name, length-own b p c.requires.living, c.len-to.ensures.value, c.len-to.type_inv, ap (λ (s : Store). length s.output_text) c.self.view_is)
 
 pub extended-requires-clause-own_fits : goal.extended-requires-clause-own_fits
 extended-requires-clause-own_fits c =
     let b = c.args.self.now in
     let p = c.args.piece in
-    let name = own_text b.main_text b.side_text p in
+    let name = own_text b.output_text b.spill_text p in
     let fits = own-fits b c.extend_by.new.self p (p.to_byte - p.from_byte) (c.args.between.now ++ name) c.in_ok-from.from c.requires.living (own-spliced _ _ _ _ _ _ _ c.requires.living c.own.ensures.shape c.in_ok-from.ensures.splice) in
-    omega (arith, fits, length-append c.args.between.now name, length-own b p c.requires.living, c.len-to.ensures.value, c.len-to.type_inv, ap (λ (s : Store). length s.main_text) c.self.view_is)
+    omega (arith, fits, length-append c.args.between.now name, length-own b p c.requires.living, c.len-to.ensures.value, c.len-to.type_inv, ap (λ (s : Store). length s.output_text) c.self.view_is)
 
 pub returns-clause-shape : goal.returns-clause-shape
 returns-clause-shape c =
@@ -32,16 +32,16 @@ returns-clause-shape c =
     let q = c.extended.result in
     let from = c.in_ok-from.from in
     let at = p.to_byte - p.from_byte in
-    let name = own_text b.main_text b.side_text p in
+    let name = own_text b.output_text b.spill_text p in
     let added = c.args.between.now ++ name in
     let m = c.extended.ensures in
-    let k : c.len-to.result ≡ length n.main_text = c.len-to.ensures.value ∙ ap (λ (s : Store). length s.main_text) c.self.view_is in
+    let k : c.len-to.result ≡ length n.output_text = c.len-to.ensures.value ∙ ap (λ (s : Store). length s.output_text) c.self.view_is in
     let by = length c.args.between.now + (p.own_end - p.own_start) in
     let j : by ≡ length added = omega (arith, length-append c.args.between.now name, length-own b p c.requires.living) in
     let lives = Lives-inserted b n p at added from c.requires.living (own-spliced _ _ _ _ _ _ _ c.requires.living c.own.ensures.shape c.in_ok-from.ensures.splice) q (subst (IsAt q from) k m.stands)
     End tt refl (m.layout ∙ layout_at_end (length added) (outline_of p).layout)
     (m.own ∙ ap (λ (i : ℕ). own_at (outline_of p).layout (i - from) (moved at by (outline_of p).own)) k
-    ∙ ap (λ (i : ℕ). own_at (outline_of p).layout (length n.main_text - from) (moved at i (outline_of p).own)) j) m.templ m.ctor in
+    ∙ ap (λ (i : ℕ). own_at (outline_of p).layout (length n.output_text - from) (moved at i (outline_of p).own)) j) m.templ m.ctor in
     subst (λ (v : List ℕ). Lives n q (appended (c.args.between.now ++ v) (shape b p))) (own_text-is b p c.requires.living) lives
 
 pub returns-clause-edit_of : goal.returns-clause-edit_of
@@ -51,7 +51,7 @@ returns-clause-edit_of c =
     let p = c.args.piece in
     let q = c.extended.result in
     let from = c.in_ok-from.from in
-    let name = own_text b.main_text b.side_text p in
-    let k : c.len-to.result ≡ length n.main_text = c.len-to.ensures.value ∙ ap (λ (s : Store). length s.main_text) c.self.view_is in
+    let name = own_text b.output_text b.spill_text p in
+    let k : c.len-to.result ≡ length n.output_text = c.len-to.ensures.value ∙ ap (λ (s : Store). length s.output_text) c.self.view_is in
     let by = length-append c.args.between.now name ∙ ap (λ (v : List ℕ). length c.args.between.now + length v) (own_text-is b p c.requires.living) in
     subst (IsEditOf b n p q) by (IsEditOf-spliced b n p q (p.to_byte - p.from_byte) from (c.args.between.now ++ name) (own-spliced _ _ _ _ _ _ _ c.requires.living c.own.ensures.shape c.in_ok-from.ensures.splice) (subst (IsAt q from) k c.extended.ensures.stands))

@@ -9,13 +9,13 @@ use Rattle.demangle_text.proofs.buffer.Buffer.close_in_place.Goals as goal
 pub returns-clause-main : goal.returns-clause-main
 unfolding main_bytes frame_start inside Frame
 returns-clause-main c =
-    ap (λ (b : Store). b.main_text) c.self.view_is ∙ c.in_ok-keep_only.ensures.main
-    ∙ ap (λ (v : List ℕ). take c.args.mark.inside_main c.args.self.now.main_text ++ v) (sym (text_is c.args.self.now c.args.piece.now c.requires.living))
+    ap (λ (b : Store). b.output_text) c.self.view_is ∙ c.in_ok-keep_only.ensures.main
+    ∙ ap (λ (v : List ℕ). take c.args.mark.inside_main c.args.self.now.output_text ++ v) (sym (text_is c.args.self.now c.args.piece.now c.requires.living))
 
 pub returns-clause-shape : goal.returns-clause-shape
 returns-clause-shape c =
     let at = c.args.mark.inside_main in
-    let main = ap (λ (b : Store). b.main_text) c.self.view_is in
+    let main = ap (λ (b : Store). b.output_text) c.self.view_is in
     let q = c.keep_only.new.piece in
     Lives-kept_only c.args.self.now _ c.args.piece.now q at c.requires.living c.in_ok-keep_only.ensures.within
     (main ∙ c.in_ok-keep_only.ensures.main)

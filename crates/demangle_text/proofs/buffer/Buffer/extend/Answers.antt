@@ -1,4 +1,4 @@
--- Both texts go after the text that ends the main text then.
+-- Both texts go after the text that ends the output then.
 use Rattle.std.proofs.Common.{◌≡◌, ◌++◌, OnOk, OnErr, sym, ◌∙◌, subst}
 use Rattle.demangle_text.specs.Pieces.{Store}
 use Rattle.demangle_text.specs.State.{IsLiving}
@@ -42,4 +42,4 @@ returns-clause-splice c =
     let is = c.in_ok-taken_back.ensures.ok ∙ subst (λ r. OnOk r (done ≡ mid ++ more)) (sym c.in_ok-taken_back.ensures.same) c.add-added.ensures.ok in
     let lies = subst (λ (b : Store). IsLiving b p) (sym c.self.view_is) c.requires.living in
     let brought = c.in_ok-from.ensures.brought in
-    rw (← c.self.view_is) (IsSplice-extended s (record s { main_text = c.taken_back.new.main }) p mid more c.in_ok-from.from lies brought is)
+    rw (← c.self.view_is) (IsSplice-extended s (record s { output_text = c.taken_back.new.main }) p mid more c.in_ok-from.from lies brought is)

@@ -28,7 +28,7 @@ returns-in_err-taken_back-2-clause-err c =
     let failed : done ≡ mid2 = subst (λ r. OnErr r (done ≡ mid2)) (sym c.in_err-taken_back-2.ensures.same) c.add_text-added.ensures.err in
     on_err_from c.from_residual-in_err-taken_back-2.result (rw (← c.self.view_is)
     (KeepsAll-left s mid2 done c.taken_back-2.new.main c.len-len.result c.len-len.ensures.value
-    (Extends-more s.main_text mid mid2 bytes longer one) failed c.in_err-taken_back-2.ensures.err))
+    (Extends-more s.output_text mid mid2 bytes longer one) failed c.in_err-taken_back-2.ensures.err))
 
 pub invariant_of-self-2 : goal.invariant_of-self-2
 invariant_of-self-2 c =
@@ -38,7 +38,7 @@ invariant_of-self-2 c =
     let longer = c.in_ok-from.ensures.brought.longer in
     let one = c.in_ok-taken_back.ensures.ok ∙ subst (λ r. OnOk r (c.add-added.new.self ≡ mid ++ bytes)) (sym c.in_ok-taken_back.ensures.same) c.add-added.ensures.ok in
     let two = c.in_ok-taken_back-2.ensures.ok
-    ∙ subst (λ r. OnOk r (c.add_text-added.new.main ≡ c.taken_back.new.main ++ piece_text c.taken_back.new.main s.side_text c.args.other))
+    ∙ subst (λ r. OnOk r (c.add_text-added.new.main ≡ c.taken_back.new.main ++ piece_text c.taken_back.new.main s.spill_text c.args.other))
     (sym c.in_ok-taken_back-2.ensures.same) c.add_text-added.ensures.ok in
     let lies = subst (λ (b : Store). IsLiving b c.args.other) (sym c.self.view_is) c.requires.other_living in
     let is = both-added s mid bytes c.taken_back.new.main c.taken_back-2.new.main c.args.other lies longer one two in
@@ -52,7 +52,7 @@ returns-clause-edit c =
     let longer = c.in_ok-from.ensures.brought.longer in
     let one = c.in_ok-taken_back.ensures.ok ∙ subst (λ r. OnOk r (c.add-added.new.self ≡ mid ++ bytes)) (sym c.in_ok-taken_back.ensures.same) c.add-added.ensures.ok in
     let two = c.in_ok-taken_back-2.ensures.ok
-    ∙ subst (λ r. OnOk r (c.add_text-added.new.main ≡ c.taken_back.new.main ++ piece_text c.taken_back.new.main s.side_text c.args.other))
+    ∙ subst (λ r. OnOk r (c.add_text-added.new.main ≡ c.taken_back.new.main ++ piece_text c.taken_back.new.main s.spill_text c.args.other))
     (sym c.in_ok-taken_back-2.ensures.same) c.add_text-added.ensures.ok in
     let lies = subst (λ (b : Store). IsLiving b c.args.other) (sym c.self.view_is) c.requires.other_living in
     let is = both-added s mid bytes c.taken_back.new.main c.taken_back-2.new.main c.args.other lies longer one two in
@@ -66,9 +66,9 @@ returns-clause-splice c =
     let longer = c.in_ok-from.ensures.brought.longer in
     let one = c.in_ok-taken_back.ensures.ok ∙ subst (λ r. OnOk r (c.add-added.new.self ≡ mid ++ bytes)) (sym c.in_ok-taken_back.ensures.same) c.add-added.ensures.ok in
     let two = c.in_ok-taken_back-2.ensures.ok
-    ∙ subst (λ r. OnOk r (c.add_text-added.new.main ≡ c.taken_back.new.main ++ piece_text c.taken_back.new.main s.side_text c.args.other))
+    ∙ subst (λ r. OnOk r (c.add_text-added.new.main ≡ c.taken_back.new.main ++ piece_text c.taken_back.new.main s.spill_text c.args.other))
     (sym c.in_ok-taken_back-2.ensures.same) c.add_text-added.ensures.ok in
     let lies = subst (λ (b : Store). IsLiving b c.args.other) (sym c.self.view_is) c.requires.other_living in
     let is = both-added s mid bytes c.taken_back.new.main c.taken_back-2.new.main c.args.other lies longer one two in
     let brought = subst (λ (b : Store). IsLiving b c.args.piece) (sym c.self.view_is) c.requires.living in
-    rw (← c.self.view_is) (IsSplice-extended s (record s { main_text = c.taken_back-2.new.main }) c.args.piece mid _ c.in_ok-from.from brought c.in_ok-from.ensures.brought is)
+    rw (← c.self.view_is) (IsSplice-extended s (record s { output_text = c.taken_back-2.new.main }) c.args.piece mid _ c.in_ok-from.from brought c.in_ok-from.ensures.brought is)

@@ -18,7 +18,7 @@ gap c =
     c.in_ok-open_gap.ensures.gap
 
 -- the text is put from wherever it lies
-same : (c : goal.After-put) → store_of c.if-first.self-inside ≡ record (store_of c.self.inside) { main_text = c.if-first.self-inside.main }
+same : (c : goal.After-put) → store_of c.if-first.self-inside ≡ record (store_of c.self.inside) { output_text = c.if-first.self-inside.main }
 same c = elim c.if-first.branch [
   | then-first w ↦ rw w.self-inside-is refl
   | else-first w ↦ rw w.self-inside-is refl
@@ -35,7 +35,7 @@ module _ (c : goal.After-put) where
   abbrev side : List ℕ
   side = c.self.inside.lists.side
 
-  kept : piece_text all side p ≡ piece_text c.args.self.now.main_text c.args.self.now.side_text p
+  kept : piece_text all side p ≡ piece_text c.args.self.now.output_text c.args.self.now.spill_text p
   kept = text-kept c.args.self.now (store_of c.self.inside) c.args.at c.in-Some.n (gap c) c.requires.within p c.requires.living c.requires.before
 
   aside-is : (text : List ℕ) → text ≡ slice_range side p.from_byte p.to_byte → p.aside ≡ true → (text ≡ piece_text all side p) × (length text ≡ p.to_byte - p.from_byte)
@@ -61,10 +61,10 @@ module _ (c : goal.After-put) where
 
 -- what fills the gap
 abbrev added : goal.After-put → List ℕ
-added c = piece_text c.args.self.now.main_text c.args.self.now.side_text c.args.first ++ c.args.bytes.now
+added c = piece_text c.args.self.now.output_text c.args.self.now.spill_text c.args.first ++ c.args.bytes.now
 
 main : (c : goal.After-put) → c.put.new.self
-    ≡ take c.args.at c.args.self.now.main_text ++ (added c ++ drop c.args.at c.args.self.now.main_text)
+    ≡ take c.args.at c.args.self.now.output_text ++ (added c ++ drop c.args.at c.args.self.now.output_text)
 main c =
     let b = c.args.self.now in
     let at = c.args.at in
@@ -73,28 +73,28 @@ main c =
     let all = c.self.inside.main in
     let mid = c.if-first.self-inside.main in
     let k = p.to_byte - p.from_byte in
-    let text = piece_text b.main_text b.side_text p in
+    let text = piece_text b.output_text b.spill_text p in
     let long : length text ≡ k = length-text b p c.requires.living in
-    let low = sym (length-take-le at b.main_text c.requires.within) in
+    let low = sym (length-take-le at b.output_text c.requires.within) in
     let is : mid ≡ take at all ++ (text ++ drop (at + k) all) = value c ∙ ap (λ (v : List ℕ). take at all ++ (v ++ drop (at + k) all)) (kept c) in
     let done : c.put.new.self ≡ take (at + k) mid ++ (bytes ++ drop (at + k + length bytes) mid) =
     c.put.ensures.value ∙ ap (λ (i : ℕ). take i mid ++ (bytes ++ drop (i + length bytes) mid)) (ends c) in
-    both-put (take at b.main_text) (drop at b.main_text) all text bytes mid _ c.in-Some.n at k (gap c).room low (sym long)
+    both-put (take at b.output_text) (drop at b.output_text) all text bytes mid _ c.in-Some.n at k (gap c).room low (sym long)
     (omega (arith, c.text_len.ensures.value)) is done
 
 long : (c : goal.After-put) → length (added c) ≡ c.in-Some.n
 long c =
     let b = c.args.self.now in
     let p = c.args.first in
-    let both = length-append (piece_text b.main_text b.side_text p) c.args.bytes.now in
+    let both = length-append (piece_text b.output_text b.spill_text p) c.args.bytes.now in
     omega (arith, both, length-text b p c.requires.living, c.text_len.ensures.value)
 
 pub invariant_of-self : goal.invariant_of-self
-invariant_of-self c = subst (λ (t : Store). IsStore (record t { main_text = c.put.new.self })) (sym (same c)) (
+invariant_of-self c = subst (λ (t : Store). IsStore (record t { output_text = c.put.new.self })) (sym (same c)) (
     IsStore-filled c.args.self.now (store_of c.self.inside) c.args.at c.in-Some.n (gap c) _ _ (long c) (main c))
 
 pub returns-clause-edit : goal.returns-clause-edit
-returns-clause-edit c = subst (λ (t : Store). IsEdit c.args.self.now (record t { main_text = c.put.new.self })) (sym (same c)) (
+returns-clause-edit c = subst (λ (t : Store). IsEdit c.args.self.now (record t { output_text = c.put.new.self })) (sym (same c)) (
     IsEdit-filled c.args.self.now (store_of c.self.inside) c.args.at c.in-Some.n (gap c) _ _ (long c) (main c))
 
 pub returns-clause-main : goal.returns-clause-main

@@ -17,14 +17,14 @@ adjacent c =
 
 pub returns-then-are_adjacent-clause-shape : goal.returns-then-are_adjacent-clause-shape
 returns-then-are_adjacent-clause-shape c =
-    let k = c.len.ensures.value ∙ ap (λ b. length b.main_text) c.self-then-are_adjacent.view_is in
+    let k = c.len.ensures.value ∙ ap (λ b. length b.output_text) c.self-then-are_adjacent.view_is in
     Lives-joined c.args.self.now c.insert_at.new.self c.args.first c.args.second c.whole_at.result c.args.bytes.now _ c.requires.first_living c.requires.second_living (adjacent c)
     (subst (IsAt c.whole_at.result c.args.first.from_byte) k c.whole_at.ensures.stands)
     (c.whole_at.ensures.outline ∙ ap (λ j. whole_outline (j - c.args.first.from_byte)) k)
 
 pub returns-then-are_adjacent-clause-join_of : goal.returns-then-are_adjacent-clause-join_of
 returns-then-are_adjacent-clause-join_of c =
-    let k = c.len.ensures.value ∙ ap (λ b. length b.main_text) c.self-then-are_adjacent.view_is in
+    let k = c.len.ensures.value ∙ ap (λ b. length b.output_text) c.self-then-are_adjacent.view_is in
     IsJoinOf-joint c.args.self.now c.insert_at.new.self c.args.first c.args.second c.whole_at.result c.args.bytes.now _ c.requires.first_living c.requires.second_living (adjacent c)
     (subst (IsAt c.whole_at.result c.args.first.from_byte) k c.whole_at.ensures.stands)
 
@@ -41,14 +41,14 @@ pub returns-then-first-second-clause-shape : goal.returns-then-first-second-clau
 returns-then-first-second-clause-shape c =
     let q = c.whole_at-then-first-second in
     let from = c.args.second.from_byte in
-    let k = c.len-then-first-second.ensures.value ∙ ap (λ b. length b.main_text) c.self-then-first-second.view_is in
+    let k = c.len-then-first-second.ensures.value ∙ ap (λ b. length b.output_text) c.self-then-first-second.view_is in
     Lives-joined c.args.self.now c.insert_piece.new.self c.args.first c.args.second q.result c.args.bytes.now _ c.requires.first_living c.requires.second_living (moved c)
     (subst (IsAt q.result from) k q.ensures.stands) (q.ensures.outline ∙ ap (λ j. whole_outline (j - from)) k)
 
 pub returns-then-first-second-clause-join_of : goal.returns-then-first-second-clause-join_of
 returns-then-first-second-clause-join_of c =
     let q = c.whole_at-then-first-second in
-    let k = c.len-then-first-second.ensures.value ∙ ap (λ b. length b.main_text) c.self-then-first-second.view_is in
+    let k = c.len-then-first-second.ensures.value ∙ ap (λ b. length b.output_text) c.self-then-first-second.view_is in
     IsJoinOf-joint c.args.self.now c.insert_piece.new.self c.args.first c.args.second q.result c.args.bytes.now _ c.requires.first_living c.requires.second_living (moved c)
     (subst (IsAt q.result c.args.second.from_byte) k q.ensures.stands)
 
@@ -71,7 +71,7 @@ extended c =
 pub returns-clause-shape : goal.returns-clause-shape
 returns-clause-shape c =
     let from = c.in_ok-from.from in
-    let k = c.len-3.ensures.value ∙ ap (λ b. length b.main_text) c.self-2.view_is in
+    let k = c.len-3.ensures.value ∙ ap (λ b. length b.output_text) c.self-2.view_is in
     Lives-joined c.args.self.now c.extend_by.new.self c.args.first c.args.second c.whole_at-2.result c.args.bytes.now from c.requires.first_living c.requires.second_living (extended c)
     (subst (IsAt c.whole_at-2.result from) k c.whole_at-2.ensures.stands)
     (c.whole_at-2.ensures.outline ∙ ap (λ j. whole_outline (j - from)) k)
@@ -79,6 +79,6 @@ returns-clause-shape c =
 pub returns-clause-join_of : goal.returns-clause-join_of
 returns-clause-join_of c =
     let from = c.in_ok-from.from in
-    let k = c.len-3.ensures.value ∙ ap (λ b. length b.main_text) c.self-2.view_is in
+    let k = c.len-3.ensures.value ∙ ap (λ b. length b.output_text) c.self-2.view_is in
     IsJoinOf-joint c.args.self.now c.extend_by.new.self c.args.first c.args.second c.whole_at-2.result c.args.bytes.now from c.requires.first_living c.requires.second_living (extended c)
     (subst (IsAt c.whole_at-2.result from) k c.whole_at-2.ensures.stands)

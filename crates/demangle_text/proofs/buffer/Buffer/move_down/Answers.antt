@@ -33,13 +33,13 @@ set_apart-requires-clause-args c = rw c.as_slice.ensures.value (elim c.if-aside.
 
 -- the part of a text
 abbrev part : Store → Bool → ℕ → ℕ → List ℕ
-part s aside from to = slice_range (home_bytes s.main_text s.side_text aside) from to
+part s aside from to = slice_range (home_bytes s.output_text s.spill_text aside) from to
 
 block : (c : goal.After-carry-2) → IsBlock (store_of c.self.inside) (store_of c.if-aside.self-inside) (part (store_of c.self.inside) c.args.aside c.args.from c.args.to) c.args.at c.if-aside.from c.if-aside.to
 block c =
     let s = store_of c.self.inside in
     let mark : s.frame_main ≡ c.args.at = ap (λ (b : Store). b.frame_main) c.self.view_is ∙ c.requires.mark in
-    let within = subst (λ (b : Store). c.args.to ≤ length (home_bytes b.main_text b.side_text c.args.aside)) (sym c.self.view_is) c.requires.within in
+    let within = subst (λ (b : Store). c.args.to ≤ length (home_bytes b.output_text b.spill_text c.args.aside)) (sym c.self.view_is) c.requires.within in
     elim c.if-aside.branch [
       | then-aside+in_ok-add_text+else-from-at-2 w ↦ rw (w.self-inside-is, w.from-is, w.to-is) (
           IsBlock-copied s (part s c.args.aside c.args.from c.args.to) w.add_text.new.main c.args.at w.len-copied.result w.len-to.result c.self.invariant mark w.in_ok-add_text.ensures.ok
@@ -48,10 +48,10 @@ block c =
           IsBlock-here s c.args.aside c.args.at c.args.from c.args.to c.self.invariant mark w.if-aside.false c.requires.ordered within)
     ]
 
-moves : (c : goal.After-carry-2) → Moves (store_of c.if-aside.self-inside).main_text c.keep.new.self c.args.at c.if-aside.from c.if-aside.to c.args.at
+moves : (c : goal.After-carry-2) → Moves (store_of c.if-aside.self-inside).output_text c.keep.new.self c.args.at c.if-aside.from c.if-aside.to c.args.at
 moves c =
     let b = block c in
-    Moves-kept (store_of c.if-aside.self-inside).main_text c.keep.new.self c.args.at c.if-aside.from c.if-aside.to b.low b.ordered b.within c.keep.ensures.value
+    Moves-kept (store_of c.if-aside.self-inside).output_text c.keep.new.self c.args.at c.if-aside.from c.if-aside.to b.low b.ordered b.within c.keep.ensures.value
 
 pub invariant_of-self-2 : goal.invariant_of-self-2
 invariant_of-self-2 c =

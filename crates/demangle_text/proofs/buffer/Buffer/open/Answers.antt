@@ -1,4 +1,4 @@
--- The mark stands where the main text ends.
+-- The mark stands where the output ends.
 use Rattle.std.proofs.Common.{refl}
 use Rattle.demangle_text.specs.View.{store_of}
 use Rattle.demangle_text.proofs.States.{Opens-here}

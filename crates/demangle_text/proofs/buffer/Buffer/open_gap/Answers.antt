@@ -32,16 +32,16 @@ returns-in_err-open_room-clause-err c =
     on_err_from c.from_residual-in_err-open_room.result same
 
 -- the place lies in the text, and no earlier than the mark
-place : (s b : Store) (at : ℕ) → s ≡ b → at ≤ length b.main_text → at ≤ length s.main_text
-place s b at same within = omega (arith, ap (λ (v : Store). length v.main_text) same, within)
+place : (s b : Store) (at : ℕ) → s ≡ b → at ≤ length b.output_text → at ≤ length s.output_text
+place s b at same within = omega (arith, ap (λ (v : Store). length v.output_text) same, within)
 
 low : (s b : Store) (at : ℕ) → s ≡ b → b.frame_main ≤ at → s.frame_main ≤ at
 low s b at same inner = omega (arith, ap (λ (v : Store). v.frame_main) same, inner)
 
 -- the text is longer by the gap
-longer : (s b : Store) (main : List ℕ) (at n : ℕ) → s ≡ b → at ≤ length b.main_text
-    → HasRoom (take at s.main_text) (drop at s.main_text) main n → length main ≡ length s.main_text + n
-longer s b main at n same within room = length-gap s.main_text main at n (place s b at same within) room
+longer : (s b : Store) (main : List ℕ) (at n : ℕ) → s ≡ b → at ≤ length b.output_text
+    → HasRoom (take at s.output_text) (drop at s.output_text) main n → length main ≡ length s.output_text + n
+longer s b main at n same within room = length-gap s.output_text main at n (place s b at same within) room
 
 pub overflow_sub-dest : goal.overflow_sub-dest
 overflow_sub-dest c =

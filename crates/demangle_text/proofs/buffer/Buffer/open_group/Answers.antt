@@ -24,7 +24,7 @@ unfolding IsLiving
 slice_bounds-group_opening-end c =
     let b = c.args.self.now in
     let p = c.args.piece in
-    let t = piece_text b.main_text b.side_text p in
+    let t = piece_text b.output_text b.spill_text p in
     let long : length c.bytes.result.now ≡ length t = ap length (c.bytes.ensures.value ∙ text_is b p c.requires.living) in
     let at : c.place-at.result ≡ place_at Suffix (outline_of p).layout (length t) = c.place-at.ensures.value ∙ ap (place_at Suffix (outline_of p).layout) (sym (length-text b p c.requires.living)) in
     let within = suffix_within t (outline_of p).layout c.requires.living.outlined.layout in
@@ -129,7 +129,7 @@ overflow_sub-result c =
     let n = length c.group_opening-front.result.now + length c.args.bytes.now + 1 in
     let with = c.with_bytes-moved.result in
     let grouped = layout_grouped with.kind (group_from with.grouped with.group_start) with.after_start n (length c.args.bytes.now + 2)
-    (piece_text b.main_text b.side_text p) (outline_of p).layout c.requires.declared c.with_bytes-moved.ensures.layout in
+    (piece_text b.output_text b.spill_text p) (outline_of p).layout c.requires.declared c.with_bytes-moved.ensures.layout in
     omega (arith, grouped.0, ap length c.group_opening-front.ensures.value, length-append {A = ℕ})
 
 pub invariant_of-self : goal.invariant_of-self
@@ -190,7 +190,7 @@ returns-clause-shape c =
     let m = c.with_bytes-moved.ensures in
     let q : Piece = record with { group_start = with.after_start - (length bytes + 2); grouped = true } in
     let l = (outline_of p).layout in
-    let t = piece_text b.main_text b.side_text p in
+    let t = piece_text b.output_text b.spill_text p in
     let stands : IsAt q from (length c.put.new.self) = record { in_main = m.stands.in_main; begins = m.stands.begins; ends = m.stands.ends ∙ c.len.ensures.value } in
     let grouped = layout_grouped with.kind (group_from with.grouped with.group_start) with.after_start n (length bytes + 2) t l c.requires.declared m.layout in
     let gap : front ≡ gap_after (take at t) ++ 40 ∷ [] =

@@ -1,4 +1,4 @@
--- A gap in the text that ends the main text, or in a copy of it there.
+-- A gap in the text that ends the output, or in a copy of it there.
 use Rattle.std.proofs.Common.{◌≡◌, ◌+◌, ◌-◌, List, ℕ, OnOk, OnErr, length, take, drop, sym, ap, subst, arith}
 use Rattle.std.proofs.lemmas.List.{length-append}
 use Rattle.growing_text.specs.Room.{HasRoom}
@@ -24,7 +24,7 @@ returns-in_err-taken_back-clause-err c =
     let failed : done ≡ mid = subst (λ r. OnErr r (done ≡ mid)) (sym c.in_err-taken_back.ensures.same) c.open_room-opened.ensures.err in
     on_err_from c.from_residual-in_err-taken_back.result (rw (← c.self.view_is)
     (KeepsAll-left s mid done c.taken_back.new.main c.len-from.result c.len-from.ensures.value
-    (record { more = piece_text s.main_text s.side_text c.args.piece; all = c.in_ok-add_text.ensures.ok }) failed c.in_err-taken_back.ensures.err))
+    (record { more = piece_text s.output_text s.spill_text c.args.piece; all = c.in_ok-add_text.ensures.ok }) failed c.in_err-taken_back.ensures.err))
 
 pub invariant_of-self-2 : goal.invariant_of-self-2
 invariant_of-self-2 c =
@@ -35,7 +35,7 @@ invariant_of-self-2 c =
     let mid = c.add_text.new.main in
     let done = c.open_room-opened.new.self in
     let from = c.len-from.result in
-    let text = piece_text s.main_text s.side_text p in
+    let text = piece_text s.output_text s.spill_text p in
     let lies = subst (λ (b : Store). IsLiving b p) (sym c.self.view_is) c.requires.living in
     let apart = λ (h : IsTail s p).
     let t = c.is_tail.ensures.other (subst (λ (k : ℕ). IsTailAt s.frame_main k p) (sym c.len.ensures.value) h) in
@@ -43,7 +43,7 @@ invariant_of-self-2 c =
     let copied = c.in_ok-add_text.ensures.ok in
     let place = c.len-2.result - (c.text_len.result - at) in
     let there : place ≡ from + at =
-    omega (arith, c.len-2.ensures.value, c.len-from.ensures.value, c.text_len.ensures.value, c.requires.within, ap length copied, length-append s.main_text text, length-text s p lies) in
+    omega (arith, c.len-2.ensures.value, c.len-from.ensures.value, c.text_len.ensures.value, c.requires.within, ap length copied, length-append s.output_text text, length-text s p lies) in
     let opened = subst (λ r. OnOk r (HasRoom (take place mid) (drop place mid) done n)) (sym c.in_ok-taken_back.ensures.same) c.open_room-opened.ensures.ok in
     let moved = subst (λ (i : ℕ). HasRoom (take i mid) (drop i mid) done n) there opened in
     let room = subst (λ (v : List ℕ). HasRoom (take (from + at) mid) (drop (from + at) mid) v n) (sym c.in_ok-taken_back.ensures.ok) moved in
@@ -58,7 +58,7 @@ returns-clause-opened c =
     let mid = c.add_text.new.main in
     let done = c.open_room-opened.new.self in
     let from = c.len-from.result in
-    let text = piece_text s.main_text s.side_text p in
+    let text = piece_text s.output_text s.spill_text p in
     let lies = subst (λ (b : Store). IsLiving b p) (sym c.self.view_is) c.requires.living in
     let apart = λ (h : IsTail s p).
     let t = c.is_tail.ensures.other (subst (λ (k : ℕ). IsTailAt s.frame_main k p) (sym c.len.ensures.value) h) in
@@ -66,7 +66,7 @@ returns-clause-opened c =
     let copied = c.in_ok-add_text.ensures.ok in
     let place = c.len-2.result - (c.text_len.result - at) in
     let there : place ≡ from + at =
-    omega (arith, c.len-2.ensures.value, c.len-from.ensures.value, c.text_len.ensures.value, c.requires.within, ap length copied, length-append s.main_text text, length-text s p lies) in
+    omega (arith, c.len-2.ensures.value, c.len-from.ensures.value, c.text_len.ensures.value, c.requires.within, ap length copied, length-append s.output_text text, length-text s p lies) in
     let opened = subst (λ r. OnOk r (HasRoom (take place mid) (drop place mid) done n)) (sym c.in_ok-taken_back.ensures.same) c.open_room-opened.ensures.ok in
     let moved = subst (λ (i : ℕ). HasRoom (take i mid) (drop i mid) done n) there opened in
     let room = subst (λ (v : List ℕ). HasRoom (take (from + at) mid) (drop (from + at) mid) v n) (sym c.in_ok-taken_back.ensures.ok) moved in

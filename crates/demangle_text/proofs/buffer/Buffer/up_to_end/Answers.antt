@@ -17,9 +17,9 @@ returns-clause-shape c =
     let m = c.extended.ensures in
     let at = p.to_byte - p.from_byte in
     let more = text_after b p in
-    let k : c.len-to.result ≡ length b.main_text = c.len-to.ensures.value ∙ ap (λ (s : Store). length s.main_text) c.self.view_is in
-    let n : c.len-to.result - p.to_byte ≡ length more = ap (λ (j : ℕ). j - p.to_byte) k ∙ sym (length-drop p.to_byte b.main_text) in
+    let k : c.len-to.result ≡ length b.output_text = c.len-to.ensures.value ∙ ap (λ (s : Store). length s.output_text) c.self.view_is in
+    let n : c.len-to.result - p.to_byte ≡ length more = ap (λ (j : ℕ). j - p.to_byte) k ∙ sym (length-drop p.to_byte b.output_text) in
     Lives-inserted b b p at more p.from_byte c.requires.living (IsSplice-taken b p c.requires.living c.requires.inner) q (subst (IsAt q p.from_byte) k m.stands)
     End tt refl (m.layout ∙ layout_at_end (length more) (outline_of p).layout)
     (m.own ∙ ap (λ (j : ℕ). own_at (outline_of p).layout (j - p.from_byte) (moved at (c.len-to.result - p.to_byte) (outline_of p).own)) k
-    ∙ ap (λ (j : ℕ). own_at (outline_of p).layout (length b.main_text - p.from_byte) (moved at j (outline_of p).own)) n) m.templ m.ctor
+    ∙ ap (λ (j : ℕ). own_at (outline_of p).layout (length b.output_text - p.from_byte) (moved at j (outline_of p).own)) n) m.templ m.ctor
