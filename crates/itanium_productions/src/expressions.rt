@@ -244,18 +244,19 @@ pub(crate) fn read_expression(
     ensures saved { SavedBounds 1 result (state reader.old) (state reader.new) }
 {
     let depth = reader.enter(depth)?;
-    match expression_case(reader.rest) {
-        ExpressionCase::PreExpression => read_pre(reader, depth, context)?,
-        ExpressionCase::AddressExpression => read_address(reader, depth, context)?,
-        ExpressionCase::UnaryExpression => read_unary(reader, depth, context)?,
-        ExpressionCase::PostExpression => read_post(reader, depth, context)?,
-        ExpressionCase::BinaryExpression => read_binary(reader, depth, context)?,
-        ExpressionCase::GreaterExpression => read_greater(reader, depth, context)?,
-        ExpressionCase::ConditionalExpression => read_conditional(reader, depth, context)?,
-        ExpressionCase::ParameterExpression => reader.read_template_param(context)?,
-        ExpressionCase::LiteralExpression => read_expr_primary(reader, depth, context)?,
-        ExpressionCase::NoExpression => return Err(Stop::Unread),
-    }
+    let read = match expression_case(reader.rest) {
+        ExpressionCase::PreExpression => read_pre(reader, depth, context),
+        ExpressionCase::AddressExpression => read_address(reader, depth, context),
+        ExpressionCase::UnaryExpression => read_unary(reader, depth, context),
+        ExpressionCase::PostExpression => read_post(reader, depth, context),
+        ExpressionCase::BinaryExpression => read_binary(reader, depth, context),
+        ExpressionCase::GreaterExpression => read_greater(reader, depth, context),
+        ExpressionCase::ConditionalExpression => read_conditional(reader, depth, context),
+        ExpressionCase::ParameterExpression => reader.read_template_param(context),
+        ExpressionCase::LiteralExpression => read_expr_primary(reader, depth, context),
+        ExpressionCase::NoExpression => Err(Stop::Unread),
+    };
+    read?;
     reader.measure()?;
     Ok(())
 }
