@@ -60,45 +60,39 @@ pub(crate) fn read_type(reader: &mut Reader, depth: usize, context: Context) -> 
 {
     let depth = reader.enter(depth)?;
     let context = context.inside_type();
-    let read = match type_case(reader.rest) {
+    match type_case(reader.rest) {
         TypeCase::NameType => {
             // The name was measured.
             read_name(reader, depth, context, false)?;
             reader.save_found()?;
             return Ok(());
         }
-        TypeCase::BuiltinType => {
-            reader.read_builtin_type()?;
-            Ok(())
-        }
+        TypeCase::BuiltinType => reader.read_builtin_type()?,
         TypeCase::SubstitutionType => {
             reader.read_substitution()?;
-            read_type_attached(reader, depth, context)
+            read_type_attached(reader, depth, context)?;
         }
         TypeCase::ParameterType => {
             reader.read_template_param(context)?;
             reader.save_found()?;
-            read_type_attached(reader, depth, context)
+            read_type_attached(reader, depth, context)?;
         }
-        TypeCase::PointerType(kind) => read_pointer(reader, depth, context, kind),
+        TypeCase::PointerType(kind) => read_pointer(reader, depth, context, kind)?,
         TypeCase::CvType => {
             read_cv(reader, depth, context)?;
             reader.save_found()?;
-            Ok(())
         }
         TypeCase::FunctionType => {
             read_function_type(reader, depth, context, Quals::none())?;
             reader.save_found()?;
-            Ok(())
         }
-        TypeCase::ArrayType => read_array_type(reader, depth, context),
-        TypeCase::MemberType => read_pointer_to_member_type(reader, depth, context),
-        TypeCase::ExpansionType => read_expansion(reader, depth, context),
-        TypeCase::ElaboratedType => read_elaborated(reader, depth, context),
-        TypeCase::VendorType => reader.read_vendor_type(),
-        TypeCase::UnreadType => Err(Stop::Unread),
-    };
-    read?;
+        TypeCase::ArrayType => read_array_type(reader, depth, context)?,
+        TypeCase::MemberType => read_pointer_to_member_type(reader, depth, context)?,
+        TypeCase::ExpansionType => read_expansion(reader, depth, context)?,
+        TypeCase::ElaboratedType => read_elaborated(reader, depth, context)?,
+        TypeCase::VendorType => reader.read_vendor_type()?,
+        TypeCase::UnreadType => return Err(Stop::Unread),
+    }
     reader.measure()?;
     Ok(())
 }
