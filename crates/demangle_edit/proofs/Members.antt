@@ -1,5 +1,5 @@
 -- A declarator, cut in two and put together again with a group.
-use Rattle.std.proofs.Common.{◌≡◌, ℕ, ◌+◌, ◌-◌, ◌<◌, Bool, Option, Some, List, [], ◌∷◌, ◌++◌, length, take, drop, codes, sym, ap, ◌∙◌, refl, arith, append_assoc}
+use Rattle.std.proofs.Common.{◌≡◌, ℕ, ◌+◌, ◌-◌, ◌<◌, ◌≤◌, Bool, Option, Some, List, [], ◌∷◌, ◌++◌, length, take, drop, codes, sym, ap, ◌∙◌, refl, arith, append_assoc}
 use Rattle.std.specs.Prelude.{slice_range, slice_index}
 use Rattle.std.proofs.lemmas.List.{length-append, append-nil, get_or_at}
 use Rattle.demangle_text.specs.declared.shape.Kind.TheVariants.{Array, Function}
@@ -100,6 +100,12 @@ opens_at front gap class after all len n k is by_len by_n by_k =
 pub opens_before : (front gap class after all : List ℕ) (len n k : ℕ) → all ≡ front ++ (gap ++ codes "(") ++ class ++ codes "::*)" ++ after → len ≡ length all
     → n ≡ length after → k ≡ length class → len - n - 5 - k + 1 < len - n
 opens_before front gap class after all len n k is by_len by_n by_k =
+    omega (arith, by_len, by_n, by_k, ap length is, length-append {A = ℕ})
+
+-- and the whole holds the group and the text that follows it
+pub group_fits : (front gap class after all : List ℕ) (len n k : ℕ) → all ≡ front ++ (gap ++ codes "(") ++ class ++ codes "::*)" ++ after → len ≡ length all
+    → n ≡ length after → k ≡ length class → k + 5 + n ≤ len
+group_fits front gap class after all len n k is by_len by_n by_k =
     omega (arith, by_len, by_n, by_k, ap length is, length-append {A = ℕ})
 
 -- the class joined to what stands before the group, and what stands after it joined to both

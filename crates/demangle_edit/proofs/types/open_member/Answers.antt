@@ -1,10 +1,35 @@
-use Rattle.std.proofs.Common.{◌++◌, ◌-◌, ℕ, List, codes, ap, ◌∙◌, refl}
+use Rattle.std.proofs.Common.{◌++◌, ◌-◌, ℕ, List, codes, ap, ◌∙◌, refl, arith}
 use Rattle.demangle_text.specs.Shape.{text, text_len, plain_shape, gap_after}
 use Rattle.demangle_text.specs.Calls.{front_text}
 use Rattle.demangle_text.specs.State.{shape}
-use Rattle.demangle_edit.proofs.Members.{member_joined, member_pointer_shape_is, opens_at, opens_before, closes_at}
+use Rattle.demangle_edit.proofs.Members.{member_joined, member_pointer_shape_is, opens_at, opens_before, closes_at, group_fits}
 use Rattle.demangle_text.proofs.Laws.{IsEdit-keeps, KeepsAll-closed, Opens-edit, Appends-closed, Appends-named}
 use Rattle.demangle_edit.proofs.types.open_member.Goals as goal
+
+-- no place in the text is below its start
+pub overflow_sub-at : goal.overflow_sub-at
+overflow_sub-at c =
+    let is = c.in_ok-whole.ensures.shape.shape_is
+    ∙ member_joined _ _ _ _ _ _ _ _ _ _ _ c.open-mark.ensures.opens c.in_ok-begun.ensures.edit c.cut_declarator.ensures.front.living c.requires.class c.cut_declarator.ensures.after.living
+    (c.group_opening-opening.ensures.value ∙ ap (λ (v : List ℕ). gap_after v ++ codes "(") c.bytes.ensures.value) c.in_ok-begun.ensures.shape.shape_is c.in_ok-joined.ensures.shape.shape_is in
+    let fits = group_fits _ _ _ _ _ c.len.result c.len-after_len.result c.len-class_len.result (ap text is) c.len.ensures.value c.len-after_len.ensures.value c.len-class_len.ensures.value in
+    omega (arith, fits)
+
+pub overflow_sub-from : goal.overflow_sub-from
+overflow_sub-from c =
+    let is = c.in_ok-whole.ensures.shape.shape_is
+    ∙ member_joined _ _ _ _ _ _ _ _ _ _ _ c.open-mark.ensures.opens c.in_ok-begun.ensures.edit c.cut_declarator.ensures.front.living c.requires.class c.cut_declarator.ensures.after.living
+    (c.group_opening-opening.ensures.value ∙ ap (λ (v : List ℕ). gap_after v ++ codes "(") c.bytes.ensures.value) c.in_ok-begun.ensures.shape.shape_is c.in_ok-joined.ensures.shape.shape_is in
+    let fits = group_fits _ _ _ _ _ c.len.result c.len-after_len.result c.len-class_len.result (ap text is) c.len.ensures.value c.len-after_len.ensures.value c.len-class_len.ensures.value in
+    omega (arith, fits)
+
+pub overflow_sub-from-2 : goal.overflow_sub-from-2
+overflow_sub-from-2 c =
+    let is = c.in_ok-whole.ensures.shape.shape_is
+    ∙ member_joined _ _ _ _ _ _ _ _ _ _ _ c.open-mark.ensures.opens c.in_ok-begun.ensures.edit c.cut_declarator.ensures.front.living c.requires.class c.cut_declarator.ensures.after.living
+    (c.group_opening-opening.ensures.value ∙ ap (λ (v : List ℕ). gap_after v ++ codes "(") c.bytes.ensures.value) c.in_ok-begun.ensures.shape.shape_is c.in_ok-joined.ensures.shape.shape_is in
+    let fits = group_fits _ _ _ _ _ c.len.result c.len-after_len.result c.len-class_len.result (ap text is) c.len.ensures.value c.len-after_len.ensures.value c.len-class_len.ensures.value in
+    omega (arith, fits)
 
 -- the class stands in a group
 pub declare_group-declared-requires-clause-opens : goal.declare_group-declared-requires-clause-opens
