@@ -9,7 +9,6 @@ use std::alloc::AllocError;
 /// A plain piece: the text of the first piece, the bytes, and the text of the second. The base
 /// name and the flags are those of the first.
 #[inline(always)]
-#[tactic(auto, using(demangle_text::proofs::Laws::laws))]
 pub fn append_piece(
     buf: &mut Buffer,
     first: Piece,

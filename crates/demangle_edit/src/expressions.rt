@@ -67,7 +67,6 @@ fn digit_bytes(value: &[u8]) -> &[u8]
 }
 
 // The text of the piece in parentheses, as a plain piece whose base name is the whole, with no flag set.
-#[tactic(auto, using(demangle_text::proofs::Laws::laws))]
 fn parenthesize(buf: &mut Buffer, piece: Piece) -> Result<Piece, AllocError>
     requires piece { IsLiving buf.old piece }
     ensures shape { IfOk result (λ p. Lives buf.new p (spec.parenthesized (shape buf.old piece))) }
@@ -82,7 +81,6 @@ fn parenthesize(buf: &mut Buffer, piece: Piece) -> Result<Piece, AllocError>
 }
 
 // The piece with a value after its text. Its base name is the whole text then.
-#[tactic(auto, using(demangle_text::proofs::Laws::laws, crate::proofs::Insertions::insertions))]
 #[inline(always)]
 fn append_value(buf: &mut Buffer, piece: Piece, value: &[u8]) -> Result<Piece, AllocError>
     requires piece { IsLiving buf.old piece }
@@ -97,7 +95,6 @@ fn append_value(buf: &mut Buffer, piece: Piece, value: &[u8]) -> Result<Piece, A
 }
 
 // A value in square brackets, its sign in front of them.
-#[tactic(auto, using(demangle_text::proofs::Laws::laws))]
 fn push_float(buf: &mut Buffer, value: &[u8]) -> Result<Piece, AllocError>
     ensures shape { IfOk result (λ p. Lives buf.new p (plain_shape (spec.float_text value.now))) }
     ensures edit { OnOk result (IsEdit buf.old buf.new) }
@@ -111,7 +108,6 @@ fn push_float(buf: &mut Buffer, value: &[u8]) -> Result<Piece, AllocError>
 }
 
 // A literal with its type in parentheses, the first of which is there.
-#[tactic(auto, using(demangle_text::proofs::Laws::laws))]
 fn print_cast(buf: &mut Buffer, paren: Piece, ty: Piece, value: &[u8]) -> Result<Piece, AllocError>
     requires paren { Lives buf.old paren (plain_shape (codes "(")) }
     requires ty { IsLiving buf.old ty }
@@ -133,7 +129,6 @@ fn print_cast(buf: &mut Buffer, paren: Piece, ty: Piece, value: &[u8]) -> Result
 /// brackets. A plain piece whose base name is the whole, with no flag set.
 ///
 /// `None`, and all stays, for a `bool` without minus whose value is neither `0` nor `1`.
-#[tactic(auto, using(demangle_text::proofs::Laws::laws))]
 pub fn write_literal(buf: &mut Buffer, ty: Piece, value: &str) -> Result<Option<Piece>, AllocError>
     requires ty { IsLiving buf.old ty }
     ensures shape { Answers result buf.new (calls.literal_step (shape buf.old ty) value.now) }
@@ -165,7 +160,6 @@ pub fn write_literal(buf: &mut Buffer, ty: Piece, value: &str) -> Result<Option<
 
 /// As `write_literal`, where a piece of the text `(` lives: a literal with its type in parentheses begins with it, so
 /// that nothing moves where the text of the type is right after it.
-#[tactic(auto, using(demangle_text::proofs::Laws::laws))]
 pub fn write_opened_literal(
     buf: &mut Buffer,
     paren: Piece,
@@ -193,7 +187,6 @@ pub fn write_opened_literal(
 
 /// An operand of an expression: where `paren` holds its text in parentheses, as a plain piece whose
 /// base name is the whole, with no flag set; else the piece itself.
-#[tactic(auto, using(demangle_text::proofs::Laws::laws))]
 pub fn subexpr(buf: &mut Buffer, piece: Piece, paren: bool) -> Result<Piece, AllocError>
     requires piece { IsLiving buf.old piece }
     ensures shape { IfOk result (λ p. Lives buf.new p
@@ -210,7 +203,6 @@ pub fn subexpr(buf: &mut Buffer, piece: Piece, paren: bool) -> Result<Piece, All
 
 /// The address of what the piece names, `&` in front of its text. What it declares and the flags
 /// stay, and its base name moves on; of a function it is the whole text.
-#[tactic(auto, using(demangle_text::proofs::Laws::laws))]
 pub fn address(buf: &mut Buffer, piece: Piece) -> Result<Piece, AllocError>
     requires piece { IsLiving buf.old piece }
     ensures shape { IfOk result (λ p. Lives buf.new p (spec.address_shape (shape buf.old piece))) }

@@ -16,7 +16,6 @@ use std::alloc::AllocError;
 
 /// The parts, one after the other, as a plain piece whose base name is the whole, with no flag
 /// set. Of no parts it is empty.
-#[tactic(auto, using(demangle_text::proofs::Laws::laws))]
 pub fn glue(buf: &mut Buffer, parts: &[Glue]) -> Result<Piece, AllocError>
     requires parts { All (IsLivingPart buf.old) parts.now }
     ensures shape { IfOk result (λ p. Lives buf.new p
@@ -39,7 +38,6 @@ pub fn glue(buf: &mut Buffer, parts: &[Glue]) -> Result<Piece, AllocError>
 }
 
 // The texts of the pieces with `, ` between them, as a plain piece.
-#[tactic(auto, using(demangle_text::proofs::Laws::laws))]
 pub(crate) fn list_pieces(buf: &mut Buffer, pieces: &[Piece]) -> Result<Piece, AllocError>
     requires pieces { All (IsLiving buf.old) pieces.now }
     ensures shape { IfOk result (λ p. Lives buf.new p
@@ -63,7 +61,6 @@ pub(crate) fn list_pieces(buf: &mut Buffer, pieces: &[Piece]) -> Result<Piece, A
 /// The list is built as a text after it: `, ` before each argument but the first, and the text of
 /// each, up to the end of the output. `close_arguments` takes all of it in.
 #[inline(always)]
-#[tactic(auto, using(demangle_text::proofs::Laws::laws, crate::proofs::Insertions::insertions))]
 pub fn open_arguments(buf: &mut Buffer, name: Piece) -> Result<Piece, AllocError>
     requires name { IsLiving buf.old name }
     ensures shape { IfOk result (λ p. Lives buf.new p (arguments_opened (shape buf.old name))) }
@@ -84,9 +81,6 @@ pub fn open_arguments(buf: &mut Buffer, name: Piece) -> Result<Piece, AllocError
 /// The piece that `open_arguments` returned with all that stands after it, which is the list of
 /// template arguments, and with the `>` of the list, after a space where the text ends in `>`.
 #[inline(always)]
-#[tactic(auto, using(
-// The laws of calls, of runs of calls, and of what ends the output.
-demangle_text::proofs::Laws::laws, demangle_text::proofs::Laws::lasts, demangle_text::proofs::Laws::runs))]
 pub fn close_arguments(buf: &mut Buffer, list: Piece) -> Result<Piece, AllocError>
     requires list { IsLiving buf.old list }
     requires inner { IsInner buf.old list }
@@ -110,7 +104,6 @@ pub fn close_arguments(buf: &mut Buffer, list: Piece) -> Result<Piece, AllocErro
 ///
 /// With `, ` before each parameter but the first, the text of each and then `close_params` it is what
 /// `format_params` makes of the name, the parameters and the qualifiers.
-#[tactic(auto, using(demangle_text::proofs::Laws::laws))]
 pub fn open_params(buf: &mut Buffer, name: Piece) -> Result<Piece, AllocError>
     requires name { IsLiving buf.old name }
     ensures shape { IfOk result (λ p. Lives buf.new p (params_opened (shape buf.old name))) }
@@ -124,7 +117,6 @@ pub fn open_params(buf: &mut Buffer, name: Piece) -> Result<Piece, AllocError>
 }
 
 /// The list of parameters with its `)` and the qualifiers of the function: the words and then the reference.
-#[tactic(auto, using(demangle_text::proofs::Laws::laws, crate::proofs::Insertions::insertions))]
 pub fn close_params(buf: &mut Buffer, list: Piece, quals: Quals) -> Result<Piece, AllocError>
     requires list { IsLiving buf.old list }
     ensures shape { IfOk result (λ p. Lives buf.new p (params_closed quals (shape buf.old list))) }
@@ -137,7 +129,6 @@ pub fn close_params(buf: &mut Buffer, list: Piece, quals: Quals) -> Result<Piece
 }
 
 /// The piece with the number at the end of its text, in decimal digits without leading zeros.
-#[tactic(auto, using(demangle_text::proofs::Laws::laws))]
 pub fn append_number(buf: &mut Buffer, piece: Piece, number: u64) -> Result<Piece, AllocError>
     requires piece { IsLiving buf.old piece }
     ensures shape { IfOk result (λ p. Lives buf.new p
@@ -151,7 +142,6 @@ pub fn append_number(buf: &mut Buffer, piece: Piece, number: u64) -> Result<Piec
 }
 
 /// The list of a lambda's parameters with `)#`, the lambda's number and `}`. The whole text is its base name.
-#[tactic(auto, using(demangle_text::proofs::Laws::laws, crate::proofs::Insertions::insertions))]
 pub fn close_lambda(buf: &mut Buffer, list: Piece, number: u64) -> Result<Piece, AllocError>
     requires list { IsLiving buf.old list }
     ensures shape { IfOk result (λ p. Lives buf.new p (lambda_closed number (shape buf.old list))) }

@@ -15,7 +15,6 @@ use std::alloc::AllocError;
 
 /// The leaf in its parent, `parent::leaf`, as a plain piece with the base name and the flags of
 /// the leaf. It is offered to others: no reader calls it, since each opens the parent first (`open_parent`).
-#[tactic(auto, using(demangle_text::proofs::Laws::laws))]
 pub fn qualify(buf: &mut Buffer, parent: Piece, leaf: Piece) -> Result<Piece, AllocError>
     requires parent { IsLiving buf.old parent }
     requires leaf { IsLiving buf.old leaf }
@@ -36,7 +35,6 @@ pub fn qualify(buf: &mut Buffer, parent: Piece, leaf: Piece) -> Result<Piece, Al
 
 /// A text in a parent, `parent::text`, as a plain piece whose base name is the text, with no flag set. It is offered to
 /// others: the readers' parent ends the output, and they put the name after it by `append_name` of the buffer.
-#[tactic(auto, using(demangle_text::proofs::Laws::laws))]
 pub fn qualify_text(buf: &mut Buffer, parent: Piece, text: &[u8]) -> Result<Piece, AllocError>
     requires parent { IsLiving buf.old parent }
     ensures shape { IfOk result (λ p. Lives buf.new p
@@ -51,7 +49,6 @@ pub fn qualify_text(buf: &mut Buffer, parent: Piece, text: &[u8]) -> Result<Piec
 
 /// What stands in front of an entity in a default argument of a parent, `parent::{default arg#k}::` with k for its
 /// number, as a plain piece with the base name and the flags of the parent.
-#[tactic(auto, using(demangle_text::proofs::Laws::laws, crate::proofs::Insertions::insertions))]
 pub fn open_default_arg(buf: &mut Buffer, parent: Piece, number: u64) -> Result<Piece, AllocError>
     requires parent { IsLiving buf.old parent }
     ensures shape { IfOk result (λ p. Lives buf.new p (default_arg_opened (shape buf.old parent) number)) }
@@ -66,7 +63,6 @@ pub fn open_default_arg(buf: &mut Buffer, parent: Piece, number: u64) -> Result<
 
 /// A name after what was opened for it by `open_parent` or `open_default_arg`, as a plain piece with the base name
 /// and the flags of the name.
-#[tactic(auto, using(demangle_text::proofs::Laws::laws))]
 pub fn close_opened(buf: &mut Buffer, opened: Piece, name: Piece) -> Result<Piece, AllocError>
     requires opened { IsLiving buf.old opened }
     requires name { IsLiving buf.old name }
@@ -86,7 +82,6 @@ pub fn close_opened(buf: &mut Buffer, opened: Piece, name: Piece) -> Result<Piec
 
 /// A parent with the `::` after it that stands in front of a leaf, as a plain piece with the base name and the
 /// flags of the parent. `close_opened` puts the leaf after it: the two give what `qualify` gives.
-#[tactic(auto, using(demangle_text::proofs::Laws::laws))]
 pub fn open_parent(buf: &mut Buffer, parent: Piece) -> Result<Piece, AllocError>
     requires parent { IsLiving buf.old parent }
     ensures shape { IfOk result (λ p. Lives buf.new p (parent_opened (shape buf.old parent))) }
@@ -100,7 +95,6 @@ pub fn open_parent(buf: &mut Buffer, parent: Piece) -> Result<Piece, AllocError>
 /// The entity in a default argument of a parent, `parent::{default arg#k}::entity` with k for its number, as a plain
 /// piece with the base name and the flags of the entity. It is offered to others: the readers here put what stands
 /// in front of the entity first (`open_default_arg`).
-#[tactic(auto, using(demangle_text::proofs::Laws::laws))]
 pub fn default_arg(
     buf: &mut Buffer,
     parent: Piece,
@@ -122,7 +116,6 @@ pub fn default_arg(
 
 /// The constructor of a parent, `parent::name` with the base name of the parent, or its destructor, which has a `~` in
 /// front of that name. A plain piece; its base name is all after the `::`. Of the flags `ctor` holds alone.
-#[tactic(auto, using(demangle_text::proofs::Laws::laws))]
 pub fn qualify_ctor(buf: &mut Buffer, parent: Piece, destructor: bool) -> Result<Piece, AllocError>
     requires parent { IsLiving buf.old parent }
     ensures shape { IfOk result (λ p. Lives buf.new p
@@ -143,7 +136,6 @@ pub fn qualify_ctor(buf: &mut Buffer, parent: Piece, destructor: bool) -> Result
 /// name ends in `<`. A plain piece with the base name and the flag `ctor` of the name; `templ`
 /// holds. It is offered to others: the readers here build the list on the name (`open_arguments`).
 #[inline(always)]
-#[tactic(auto, using(demangle_text::proofs::Laws::laws))]
 pub fn attach_template_args(buf: &mut Buffer, name: Piece, args: Piece) -> Result<Piece, AllocError>
     requires name { IsLiving buf.old name }
     requires args { IsLiving buf.old args }
@@ -165,7 +157,6 @@ pub fn attach_template_args(buf: &mut Buffer, name: Piece, args: Piece) -> Resul
 /// The name of a function with its parameters in parentheses, `, ` between them, and its qualifiers: the words and then
 /// the reference. A plain piece with the base name and the flag `ctor` of the name; `templ` doesn't hold. Of no
 /// parameters it is `name()`. It is offered to others: the readers here build the list on the name (`open_params`).
-#[tactic(auto, using(demangle_text::proofs::Laws::laws))]
 pub fn format_params(
     buf: &mut Buffer,
     name: Piece,
@@ -190,7 +181,6 @@ pub fn format_params(
 }
 
 /// The name with an ABI tag after it, `name[abi:tag]`, as a plain piece with the base name and the flags of the name.
-#[tactic(auto, using(demangle_text::proofs::Laws::laws, crate::proofs::Insertions::insertions))]
 pub fn tag(buf: &mut Buffer, name: Piece, text: &[u8]) -> Result<Piece, AllocError>
     requires name { IsLiving buf.old name }
     ensures shape { IfOk result (λ p. Lives buf.new p (tagged (shape buf.old name) text.now)) }
@@ -206,7 +196,6 @@ pub fn tag(buf: &mut Buffer, name: Piece, text: &[u8]) -> Result<Piece, AllocErr
 /// The name with its qualifiers after it: the words ` const`, ` volatile` and ` restrict` only
 /// where they are shown, and then the reference. A plain piece with the base name and the flags
 /// of the name, also where nothing is printed. Without qualifiers the answer is the name itself.
-#[tactic(auto, using(demangle_text::proofs::Laws::laws))]
 pub fn apply_name_qualifiers(
     buf: &mut Buffer,
     name: Piece,

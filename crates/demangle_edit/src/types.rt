@@ -19,7 +19,6 @@ use demangle_text::{Buffer, Kind, Piece, Place};
 use std::alloc::AllocError;
 
 // A token at the end of a plain text or of a group, or in a group that is opened for it.
-#[tactic(auto, using(demangle_text::proofs::Laws::laws, crate::proofs::Declarators::declarators))]
 #[inline(always)]
 fn wrap_token(buf: &mut Buffer, inner: Piece, token: &[u8]) -> Result<Piece, AllocError>
     requires inner { IsLiving buf.old inner }
@@ -39,7 +38,6 @@ fn wrap_token(buf: &mut Buffer, inner: Piece, token: &[u8]) -> Result<Piece, All
 /// A pointer or a reference to the type: `*`, `&` or `&&` at the end of a plain text or of a group.
 /// A declarator without group gets a group for it. A reference to a plain text that ends in `&`
 /// collapses, as `collapse_ref` has it. The flags stay.
-#[tactic(auto, using(demangle_text::proofs::Laws::laws, crate::proofs::Declarators::declarators))]
 pub fn wrap_pointer(buf: &mut Buffer, inner: Piece, kind: Pointer) -> Result<Piece, AllocError>
     requires inner { IsLiving buf.old inner }
     ensures shape { IfOk result (λ p. Lives buf.new p (pointer_shape kind (shape buf.old inner))) }
@@ -69,7 +67,6 @@ pub fn wrap_pointer(buf: &mut Buffer, inner: Piece, kind: Pointer) -> Result<Pie
 /// its last byte, in all other cases the piece itself. `rvalue` says that the reference is `&&`.
 ///
 /// `None`, and all stays, where the piece is a declarator or its text doesn't end in `&`.
-#[tactic(auto, using(demangle_text::proofs::Laws::laws, crate::proofs::Declarators::declarators))]
 pub fn collapse_ref(
     buf: &mut Buffer,
     inner: Piece,
@@ -100,7 +97,6 @@ pub fn collapse_ref(
 }
 
 // Where the words of a type's qualifiers go.
-#[tactic(auto, using(crate::proofs::Declarators::declarators))]
 fn words_place(buf: &Buffer, inner: Piece) -> Place
     requires inner { IsLiving buf.now inner }
     ensures value { result ≡ cv_place (shape buf.now inner).form }
@@ -122,7 +118,6 @@ fn words_place(buf: &Buffer, inner: Piece) -> Place
 /// The type with the words ` const`, ` volatile` and ` restrict` of its qualifiers: at the end of
 /// the group, for an array without group in front of its dimensions, else at the end of the text.
 /// The flags stay, and the reference of the qualifiers isn't printed.
-#[tactic(auto, using(demangle_text::proofs::Laws::laws, crate::proofs::Declarators::declarators))]
 pub fn wrap_cv(buf: &mut Buffer, inner: Piece, quals: Quals) -> Result<Piece, AllocError>
     requires inner { IsLiving buf.old inner }
     ensures shape { IfOk result (λ p. Lives buf.new p (cv_shape quals (shape buf.old inner))) }
@@ -134,7 +129,6 @@ pub fn wrap_cv(buf: &mut Buffer, inner: Piece, quals: Quals) -> Result<Piece, Al
 }
 
 // The opening bytes, the digits of a dimension and `]`, at a place of the piece's text.
-#[tactic(auto, using(demangle_text::proofs::Laws::laws, crate::proofs::Insertions::insertions))]
 fn insert_dimension(
     buf: &mut Buffer,
     piece: Piece,
@@ -158,7 +152,6 @@ fn insert_dimension(
 }
 
 // An array of a plain type.
-#[tactic(auto, using(demangle_text::proofs::Laws::laws, crate::proofs::Arrays::first_shape))]
 fn first_dimension(
     buf: &mut Buffer,
     elem: Piece,
@@ -178,7 +171,6 @@ fn first_dimension(
 }
 
 // A dimension in front of those that an array without group has: after the first byte of `after`.
-#[tactic(auto, using(demangle_text::proofs::Laws::laws))]
 fn outer_dimension(
     buf: &mut Buffer,
     elem: Piece,
@@ -206,7 +198,6 @@ fn outer_dimension(
 /// follows its name, so that the outer dimension stands first. The flags stay.
 ///
 /// `None`, and all stays, for a function without group.
-#[tactic(auto, using(demangle_text::proofs::Laws::laws, crate::proofs::Declarators::declarators))]
 pub fn wrap_array(
     buf: &mut Buffer,
     elem: Piece,
@@ -237,7 +228,6 @@ pub fn wrap_array(
 }
 
 // A pointer to a member of a plain type.
-#[tactic(auto, using(demangle_text::proofs::Laws::laws, crate::proofs::Insertions::insertions))]
 fn append_member(buf: &mut Buffer, class: Piece, member: Piece) -> Result<Piece, AllocError>
     requires class { IsLiving buf.old class }
     requires member { IsLiving buf.old member }
@@ -258,7 +248,6 @@ fn append_member(buf: &mut Buffer, class: Piece, member: Piece) -> Result<Piece,
 }
 
 // The text of a declarator, cut where `after` begins.
-#[tactic(auto, using(crate::proofs::Members::members))]
 fn cut_declarator(buf: &Buffer, piece: Piece) -> (Piece, Piece)
     requires living { IsLiving buf.now piece }
     requires declared { IsDeclared (shape buf.now piece).form }
@@ -274,7 +263,6 @@ fn cut_declarator(buf: &Buffer, piece: Piece) -> (Piece, Piece)
 }
 
 // A pointer to a member function: the class stands in a new group.
-#[tactic(auto, using(demangle_text::proofs::Laws::laws, crate::proofs::Members::members))]
 fn open_member(buf: &mut Buffer, class: Piece, member: Piece) -> Result<Piece, AllocError>
     requires class { IsLiving buf.old class }
     requires member { IsLiving buf.old member }
@@ -303,7 +291,6 @@ fn open_member(buf: &mut Buffer, class: Piece, member: Piece) -> Result<Piece, A
 /// text ends in a space or `(`), or in a new group of a function. The flags are those of the member.
 ///
 /// `None`, and all stays, for an array.
-#[tactic(auto, using(demangle_text::proofs::Laws::laws, crate::proofs::Declarators::declarators))]
 pub fn wrap_member_pointer(
     buf: &mut Buffer,
     class: Piece,
@@ -340,7 +327,6 @@ pub fn wrap_member_pointer(
 /// `None`, and all stays, where what is returned is a declarator.
 ///
 /// It is offered to others: the readers here build the type as they read it (`open_function`).
-#[tactic(auto, using(demangle_text::proofs::Laws::laws, crate::proofs::Declarators::declarators))]
 pub fn function_type(
     buf: &mut Buffer,
     ret: Piece,
@@ -377,7 +363,6 @@ pub fn function_type(
 /// `function_type` makes of what is returned, the parameters and the qualifiers.
 ///
 /// `None`, and all stays, where what is returned is a declarator.
-#[tactic(auto, using(demangle_text::proofs::Laws::laws, crate::proofs::Declarators::declarators))]
 pub fn open_function(buf: &mut Buffer, ret: Piece) -> Result<Option<Piece>, AllocError>
     requires ret { IsLiving buf.old ret }
     ensures shape { Answers result buf.new (opening_step (shape buf.old ret)) }
@@ -397,7 +382,6 @@ pub fn open_function(buf: &mut Buffer, ret: Piece) -> Result<Option<Piece>, Allo
 /// The function type whose parameters are this list: the list with its `)` and the qualifiers, the words and then the
 /// reference. What it returns has `front` bytes, and `after` begins one byte later, at the parenthesis; where the list
 /// is no longer than that all of it is `before`. Its base name is its whole text, and no flag holds.
-#[tactic(auto, using(demangle_text::proofs::Laws::laws, crate::proofs::Cuts::declared_within))]
 pub fn close_function(
     buf: &mut Buffer,
     list: Piece,

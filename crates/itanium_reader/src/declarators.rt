@@ -16,7 +16,6 @@ use itanium_syntax::args::{AttachedCase, attached_case};
 use itanium_syntax::types::ref_qualifier;
 use std::alloc::AllocError;
 
-#[tactic(auto, using(crate::proofs::Rules::buffers))]
 impl<'a> Reader<'a> {
     /// A pointer or a reference to what was found.
     pub fn save_pointer(&mut self, kind: Pointer) -> Result<(), AllocError>

@@ -14,10 +14,8 @@ use demangle_text::{Piece, Place};
 use itanium_syntax::expressions::literal_value;
 use std::alloc::AllocError;
 
-#[tactic(auto, using(crate::proofs::Rules::buffers))]
 impl<'a> Reader<'a> {
     /// The `E` after what was found.
-    #[tactic(auto, using(crate::proofs::Rules::buffers))]
     pub fn read_end(&mut self) -> Result<(), Stop>
         requires living { IsLiving self.old.buffer.value self.old.found }
         ensures reads { Gives result self.new

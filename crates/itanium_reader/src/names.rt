@@ -18,7 +18,6 @@ use itanium_syntax::operators::operator_here;
 use itanium_syntax::scalar::source_name;
 use std::alloc::AllocError;
 
-#[tactic(auto, using(crate::proofs::Rules::parents))]
 impl<'a> Reader<'a> {
     /// The string literal of an encoding.
     pub fn print_string_literal(&mut self, encoding: Piece) -> Result<(), AllocError>
@@ -74,7 +73,7 @@ impl<'a> Reader<'a> {
     }
 
     /// `<abi-tags> ::= (B <source-name>)*` after the name that was found. Mostly there is none.
-    #[tactic(auto, using(crate::proofs::Rules::tagged_names, crate::proofs::Rules::parents))]
+    #[tactic(auto, using(crate::proofs::Rules::tagged_names))]
     #[inline(always)]
     pub fn read_tags(&mut self) -> Result<(), Stop>
         requires living { IsLiving self.old.buffer.value self.old.found }
@@ -93,7 +92,7 @@ impl<'a> Reader<'a> {
     }
 
     /// `read_tags` where one follows.
-    #[tactic(auto, using(crate::proofs::Rules::tags, crate::proofs::Rules::parents))]
+    #[tactic(auto, using(crate::proofs::Rules::tags))]
     #[cold]
     fn read_some_tags(&mut self) -> Result<(), Stop>
         requires living { IsLiving self.old.buffer.value self.old.found }

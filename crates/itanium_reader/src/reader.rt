@@ -58,7 +58,6 @@ pub struct Reader<'a> {
     pub most_noted: usize,
 }
 
-#[tactic(auto, using(crate::proofs::Rules::buffers))]
 impl<'a> Reader<'a> {
     /// Goes past n bytes, or to the end.
     #[inline(always)]
@@ -176,7 +175,6 @@ impl<'a> Reader<'a> {
 
     /// Goes past the `E` of a `<nested-name>`. The grammar saves the last segment and takes it back at the `E`. Here it
     /// is never saved: it only counts among the most that were saved.
-    #[tactic(auto, using(crate::proofs::Rules::last_segments))]
     #[inline(always)]
     pub fn end_nested_name(&mut self, unsaved: bool)
         requires living { IsLiving self.old.buffer.value self.old.found }
@@ -344,7 +342,6 @@ impl<'a> Reader<'a> {
 
     /// What stands in front of a list's next text: nothing in front of the first. A list that stands up to the end of
     /// the output, from the innermost mark or later, stays there.
-    #[tactic(auto, using(crate::proofs::Rules::lists))]
     #[inline(always)]
     pub fn separate_list(&mut self, list: Piece, first: bool) -> Result<Piece, AllocError>
         requires living { IsLiving self.old.buffer.value list }
@@ -364,7 +361,6 @@ impl<'a> Reader<'a> {
 
     /// Puts what stands in front of a list's next text at the end of the output: `, `, or nothing in front of the
     /// first.
-    #[tactic(auto, using(crate::proofs::Rules::separators))]
     #[inline(always)]
     pub fn separate(&mut self, first: bool) -> Result<(), AllocError>
         ensures main { OnOk result (main_bytes self.new.buffer.value

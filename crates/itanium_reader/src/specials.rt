@@ -24,7 +24,6 @@ fn offset_sign_bytes(number: Signed) -> &'static [u8]
 }
 
 /// The words with bytes after them, and then a number with its sign.
-#[tactic(auto, using(crate::proofs::Rules::endings))]
 fn append_signed(
     buf: &mut Buffer,
     words: Piece,
@@ -43,7 +42,6 @@ fn append_signed(
 }
 
 /// The words with `<call-offset>` after them as it is printed, and `, `.
-#[tactic(auto, using(crate::proofs::Rules::endings))]
 fn append_offset(buf: &mut Buffer, words: Piece, offset: CallOffset) -> Result<Piece, AllocError>
     requires words { IsLiving buf.old words }
     ensures shape { IfOk result (λ p. Lives buf.new p
@@ -66,11 +64,9 @@ fn append_offset(buf: &mut Buffer, words: Piece, offset: CallOffset) -> Result<P
     }
 }
 
-#[tactic(auto, using(crate::proofs::Rules::buffers))]
 impl<'a> Reader<'a> {
     /// The words with what was found, whose text stands after them up to the end of the output, and the words that
     /// close it.
-    #[tactic(auto, using(crate::proofs::Rules::words))]
     #[inline(always)]
     pub fn print_worded(&mut self, words: Piece, close: &[u8]) -> Result<(), AllocError>
         requires words { IsLiving self.old.buffer.value words }
@@ -91,7 +87,7 @@ impl<'a> Reader<'a> {
 
     /// `T <call-offset>` or `T c <call-offset> <call-offset>`: what stands in front of the encoding of a thunk with
     /// these offsets, at the end of the output.
-    #[tactic(auto, using(crate::proofs::Rules::endings), unfolding(crate::specs::Parser::thunk_front))]
+    #[tactic(auto, unfolding(crate::specs::Parser::thunk_front))]
     #[cold]
     pub fn open_thunk(&mut self) -> Result<(), Stop>
         requires some { 0 < length self.old.rest.now }
@@ -125,7 +121,6 @@ impl<'a> Reader<'a> {
     }
 
     /// `[<seq-id>] _` of a reference temporary, after its name, which was found.
-    #[tactic(auto, using(crate::proofs::Rules::endings))]
     pub fn end_temporary(&mut self) -> Result<(), Stop>
         requires living { IsLiving self.old.buffer.value self.old.found }
         ensures reads { Gives result self.new

@@ -1,3 +1,4 @@
+use Rattle.std.proofs.lemmas.Grind.{common_steps}
 use Rattle.std.proofs.Common.{◌∙◌, arith}
 use Rattle.demangle_text.specs.State.{shape}
 use Rattle.demangle_edit.proofs.Insertions.{piece_after, moved_from_end, moved_inside}
@@ -23,3 +24,9 @@ returns-clause-in_place c =
     let joined = JoinsInPlace-join _ _ _ _ _ _ c.in_ok-whole.ensures.join_of in
     let at_named = JoinsInPlace-named _ _ _ _ _ c.own_at-named.result joined c.own_at-named.ensures.stands in
     JoinsInPlace-named _ _ _ _ _ c.with_flags.result at_named c.with_flags.ensures.stands
+
+pub overflow_sub-n : goal.overflow_sub-n
+overflow_sub-n c = grind (arith, common_steps)
+
+pub own_at-named-requires-clause-within : goal.own_at-named-requires-clause-within
+own_at-named-requires-clause-within c = grind (arith, common_steps)

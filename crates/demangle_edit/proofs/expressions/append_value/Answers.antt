@@ -1,3 +1,5 @@
+use Rattle.std.proofs.Common.{arith}
+use Rattle.std.proofs.lemmas.Grind.{common_steps}
 use Rattle.demangle_text.proofs.Laws.{StaysInPlace-edit, StaysInPlace-trans, StaysInPlace-named}
 use Rattle.demangle_edit.proofs.expressions.append_value.Goals as goal
 
@@ -7,3 +9,6 @@ returns-clause-in_place c =
     let at_signed = StaysInPlace-edit _ _ _ _ _ c.in_ok-signed.ensures.edit_of in
     let at_all = StaysInPlace-trans _ _ _ _ _ _ c.in_ok-signed.ensures.edit at_signed (StaysInPlace-edit _ _ _ _ _ c.in_ok-all.ensures.edit_of) in
     StaysInPlace-named _ _ _ _ c.whole.result at_all c.whole.ensures.stands
+
+pub returns-clause-shape : goal.returns-clause-shape
+returns-clause-shape c = grind (arith, common_steps)

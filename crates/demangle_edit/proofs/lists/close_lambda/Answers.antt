@@ -1,3 +1,5 @@
+use Rattle.std.proofs.Common.{arith}
+use Rattle.std.proofs.lemmas.Grind.{common_steps}
 use Rattle.demangle_text.proofs.Laws.{IsEdit-trans, StaysInPlace-edit, StaysInPlace-trans, StaysInPlace-named}
 use Rattle.demangle_edit.proofs.lists.close_lambda.Goals as goal
 
@@ -10,3 +12,6 @@ returns-clause-in_place c =
     (IsEdit-trans _ _ _ c.in_ok-closed.ensures.edit c.in_ok-numbered.ensures.edit) at_numbered
     (StaysInPlace-edit _ _ _ _ _ c.in_ok-lambda.ensures.edit_of) in
     StaysInPlace-named _ _ _ _ c.whole.result at_lambda c.whole.ensures.stands
+
+pub returns-clause-shape : goal.returns-clause-shape
+returns-clause-shape c = grind (arith, common_steps)

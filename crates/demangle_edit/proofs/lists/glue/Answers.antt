@@ -1,3 +1,5 @@
+use Rattle.std.proofs.Common.{arith}
+use Rattle.std.proofs.lemmas.Grind.{common_steps}
 use Rattle.std.proofs.Common.{◌++◌, List, ℕ, sym, subst}
 use Rattle.std.proofs.lemmas.List.{append-nil}
 use Rattle.demangle_text.specs.Shape.{text, plain_shape}
@@ -39,3 +41,9 @@ pub returns-clause-appends : goal.returns-clause-appends
 returns-clause-appends c =
     Appends-close c.args.buf.now c.loop-part.buf c.close.new.self c.open-mark.result c.close.result
     c.open-mark.ensures.mark c.loop-part.invariant.run c.close.ensures.closed c.close.ensures.stands
+
+pub returns-clause-shape : goal.returns-clause-shape
+returns-clause-shape c = grind (arith, common_steps)
+
+pub returns-clause-edit : goal.returns-clause-edit
+returns-clause-edit c = grind (arith, common_steps)

@@ -1,3 +1,5 @@
+use Rattle.std.proofs.Common.{arith}
+use Rattle.std.proofs.lemmas.Grind.{common_steps}
 use Rattle.std.proofs.Common.{rules, true, List, [], map, ap, ◌∙◌, refl, subst, IfOk}
 use Rattle.std.proofs.lemmas.List.{take_all}
 use Rattle.demangle_text.specs.declared.shape.Piece.{Piece}
@@ -28,3 +30,6 @@ pub returns-clause-appends : goal.returns-clause-appends
 returns-clause-appends c =
     Appends-close c.args.buf.now c.loop-i.buf c.close.new.self c.open-mark.result c.close.result
     c.open-mark.ensures.mark c.loop-i.invariant.run c.close.ensures.closed c.close.ensures.stands
+
+pub returns-clause-kept : goal.returns-clause-kept
+returns-clause-kept c = grind (arith, common_steps)

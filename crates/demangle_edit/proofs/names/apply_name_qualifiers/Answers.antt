@@ -1,3 +1,5 @@
+use Rattle.std.proofs.Common.{arith}
+use Rattle.std.proofs.lemmas.Grind.{common_steps}
 use Rattle.std.proofs.lemmas.Result.{IfOk-weaker}
 use Rattle.demangle_text.specs.State.{edited}
 use Rattle.demangle_text.proofs.Laws.{StaysInPlace-edit, StaysInPlace-trans, StaysInPlace-of}
@@ -8,3 +10,6 @@ pub returns-clause-in_place : goal.returns-clause-in_place
 returns-clause-in_place c =
     let at_worded = StaysInPlace-of _ _ c.args.name c.plain-plain.result _ c.plain-plain.ensures.stands (StaysInPlace-edit _ _ _ _ _ c.in_ok-worded.ensures.edit_of) in
     IfOk-weaker c.append-2.result _ _ (λ p k. edited (StaysInPlace-trans _ _ _ _ _ _ c.in_ok-worded.ensures.edit at_worded (StaysInPlace-edit _ _ _ _ _ k))) c.append-2.ensures.edit_of
+
+pub returns-clause-shape : goal.returns-clause-shape
+returns-clause-shape c = grind (arith, common_steps)

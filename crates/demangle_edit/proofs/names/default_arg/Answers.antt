@@ -1,3 +1,5 @@
+use Rattle.std.proofs.Common.{arith}
+use Rattle.std.proofs.lemmas.Grind.{common_steps}
 use Rattle.std.proofs.Common.{ap, ap₂, ◌∙◌, subst, IfOk}
 use Rattle.demangle_text.specs.Shape.{Shape}
 use Rattle.demangle_text.specs.State.{Lives}
@@ -20,3 +22,6 @@ returns-clause-appends c =
     let run = Opens-edit _ _ _ _ (Opens-edit _ _ _ _ c.open-mark.ensures.opens c.in_ok-opened.ensures.edit) c.in_ok-named.ensures.edit in
     Appends-close c.args.buf.now c.close_opened.new.buf c.close.new.self c.open-mark.result c.close.result
     c.open-mark.ensures.mark run c.close.ensures.closed c.close.ensures.stands
+
+pub returns-clause-edit : goal.returns-clause-edit
+returns-clause-edit c = grind (arith, common_steps)

@@ -1,3 +1,6 @@
+use Rattle.demangle_text.proofs.Laws.{laws}
+use Rattle.std.proofs.Common.{arith}
+use Rattle.std.proofs.lemmas.Grind.{common_steps}
 use Rattle.std.proofs.Common.{rules, true, List, map, ap, ◌∙◌, refl, subst, IfOk}
 use Rattle.std.proofs.lemmas.List.{take_all}
 use Rattle.demangle_text.specs.declared.shape.Piece.{Piece}
@@ -31,3 +34,9 @@ returns-clause-appends c =
     let run = Opens-edit _ _ _ _ c.loop-i.invariant.run c.in_ok-whole.ensures.edit in
     Appends-close c.args.buf.now c.close_params.new.buf c.close.new.self c.open-mark.result c.close.result
     c.open-mark.ensures.mark run c.close.ensures.closed c.close.ensures.stands
+
+pub returns-in_err-list-2-clause-shape : goal.returns-in_err-list-2-clause-shape
+returns-in_err-list-2-clause-shape c = grind (arith, laws)
+
+pub returns-clause-edit : goal.returns-clause-edit
+returns-clause-edit c = grind (arith, common_steps)

@@ -1,3 +1,5 @@
+use Rattle.std.proofs.Common.{arith}
+use Rattle.std.proofs.lemmas.Grind.{common_steps}
 use Rattle.demangle_text.proofs.Laws.{JoinsInPlace-join, JoinsInPlace-named}
 use Rattle.demangle_edit.proofs.names.qualify.Goals as goal
 
@@ -7,3 +9,15 @@ returns-clause-in_place c =
     let joined = JoinsInPlace-join _ _ _ _ _ _ c.in_ok-whole.ensures.join_of in
     let at_named = JoinsInPlace-named _ _ _ _ _ c.own_at-named.result joined c.own_at-named.ensures.stands in
     JoinsInPlace-named _ _ _ _ _ c.with_flags.result at_named c.with_flags.ensures.stands
+
+pub overflow_add-before-2 : goal.overflow_add-before-2
+overflow_add-before-2 c = grind (arith, common_steps)
+
+pub overflow_add-before-4 : goal.overflow_add-before-4
+overflow_add-before-4 c = grind (arith, common_steps)
+
+pub own_at-named-requires-clause-within : goal.own_at-named-requires-clause-within
+own_at-named-requires-clause-within c = grind (arith, common_steps)
+
+pub returns-clause-shape : goal.returns-clause-shape
+returns-clause-shape c = grind (arith, common_steps)

@@ -1,3 +1,5 @@
+use Rattle.std.proofs.Common.{arith}
+use Rattle.std.proofs.lemmas.Grind.{common_steps}
 use Rattle.std.proofs.lemmas.Result.{IfOk-weaker}
 use Rattle.demangle_text.proofs.Laws.{IsEdit-trans, StaysInPlace-edit, StaysInPlace-trans, StaysInPlace-of}
 use Rattle.demangle_edit.proofs.names.tag.Goals as goal
@@ -10,3 +12,6 @@ returns-clause-in_place c =
     IfOk-weaker c.append-3.result _ _ (λ p k. StaysInPlace-trans _ _ _ _ _ _
     (IsEdit-trans _ _ _ c.in_ok-opened.ensures.edit c.in_ok-filled.ensures.edit) at_filled
     (StaysInPlace-edit _ _ _ _ _ k)) c.append-3.ensures.edit_of
+
+pub returns-clause-shape : goal.returns-clause-shape
+returns-clause-shape c = grind (arith, common_steps)

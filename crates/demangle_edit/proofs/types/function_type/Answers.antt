@@ -1,3 +1,7 @@
+use Rattle.demangle_edit.proofs.Declarators.{declarators}
+use Rattle.demangle_text.proofs.Laws.{laws}
+use Rattle.std.proofs.Common.{arith}
+use Rattle.std.proofs.lemmas.Grind.{common_steps}
 use Rattle.std.proofs.Common.{◌≡◌, false, map, codes, sym, ap, ◌∙◌, is_some}
 use Rattle.demangle_text.specs.Shape.{Shape}
 use Rattle.demangle_text.specs.Calls.{joined, kind_of}
@@ -32,3 +36,9 @@ returns-clause-in_place c =
     let at_worded = StaysInPlace-trans _ _ _ _ _ _ closed at_closed (StaysInPlace-edit _ _ _ _ _ c.in_ok-worded.ensures.edit_of) in
     let at_whole = StaysInPlace-trans _ _ _ _ _ _ worded at_worded (StaysInPlace-edit _ _ _ _ _ c.in_ok-whole.ensures.edit_of) in
     StaysInPlace-named _ _ _ _ _ at_whole c.declare.ensures.stands
+
+pub declare-requires-clause-within : goal.declare-requires-clause-within
+declare-requires-clause-within c = grind (arith, common_steps)
+
+pub returns-clause-edit : goal.returns-clause-edit
+returns-clause-edit c = grind (arith, declarators, laws)

@@ -72,3 +72,36 @@ turns-preserved g c =
       so_far = turn_copied c.args.symbols _ end ended _ all _ _ _ _ _ _ _ _ c.turns.invariant.so_far c.in_ok-end.ensures.ok c.in_ok-write_lines.ensures.ok
           (ap (take ended) c.deref-in-turns.ensures.value ∙ sym (take-take ended end all within)) moved;
     }
+
+pub read_more-requires-clause-not_failed : goal.read_more-requires-clause-not_failed
+read_more-requires-clause-not_failed g c = grind (arith, common_steps)
+
+pub returns-then-end-kept-clause-unended : goal.returns-then-end-kept-clause-unended
+returns-then-end-kept-clause-unended g c = grind (arith, common_steps)
+
+pub returns-then-end-kept-clause-put : goal.returns-then-end-kept-clause-put
+returns-then-end-kept-clause-put g c = grind (arith, common_steps)
+
+pub slice_bounds-ended_len-end : goal.slice_bounds-ended_len-end
+slice_bounds-ended_len-end g c = grind (arith, common_steps)
+
+pub ended_len-ended-requires-clause-before : goal.ended_len-ended-requires-clause-before
+ended_len-ended-requires-clause-before g c = grind (arith, common_steps)
+
+pub slice_bounds-write_lines-end : goal.slice_bounds-write_lines-end
+slice_bounds-write_lines-end g c = grind (arith, common_steps)
+
+pub write_lines-requires-clause-ended : goal.write_lines-requires-clause-ended
+write_lines-requires-clause-ended g c = grind (arith, common_steps)
+
+pub copy_within-requires-clause-start_le_end : goal.copy_within-requires-clause-start_le_end
+copy_within-requires-clause-start_le_end g c = grind (arith, common_steps)
+
+pub copy_within-requires-clause-in_bounds : goal.copy_within-requires-clause-in_bounds
+copy_within-requires-clause-in_bounds g c = grind (arith, common_steps)
+
+pub copy_within-requires-clause-dest_in_bounds : goal.copy_within-requires-clause-dest_in_bounds
+copy_within-requires-clause-dest_in_bounds g c = grind (arith, common_steps)
+
+pub overflow_sub-kept : goal.overflow_sub-kept
+overflow_sub-kept g c = grind (arith, common_steps)

@@ -1,3 +1,5 @@
+use Rattle.std.proofs.Common.{arith}
+use Rattle.std.proofs.lemmas.Grind.{common_steps}
 use Rattle.std.proofs.Common.{◌≡◌, take, subst, rules}
 use Rattle.symfilter_engine.specs.Progress.{AppendsReplaced}
 use Rattle.symfilter_engine.proofs.LineEnds.{block_appended}
@@ -9,3 +11,6 @@ returns-clause-ok c =
     let kept : c.append_words.new.output ≡ c.args.output.now = search rules in
     block_appended c.args.strip lines _ _ c.block_len-first.ensures.ended
     (subst (λ l. AppendsReplaced c.args.strip lines l c.append_words-2.new.output) kept c.in_ok-append_words.ensures.ok)
+
+pub block_len-len-requires-clause-some : goal.block_len-len-requires-clause-some
+block_len-len-requires-clause-some c = grind (arith, common_steps)

@@ -1,3 +1,5 @@
+use Rattle.std.proofs.Common.{arith}
+use Rattle.std.proofs.lemmas.Grind.{common_steps}
 use Rattle.std.proofs.Common.{rules, refl, sym, subst, ◌∙◌}
 use Rattle.std.specs.Prelude.{IsUtf8}
 use Rattle.std.proofs.lemmas.List.{take_rest}
@@ -37,3 +39,6 @@ loop-rest-preserved g c =
       so_far = subst (λ l. HasFiltered c.args.symbols c.args.lines.now l (g.W.Sink.taken c.args.sink.now) (g.W.Sink.taken c.write_next.new.sink)) left
           (lines_filtered c.args.symbols _ rest len _ _ _ c.loop-rest.invariant.so_far c.in_ok-len.ensures.ok);
     }
+
+pub returns-clause-ok : goal.returns-clause-ok
+returns-clause-ok g c = grind (arith, common_steps)

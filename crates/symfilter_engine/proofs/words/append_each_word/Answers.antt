@@ -1,3 +1,4 @@
+use Rattle.std.proofs.lemmas.Grind.{common_steps}
 use Rattle.std.proofs.Common.{[], ◌+◌, ◌≤◌, ◌++◌, IfSome, IfNone, length, take, refl, sym, subst, arith, append-nil}
 use Rattle.std.proofs.lemmas.List.{length-take-le}
 use Rattle.std.proofs.lemmas.List.Elements.{All-take}
@@ -81,3 +82,9 @@ pub returns-clause-ok : goal.returns-clause-ok
 returns-clause-ok c =
     rest_appended c.add.result c.args.strip c.args.text.now c.args.output.now c.loop-more.output c.add.new.self c.loop-more.done c.loop-more.from
     c.loop-more.invariant.ordered c.loop-more.invariant.inside c.loop-more.invariant.boundary c.loop-more.invariant.so_far c.in_default.ensures.none c.add.ensures.ok
+
+pub loop-more-smaller-in-Some-2 : goal.loop-more-smaller-in-Some-2
+loop-more-smaller-in-Some-2 c = grind (arith, common_steps)
+
+pub loop-more-smaller : goal.loop-more-smaller
+loop-more-smaller c = grind (arith, common_steps)

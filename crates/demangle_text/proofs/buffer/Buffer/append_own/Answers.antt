@@ -1,4 +1,6 @@
 -- The text with the bytes and its base name after it stands at the end, and its outline is that of the shape with them.
+use Rattle.demangle_text.specs.State.{IsAsOld, IsLiving, IsOlder, Stands, frame, frame_start, inside, main_bytes, outermost, outside, saved, scopes}
+use Rattle.std.proofs.lemmas.Grind.{common_steps}
 use Rattle.std.proofs.Common.{◌≡◌, ◌+◌, ◌-◌, ◌++◌, ℕ, List, length, refl, ap, ◌∙◌, subst, arith}
 use Rattle.std.proofs.lemmas.List.{length-append}
 use Rattle.demangle_text.specs.declared.shape.Place.TheVariants.{End}
@@ -55,3 +57,7 @@ returns-clause-edit_of c =
     let k : c.len-to.result ≡ length n.output_text = c.len-to.ensures.value ∙ ap (λ (s : Store). length s.output_text) c.self.view_is in
     let by = length-append c.args.between.now name ∙ ap (λ (v : List ℕ). length c.args.between.now + length v) (own_text-is b p c.requires.living) in
     subst (IsEditOf b n p q) by (IsEditOf-spliced b n p q (p.to_byte - p.from_byte) from (c.args.between.now ++ name) (own-spliced _ _ _ _ _ _ _ c.requires.living c.own.ensures.shape c.in_ok-from.ensures.splice) (subst (IsAt q from) k c.extended.ensures.stands))
+
+pub extended-requires-clause-within : goal.extended-requires-clause-within
+unfolding IsLiving shape main_bytes Stands frame_start frame outermost IsOlder IsAsOld inside outside saved scopes
+extended-requires-clause-within c = grind (arith, common_steps)

@@ -1,4 +1,8 @@
 -- Both texts go after the text that ends the output then.
+use Rattle.demangle_text.proofs.States.{states}
+use Rattle.demangle_text.specs.State.{IsAsOld, IsOlder, Stands, frame, frame_start, inside, main_bytes, outermost, outside, saved, scopes, shape}
+use Rattle.std.proofs.Common.{arith}
+use Rattle.std.proofs.lemmas.Grind.{common_steps}
 use Rattle.std.proofs.Common.{◌≡◌, ◌++◌, OnOk, OnErr, sym, ◌∙◌, subst}
 use Rattle.demangle_text.specs.Pieces.{Store}
 use Rattle.demangle_text.specs.State.{IsLiving}
@@ -43,3 +47,15 @@ returns-clause-splice c =
     let lies = subst (λ (b : Store). IsLiving b p) (sym c.self.view_is) c.requires.living in
     let brought = c.in_ok-from.ensures.brought in
     rw (← c.self.view_is) (IsSplice-extended s (record s { output_text = c.taken_back.new.main }) p mid more c.in_ok-from.from lies brought is)
+
+pub at_end-requires-clause-ordered : goal.at_end-requires-clause-ordered
+unfolding IsLiving shape main_bytes Stands frame_start frame outermost IsOlder IsAsOld inside outside saved scopes
+at_end-requires-clause-ordered c = grind (arith, states)
+
+pub taken_back-requires : goal.taken_back-requires
+unfolding IsLiving shape main_bytes Stands frame_start frame outermost IsOlder IsAsOld inside outside saved scopes
+taken_back-requires c = grind (arith, common_steps)
+
+pub invariant_of-self-in_err-taken_back : goal.invariant_of-self-in_err-taken_back
+unfolding IsLiving shape main_bytes Stands frame_start frame outermost IsOlder IsAsOld inside outside saved scopes
+invariant_of-self-in_err-taken_back c = grind (arith, common_steps)

@@ -1,4 +1,8 @@
 -- The bytes and the other text go after the text that ends the output then.
+use Rattle.demangle_text.proofs.States.{states}
+use Rattle.demangle_text.specs.State.{IsAsOld, IsOlder, Stands, frame, frame_start, inside, main_bytes, outermost, outside, saved, scopes, shape}
+use Rattle.std.proofs.Common.{arith}
+use Rattle.std.proofs.lemmas.Grind.{common_steps}
 use Rattle.std.proofs.Common.{◌≡◌, ◌++◌, OnOk, OnErr, sym, ◌∙◌, subst}
 use Rattle.demangle_text.specs.Pieces.{Store, piece_text}
 use Rattle.demangle_text.specs.State.{IsLiving}
@@ -72,3 +76,27 @@ returns-clause-splice c =
     let is = both-added s mid bytes c.taken_back.new.main c.taken_back-2.new.main c.args.other lies longer one two in
     let brought = subst (λ (b : Store). IsLiving b c.args.piece) (sym c.self.view_is) c.requires.living in
     rw (← c.self.view_is) (IsSplice-extended s (record s { output_text = c.taken_back-2.new.main }) c.args.piece mid _ c.in_ok-from.from brought c.in_ok-from.ensures.brought is)
+
+pub invariant_of-self : goal.invariant_of-self
+unfolding IsLiving shape main_bytes Stands frame_start frame outermost IsOlder IsAsOld inside outside saved scopes
+invariant_of-self c = grind (arith, states)
+
+pub taken_back-requires : goal.taken_back-requires
+unfolding IsLiving shape main_bytes Stands frame_start frame outermost IsOlder IsAsOld inside outside saved scopes
+taken_back-requires c = grind (arith, common_steps)
+
+pub invariant_of-self-in_err-taken_back : goal.invariant_of-self-in_err-taken_back
+unfolding IsLiving shape main_bytes Stands frame_start frame outermost IsOlder IsAsOld inside outside saved scopes
+invariant_of-self-in_err-taken_back c = grind (arith, common_steps)
+
+pub add_text-added-requires-clause-within : goal.add_text-added-requires-clause-within
+unfolding IsLiving shape main_bytes Stands frame_start frame outermost IsOlder IsAsOld inside outside saved scopes
+add_text-added-requires-clause-within c = grind (arith, common_steps)
+
+pub taken_back-requires-2 : goal.taken_back-requires-2
+unfolding IsLiving shape main_bytes Stands frame_start frame outermost IsOlder IsAsOld inside outside saved scopes
+taken_back-requires-2 c = grind (arith, common_steps)
+
+pub invariant_of-self-in_err-taken_back-2 : goal.invariant_of-self-in_err-taken_back-2
+unfolding IsLiving shape main_bytes Stands frame_start frame outermost IsOlder IsAsOld inside outside saved scopes
+invariant_of-self-in_err-taken_back-2 c = grind (arith, common_steps)

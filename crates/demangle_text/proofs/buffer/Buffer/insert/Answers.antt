@@ -1,4 +1,6 @@
 -- The text with the bytes in it stands at the end, and its outline is that of the shape with the bytes.
+use Rattle.demangle_text.specs.State.{IsAsOld, IsLiving, IsOlder, Stands, frame, frame_start, inside, main_bytes, outermost, outside, saved, scopes, shape}
+use Rattle.std.proofs.lemmas.Grind.{common_steps}
 use Rattle.std.proofs.Common.{◌+◌, ◌-◌, ℕ, length, refl, ap, ◌∙◌, subst, arith}
 use Rattle.demangle_text.specs.Pieces.{IsAt, outline_of, own_at}
 use Rattle.demangle_text.specs.Shape.{moved}
@@ -102,3 +104,11 @@ returns-clause-edit_of c =
     let splice = IsSplice-put b (store_of c.self.inside) p at k from o bytes c.put.new.self refl main in
     let q = c.with_bytes.result in
     IsEditOf-spliced b _ p q at from bytes splice (subst (IsAt q from) c.len.ensures.value c.with_bytes.ensures.stands)
+
+pub open_in-requires : goal.open_in-requires
+unfolding IsLiving shape main_bytes Stands frame_start frame outermost IsOlder IsAsOld inside outside saved scopes
+open_in-requires c = grind (arith, common_steps)
+
+pub with_bytes-requires-clause-text : goal.with_bytes-requires-clause-text
+unfolding IsLiving shape main_bytes Stands frame_start frame outermost IsOlder IsAsOld inside outside saved scopes
+with_bytes-requires-clause-text c = grind (arith, common_steps)

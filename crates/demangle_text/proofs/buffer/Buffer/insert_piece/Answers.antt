@@ -1,4 +1,6 @@
 -- The text and the bytes fill a gap for both.
+use Rattle.demangle_text.specs.State.{IsAsOld, IsLiving, IsOlder, Stands, frame, frame_start, inside, main_bytes, outermost, outside, saved, scopes, shape}
+use Rattle.std.proofs.lemmas.Grind.{common_steps}
 use Rattle.std.proofs.Common.{true, ◌≡◌, ◌+◌, ◌-◌, ◌++◌, List, ℕ, Bool, length, take, drop, slice_range, refl, ap, sym, ◌∙◌, subst, arith}
 use Rattle.std.proofs.lemmas.List.{length-append, length-take-le}
 use Rattle.demangle_text.specs.declared.shape.Piece.{Piece}
@@ -99,3 +101,15 @@ returns-clause-edit c = subst (λ (t : Store). IsEdit c.args.self.now (record t 
 
 pub returns-clause-main : goal.returns-clause-main
 returns-clause-main c = main c
+
+pub put-middle-requires : goal.put-middle-requires
+unfolding IsLiving shape main_bytes Stands frame_start frame outermost IsOlder IsAsOld inside outside saved scopes
+put-middle-requires c = grind (arith, common_steps)
+
+pub put_part-middle-requires-clause-within : goal.put_part-middle-requires-clause-within
+unfolding IsLiving shape main_bytes Stands frame_start frame outermost IsOlder IsAsOld inside outside saved scopes
+put_part-middle-requires-clause-within c = grind (arith, common_steps)
+
+pub put-requires : goal.put-requires
+unfolding IsLiving shape main_bytes Stands frame_start frame outermost IsOlder IsAsOld inside outside saved scopes
+put-requires c = grind (arith, common_steps)

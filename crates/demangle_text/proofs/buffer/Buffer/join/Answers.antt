@@ -1,5 +1,7 @@
 -- Bytes between two texts that meet at the end, or the first text and bytes in front of a second one there, or bytes and
 -- the second text after the first.
+use Rattle.demangle_text.specs.State.{IsAsOld, IsOlder, Stands, frame, frame_start, inside, main_bytes, outermost, outside, saved, scopes, shape}
+use Rattle.std.proofs.lemmas.Grind.{common_steps}
 use Rattle.std.proofs.Common.{rules, ◌-◌, length, ap, ◌∙◌, subst, arith}
 use Rattle.demangle_text.specs.Pieces.{IsAt, IsTail, IsAdjacent, IsJoint, EndsBy, whole_outline}
 use Rattle.demangle_text.specs.State.{IsLiving}
@@ -82,3 +84,11 @@ returns-clause-join_of c =
     let k = c.len-3.ensures.value ∙ ap (λ b. length b.output_text) c.self-2.view_is in
     IsJoinOf-joint c.args.self.now c.extend_by.new.self c.args.first c.args.second c.whole_at-2.result c.args.bytes.now from c.requires.first_living c.requires.second_living (extended c)
     (subst (IsAt c.whole_at-2.result from) k c.whole_at-2.ensures.stands)
+
+pub whole_at-requires : goal.whole_at-requires
+unfolding IsLiving shape main_bytes Stands frame_start frame outermost IsOlder IsAsOld inside outside saved scopes
+whole_at-requires c = grind (arith, common_steps)
+
+pub whole_at-requires-then-first-second : goal.whole_at-requires-then-first-second
+unfolding IsLiving shape main_bytes Stands frame_start frame outermost IsOlder IsAsOld inside outside saved scopes
+whole_at-requires-then-first-second c = grind (arith, common_steps)

@@ -1,4 +1,7 @@
 -- What would be torn is set aside; the block moves to the mark, and what lies in it moves with it.
+use Rattle.demangle_text.specs.State.{IsAsOld, IsLiving, IsOlder, Stands, frame, frame_start, inside, main_bytes, outermost, outside, saved, scopes, shape}
+use Rattle.std.proofs.Common.{arith}
+use Rattle.std.proofs.lemmas.Grind.{common_steps}
 use Rattle.std.proofs.Common.{◌≡◌, ◌≤◌, ℕ, Bool, List, length, slice_range, sym, ap, subst, ◌∙◌}
 use Rattle.demangle_text.specs.Pieces.{Store, home_bytes}
 use Rattle.demangle_text.specs.View.{store_of}
@@ -73,3 +76,23 @@ returns-clause-edit c =
 
 pub returns-clause-main : goal.returns-clause-main
 returns-clause-main c = rw (← c.self.view_is) (c.keep.ensures.value ∙ (block c).has)
+
+pub returns-then-from-at-2-clause-main : goal.returns-then-from-at-2-clause-main
+unfolding IsLiving shape main_bytes Stands frame_start frame outermost IsOlder IsAsOld inside outside saved scopes
+returns-then-from-at-2-clause-main c = grind (arith, common_steps)
+
+pub invariant_of-self-in_err-set_apart : goal.invariant_of-self-in_err-set_apart
+unfolding IsLiving shape main_bytes Stands frame_start frame outermost IsOlder IsAsOld inside outside saved scopes
+invariant_of-self-in_err-set_apart c = grind (arith, common_steps)
+
+pub keep-requires-clause-ordered : goal.keep-requires-clause-ordered
+unfolding IsLiving shape main_bytes Stands frame_start frame outermost IsOlder IsAsOld inside outside saved scopes
+keep-requires-clause-ordered c = grind (arith, common_steps)
+
+pub carry-requires-clause-block : goal.carry-requires-clause-block
+unfolding IsLiving shape main_bytes Stands frame_start frame outermost IsOlder IsAsOld inside outside saved scopes
+carry-requires-clause-block c = grind (arith, common_steps)
+
+pub carry-requires-2-clause-block : goal.carry-requires-2-clause-block
+unfolding IsLiving shape main_bytes Stands frame_start frame outermost IsOlder IsAsOld inside outside saved scopes
+carry-requires-2-clause-block c = grind (arith, common_steps)

@@ -1,4 +1,6 @@
 -- The text with the group in it stands at the end, and its outline is that of the declarator with the group.
+use Rattle.demangle_text.specs.State.{IsAsOld, IsOlder, Stands, frame, frame_start, inside, main_bytes, outermost, outside, saved, scopes}
+use Rattle.std.proofs.lemmas.Grind.{common_steps}
 use Rattle.std.proofs.Common.{true, ◌≡◌, ◌-◌, ◌+◌, ◌++◌, ◌∷◌, [], ℕ, List, length, take, drop, sym, ap, ◌∙◌, subst, arith, append_assoc}
 use Rattle.std.proofs.lemmas.List.{length-append, length-take-le}
 use Rattle.growing_text.proofs.Rooms.{room-fits, fits-first, fits-second, three-put}
@@ -227,3 +229,11 @@ returns-clause-edit_of c =
     let stands : IsAt q from (length c.put.new.self) = record { in_main = m.stands.in_main; begins = m.stands.begins; ends = m.stands.ends ∙ c.len.ensures.value } in
     let by = opened-longer b _ p at all from c.requires.living splice q stands bytes (returns-clause-shape c) in
     subst (IsEditOf b _ p q) by (IsEditOf-spliced b _ p q at from all splice stands)
+
+pub open_in-requires-clause-within : goal.open_in-requires-clause-within
+unfolding IsLiving shape main_bytes Stands frame_start frame outermost IsOlder IsAsOld inside outside saved scopes
+open_in-requires-clause-within c = grind (arith, common_steps)
+
+pub with_bytes-moved-requires-clause-text : goal.with_bytes-moved-requires-clause-text
+unfolding IsLiving shape main_bytes Stands frame_start frame outermost IsOlder IsAsOld inside outside saved scopes
+with_bytes-moved-requires-clause-text c = grind (arith, common_steps)

@@ -1,4 +1,6 @@
 -- A gap in the text that ends the output, or in a copy of it there.
+use Rattle.demangle_text.specs.State.{IsAsOld, IsOlder, Stands, frame, frame_start, inside, main_bytes, outermost, outside, saved, scopes, shape}
+use Rattle.std.proofs.lemmas.Grind.{common_steps}
 use Rattle.std.proofs.Common.{◌≡◌, ◌+◌, ◌-◌, List, ℕ, OnOk, OnErr, length, take, drop, sym, ap, subst, arith}
 use Rattle.std.proofs.lemmas.List.{length-append}
 use Rattle.growing_text.specs.Room.{HasRoom}
@@ -71,3 +73,19 @@ returns-clause-opened c =
     let moved = subst (λ (i : ℕ). HasRoom (take i mid) (drop i mid) done n) there opened in
     let room = subst (λ (v : List ℕ). HasRoom (take (from + at) mid) (drop (from + at) mid) v n) (sym c.in_ok-taken_back.ensures.ok) moved in
     rw (← c.self.view_is) (IsOpen-copied s p mid c.taken_back.new.main at n from c.self.invariant lies apart c.len-from.ensures.value c.requires.within copied room)
+
+pub overflow_sub-len : goal.overflow_sub-len
+unfolding IsLiving shape main_bytes Stands frame_start frame outermost IsOlder IsAsOld inside outside saved scopes
+overflow_sub-len c = grind (arith, common_steps)
+
+pub taken_back-requires : goal.taken_back-requires
+unfolding IsLiving shape main_bytes Stands frame_start frame outermost IsOlder IsAsOld inside outside saved scopes
+taken_back-requires c = grind (arith, common_steps)
+
+pub invariant_of-self-in_err-taken_back : goal.invariant_of-self-in_err-taken_back
+unfolding IsLiving shape main_bytes Stands frame_start frame outermost IsOlder IsAsOld inside outside saved scopes
+invariant_of-self-in_err-taken_back c = grind (arith, common_steps)
+
+pub returns-clause-fits : goal.returns-clause-fits
+unfolding IsLiving shape main_bytes Stands frame_start frame outermost IsOlder IsAsOld inside outside saved scopes
+returns-clause-fits c = grind (arith, common_steps)

@@ -1,3 +1,6 @@
+use Rattle.demangle_text.specs.State.{IsAsOld, IsLiving, IsOlder, Stands, frame, frame_start, inside, main_bytes, outermost, outside, saved, scopes, shape}
+use Rattle.std.proofs.Common.{arith}
+use Rattle.std.proofs.lemmas.Grind.{common_steps}
 use Rattle.demangle_text.specs.View.{store_of}
 use Rattle.demangle_text.proofs.States.{KeepsAll-longer, IsStore-longer}
 use Rattle.demangle_text.proofs.buffer.Buffer.push.Goals as goal
@@ -7,3 +10,11 @@ invariant_of-self-2 c = rw c.in_ok-add.ensures.ok (IsStore-longer (store_of c.se
 
 pub returns-clause-kept : goal.returns-clause-kept
 returns-clause-kept c = rw (← c.self.view_is, c.in_ok-add.ensures.ok) (KeepsAll-longer (store_of c.self.inside) _ c.self.invariant)
+
+pub whole_at-requires : goal.whole_at-requires
+unfolding IsLiving shape main_bytes Stands frame_start frame outermost IsOlder IsAsOld inside outside saved scopes
+whole_at-requires c = grind (arith, common_steps)
+
+pub returns-clause-shape : goal.returns-clause-shape
+unfolding IsLiving shape main_bytes Stands frame_start frame outermost IsOlder IsAsOld inside outside saved scopes
+returns-clause-shape c = grind (arith, common_steps)

@@ -1,3 +1,6 @@
+use Rattle.demangle_text.specs.State.{IsAsOld, IsOlder, Stands, frame, frame_start, inside, main_bytes, outermost, outside, saved, scopes, shape}
+use Rattle.std.proofs.Common.{arith}
+use Rattle.std.proofs.lemmas.Grind.{common_steps}
 use Rattle.std.proofs.Common.{sym, subst}
 use Rattle.std.proofs.lemmas.List.Elements.{All-push}
 use Rattle.demangle_text.specs.Pieces.{Store, IsPiece}
@@ -16,3 +19,7 @@ invariant_of-self-2 c =
       starts_fit = c.self.invariant.starts_fit;
       main_frame = c.self.invariant.main_frame;
     }
+
+pub returns-clause-saved : goal.returns-clause-saved
+unfolding IsLiving shape main_bytes Stands frame_start frame outermost IsOlder IsAsOld inside outside saved scopes
+returns-clause-saved c = grind (arith, common_steps)

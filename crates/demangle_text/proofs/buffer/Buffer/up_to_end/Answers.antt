@@ -1,4 +1,7 @@
 -- The bytes after the piece stand there already: its outline is that of the shape with them.
+use Rattle.demangle_text.specs.State.{IsAsOld, IsLiving, IsOlder, Stands, frame, frame_start, inside, main_bytes, outermost, outside, saved, scopes, shape}
+use Rattle.std.proofs.Common.{arith}
+use Rattle.std.proofs.lemmas.Grind.{common_steps}
 use Rattle.std.proofs.Common.{◌≡◌, ◌-◌, ℕ, length, refl, sym, ap, ◌∙◌, subst}
 use Rattle.std.proofs.lemmas.List.{length-drop}
 use Rattle.demangle_text.specs.declared.shape.Place.TheVariants.{End}
@@ -23,3 +26,11 @@ returns-clause-shape c =
     End tt refl (m.layout ∙ layout_at_end (length more) (outline_of p).layout)
     (m.own ∙ ap (λ (j : ℕ). own_at (outline_of p).layout (j - p.from_byte) (moved at (c.len-to.result - p.to_byte) (outline_of p).own)) k
     ∙ ap (λ (j : ℕ). own_at (outline_of p).layout (length b.output_text - p.from_byte) (moved at j (outline_of p).own)) n) m.templ m.ctor
+
+pub extended-requires-clause-within : goal.extended-requires-clause-within
+unfolding IsLiving shape main_bytes Stands frame_start frame outermost IsOlder IsAsOld inside outside saved scopes
+extended-requires-clause-within c = grind (arith, common_steps)
+
+pub extended-requires-clause-own_fits : goal.extended-requires-clause-own_fits
+unfolding IsLiving shape main_bytes Stands frame_start frame outermost IsOlder IsAsOld inside outside saved scopes
+extended-requires-clause-own_fits c = grind (arith, common_steps)

@@ -1,4 +1,5 @@
 -- The piece goes after the first ones, once there is room for it.
+use Rattle.std.proofs.lemmas.Grind.{common_steps}
 use Rattle.std.proofs.Common.{◌≡◌, ◌<◌, ◌≤◌, ◌++◌, ◌∷◌, [], ℕ, List, length, take, get_or, refl, sym, ap, ◌∙◌, subst, arith}
 use Rattle.std.proofs.lemmas.List.{get_or-take, length-map, length-take-le, map-set, take_all, take_more_set}
 use Rattle.demangle_text.specs.declared.shape.Piece.{Piece}
@@ -61,3 +62,9 @@ returns-clause-ok c =
     rw (map-set (λ (k : Kept). k.piece) ys n k) (
     take_more_set (pieces_of ys) n c.args.piece.now (omega (arith, f.room, length-map ys (λ (k : Kept). k.piece)))
     ∙ ap (λ (v : List Piece). v ++ c.args.piece.now ∷ []) (f.pieces ∙ c.self.view_is))
+
+pub index_mut-requires : goal.index_mut-requires
+index_mut-requires c = grind (arith, common_steps)
+
+pub overflow_add-self : goal.overflow_add-self
+overflow_add-self c = grind (arith, common_steps)
