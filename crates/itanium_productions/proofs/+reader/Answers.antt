@@ -1,3 +1,7 @@
+use Rattle.itanium_productions.proofs.OwnQualifiers.{names}
+use Rattle.itanium_reader.proofs.Rules.{first_segments, nested_names, outer_names, unqualified_names}
+use Rattle.itanium_reader.proofs.Rules.{typed_lists, words}
+use Rattle.std.proofs.lemmas.Grind.{common_steps}
 use Rattle.std.proofs.Common.{◌≡◌, ◌<◌, ◌+◌, ◌*◌, ◌^◌, ◌∙◌, ℕ, List, [], ◌∷◌, ◌++◌, length, drop, refl, rules, sym, ap, subst, arith, append_assoc, max, true, Option, Some}
 use Rattle.std.proofs.Common.{codes}
 use Rattle.std.proofs.lemmas.List.{append-nil, length-append, length-drop}
@@ -568,6 +572,12 @@ first_untagged : (type param : spec.Parses Shape) (x : Context) (s : spec.Parser
     → spec.parse_source s ≡ Some (name, mid) → spec.parse_tags name mid ≡ None → spec.first_as (first_case s.rest) (spec.parse_unqualified type param) x s ≡ None
 first_untagged type param x s begins read none = first_source_opens type param x s begins ∙ rw (read, none) refl
 
+-- a <source-name> with its tags is the first segment
+first_tagged : (type param : spec.Parses Shape) (x : Context) (s : spec.ParserState) {name found : Shape} {mid after : spec.ParserState} → begins_source s.rest ≡ true
+    → spec.parse_source s ≡ Some (name, mid) → spec.parse_tags name mid ≡ Some (found, after)
+    → spec.first_as (first_case s.rest) (spec.parse_unqualified type param) x s ≡ Some (found, spec.save_unsaved true found after)
+first_tagged type param x s begins read tags = first_source_opens type param x s begins ∙ rw (read, tags) refl
+
 -- a first segment isn't read where what it calls isn't
 first_stops : (after : Reader) {inner whole : Option (Shape × spec.ParserState)} (e : Stop) → Gives (Err e) after inner → (inner ≡ None → whole ≡ None) → GivesUnsaved (Err e) after whole
 first_stops after Unread none follows = follows none
@@ -581,3 +591,140 @@ names::read_first-returns-in_err-read_tags-clause-reads t c =
     rw (e.1, e.2) (first_stops _ _ (c.in_err-read_tags.ensures {u = tt}).reads
     (λ none. first_untagged (spec.parse_type c.args.depth c.args.context) (spec.parse_type c.args.depth (inside_lambda c.args.context)) c.args.context (state c.args.reader.now)
     {name = shape named.buffer.value named.found} {mid = state named} (search rules) (search rules) none))
+
+pub types::framed_type-read_type-requires : goal.types::framed_type-read_type-requires
+types::framed_type-read_type-requires t c = grind (arith, buffers)
+
+pub types::framed_type-returns-clause-kept : goal.types::framed_type-returns-clause-kept
+types::framed_type-returns-clause-kept t c = grind (arith, common_steps)
+
+pub types::read_cv-returns-in-CvFunction-clause-reads : goal.types::read_cv-returns-in-CvFunction-clause-reads
+types::read_cv-returns-in-CvFunction-clause-reads t c = grind (arith, buffers)
+
+pub types::read_cv-returns-in_ok-wrap_found-in-CvOther-clause-run : goal.types::read_cv-returns-in_ok-wrap_found-in-CvOther-clause-run
+types::read_cv-returns-in_ok-wrap_found-in-CvOther-clause-run t c = grind (arith, buffers)
+
+pub types::read_elaborated-print_worded-requires-clause-after : goal.types::read_elaborated-print_worded-requires-clause-after
+types::read_elaborated-print_worded-requires-clause-after t c = grind (arith, words)
+
+pub types::read_expansion-returns-clause-saved : goal.types::read_expansion-returns-clause-saved
+types::read_expansion-returns-clause-saved t c = grind (arith, common_steps)
+
+pub types::read_params-returns-then-is_wide-clause-saved : goal.types::read_params-returns-then-is_wide-clause-saved
+types::read_params-returns-then-is_wide-clause-saved t c = grind (arith, typed_lists)
+
+pub types::read_pointer-returns-clause-saved : goal.types::read_pointer-returns-clause-saved
+types::read_pointer-returns-clause-saved t c = grind (arith, common_steps)
+
+pub types::read_type-returns-in_err-depth-clause-reads : goal.types::read_type-returns-in_err-depth-clause-reads
+types::read_type-returns-in_err-depth-clause-reads t c = grind (arith, types)
+
+pub types::read_type-returns-in_err-read_name-in-NameType-clause-reads : goal.types::read_type-returns-in_err-read_name-in-NameType-clause-reads
+types::read_type-returns-in_err-read_name-in-NameType-clause-reads t c = grind (arith, types)
+
+pub types::read_type-returns-in-NameType-clause-reads : goal.types::read_type-returns-in-NameType-clause-reads
+types::read_type-returns-in-NameType-clause-reads t c = grind (arith, types)
+
+pub types::read_type-returns-in_err-read_substitution-in-SubstitutionType-clause-reads : goal.types::read_type-returns-in_err-read_substitution-in-SubstitutionType-clause-reads
+types::read_type-returns-in_err-read_substitution-in-SubstitutionType-clause-reads t c = grind (arith, types)
+
+pub types::read_type-returns-in_err-read_type_attached-in-SubstitutionType-clause-reads : goal.types::read_type-returns-in_err-read_type_attached-in-SubstitutionType-clause-reads
+types::read_type-returns-in_err-read_type_attached-in-SubstitutionType-clause-reads t c = grind (arith, types)
+
+pub types::read_type-returns-in_err-read_template_param-in-ParameterType-clause-reads : goal.types::read_type-returns-in_err-read_template_param-in-ParameterType-clause-reads
+types::read_type-returns-in_err-read_template_param-in-ParameterType-clause-reads t c = grind (arith, types)
+
+pub types::read_type-returns-in_err-read_type_attached-in-ParameterType-clause-reads : goal.types::read_type-returns-in_err-read_type_attached-in-ParameterType-clause-reads
+types::read_type-returns-in_err-read_type_attached-in-ParameterType-clause-reads t c = grind (arith, types)
+
+pub types::read_type-returns-in_err-read_pointer-in-PointerType-clause-reads : goal.types::read_type-returns-in_err-read_pointer-in-PointerType-clause-reads
+types::read_type-returns-in_err-read_pointer-in-PointerType-clause-reads t c = grind (arith, types)
+
+pub types::read_type-returns-in_err-read_cv-in-CvType-clause-reads : goal.types::read_type-returns-in_err-read_cv-in-CvType-clause-reads
+types::read_type-returns-in_err-read_cv-in-CvType-clause-reads t c = grind (arith, types)
+
+pub types::read_type-returns-in_err-read_function_type-in-FunctionType-clause-reads : goal.types::read_type-returns-in_err-read_function_type-in-FunctionType-clause-reads
+types::read_type-returns-in_err-read_function_type-in-FunctionType-clause-reads t c = grind (arith, types)
+
+pub types::read_type-returns-in_err-read_array_type-in-ArrayType-clause-reads : goal.types::read_type-returns-in_err-read_array_type-in-ArrayType-clause-reads
+types::read_type-returns-in_err-read_array_type-in-ArrayType-clause-reads t c = grind (arith, types)
+
+pub types::read_type-returns-in_err-read_pointer_to_member_type-in-MemberType-clause-reads : goal.types::read_type-returns-in_err-read_pointer_to_member_type-in-MemberType-clause-reads
+types::read_type-returns-in_err-read_pointer_to_member_type-in-MemberType-clause-reads t c = grind (arith, types)
+
+pub types::read_type-returns-in_err-read_expansion-in-ExpansionType-clause-reads : goal.types::read_type-returns-in_err-read_expansion-in-ExpansionType-clause-reads
+types::read_type-returns-in_err-read_expansion-in-ExpansionType-clause-reads t c = grind (arith, types)
+
+pub types::read_type-returns-in_err-read_elaborated-in-ElaboratedType-clause-reads : goal.types::read_type-returns-in_err-read_elaborated-in-ElaboratedType-clause-reads
+types::read_type-returns-in_err-read_elaborated-in-ElaboratedType-clause-reads t c = grind (arith, types)
+
+pub types::read_type-returns-in_err-read_vendor_type-in-VendorType-clause-reads : goal.types::read_type-returns-in_err-read_vendor_type-in-VendorType-clause-reads
+types::read_type-returns-in_err-read_vendor_type-in-VendorType-clause-reads t c = grind (arith, types)
+
+pub types::read_type-returns-in-UnreadType-clause-reads : goal.types::read_type-returns-in-UnreadType-clause-reads
+types::read_type-returns-in-UnreadType-clause-reads t c = grind (arith, types)
+
+pub types::read_type-returns-clause-reads : goal.types::read_type-returns-clause-reads
+types::read_type-returns-clause-reads t c = grind (arith, types)
+
+pub names::framed_name-read_name-requires : goal.names::framed_name-read_name-requires
+names::framed_name-read_name-requires t c = grind (arith, buffers)
+
+pub names::framed_name-returns-clause-kept : goal.names::framed_name-returns-clause-kept
+names::framed_name-returns-clause-kept t c = grind (arith, common_steps)
+
+pub names::read_first-returns-in_err-read_source_name-clause-reads : goal.names::read_first-returns-in_err-read_source_name-clause-reads
+names::read_first-returns-in_err-read_source_name-clause-reads t c = grind (arith, first_segments)
+
+pub names::read_first-returns-in_ok-copy_found-in-ParameterFirst-clause-run : goal.names::read_first-returns-in_ok-copy_found-in-ParameterFirst-clause-run
+names::read_first-returns-in_ok-copy_found-in-ParameterFirst-clause-run t c = grind (arith, common_steps)
+
+pub names::read_first-returns-in_ok-reader-in-StdFirst-clause-last : goal.names::read_first-returns-in_ok-reader-in-StdFirst-clause-last
+names::read_first-returns-in_ok-reader-in-StdFirst-clause-last t c = grind (arith, first_segments)
+
+pub names::read_nested_name-returns-in_err-read_prefix-in-None-default-clause-reads : goal.names::read_nested_name-returns-in_err-read_prefix-in-None-default-clause-reads
+names::read_nested_name-returns-in_err-read_prefix-in-None-default-clause-reads t c = grind (arith, nested_names)
+
+pub names::read_nested_name-returns-in_err-read_prefix-in_default-clause-reads : goal.names::read_nested_name-returns-in_err-read_prefix-in_default-clause-reads
+names::read_nested_name-returns-in_err-read_prefix-in_default-clause-reads t c = grind (arith, nested_names)
+
+pub names::read_nested_name-returns-in_ok-read_prefix-in-None-default-clause-reads : goal.names::read_nested_name-returns-in_ok-read_prefix-in-None-default-clause-reads
+names::read_nested_name-returns-in_ok-read_prefix-in-None-default-clause-reads t c = grind (arith, nested_names)
+
+pub names::read_nested_name-returns-in_ok-read_prefix-in_default-clause-reads : goal.names::read_nested_name-returns-in_ok-read_prefix-in_default-clause-reads
+names::read_nested_name-returns-in_ok-read_prefix-in_default-clause-reads t c = grind (arith, nested_names)
+
+pub names::read_prefix-loop-reader-init : goal.names::read_prefix-loop-reader-init
+names::read_prefix-loop-reader-init t c = grind (arith, common_steps)
+
+pub names::read_segment-returns-in_err-read_free_segment-in-FreeName-clause-reads : goal.names::read_segment-returns-in_err-read_free_segment-in-FreeName-clause-reads
+names::read_segment-returns-in_err-read_free_segment-in-FreeName-clause-reads t c = grind (arith, unqualified_names)
+
+pub names::read_segment-returns-clause-reads : goal.names::read_segment-returns-clause-reads
+names::read_segment-returns-clause-reads t c = grind (arith, unqualified_names)
+
+pub names::read_unqualified_name-returns-in_err-read_source_name-clause-reads : goal.names::read_unqualified_name-returns-in_err-read_source_name-clause-reads
+names::read_unqualified_name-returns-in_err-read_source_name-clause-reads t c = grind (arith, outer_names)
+
+pub names::read_unqualified_name-returns-in_err-read_free_name-clause-reads : goal.names::read_unqualified_name-returns-in_err-read_free_name-clause-reads
+names::read_unqualified_name-returns-in_err-read_free_name-clause-reads t c = grind (arith, outer_names)
+
+pub names::read_unqualified_name-returns-clause-reads : goal.names::read_unqualified_name-returns-clause-reads
+names::read_unqualified_name-returns-clause-reads t c = grind (arith, outer_names)
+
+pub names::read_first-returns-then-begins_source-clause-reads : goal.names::read_first-returns-then-begins_source-clause-reads
+names::read_first-returns-then-begins_source-clause-reads t c =
+    let named = c.read_source_name.new.self in (
+      search rules,
+      first_tagged (spec.parse_type c.args.depth c.args.context) (spec.parse_type c.args.depth (inside_lambda c.args.context)) c.args.context (state c.args.reader.now)
+          {name = shape named.buffer.value named.found} {mid = state named} (search rules) (search rules) (search rules),
+    )
+
+pub names::read_name-returns-then-bare-clause-reads : goal.names::read_name-returns-then-bare-clause-reads
+names::read_name-returns-then-bare-clause-reads t c = grind (arith, names)
+
+pub names::read_name-returns-in_ok-measure-2-clause-reads : goal.names::read_name-returns-in_ok-measure-2-clause-reads
+names::read_name-returns-in_ok-measure-2-clause-reads t c = grind (arith, names)
+
+pub names::read_name-returns-in_default-clause-reads : goal.names::read_name-returns-in_default-clause-reads
+names::read_name-returns-in_default-clause-reads t c = grind (arith, names)

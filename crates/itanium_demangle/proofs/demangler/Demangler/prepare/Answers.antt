@@ -1,3 +1,6 @@
+use Rattle.itanium_demangle.proofs.Rules.{answers}
+use Rattle.std.proofs.Common.{arith}
+use Rattle.std.proofs.lemmas.Grind.{common_steps}
 use Rattle.std.proofs.Common.{rules, ◌≡◌, Some}
 use Rattle.demangle_text.specs.State.{shape}
 use Rattle.itanium_grammar.specs.Tree.{shape_of}
@@ -59,3 +62,15 @@ returns-clause-saved c =
     let ended = c.in_ok-answered.ensures {u = tt} in
     rw (kept.text, kept.saved) (kept_shapes c.args.symbol.now c.in-Some.inside.now _ _ _
     (state c.read_mangled_name.new.reader) c.end_answer.new.reader.buffer c.in_ok-answered.answered prefix (found c) ended.saved)
+
+pub returns-in-Err-Unread-clause-one : goal.returns-in-Err-Unread-clause-one
+returns-in-Err-Unread-clause-one c = grind (arith, answers)
+
+pub returns-in-Err-Memory-clause-one : goal.returns-in-Err-Memory-clause-one
+returns-in-Err-Memory-clause-one c = grind (arith, answers)
+
+pub end_answer-requires-clause-innermost : goal.end_answer-requires-clause-innermost
+end_answer-requires-clause-innermost c = grind (arith, common_steps)
+
+pub returns-clause-one : goal.returns-clause-one
+returns-clause-one c = grind (arith, answers)

@@ -1,0 +1,12 @@
+use Rattle.itanium_syntax.proofs.Digits.{dropped}
+use Rattle.itanium_syntax.specs.Scalars.{source_name}
+use Rattle.std.proofs.Common.{arith}
+use Rattle.itanium_syntax.proofs.scalar.source_name.Goals as goal
+
+pub returns-then-len-eq0-clause-value : goal.returns-then-len-eq0-clause-value
+unfolding source_name
+returns-then-len-eq0-clause-value c = grind (arith, dropped)
+
+pub returns-clause-value : goal.returns-clause-value
+unfolding source_name
+returns-clause-value c = grind (arith, dropped)
