@@ -1,3 +1,4 @@
+use Rattle.itanium_reader.proofs.Rules.{argument_lists, arguments, encodings, expressions, local_names, packs, primaries, thunks}
 use Rattle.itanium_productions.proofs.OwnQualifiers.{names}
 use Rattle.itanium_reader.proofs.Rules.{first_segments, nested_names, outer_names, unqualified_names}
 use Rattle.itanium_reader.proofs.Rules.{typed_lists, words}
@@ -728,3 +729,90 @@ names::read_name-returns-in_ok-measure-2-clause-reads t c = grind (arith, names)
 
 pub names::read_name-returns-in_default-clause-reads : goal.names::read_name-returns-in_default-clause-reads
 names::read_name-returns-in_default-clause-reads t c = grind (arith, names)
+
+pub args::framed_template_arg-read_template_arg-requires : goal.args::framed_template_arg-read_template_arg-requires
+args::framed_template_arg-read_template_arg-requires t c = grind (arith, buffers)
+
+pub args::framed_template_arg-returns-clause-kept : goal.args::framed_template_arg-returns-clause-kept
+args::framed_template_arg-returns-clause-kept t c = grind (arith, common_steps)
+
+pub args::read_argument_pack-returns-in_err-depth-clause-reads : goal.args::read_argument_pack-returns-in_err-depth-clause-reads
+args::read_argument_pack-returns-in_err-depth-clause-reads t c = grind (arith, packs)
+
+pub args::read_template_arg-returns-in_err-read_expression-in-ExpressionArgument-clause-reads : goal.args::read_template_arg-returns-in_err-read_expression-in-ExpressionArgument-clause-reads
+args::read_template_arg-returns-in_err-read_expression-in-ExpressionArgument-clause-reads t c = grind (arith, arguments)
+
+pub args::read_template_arg-returns-in_ok-read_expression-in-ExpressionArgument-clause-reads : goal.args::read_template_arg-returns-in_ok-read_expression-in-ExpressionArgument-clause-reads
+args::read_template_arg-returns-in_ok-read_expression-in-ExpressionArgument-clause-reads t c = grind (arith, arguments)
+
+pub args::read_template_args-returns-in_err-depth-clause-reads : goal.args::read_template_args-returns-in_err-depth-clause-reads
+args::read_template_args-returns-in_err-depth-clause-reads t c = grind (arith, argument_lists)
+
+pub args::read_template_args-overflow_sub-front : goal.args::read_template_args-overflow_sub-front
+args::read_template_args-overflow_sub-front t c = grind (arith, common_steps)
+
+pub args::read_template_args-returns-in-EndOfArguments-clause-run : goal.args::read_template_args-returns-in-EndOfArguments-clause-run
+args::read_template_args-returns-in-EndOfArguments-clause-run t c = grind (arith, argument_lists)
+
+pub args::read_template_args-add_argument-requires-clause-living : goal.args::read_template_args-add_argument-requires-clause-living
+args::read_template_args-add_argument-requires-clause-living t c = grind (arith, common_steps)
+
+pub args::read_template_args-up_to_end-requires-clause-inner : goal.args::read_template_args-up_to_end-requires-clause-inner
+args::read_template_args-up_to_end-requires-clause-inner t c = grind (arith, argument_lists)
+
+pub encodings::read_encoding-returns-in_err-read_name-in-NameSymbol-clause-reads : goal.encodings::read_encoding-returns-in_err-read_name-in-NameSymbol-clause-reads
+encodings::read_encoding-returns-in_err-read_name-in-NameSymbol-clause-reads t c = grind (arith, encodings)
+
+pub encodings::read_entity-returns-in_ok-print_string_literal-in-StringLiteralEntity-clause-reads : goal.encodings::read_entity-returns-in_ok-print_string_literal-in-StringLiteralEntity-clause-reads
+encodings::read_entity-returns-in_ok-print_string_literal-in-StringLiteralEntity-clause-reads t c = grind (arith, common_steps)
+
+pub encodings::read_local_name-returns-in_err-read_encoding-clause-reads : goal.encodings::read_local_name-returns-in_err-read_encoding-clause-reads
+encodings::read_local_name-returns-in_err-read_encoding-clause-reads t c = grind (arith, local_names)
+
+pub encodings::read_local_name-returns-clause-reads : goal.encodings::read_local_name-returns-clause-reads
+encodings::read_local_name-returns-clause-reads t c = grind (arith, local_names)
+
+pub expressions::framed_expression-returns-clause-kept : goal.expressions::framed_expression-returns-clause-kept
+expressions::framed_expression-returns-clause-kept t c = grind (arith, common_steps)
+
+pub expressions::framed_operand-returns-clause-kept : goal.expressions::framed_operand-returns-clause-kept
+expressions::framed_operand-returns-clause-kept t c = grind (arith, common_steps)
+
+pub expressions::read_expr_primary-returns-in_err-read_encoding-in-ExternalName-clause-reads : goal.expressions::read_expr_primary-returns-in_err-read_encoding-in-ExternalName-clause-reads
+expressions::read_expr_primary-returns-in_err-read_encoding-in-ExternalName-clause-reads t c = grind (arith, primaries)
+
+pub expressions::read_expr_primary-returns-in_ok-read_encoding-in-ExternalName-clause-reads : goal.expressions::read_expr_primary-returns-in_ok-read_encoding-in-ExternalName-clause-reads
+expressions::read_expr_primary-returns-in_ok-read_encoding-in-ExternalName-clause-reads t c = grind (arith, primaries)
+
+pub expressions::read_expr_primary-returns-in-ValueLiteral-clause-reads : goal.expressions::read_expr_primary-returns-in-ValueLiteral-clause-reads
+expressions::read_expr_primary-returns-in-ValueLiteral-clause-reads t c = grind (arith, primaries)
+
+pub expressions::read_expression-returns-in_err-depth-clause-reads : goal.expressions::read_expression-returns-in_err-depth-clause-reads
+expressions::read_expression-returns-in_err-depth-clause-reads t c = grind (arith, expressions)
+
+pub expressions::read_expression-returns-in_err-read-clause-reads : goal.expressions::read_expression-returns-in_err-read-clause-reads
+expressions::read_expression-returns-in_err-read-clause-reads t c = grind (arith, expressions)
+
+pub expressions::read_expression-returns-in_err-measure-clause-reads : goal.expressions::read_expression-returns-in_err-measure-clause-reads
+expressions::read_expression-returns-in_err-measure-clause-reads t c = grind (arith, expressions)
+
+pub expressions::read_expression-returns-clause-reads : goal.expressions::read_expression-returns-clause-reads
+expressions::read_expression-returns-clause-reads t c = grind (arith, expressions)
+
+pub expressions::read_post-returns-clause-run : goal.expressions::read_post-returns-clause-run
+expressions::read_post-returns-clause-run t c = grind (arith, buffers)
+
+pub specials::read_name_special-print_worded-requires-clause-after : goal.specials::read_name_special-print_worded-requires-clause-after
+specials::read_name_special-print_worded-requires-clause-after t c = grind (arith, words)
+
+pub specials::read_thunk-returns-in_err-depth-clause-reads : goal.specials::read_thunk-returns-in_err-depth-clause-reads
+specials::read_thunk-returns-in_err-depth-clause-reads t c = grind (arith, thunks)
+
+pub specials::read_thunk-returns-in_err-open_thunk-clause-reads : goal.specials::read_thunk-returns-in_err-open_thunk-clause-reads
+specials::read_thunk-returns-in_err-open_thunk-clause-reads t c = grind (arith, thunks)
+
+pub specials::read_thunk-returns-in_err-read_symbol-clause-reads : goal.specials::read_thunk-returns-in_err-read_symbol-clause-reads
+specials::read_thunk-returns-in_err-read_symbol-clause-reads t c = grind (arith, thunks)
+
+pub specials::read_type_special-print_worded-requires-clause-after : goal.specials::read_type_special-print_worded-requires-clause-after
+specials::read_type_special-print_worded-requires-clause-after t c = grind (arith, words)
