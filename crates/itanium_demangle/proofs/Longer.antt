@@ -4,7 +4,7 @@ use Rattle.demangle_text.specs.Shape.{text_len}
 use Rattle.itanium_syntax.specs.declared.context.Context.{Context}
 use Rattle.std.specs.Prelude.{codes}
 use Rattle.itanium_syntax.specs.Names.{source_text}
-use Rattle.itanium_grammar.specs.Tree.{Tree, shape_as, shape_of, shape_each, bare_shape, name_in, ctor_dtor_of}
+use Rattle.itanium_grammar.specs.Tree.{Tree, shape_of, shape_each, bare_shape, name_in, ctor_dtor_of}
 use Rattle.itanium_grammar.specs.Tree.{tagged_with, with_args, local_in, string_literal_of, default_argument_of, trees}
 use Rattle.itanium_grammar.specs.Tree.{in_parent}
 use Rattle.itanium_grammar.specs.Grammar.{Position, Cost, TaggedAs, UnqualifiedAs, Unqualified, AttachedAs, Segments}
@@ -18,45 +18,45 @@ use Rattle.itanium_demangle.proofs.Grows.{appended_longer, tagged_longer, attach
 
 -- of trees
 tag_longer : (t : Tree) (tag : List ℕ) → text_len (shape_of t) ≤ text_len (shape_of (tagged_with t tag))
-unfolding shape_as
+unfolding shape_of
 tag_longer t tag = tagged_longer (shape_of t) tag
 
 ctor_of_longer : (parent : Tree) (destructor : Bool) → text_len (shape_of parent) ≤ text_len (shape_of (ctor_dtor_of parent destructor))
-unfolding shape_as
+unfolding shape_of
 ctor_of_longer parent destructor = ctor_longer (shape_of parent) destructor
 
 name_in_longer : (parent leaf : Tree) → text_len (shape_of parent) ≤ text_len (shape_of (name_in parent leaf))
-unfolding shape_as
+unfolding shape_of
 name_in_longer parent leaf = parent_longer (shape_of parent) (shape_of leaf)
 
 pub in_parent_longer : (parent : Option Tree) (leaf : Tree) → text_len (shape_of leaf) ≤ text_len (shape_of (in_parent parent leaf))
-unfolding shape_as
+unfolding shape_of
 in_parent_longer None leaf = omega arith
 in_parent_longer (Some parent) leaf = leaf_longer (shape_of parent) (shape_of leaf)
 
 pub with_args_longer : (t : Tree) (list : List Tree) → text_len (shape_of t) ≤ text_len (shape_of (with_args t (trees list)))
-unfolding shape_as
+unfolding shape_of
 with_args_longer t list = attached_longer (shape_of t) (arguments_shape (shape_each (trees list)))
 
 string_longer : (t : Tree) → text_len (shape_of t) ≤ text_len (bare_shape (string_literal_of t))
-unfolding shape_as
+unfolding shape_of
 string_longer t = appended_longer (codes "::string literal") (shape_of t)
 
 default_of_longer : (t u : Tree) (number : ℕ) → text_len (shape_of t) ≤ text_len (bare_shape (default_argument_of t number u))
-unfolding shape_as
+unfolding shape_of
 default_of_longer t u number = default_parent_longer (shape_of t) (bare_shape u) number
 
 local_longer : (t u : Tree) → text_len (shape_of t) ≤ text_len (bare_shape (local_in t u))
-unfolding shape_as
+unfolding shape_of
 local_longer t u = parent_longer (shape_of t) (bare_shape u)
 
 -- an entity is no longer than it is in its encoding
 pub default_holds : (t u : Tree) (number : ℕ) → text_len (shape_of u) ≤ text_len (shape_of (default_argument_of t number u))
-unfolding shape_as
+unfolding shape_of
 default_holds t u number = default_entity_longer (shape_of t) (shape_of u) number
 
 pub local_holds : (t u : Tree) → text_len (shape_of u) ≤ text_len (shape_of (local_in t u))
-unfolding shape_as
+unfolding shape_of
 local_holds t u = leaf_longer (shape_of t) (shape_of u)
 
 -- of readings

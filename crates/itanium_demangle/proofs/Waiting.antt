@@ -10,7 +10,7 @@ use Rattle.demangle_edit.specs.Names.{qualified, default_arg_opened, default_arg
 use Rattle.itanium_syntax.specs.declared.context.Context.{Context}
 use Rattle.itanium_syntax.specs.Names.{name_case}
 use Rattle.itanium_syntax.specs.Encodings.{return_case, shows_words}
-use Rattle.itanium_grammar.specs.Tree.{Tree, shape_as, shape_of, bare_shape, own_quals, local_in, nested_of, string_literal_of, default_argument_of}
+use Rattle.itanium_grammar.specs.Tree.{Tree, shape_of, bare_shape, own_quals, local_in, nested_of, string_literal_of, default_argument_of}
 use Rattle.itanium_grammar.specs.Grammar.{Position, Cost, TaggedAs, FreeAs, UnqualifiedAs, Unqualified, UnscopedAs}
 use Rattle.itanium_grammar.specs.Grammar.{AttachedAs, Name, NameAs, EntityAs, no_tag, next_tag, source_free}
 use Rattle.itanium_grammar.specs.Grammar.{unnamed_type_free, lambda_free, conversion_free, literal_operator_free}
@@ -26,12 +26,12 @@ pub record HasNoOwn (t : Tree) : Type 0 where
   pub bare : bare_shape t ≡ shape_of t
 
 tagged_none : {case : TagCase} {t u : Tree} {p q : Position} → TaggedAs case t p u q → HasNoOwn t → HasNoOwn u
-unfolding shape_as
+unfolding shape_of
 tagged_none no_tag none = none
 tagged_none (next_tag found tags) none = tagged_none tags (record { quals = refl; bare = refl })
 
 free_none : {case : FreeCase} {x : Context} {p q : Position} {t : Tree} {c : Cost} → FreeAs case x p t q c → HasNoOwn t
-unfolding shape_as
+unfolding shape_of
 free_none (source_free found) = record { quals = refl; bare = refl }
 free_none (unnamed_type_free found) = record { quals = refl; bare = refl }
 free_none (lambda_free a found) = record { quals = refl; bare = refl }
@@ -40,7 +40,7 @@ free_none (literal_operator_free found) = record { quals = refl; bare = refl }
 free_none (operator_free found) = record { quals = refl; bare = refl }
 
 unqualified_as_none : {case : UnqualifiedCase} {x : Context} {parent : Option Tree} {p q : Position} {t : Tree} {c : Cost} → UnqualifiedAs case x parent p t q c → HasNoOwn t
-unfolding shape_as
+unfolding shape_of
 unqualified_as_none (constructor_unqualified tags) = tagged_none tags (record { quals = refl; bare = refl })
 unqualified_as_none (destructor_unqualified tags) = tagged_none tags (record { quals = refl; bare = refl })
 unqualified_as_none (free_unqualified {parent = None} a tags) = tagged_none tags (free_none a)
@@ -50,34 +50,34 @@ unqualified_none : {x : Context} {parent : Option Tree} {p q : Position} {t : Tr
 unqualified_none (unqualified a) = unqualified_as_none a
 
 attached_none : {case : AttachedCase} {x : Context} {t u : Tree} {p q : Position} {c : Cost} → AttachedAs case x t p u q c → HasNoOwn t → HasNoOwn u
-unfolding shape_as
+unfolding shape_of
 attached_none none_attached none = none
 attached_none (args_attached a) none = record { quals = refl; bare = refl }
 
 pub unscoped_none : {case : UnscopedCase} {x : Context} {p q : Position} {t : Tree} {c : Cost} → UnscopedAs case x p t q c → HasNoOwn t
-unfolding shape_as
+unfolding shape_of
 unscoped_none (std_name a b) = attached_none b (unqualified_none a)
 unscoped_none (substitution_name a case b) = record { quals = refl; bare = refl }
 unscoped_none (global_name a b) = attached_none b (unqualified_none a)
 
 pub bare-nested_of : (t : Tree) (quals : Quals) (shown : Bool) → bare_shape (nested_of t quals shown) ≡ shape_of t
-unfolding shape_as
+unfolding shape_of
 bare-nested_of t quals shown = refl
 
 pub bare-string_literal_of : (encoding : Tree)
     → ◌≡◌ {A = Shape × Quals} (appended (codes "::string literal") (shape_of encoding), no_quals)
     (bare_shape (string_literal_of encoding), own_quals (string_literal_of encoding))
-unfolding shape_as
+unfolding shape_of
 bare-string_literal_of encoding = refl
 
 pub bare-default_argument_of : (encoding : Tree) (number : ℕ) (entity : Tree)
     → bare_shape (default_argument_of encoding number entity) ≡ default_arg_shape (shape_of encoding) number
     (bare_shape entity)
-unfolding shape_as
+unfolding shape_of
 bare-default_argument_of encoding number entity = refl
 
 pub bare-local_in : (encoding entity : Tree) → bare_shape (local_in encoding entity) ≡ qualified (shape_of encoding) (bare_shape entity)
-unfolding shape_as
+unfolding shape_of
 bare-local_in encoding entity = refl
 
 -- an entity as a plain text, with a text in front
@@ -115,7 +115,7 @@ shown_inside UnscopedName = refl
 
 -- a name's own qualifiers, applied to what is left without them, give the whole
 mutual
-  unfolding shape_as
+  unfolding shape_of
 
   pub whole_name : {waits : Bool} {x : Context} {p q : Position} {t : Tree} {c : Cost} → Name waits x p t q c
       → with_name_qualifiers (bare_shape t) (own_quals t) (shows_words (name_case p.rest) x.shown) ≡ shape_of t

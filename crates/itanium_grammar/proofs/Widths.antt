@@ -12,7 +12,7 @@ use Rattle.itanium_syntax.specs.Bytes.{begins}
 use Rattle.itanium_syntax.specs.Scalars.{numeral, next_number, past_underscore, index_by, index_of}
 use Rattle.itanium_syntax.specs.Specials.{begins_t_and, special_text, special_close}
 use Rattle.itanium_grammar.specs.Answer.{max_text, after_prefix, suffix, HasAnswer, IsAnswer, HasLength}
-use Rattle.itanium_grammar.specs.Tree.{Tree, shape_as, printing, worded, temporary_of, construction_of}
+use Rattle.itanium_grammar.specs.Tree.{Tree, shape_of, printing, worded, temporary_of, construction_of}
 use Rattle.itanium_grammar.specs.Grammar.{Position, Cost, Name, TypeOf, Thunk, SpecialAs, SymbolAs, Symbol, name, type}
 use Rattle.itanium_grammar.specs.Grammar.{thunk, type_special, name_special, temporary_special, construction_special}
 use Rattle.itanium_grammar.specs.Grammar.{thunk_special, special_symbol, name_symbol, symbol}
@@ -22,15 +22,15 @@ use Rattle.itanium_grammar.proofs.Agreement.{one_reading}
 
 -- what special names print
 worded_prints : (word : List ℕ) (t : Tree) (close : List ℕ) → printing (worded word t close) ≡ concat (word ∷ printing t ∷ close ∷ [])
-unfolding shape_as
+unfolding shape_of
 worded_prints word t close = refl
 
 temporary_prints : (number : ℕ) (t : Tree) → printing (temporary_of number t) ≡ concat (codes "reference temporary #" ∷ decimal number ∷ codes " for " ∷ printing t ∷ [])
-unfolding shape_as
+unfolding shape_of
 temporary_prints number t = refl
 
 construction_prints : (t u : Tree) → printing (construction_of t u) ≡ concat (codes "construction vtable for " ∷ printing t ∷ codes "-in-" ∷ printing u ∷ [])
-unfolding shape_as
+unfolding shape_of
 construction_prints t u = refl
 
 -- what a counted production prints isn't longer than its reading is wide
