@@ -1,6 +1,7 @@
 -- The shapes of trees, and the states at positions.
 use Rattle.std.proofs.Common.{◌≡◌, ℕ, suc, ◌-◌, get_or, arith, Bool, true, false, List, [], ◌∷◌, ◌++◌, map, length, take, refl, sym, ap, Option, Some, None, ◌∙◌, if◌then◌else◌, codes}
-use Rattle.std.proofs.lemmas.List.{map-append, length-map, map-set, get_or-map}
+use Rattle.std.proofs.lemmas.List.{map-append, length-map, length-append, get_or-map}
+use Rattle.std.proofs.Math.Seq.{set-append_seam, get_or-append_seam}
 use Rattle.std.specs.Prelude.{option_map, is_some, not}
 use Rattle.std.specs.List.{take-map}
 use Rattle.demangle_text.specs.Shape.{Shape, plain_shape, appended}
@@ -23,7 +24,8 @@ use Rattle.itanium_grammar.specs.Tree.{with_args, nested_of, pointer_to, cv_of, 
 use Rattle.itanium_grammar.specs.Tree.{elaborated, elaborated_shape, abbreviation_shape, trees, shape_of, shape_each}
 use Rattle.itanium_grammar.specs.Tree.{in_parent, tagged_with, lambda_of, conversion_to, conversion_shape, pack_of}
 use Rattle.itanium_grammar.specs.Tree.{expansion_of, expanded}
-use Rattle.itanium_grammar.specs.Grammar.{last_of, with_last}
+use Rattle.itanium_grammar.specs.Grammar.{last_of, scopes_inside}
+use Rattle.itanium_grammar.proofs.Scopes.{Keeps, taken_scopes}
 use Rattle.itanium_reader.specs.Parser as parser
 use Rattle.itanium_reader.specs.Parser.{ParserState}
 
@@ -202,16 +204,46 @@ last-map (s ∷ ss) =
     ap (λ (n : ℕ). get_or (map (map shape_of) (s ∷ ss)) (n - 1) []) (length-map (s ∷ ss) (map shape_of))
     ∙ get_or-map (map shape_of) (s ∷ ss) (suc (length ss) - 1) [] [] (omega arith)
 
-with_last-map : (t : Tree) (ss : List (List Tree)) → with_arg (shape_of t) (map (map shape_of) ss) ≡ map (map shape_of) (with_last t ss)
-with_last-map t ss =
-    rw (last-map ss, one_more (last_of ss) t, length-map ss (map shape_of)) (sym (map-set (map shape_of) ss (length ss - 1) (last_of ss ++ t ∷ [])))
+-- the last scope gains an argument
+with_arg-own : (s : Shape) (outer : List (List Shape)) (own : List Shape) → with_arg s (outer ++ own ∷ []) ≡ outer ++ (own ++ s ∷ []) ∷ []
+with_arg-own s outer own =
+    let at : length (outer ++ own ∷ []) - 1 ≡ length outer = omega (arith, length-append outer (own ∷ [])) in
+    rw (at, get_or-append_seam outer own [] []) (set-append_seam outer own [] (own ++ s ∷ []))
 
-pub add_argument-scopes : (o : Bool) (k : ℕ) (t : Tree) (ss : List (List Tree))
-    → (if o then with_arg (shape_of t) (take k (map (map shape_of) ss)) else take k (map (map shape_of) ss)) ≡ map (map shape_of) (if o then with_last t (take k ss) else take k ss)
-add_argument-scopes true k t ss = rw (take-map (map shape_of) k ss) (with_last-map t (take k ss))
-add_argument-scopes false k t ss = take-map (map shape_of) k ss
+-- a list inside these scopes has opened a scope where the truth value says so, and so many scopes are then there
+pub record IsInside (opens : Bool) (count : ℕ) (outer : List (List Tree)) (own : Option (List Tree)) : Type 0 where
+  pub opened : opens ≡ is_some own
+  pub count_is : count ≡ length (scopes_inside outer own)
 
-pub begin_list-scopes : (o : Bool) (ss : List (List Tree))
-    → (if o then map (map shape_of) ss ++ [] ∷ [] else map (map shape_of) ss) ≡ map (map shape_of) (if o then ss ++ [] ∷ [] else ss)
-begin_list-scopes true ss = sym (map-append (map shape_of) ss ([] ∷ []))
-begin_list-scopes false ss = refl
+-- so it is after an argument
+pub inside_more : {o : Bool} {k : ℕ} {outer : List (List Tree)} {own : Option (List Tree)} (t : Tree) → IsInside o k outer own
+    → IsInside o k outer (option_map (λ args. args ++ t ∷ []) own)
+inside_more {own = None} t inside = inside
+inside_more {outer = outer} {own = Some args} t inside = record {
+  opened = inside.opened;
+  count_is = inside.count_is ∙ length-append outer (args ∷ []) ∙ sym (length-append outer ((args ++ t ∷ []) ∷ []));
+}
+
+-- an argument goes into the list's own scope, and those that it opened are dropped
+pub add_argument-scopes : {o : Bool} {k : ℕ} {outer : List (List Tree)} (own : Option (List Tree)) (t : Tree) {later : List (List Tree)}
+    → IsInside o k outer own → Keeps (scopes_inside outer own) later
+    → (if o then with_arg (shape_of t) (take k (map (map shape_of) later)) else take k (map (map shape_of) later))
+    ≡ map (map shape_of) (scopes_inside outer (option_map (λ args. args ++ t ∷ []) own))
+add_argument-scopes {k = k} {outer = outer} None t {later = later} inside keeps =
+    rw (inside.opened, take-map (map shape_of) k later, inside.count_is) (ap (map (map shape_of)) (taken_scopes keeps))
+add_argument-scopes {k = k} {outer = outer} (Some own) t {later = later} inside keeps =
+    rw (inside.opened, take-map (map shape_of) k later, inside.count_is, taken_scopes keeps, map-append (map shape_of) outer (own ∷ []))
+    (with_arg-own (shape_of t) (map (map shape_of) outer) (map shape_of own)
+    ∙ ap (λ args. map (map shape_of) outer ++ args ∷ []) (one_more own t)
+    ∙ sym (map-append (map shape_of) outer ((own ++ t ∷ []) ∷ [])))
+
+-- a list begins
+pub begin_list-scopes : (o : Bool) (outer : List (List Tree))
+    → (if o then map (map shape_of) outer ++ [] ∷ [] else map (map shape_of) outer) ≡ map (map shape_of) (scopes_inside outer (if o then Some [] else None))
+begin_list-scopes true outer = sym (map-append (map shape_of) outer ([] ∷ []))
+begin_list-scopes false outer = refl
+
+pub begin_list-inside : (o : Bool) (outer : List (List Tree))
+    → IsInside o (length (map (map shape_of) (scopes_inside outer (if o then Some [] else None)))) outer (if o then Some [] else None)
+begin_list-inside true outer = record { opened = refl; count_is = length-map (outer ++ [] ∷ []) (map shape_of) }
+begin_list-inside false outer = record { opened = refl; count_is = length-map outer (map shape_of) }

@@ -1,5 +1,5 @@
 -- Each reading takes a front of the bytes, of one byte at least.
-use Rattle.std.proofs.Common.{◌≡◌, ℕ, Bool, List, Option, drop, refl, arith, is_some}
+use Rattle.std.proofs.Common.{◌≡◌, Bool, List, Option, drop, refl, arith, is_some}
 use Rattle.demangle_quals.specs.declared.quals.Quals.{Quals}
 use Rattle.itanium_syntax.specs.declared.context.Context.{Context}
 use Rattle.itanium_syntax.specs.declared.numerals.Radix.TheVariants.{Decimal, Base36}
@@ -164,8 +164,8 @@ mutual
   args_after : {x : Context} {of_name : Bool} {p q : Position} {list : List Tree} {c : Cost} → Args x of_name p list q c → IsAfter q.rest p.rest
   args_after (args {p = p} a) = (after_takes (after_drop 1 p.rest) (arguments_takes refl a)).after
 
-  pub arguments_takes : {case : ArgsCase} {x : Context} {o : Bool} {k : ℕ} {p q : Position} {list : List Tree}
-      {c : Cost} → args_case p.rest ≡ case → ArgumentsAs case x o k p list q c → Takes q.rest p.rest
+  pub arguments_takes : {case : ArgsCase} {x : Context} {outer : List (List Tree)} {own : Option (List Tree)} {p q : Position} {list : List Tree}
+      {c : Cost} → args_case p.rest ≡ case → ArgumentsAs case x outer own p list q c → Takes q.rest p.rest
   arguments_takes form (end_of_arguments {p = p}) = record { after = after_drop 1 p.rest; shorter = arguments_end_shorter p.rest form }
   arguments_takes form (one_more_argument a b) = takes_takes (argument_takes a) (arguments_takes refl b)
 

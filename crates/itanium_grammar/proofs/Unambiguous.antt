@@ -1,5 +1,6 @@
 -- Of one position there is at most one reading.
-use Rattle.std.proofs.Common.{◌≡◌, ℕ, Bool, true, ◌∷◌, List, Option, length, refl, sym, subst, ap, ap₂, ◌∙◌, ◌++◌, drop, codes}
+use Rattle.std.proofs.Common.{◌≡◌, ℕ, Bool, true, ◌∷◌, List, Option, length, refl, sym, subst, ap, ap₂, ◌∙◌, ◌++◌, drop, codes, []}
+use Rattle.std.specs.Prelude.{option_map}
 use Rattle.std.proofs.lemmas.Option.{some_pair_parts, same_Some}
 use Rattle.demangle_quals.specs.declared.quals.Quals.{Quals}
 use Rattle.itanium_syntax.specs.declared.context.Context.{Context}
@@ -31,7 +32,7 @@ use Rattle.itanium_grammar.specs.Grammar.{expression_argument, literal_argument,
 use Rattle.itanium_grammar.specs.Grammar.{expression, operand_of, pre_expression, address_expression, unary_expression}
 use Rattle.itanium_grammar.specs.Grammar.{post_expression, binary_expression, greater_expression}
 use Rattle.itanium_grammar.specs.Grammar.{conditional_expression, parameter_expression, literal_expression, with_rest}
-use Rattle.itanium_grammar.specs.Grammar.{skip, counted, saving, save, add_argument, past_initializer, both}
+use Rattle.itanium_grammar.specs.Grammar.{skip, counted, saving, save, past_initializer, both}
 use Rattle.itanium_grammar.specs.Grammar.{SubstitutionAs, Substitution, ParameterAs, Parameter, TaggedAs, UnqualifiedAs}
 use Rattle.itanium_grammar.specs.Grammar.{Unqualified, FirstAs, Name, NameAs, Local, EntityAs, Encoding, EncodingAs}
 use Rattle.itanium_grammar.specs.Grammar.{ReturnAs, SignatureAs, UnscopedAs, AttachedAs, Nested, Segments, SegmentsAs}
@@ -285,12 +286,12 @@ mutual
       let same = one_arguments a b in
       record { tree = same.tree; next = same.next; cost = ap₂ counted (ap (λ ts. length (list_printing ts)) same.tree) same.cost }
 
-  one_arguments : {case : ArgsCase} {x : Context} {o : Bool} {k : ℕ} {p q r : Position} {ts us : List Tree} {c d : Cost}
-      → ArgumentsAs case x o k p ts q c → ArgumentsAs case x o k p us r d → Same ts us q r c d
+  one_arguments : {case : ArgsCase} {x : Context} {outer : List (List Tree)} {own : Option (List Tree)} {p q r : Position} {ts us : List Tree} {c d : Cost}
+      → ArgumentsAs case x outer own p ts q c → ArgumentsAs case x outer own p us r d → Same ts us q r c d
   one_arguments end_of_arguments end_of_arguments = record { tree = refl; next = refl; cost = refl }
-  one_arguments (one_more_argument {x = x} {opens = o} {n = k} a b) (one_more_argument {r = r} {ts = us} {d = d} g h) =
+  one_arguments (one_more_argument {x = x} {outer = outer} {own = own} a b) (one_more_argument {r = r} {ts = us} {d = d} g h) =
       let first = one_argument a g in
-      let same = one_arguments b (subst (λ v. ArgumentsAs (args_case v.rest) x o k v us r d) (ap₂ (add_argument o k) (sym first.tree) (sym first.next)) h) in
+      let same = one_arguments b (along (λ t o. ArgumentsAs (args_case o.rest) x outer (option_map (λ args. args ++ t ∷ []) own) o us r d) (sym first.tree) (sym first.next) h) in
       record { tree = ap₂ (λ t ts. t ∷ ts) first.tree same.tree; next = same.next; cost = ap₂ both first.cost same.cost }
 
   pub one_argument : {case : ArgumentCase} {x : Context} {p q r : Position} {t u : Tree} {c d : Cost}

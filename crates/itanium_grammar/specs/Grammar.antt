@@ -1,8 +1,8 @@
 -- The grammar: which front of the bytes is which tree (Itanium C++ ABI 5.1). A reading is indexed by the context, the
 -- position where it begins, the tree, the position after it, and the cost. A case without a constructor isn't read.
-use Rattle.std.specs.Prelude.{◌≡◌, ℕ, ◌+◌, ◌-◌, max, Bool, true, false, if◌then◌else◌, slice_get, slice_set}
+use Rattle.std.specs.Prelude.{◌≡◌, ℕ, ◌+◌, ◌-◌, max, Bool, true, false, if◌then◌else◌, slice_get}
 use Rattle.std.specs.Prelude.{slice_index_or, List, [], ◌∷◌, ◌++◌, Option, Some, None, is_some, take, drop, length}
-use Rattle.std.specs.Prelude.{codes}
+use Rattle.std.specs.Prelude.{codes, option_map}
 use Rattle.demangle_text.specs.Shape.{is_plain}
 use Rattle.demangle_quals.specs.declared.quals.Pointer.{Pointer}
 use Rattle.demangle_quals.specs.declared.quals.Quals.{Quals}
@@ -109,25 +109,18 @@ both c d = record {
 abbrev pub counted : ℕ → Cost → Cost
 counted bytes c = record { count = c.count + 1; depth = c.depth + 1; peak = c.peak; width = max bytes c.width }
 
--- a list begins: it may open a scope
-abbrev pub begin_list : Bool → Position → Position
-begin_list opens p = record p { scopes = if opens then p.scopes ++ [] ∷ [] else p.scopes }
-
--- how many scopes there are once a list has begun
-abbrev pub scopes_in : Bool → Position → ℕ
-scopes_in opens p = length (begin_list opens p).scopes
-
 -- the arguments of the last scope
 abbrev pub last_of : List (List Tree) → List Tree
 last_of scopes = slice_index_or scopes (length scopes - 1) []
 
--- the last scope gains an argument
-abbrev pub with_last : Tree → List (List Tree) → List (List Tree)
-with_last t scopes = slice_set scopes (length scopes - 1) (last_of scopes ++ t ∷ [])
+-- the scopes inside a list: those outside, and the list's own if it opened one
+abbrev pub scopes_inside : List (List Tree) → Option (List Tree) → List (List Tree)
+scopes_inside outer None = outer
+scopes_inside outer (Some own) = outer ++ own ∷ []
 
--- the scopes past the first n, which an argument opened, are dropped, and it goes into the scope that its list opened
-abbrev pub add_argument : Bool → ℕ → Tree → Position → Position
-add_argument opens n t p = record p { scopes = if opens then with_last t (take n p.scopes) else take n p.scopes }
+-- the same position, inside a list
+abbrev pub within_list : List (List Tree) → Option (List Tree) → Position → Position
+within_list outer own p = record p { scopes = scopes_inside outer own }
 
 -- <substitution> after its S
 pub data SubstitutionAs : SubstitutionCase → Position → Tree → Position → Type 0 where
@@ -491,23 +484,25 @@ mutual
   pub data Args : Context → Bool → Position → List Tree → Position → Cost → Type 0 where
     args :
         {x : Context} {of_name : Bool} {p q : Position} {list : List Tree} {c : Cost}
-        → ArgumentsAs (args_case (drop 1 p.rest)) x (opens_scope of_name x) (scopes_in (opens_scope of_name x) p)
-        (begin_list (opens_scope of_name x) (skip 1 p)) list q c
+        → ArgumentsAs (args_case (drop 1 p.rest)) x p.scopes (if opens_scope of_name x then Some [] else None)
+        (skip 1 p) list q c
         → Args x of_name p list q (counted (length (list_printing list)) c)
 
-  -- one more <template-arg>, or the E after them; the scopes that each opened are dropped, and it goes into the list's
-  -- own
-  pub data ArgumentsAs : ArgsCase → Context → Bool → ℕ → Position → List Tree → Position → Cost → Type 0 where
+  -- one more <template-arg>, or the E after them, inside these scopes and in the list's own if it opened one: an
+  -- argument goes into that, and the scopes that it opened are dropped
+  pub data ArgumentsAs : ArgsCase → Context → List (List Tree) → Option (List Tree) → Position → List Tree → Position
+      → Cost → Type 0 where
     -- E
     end_of_arguments :
-        {x : Context} {opens : Bool} {n : ℕ} {p : Position}
-        → ArgumentsAs EndOfArguments x opens n p [] (skip 1 p) nothing
+        {x : Context} {outer : List (List Tree)} {own : Option (List Tree)} {p : Position}
+        → ArgumentsAs EndOfArguments x outer own p [] (within_list outer own (skip 1 p)) nothing
     -- <template-arg>
     one_more_argument :
-        {x : Context} {opens : Bool} {n : ℕ} {p q r : Position} {t : Tree} {ts : List Tree} {c d : Cost}
-        → ArgumentAs (argument_case p.rest) x p t q c
-        → ArgumentsAs (args_case q.rest) x opens n (add_argument opens n t q) ts r d
-        → ArgumentsAs NextArgument x opens n p (t ∷ ts) r (both c d)
+        {x : Context} {outer : List (List Tree)} {own : Option (List Tree)} {p q r : Position} {t : Tree}
+        {ts : List Tree} {c d : Cost}
+        → ArgumentAs (argument_case p.rest) x (within_list outer own p) t q c
+        → ArgumentsAs (args_case q.rest) x outer (option_map (λ args. args ++ t ∷ []) own) q ts r d
+        → ArgumentsAs NextArgument x outer own p (t ∷ ts) r (both c d)
 
   -- <template-arg> ::= J <template-arg>* E: counted, with the context of a pack inside
   pub data Pack : Context → Position → Tree → Position → Cost → Type 0 where
