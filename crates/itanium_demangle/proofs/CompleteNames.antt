@@ -12,7 +12,7 @@ use Rattle.itanium_syntax.specs.declared.offsets.ThunkOffsets.{ThunkOffsets}
 use Rattle.itanium_syntax.specs.Offsets.{thunk_offsets}
 use Rattle.itanium_syntax.specs.Specials.{special_case, special_text, special_close}
 use Rattle.itanium_syntax.specs.Names.{source_text, symbol_case, name_case, name_quals, tag_case}
-use Rattle.itanium_syntax.specs.Encodings.{shows_words}
+use Rattle.itanium_reader.specs.Parser.{shows_words}
 use Rattle.itanium_syntax.specs.Context.{inside_lambda, inside_local, inside_encoding}
 use Rattle.itanium_syntax.proofs.Fronts.{initializer_after, after_drop, source_takes, after-le}
 use Rattle.itanium_grammar.specs.Tree.{Tree, bare_shape, own_quals, thunk_of, with_args, trees, unnamed_text, literal_operator_text, shape_of, name_printing}

@@ -67,7 +67,8 @@ use Rattle.itanium_demangle.proofs.CompleteNames.{bare_names_complete, names_com
 use Rattle.itanium_syntax.specs.Types.{params_case}
 use Rattle.itanium_syntax.specs.Operators.{operator_here}
 use Rattle.itanium_syntax.specs.Context.{inside_lambda, inside_local, inside_encoding}
-use Rattle.itanium_syntax.specs.Encodings.{return_case, signature_case, entity_case, shows_words}
+use Rattle.itanium_syntax.specs.Encodings.{return_case, signature_case, entity_case}
+use Rattle.itanium_reader.specs.Parser.{shows_words}
 use Rattle.demangle_quals.specs.declared.quals.Quals.{Quals}
 use Rattle.demangle_edit.specs.Built.{params_opened}
 use Rattle.demangle_edit.specs.Names.{with_name_qualifiers}

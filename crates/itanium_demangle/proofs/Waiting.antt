@@ -9,7 +9,8 @@ use Rattle.demangle_quals.specs.Quals.{no_quals, has_quals, words_text, referenc
 use Rattle.demangle_edit.specs.Names.{qualified, default_arg_opened, default_arg_shape, with_name_qualifiers}
 use Rattle.itanium_syntax.specs.declared.context.Context.{Context}
 use Rattle.itanium_syntax.specs.Names.{name_case}
-use Rattle.itanium_syntax.specs.Encodings.{return_case, shows_words}
+use Rattle.itanium_syntax.specs.Encodings.{return_case}
+use Rattle.itanium_reader.specs.Parser.{shows_words}
 use Rattle.itanium_grammar.specs.Tree.{Tree, shape_of, bare_shape, own_quals, local_in, nested_of, string_literal_of, default_argument_of}
 use Rattle.itanium_grammar.specs.Grammar.{Position, Cost, TaggedAs, FreeAs, UnqualifiedAs, Unqualified, UnscopedAs}
 use Rattle.itanium_grammar.specs.Grammar.{AttachedAs, Name, NameAs, EntityAs, no_tag, next_tag, source_free}

@@ -11,7 +11,8 @@ use Rattle.itanium_syntax.specs.declared.context.Context.{Context}
 use Rattle.itanium_syntax.specs.Scalars.{source_name}
 use Rattle.itanium_syntax.specs.Context.{opens_scope, inside_pack}
 use Rattle.itanium_syntax.specs.Names.{segment_case, tag_case, source_text}
-use Rattle.itanium_syntax.specs.Names.{past_initializer_letter, begins_source}
+use Rattle.itanium_syntax.specs.Names.{past_initializer_letter}
+use Rattle.itanium_syntax.specs.Calls.{begins_source}
 use Rattle.itanium_syntax.specs.Args.{args_case}
 use Rattle.itanium_syntax.specs.Types.{types_case}
 use Rattle.itanium_reader.specs.Outcome.{LoopSoFar}

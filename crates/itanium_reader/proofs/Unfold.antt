@@ -15,7 +15,8 @@ use Rattle.itanium_syntax.specs.Offsets.{thunk_offsets}
 use Rattle.itanium_syntax.specs.Scalars.{index_of, source_name}
 use Rattle.itanium_syntax.specs.Context.{opens_scope, inside_type, inside_pack, inside_lambda, inside_local, inside_encoding}
 use Rattle.itanium_syntax.specs.Names.{symbol_case, name_case, unqualified_case, tag_case, source_text}
-use Rattle.itanium_syntax.specs.Names.{free_case, begins_source, first_case, substitution_case}
+use Rattle.itanium_syntax.specs.Names.{free_case, first_case, substitution_case}
+use Rattle.itanium_syntax.specs.Calls.{begins_source}
 use Rattle.itanium_syntax.specs.Names.{past_internal, past_name_quals, name_quals, saves_first}
 use Rattle.itanium_syntax.specs.Expressions.{expression_case}
 use Rattle.itanium_syntax.specs.Encodings.{entity_case}

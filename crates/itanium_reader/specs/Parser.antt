@@ -29,7 +29,7 @@ use Rattle.itanium_syntax.specs.Bytes.{begins}
 use Rattle.itanium_syntax.specs.Expressions.{is_external, literal_case, literal_value, expression_text, expression_case}
 use Rattle.itanium_syntax.specs.Offsets.{thunk_offsets, past_base_offset}
 use Rattle.itanium_syntax.specs.Specials.{special_case, special_text, special_close}
-use Rattle.itanium_syntax.specs.Encodings.{return_case, signature_case, entity_case, shows_words}
+use Rattle.itanium_syntax.specs.Encodings.{return_case, signature_case, entity_case}
 use Rattle.itanium_syntax.specs.Args.{attached_case, args_case, argument_case}
 use Rattle.itanium_syntax.specs.Types.{type_case, builtin_text, past_builtin, cv_quals, past_cv, with_reference, past_reference, cv_case, function_case, params_case, types_case, elaborated_text}
 use Rattle.itanium_grammar.specs.Answer.{max_text}
@@ -435,6 +435,11 @@ abbrev pub encoding_end : Parses Shape → Shape × Quals → Parses Shape
 encoding_end type name s =
     return_as (return_case name.0.templ name.0.ctor s.rest) type s >>= λ after.
     signature_as (signature_case after.rest) type name after
+
+-- the words of a name's own qualifiers are shown inside a local name, so also of its entity
+abbrev pub shows_words : NameCase → Bool → Bool
+shows_words LocalName shown = true
+shows_words case shown = shown
 
 -- a name with its own qualifiers
 abbrev pub qualified_by : ParsesBareName → Context → Parses Shape

@@ -60,10 +60,6 @@ begins_destructor bytes =
     begins (codes "D") bytes
     && (begins_between "0" "2" number || begins_between "4" "5" number)
 
--- an <operator-name>, or no name
-abbrev pub operator_case : List ℕ → FreeCase
-operator_case bytes = if is_some (operator_here bytes) then OperatorName else NoName
-
 -- an <unqualified-name> that asks for no parent: it is no <ctor-dtor-name>
 abbrev pub free_case : List ℕ → FreeCase
 free_case bytes =
@@ -72,7 +68,7 @@ free_case bytes =
     if begins (codes "Ul") bytes then LambdaName else
     if begins (codes "cv") bytes then ConversionName else
     if begins (codes "li") bytes then LiteralOperatorName else
-    operator_case bytes
+    if is_some (operator_here bytes) then OperatorName else NoName
 
 -- <unqualified-name>: constructors and destructors have a parent
 abbrev pub unqualified_case : Bool → List ℕ → UnqualifiedCase
@@ -80,10 +76,6 @@ unqualified_case in_parent bytes =
     if in_parent && begins_constructor bytes then ConstructorName else
     if in_parent && begins_destructor bytes then DestructorName else
     FreeName
-
--- a <source-name> is next
-abbrev pub begins_source : List ℕ → Bool
-begins_source bytes = begins_positive bytes
 
 -- an <abi-tag> or none
 abbrev pub tag_case : List ℕ → TagCase

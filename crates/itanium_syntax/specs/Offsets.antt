@@ -7,7 +7,7 @@ use Rattle.itanium_syntax.specs.declared.offsets.CallOffset.TheVariants.{Plain, 
 use Rattle.itanium_syntax.specs.declared.offsets.ThunkOffsets.{ThunkOffsets}
 use Rattle.itanium_syntax.specs.declared.offsets.ThunkOffsets.TheVariants.{Single, Covariant}
 use Rattle.itanium_syntax.specs.Bytes.{begins}
-use Rattle.itanium_syntax.specs.Scalars.{numeral, past_underscore}
+use Rattle.itanium_syntax.specs.Scalars.{numeral, ended}
 
 -- a number with a minus or without one: zero is never negative
 abbrev pub with_sign : Bool → ℕ → Signed
@@ -21,7 +21,7 @@ signed_number bytes =
 
 -- a number with `_` after it
 abbrev pub signed_part : List ℕ → Option (Signed × List ℕ)
-signed_part bytes = option_and_then (λ n. option_map (λ rest. (n.0, rest)) (past_underscore n.1)) (signed_number bytes)
+signed_part bytes = ended (signed_number bytes)
 
 -- <number> _ after its h
 abbrev pub plain_offset : List ℕ → Option (CallOffset × List ℕ)

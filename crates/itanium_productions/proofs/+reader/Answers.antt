@@ -20,7 +20,8 @@ use Rattle.itanium_reader.specs.Outcome.{state, Gives, GivesUnsaved}
 use Rattle.itanium_reader.specs.declared.stop.Stop.{Stop}
 use Rattle.itanium_reader.specs.declared.stop.Stop.TheVariants.{Unread, Memory}
 use Rattle.itanium_reader.proofs.Unfold.{first_source_opens}
-use Rattle.itanium_syntax.specs.Names.{begins_source, first_case}
+use Rattle.itanium_syntax.specs.Names.{first_case}
+use Rattle.itanium_syntax.specs.Calls.{begins_source}
 use Rattle.itanium_syntax.specs.declared.context.Context.{Context}
 use Rattle.std.proofs.Common.{Err, None}
 use Rattle.itanium_reader.specs.declared.reader.Reader.{Reader}
