@@ -51,7 +51,7 @@ module _ (d : ℕ) (each : ArgumentsComplete d) where
       >>= λ r. after_turn r.0 (loop (list_turn (add_argument o k) (parse_argument d x)) n) r.1)
       (reached (λ us. listed_each first front (map shape_of us)) list q c e m)
   arguments_as_met n again end_of_arguments inside deep e m first front room = met (same_read refl refl refl (omega arith) (omega arith))
-  arguments_as_met n again {o = o} {k = k} (one_more_argument {outer = outer} {own = own} {q = q} {t = t} {ts = ts} {c = c} a more) inside deep e m first front room =
+  arguments_as_met n again {o = o} {k = k} (one_more_argument {q = q} {t = t} {ts = ts} {c = c} {outer = outer} {own = own} a more) inside deep e m first front room =
       let shorter = (argument_takes a).shorter in
       let list = listed_more first front (shape_of t) in
       let args = option_map (λ args. args ++ t ∷ []) own in

@@ -7,10 +7,10 @@ use Rattle.itanium_syntax.specs.Names.{source_text}
 use Rattle.itanium_grammar.specs.Tree.{Tree, shape_of, shape_each, bare_shape, name_in, ctor_dtor_of}
 use Rattle.itanium_grammar.specs.Tree.{tagged_with, with_args, local_in, string_literal_of, default_argument_of, trees}
 use Rattle.itanium_grammar.specs.Tree.{in_parent}
-use Rattle.itanium_grammar.specs.Grammar.{Position, Cost, TaggedAs, UnqualifiedAs, Unqualified, AttachedAs, Segments}
+use Rattle.itanium_grammar.specs.Grammar.{Position, Cost, TaggedAs, UnqualifiedAs, Unqualified, AttachedAs}
 use Rattle.itanium_grammar.specs.Grammar.{SegmentsAs, EntityAs, no_tag, next_tag, constructor_unqualified}
 use Rattle.itanium_grammar.specs.Grammar.{destructor_unqualified, free_unqualified, unqualified, none_attached}
-use Rattle.itanium_grammar.specs.Grammar.{args_attached, segments, end_of_segments, args_segment, name_segment}
+use Rattle.itanium_grammar.specs.Grammar.{args_attached, end_of_segments, args_segment, name_segment}
 use Rattle.itanium_grammar.specs.Grammar.{string_literal_entity, default_argument_entity, name_entity}
 use Rattle.itanium_demangle.specs.Cases.{TagCase, UnqualifiedCase, AttachedCase, SegmentCase, EntityCase}
 use Rattle.demangle_edit.specs.Lists.{arguments_shape}
@@ -71,23 +71,19 @@ unqualified_as_longer : {case : UnqualifiedCase} {x : Context} {parent u : Tree}
     → UnqualifiedAs case x (Some parent) p u q c → text_len (shape_of parent) ≤ text_len (shape_of u)
 unqualified_as_longer (constructor_unqualified {parent = parent} tags) = let here = ctor_of_longer parent false in let more = tags_longer tags in omega arith
 unqualified_as_longer (destructor_unqualified {parent = parent} tags) = let here = ctor_of_longer parent true in let more = tags_longer tags in omega arith
-unqualified_as_longer (free_unqualified {parent = Some parent} {u = u} a tags) = name_in_longer parent u
+unqualified_as_longer (free_unqualified {u = u} {parent = Some parent} a tags) = name_in_longer parent u
 
 pub unqualified_longer : {x : Context} {parent u : Tree} {p q : Position} {c : Cost} → Unqualified x (Some parent) p u q c → text_len (shape_of parent) ≤ text_len (shape_of u)
 unqualified_longer (unqualified a) = unqualified_as_longer a
 
 pub attached_as_longer : {case : AttachedCase} {x : Context} {t u : Tree} {p q : Position} {c : Cost} → AttachedAs case x t p u q c → text_len (shape_of t) ≤ text_len (shape_of u)
 attached_as_longer none_attached = omega arith
-attached_as_longer (args_attached {t = t} {list = ts} a) = with_args_longer t ts
+attached_as_longer (args_attached {t = t} {ts = ts} a) = with_args_longer t ts
 
-mutual
-  pub segments_longer : {x : Context} {takes : Bool} {t u : Tree} {p q : Position} {c : Cost} → Segments x takes t p u q c → text_len (shape_of t) ≤ text_len (shape_of u)
-  segments_longer (segments a) = segment_longer a
-
-  segment_longer : {case : SegmentCase} {x : Context} {takes : Bool} {t u : Tree} {p q : Position} {c : Cost} → SegmentsAs case x takes t p u q c → text_len (shape_of t) ≤ text_len (shape_of u)
-  segment_longer end_of_segments = omega arith
-  segment_longer (args_segment {t = t} {list = ts} a b) = let here = with_args_longer t ts in let more = segments_longer b in omega arith
-  segment_longer (name_segment a b) = let here = unqualified_longer a in let more = segments_longer b in omega arith
+pub segment_longer : {case : SegmentCase} {x : Context} {takes : Bool} {t u : Tree} {p q : Position} {c : Cost} → SegmentsAs case takes x t p u q c → text_len (shape_of t) ≤ text_len (shape_of u)
+segment_longer end_of_segments = omega arith
+segment_longer (args_segment {t = t} {ts = ts} a b) = let here = with_args_longer t ts in let more = segment_longer b in omega arith
+segment_longer (name_segment a b) = let here = unqualified_longer a in let more = segment_longer b in omega arith
 
 pub entity_longer : {case : EntityCase} {x : Context} {t u : Tree} {p q : Position} {c : Cost} → EntityAs case true x t p u q c → text_len (shape_of t) ≤ text_len (bare_shape u)
 entity_longer (string_literal_entity {t = t}) = string_longer t

@@ -110,7 +110,7 @@ args_sound d each_is each x of_name p e m y is =
     (λ z list _.
     let r = arguments_sound d each _ x opens count p.scopes own true (plain_shape (codes "<")) (skip 1 p) (e + 1) m z (begin_list-inside opens p.scopes) (omega arith) list in
     let narrow = met_passed (list_met d each_is opens p r.reading r.deep (e + 1) m) read through in
-    let w : Within (Args x of_name p) (suc d) = record { tree = _; next = _; cost = _; reading = args r.reading; deep = omega (arith, r.deep, narrow) } in
+    let w : Within (Args of_name x p) (suc d) = record { tree = _; next = _; cost = _; reading = args r.reading; deep = omega (arith, r.deep, narrow) } in
     record { within = w; is = same_Some _ _ (sym is ∙ args_complete d each_is x of_name _ _ _ _ w.reading w.deep e m) }))
 
 pub packs_sound : (d : ℕ) → ArgumentsComplete d → ArgumentsSound d → PacksSound (suc d)

@@ -135,7 +135,7 @@ mutual
       sym (entity_quals (text (default_arg_opened (shape_of t) k)) (bare_shape u) (own_quals u))
       ∙ ap (λ (b : Bool). default_arg_shape (shape_of t) k (with_name_qualifiers (bare_shape u) (own_quals u) b)) (sym (ap (shows_words (name_case r)) on ∙ shown_inside (name_case r)))
       ∙ ap (default_arg_shape (shape_of t) k) (whole_name a)
-  whole_entity (name_entity {t = t} {u = u} {p = p} a) on =
+  whole_entity (name_entity {p = p} {t = t} {u = u} a) on =
       sym (entity_quals (text (shape_of t) ++ codes "::") (bare_shape u) (own_quals u))
       ∙ ap (λ (b : Bool). qualified (shape_of t) (with_name_qualifiers (bare_shape u) (own_quals u) b))
       (sym (ap (shows_words (name_case (drop 1 p.rest))) on ∙ shown_inside (name_case (drop 1 p.rest))))

@@ -9,24 +9,23 @@ use Rattle.itanium_grammar.specs.Cases.{FirstCase, FreeCase, LiteralCase, NameCa
 use Rattle.itanium_grammar.specs.Cases.{SegmentCase, SignatureCase, SpecialCase, SubstitutionCase, SymbolCase}
 use Rattle.itanium_grammar.specs.Cases.{TagCase, TypeCase, TypesCase, UnqualifiedCase, UnscopedCase}
 use Rattle.itanium_grammar.specs.Tree.{Tree, Operand}
-use Rattle.itanium_grammar.specs.Grammar.{Position, Cost, scopes_inside, SubstitutionAs, Substitution, Parameter}
-use Rattle.itanium_grammar.specs.Grammar.{TaggedAs, Name, NameAs, Local, EntityAs, Encoding, EncodingAs, SpecialAs}
-use Rattle.itanium_grammar.specs.Grammar.{Thunk, SymbolAs, ReturnAs, SignatureAs, UnscopedAs, AttachedAs, FreeAs}
-use Rattle.itanium_grammar.specs.Grammar.{UnqualifiedAs, Unqualified, FirstAs, Nested, Segments, SegmentsAs, Args}
-use Rattle.itanium_grammar.specs.Grammar.{ArgumentsAs, Pack, PackedAs, ArgumentAs, LiteralAs, Expression, OperandOf}
-use Rattle.itanium_grammar.specs.Grammar.{ExpressionAs, TypeOf, TypeAs, CvAs, Function, ParamsAs, TypesAs}
-use Rattle.itanium_grammar.specs.Grammar.{TypeAttachedAs, abbreviation_substitution, component_substitution}
-use Rattle.itanium_grammar.specs.Grammar.{substitution, parameter, no_tag, next_tag, name, nested_name, local_name}
-use Rattle.itanium_grammar.specs.Grammar.{unscoped_name, local, string_literal_entity, default_argument_entity}
-use Rattle.itanium_grammar.specs.Grammar.{name_entity, encoding, special_encoding, name_encoding, type_special}
-use Rattle.itanium_grammar.specs.Grammar.{name_special, temporary_special, construction_special, thunk_special, thunk}
-use Rattle.itanium_grammar.specs.Grammar.{special_symbol, name_symbol, no_return_type, some_return_type, no_signature}
-use Rattle.itanium_grammar.specs.Grammar.{some_signature, std_name, substitution_name, global_name, none_attached}
-use Rattle.itanium_grammar.specs.Grammar.{args_attached, source_free, unnamed_type_free, lambda_free, conversion_free}
-use Rattle.itanium_grammar.specs.Grammar.{literal_operator_free, operator_free, constructor_unqualified}
-use Rattle.itanium_grammar.specs.Grammar.{destructor_unqualified, free_unqualified, unqualified, parameter_first}
-use Rattle.itanium_grammar.specs.Grammar.{std_first, substitution_first, name_first, nested, segments}
-use Rattle.itanium_grammar.specs.Grammar.{end_of_segments, args_segment, name_segment, args, end_of_arguments}
+use Rattle.itanium_grammar.specs.Grammar.{Position, Cost, scopes_inside, SubstitutionAs, Parameter, TaggedAs, Name}
+use Rattle.itanium_grammar.specs.Grammar.{NameAs, Local, EntityAs, EncodingAs, SpecialAs, Thunk, SymbolAs, ReturnAs}
+use Rattle.itanium_grammar.specs.Grammar.{SignatureAs, UnscopedAs, AttachedAs, FreeAs, UnqualifiedAs, Unqualified}
+use Rattle.itanium_grammar.specs.Grammar.{FirstAs, Nested, SegmentsAs, Args, ArgumentsAs, Pack, PackedAs, ArgumentAs}
+use Rattle.itanium_grammar.specs.Grammar.{LiteralAs, Expression, OperandOf, ExpressionAs, TypeOf, TypeAs, CvAs}
+use Rattle.itanium_grammar.specs.Grammar.{Function, ParamsAs, TypesAs, TypeAttachedAs, abbreviation_substitution}
+use Rattle.itanium_grammar.specs.Grammar.{component_substitution, parameter, no_tag, next_tag, name, nested_name}
+use Rattle.itanium_grammar.specs.Grammar.{local_name, unscoped_name, local, string_literal_entity}
+use Rattle.itanium_grammar.specs.Grammar.{default_argument_entity, name_entity, special_encoding, name_encoding}
+use Rattle.itanium_grammar.specs.Grammar.{type_special, name_special, temporary_special, construction_special}
+use Rattle.itanium_grammar.specs.Grammar.{thunk_special, thunk, special_symbol, name_symbol, no_return_type}
+use Rattle.itanium_grammar.specs.Grammar.{some_return_type, no_signature, some_signature, std_name, substitution_name}
+use Rattle.itanium_grammar.specs.Grammar.{global_name, none_attached, args_attached, source_free, unnamed_type_free}
+use Rattle.itanium_grammar.specs.Grammar.{lambda_free, conversion_free, literal_operator_free, operator_free}
+use Rattle.itanium_grammar.specs.Grammar.{constructor_unqualified, destructor_unqualified, free_unqualified}
+use Rattle.itanium_grammar.specs.Grammar.{unqualified, parameter_first, std_first, substitution_first, name_first}
+use Rattle.itanium_grammar.specs.Grammar.{nested, end_of_segments, args_segment, name_segment, args, end_of_arguments}
 use Rattle.itanium_grammar.specs.Grammar.{one_more_argument, pack, end_of_pack, one_more_packed, expression_argument}
 use Rattle.itanium_grammar.specs.Grammar.{pack_argument, literal_argument, type_argument, external_name}
 use Rattle.itanium_grammar.specs.Grammar.{value_literal, expression, operand_of, pre_expression, address_expression}
@@ -60,12 +59,9 @@ own_keeps outer (Some own) = record { more = own ∷ []; is = refl }
 pub taken_scopes : {scopes later : List (List Tree)} → Keeps scopes later → take (length scopes) later ≡ scopes
 taken_scopes {scopes = scopes} keeps = ap (take (length scopes)) keeps.is ∙ take-append_seam scopes keeps.more
 
-substitution_as_keeps : {case : SubstitutionCase} {p : Position} {t : Tree} {q : Position} → SubstitutionAs case p t q → Keeps p.scopes q.scopes
-substitution_as_keeps (abbreviation_substitution a) = keeps_all _
-substitution_as_keeps (component_substitution a b) = keeps_all _
-
-substitution_keeps : {p : Position} {t : Tree} {q : Position} → Substitution p t q → Keeps p.scopes q.scopes
-substitution_keeps (substitution a) = substitution_as_keeps a
+substitution_keeps : {case : SubstitutionCase} {p : Position} {t : Tree} {q : Position} → SubstitutionAs case p t q → Keeps p.scopes q.scopes
+substitution_keeps (abbreviation_substitution a) = keeps_all _
+substitution_keeps (component_substitution a b) = keeps_all _
 
 parameter_keeps : {x : Context} {p : Position} {t : Tree} {q : Position} → Parameter x p t q → Keeps p.scopes q.scopes
 parameter_keeps (parameter a b) = keeps_all _
@@ -91,12 +87,9 @@ mutual
   entity_keeps (default_argument_entity a b) = name_keeps b
   entity_keeps (name_entity a) = name_keeps a
 
-  encoding_keeps : {x : Context} {p : Position} {t : Tree} {q : Position} {c : Cost} → Encoding x p t q c → Keeps p.scopes q.scopes
-  encoding_keeps (encoding a) = encoding_as_keeps a
-
-  encoding_as_keeps : {case : SymbolCase} {x : Context} {p : Position} {t : Tree} {q : Position} {c : Cost} → EncodingAs case x p t q c → Keeps p.scopes q.scopes
-  encoding_as_keeps (special_encoding a) = special_keeps a
-  encoding_as_keeps (name_encoding a b d) = keeps_then (name_keeps a) (keeps_then (return_keeps b) (signature_keeps d))
+  encoding_keeps : {case : SymbolCase} {x : Context} {p : Position} {t : Tree} {q : Position} {c : Cost} → EncodingAs case x p t q c → Keeps p.scopes q.scopes
+  encoding_keeps (special_encoding a) = special_keeps a
+  encoding_keeps (name_encoding a b d) = keeps_then (name_keeps a) (keeps_then (return_keeps b) (signature_keeps d))
 
   special_keeps : {case : SpecialCase} {x : Context} {p : Position} {t : Tree} {q : Position} {c : Cost} → SpecialAs case x p t q c → Keeps p.scopes q.scopes
   special_keeps (type_special a) = type_keeps a
@@ -106,11 +99,11 @@ mutual
   special_keeps (thunk_special a) = thunk_keeps a
 
   thunk_keeps : {x : Context} {p : Position} {t : Tree} {q : Position} {c : Cost} → Thunk x p t q c → Keeps p.scopes q.scopes
-  thunk_keeps (thunk a b) = symbol_as_keeps b
+  thunk_keeps (thunk a b) = symbol_keeps b
 
-  symbol_as_keeps : {case : SymbolCase} {x : Context} {p : Position} {t : Tree} {q : Position} {c : Cost} → SymbolAs case x p t q c → Keeps p.scopes q.scopes
-  symbol_as_keeps (special_symbol a) = special_keeps a
-  symbol_as_keeps (name_symbol a) = name_keeps a
+  symbol_keeps : {case : SymbolCase} {x : Context} {p : Position} {t : Tree} {q : Position} {c : Cost} → SymbolAs case x p t q c → Keeps p.scopes q.scopes
+  symbol_keeps (special_symbol a) = special_keeps a
+  symbol_keeps (name_symbol a) = name_keeps a
 
   return_keeps : {case : ReturnCase} {x : Context} {p : Position} {q : Position} {c : Cost} → ReturnAs case x p q c → Keeps p.scopes q.scopes
   return_keeps no_return_type = keeps_all _
@@ -154,15 +147,12 @@ mutual
   nested_keeps : {x : Context} {p : Position} {t : Tree} {q : Position} {c : Cost} → Nested x p t q c → Keeps p.scopes q.scopes
   nested_keeps (nested a b) = keeps_then (first_keeps a) (segments_keeps b)
 
-  segments_keeps : {x : Context} {b : Bool} {t : Tree} {p : Position} {u : Tree} {q : Position} {c : Cost} → Segments x b t p u q c → Keeps p.scopes q.scopes
-  segments_keeps (segments a) = segments_as_keeps a
+  segments_keeps : {case : SegmentCase} {b : Bool} {x : Context} {t : Tree} {p : Position} {u : Tree} {q : Position} {c : Cost} → SegmentsAs case b x t p u q c → Keeps p.scopes q.scopes
+  segments_keeps end_of_segments = keeps_all _
+  segments_keeps (args_segment a b) = keeps_then (args_keeps a) (segments_keeps b)
+  segments_keeps (name_segment a b) = keeps_then (unqualified_keeps a) (segments_keeps b)
 
-  segments_as_keeps : {case : SegmentCase} {x : Context} {b : Bool} {t : Tree} {p : Position} {u : Tree} {q : Position} {c : Cost} → SegmentsAs case x b t p u q c → Keeps p.scopes q.scopes
-  segments_as_keeps end_of_segments = keeps_all _
-  segments_as_keeps (args_segment a b) = keeps_then (args_keeps a) (segments_keeps b)
-  segments_as_keeps (name_segment a b) = keeps_then (unqualified_keeps a) (segments_keeps b)
-
-  args_keeps : {x : Context} {b : Bool} {p : Position} {ts : List Tree} {q : Position} {c : Cost} → Args x b p ts q c → Keeps p.scopes q.scopes
+  args_keeps : {b : Bool} {x : Context} {p : Position} {ts : List Tree} {q : Position} {c : Cost} → Args b x p ts q c → Keeps p.scopes q.scopes
   args_keeps (args a) = arguments_keeps a
 
   arguments_keeps : {case : ArgsCase} {x : Context} {outer : List (List Tree)} {own : Option (List Tree)} {p : Position} {ts : List Tree} {q : Position} {c : Cost} → ArgumentsAs case x outer own p ts q c → Keeps outer q.scopes

@@ -12,11 +12,11 @@ use Rattle.itanium_syntax.specs.Scalars.{numeral, following, ended, index_of}
 use Rattle.itanium_syntax.specs.Specials.{begins_t_and, special_text, special_close}
 use Rattle.itanium_grammar.specs.Answer.{max_text, after_prefix, suffix, HasAnswer, IsAnswer, HasLength}
 use Rattle.itanium_grammar.specs.Tree.{Tree, shape_of, printing, worded, temporary_of, construction_of}
-use Rattle.itanium_grammar.specs.Grammar.{Position, Cost, Name, TypeOf, Thunk, SpecialAs, SymbolAs, Symbol, name, type}
+use Rattle.itanium_grammar.specs.Grammar.{Position, Cost, Name, TypeOf, Thunk, SpecialAs, SymbolAs, name, type}
 use Rattle.itanium_grammar.specs.Grammar.{thunk, type_special, name_special, temporary_special, construction_special}
-use Rattle.itanium_grammar.specs.Grammar.{thunk_special, special_symbol, name_symbol, symbol}
+use Rattle.itanium_grammar.specs.Grammar.{thunk_special, special_symbol, name_symbol}
 use Rattle.itanium_grammar.specs.Cases.{SpecialCase, SymbolCase}
-use Rattle.itanium_grammar.proofs.Progress.{symbol_takes}
+use Rattle.itanium_grammar.proofs.Progress.{symbol_as_takes}
 use Rattle.itanium_grammar.proofs.Agreement.{one_reading}
 
 -- what special names print
@@ -128,13 +128,10 @@ symbol_as_wide (special_symbol a) narrow = special_wide a narrow
 symbol_as_wide (name_symbol a) narrow = omega (arith, name_narrow a)
 
 -- a symbol's printing
-pub symbol_wide : {x : Context} {p q : Position} {t : Tree} {c : Cost} → Symbol x p t q c → c.width ≤ max_text → length (printing t) ≤ 2 * max_text + 28
-symbol_wide (symbol a) narrow = symbol_as_wide a narrow
-
 -- an answer is no longer than the longest printing and its suffix
 pub answer_wide : (bytes answer : List ℕ) (has : HasAnswer bytes answer) → length answer ≤ 2 * max_text + 28 + length (suffix has.next.rest)
 answer_wide bytes answer has =
-    let wide = symbol_wide has.reading.reading has.within.width_fits in
+    let wide = symbol_as_wide has.reading.reading has.within.width_fits in
     omega (arith, ap length has.answer_is, length-append (printing has.tree) (suffix has.next.rest), wide)
 
 -- what is after the prefix, and the suffix in it, is no longer than the symbol
@@ -155,7 +152,7 @@ suffix_short rest = go (begins (codes ".") rest)
 
 pub answer_short : (bytes answer : List ℕ) → HasAnswer bytes answer → length answer ≤ 2 * max_text + 28 + length bytes
 answer_short bytes answer has =
-    let takes = (symbol_takes has.reading.reading).shorter in
+    let takes = (symbol_as_takes has.reading.reading).shorter in
     omega (arith, answer_wide bytes answer has, suffix_short has.next.rest, takes, inside_short bytes has.reading.inside has.reading.prefix)
 
 -- so long is an answer at most
