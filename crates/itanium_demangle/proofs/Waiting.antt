@@ -6,7 +6,8 @@ use Rattle.demangle_text.specs.declared.shape.Place.TheVariants.{Start}
 use Rattle.demangle_text.specs.Shape.{Shape, Plain, text, flattened, inserted, appended, moved}
 use Rattle.demangle_quals.specs.declared.quals.Quals.{Quals}
 use Rattle.demangle_quals.specs.Quals.{no_quals, has_quals, words_text, reference_text}
-use Rattle.demangle_edit.specs.Names.{qualified, default_arg_opened, default_arg_shape, with_name_qualifiers}
+use Rattle.demangle_edit.specs.Built.{default_arg_opened}
+use Rattle.demangle_edit.specs.Names.{qualified, default_arg_shape, with_name_qualifiers}
 use Rattle.itanium_syntax.specs.declared.context.Context.{Context}
 use Rattle.itanium_syntax.specs.Names.{name_case}
 use Rattle.itanium_syntax.specs.Encodings.{return_case}

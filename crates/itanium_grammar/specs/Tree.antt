@@ -145,20 +145,12 @@ conditional_shape t u v = binary_shape t (codes "?") (binary_shape u (codes " : 
 abbrev pub offset_sign : Signed → List ℕ
 offset_sign n = if n.negative then codes "-" else []
 
--- the printed text of a plain offset
-abbrev pub plain_offset_text : Signed → List ℕ
-plain_offset_text n = concat (codes "{offset(" ∷ offset_sign n ∷ decimal n.magnitude ∷ codes ")}" ∷ [])
-
--- the printed text of a virtual offset
-abbrev pub virtual_offset_text : Signed → Signed → List ℕ
-virtual_offset_text n m =
-    concat (codes "{virtual offset(" ∷ offset_sign n ∷ decimal n.magnitude ∷ codes ", " ∷ offset_sign m
-    ∷ decimal m.magnitude ∷ codes ")}" ∷ [])
-
 -- the printed text of a call offset
 abbrev pub offset_text : CallOffset → List ℕ
-offset_text (Plain n) = plain_offset_text n
-offset_text (Virtual n m) = virtual_offset_text n m
+offset_text (Plain n) = concat (codes "{offset(" ∷ offset_sign n ∷ decimal n.magnitude ∷ codes ")}" ∷ [])
+offset_text (Virtual n m) =
+    concat (codes "{virtual offset(" ∷ offset_sign n ∷ decimal n.magnitude ∷ codes ", " ∷ offset_sign m
+    ∷ decimal m.magnitude ∷ codes ")}" ∷ [])
 
 -- words around a text
 abbrev pub worded_shape : List ℕ → Shape → List ℕ → Shape
@@ -172,21 +164,13 @@ temporary_shape number t = glued (codes "reference temporary #" ∷ decimal numb
 abbrev pub construction_shape : Shape → Shape → Shape
 construction_shape t u = glued (codes "construction vtable for " ∷ text t ∷ codes "-in-" ∷ text u ∷ [])
 
--- a thunk with one offset
-abbrev pub single_thunk_shape : CallOffset → Shape → Shape
-single_thunk_shape o t =
+-- a thunk, with one offset or two
+abbrev pub thunk_shape : ThunkOffsets → Shape → Shape
+thunk_shape (Single o) t =
     glued (codes "{virtual override thunk(" ∷ offset_text o ∷ codes ", " ∷ text t ∷ codes ")}" ∷ [])
-
--- a thunk with two offsets
-abbrev pub covariant_thunk_shape : CallOffset → CallOffset → Shape → Shape
-covariant_thunk_shape o p t =
+thunk_shape (Covariant o p) t =
     glued (codes "{virtual override thunk(" ∷ offset_text o ∷ codes ", " ∷ offset_text p ∷ codes ", " ∷ text t
     ∷ codes ")}" ∷ [])
-
--- a thunk
-abbrev pub thunk_shape : ThunkOffsets → Shape → Shape
-thunk_shape (Single o) t = single_thunk_shape o t
-thunk_shape (Covariant o p) t = covariant_thunk_shape o p t
 
 -- the qualifiers of a name that follow its parameters where it has some: those of a nested name, and those of the
 -- entity of a local name, also in a default argument

@@ -5,7 +5,7 @@ use Rattle.std.proofs.lemmas.List.{length-append}
 use Rattle.demangle_text.specs.Shape.{Shape, plain_shape, whole_shape, text, text_len, appended}
 use Rattle.demangle_edit.specs.Names.{angle_gap, attached, tagged}
 use Rattle.demangle_edit.specs.Built.{separator, listed_more, arguments_opened}
-use Rattle.demangle_edit.specs.Lists.{arguments_closed}
+use Rattle.demangle_edit.specs.Built.{arguments_closed}
 use Rattle.demangle_edit.proofs.Built.{begun_list, closed_attached}
 use Rattle.itanium_syntax.specs.declared.context.Context.{Context}
 use Rattle.itanium_syntax.specs.Scalars.{source_name}

@@ -12,8 +12,7 @@ use Rattle.demangle_edit.specs.Names.{qualified, default_arg_shape, qualified_ct
 use Rattle.demangle_edit.specs.Types.{pointer_shape, cv_shape, expansion_shape}
 use Rattle.demangle_edit.specs.Calls.{array_step, member_pointer_step, opening_step, literal_step}
 use Rattle.demangle_edit.specs.Expressions.{operand_shape, address_shape}
-use Rattle.demangle_edit.specs.Built.{listed_more, lambda_closed, params_opened, params_closed, function_closed}
-use Rattle.demangle_edit.specs.Lists.{arguments_closed}
+use Rattle.demangle_edit.specs.Built.{listed_more, arguments_closed, lambda_closed, params_opened, params_closed, function_closed}
 use Rattle.itanium_syntax.specs.declared.context.Context.{Context}
 use Rattle.itanium_syntax.specs.declared.numerals.Radix.TheVariants.{Decimal, Base36}
 use Rattle.itanium_syntax.specs.declared.offsets.ThunkOffsets.{ThunkOffsets}

@@ -12,7 +12,8 @@ use Rattle.demangle_text.proofs.Laws.{runs, IsRun-edit, IsRun-same, IsRun-trans,
 use Rattle.demangle_text.proofs.Laws.{text_after-more, text_after-same, text_after-last}
 use Rattle.demangle_edit.specs.Built.{arguments_opened, separator}
 use Rattle.demangle_quals.specs.declared.quals.Quals.{Quals}
-use Rattle.demangle_edit.specs.Names.{default_arg_opened, default_arg_shape, enclosed}
+use Rattle.demangle_edit.specs.Names.{default_arg_shape}
+use Rattle.demangle_edit.specs.Built.{default_arg_opened, enclosed}
 use Rattle.itanium_syntax.specs.Scalars.{ordinal}
 use Rattle.itanium_syntax.specs.Encodings.{entity_case}
 use Rattle.itanium_reader.specs.Cases.{DefaultArgumentEntity}
