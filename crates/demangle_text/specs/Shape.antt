@@ -116,14 +116,11 @@ declared_at kind at s =
     let form = Declared kind (take at (text s)) None (drop at (text s)) in
     record s { form = form; own = own_in form s.own }
 
--- a group follows the text with no gap: it is empty, or ends in a space, `(` or `*`
-abbrev pub joins_group : List ℕ → Bool
-joins_group t =
-    length t == 0 || ends_with nat_eq t (codes " ") || ends_with nat_eq t (codes "(") || ends_with nat_eq t (codes "*")
-
--- the gap between a text and a group
+-- the gap between a text and a group: a space, but none after an empty text, a space, `(` or `*`
 abbrev pub gap_after : List ℕ → List ℕ
-gap_after t = if joins_group t then [] else codes " "
+gap_after t =
+    if length t == 0 || ends_with nat_eq t (codes " ") || ends_with nat_eq t (codes "(")
+    || ends_with nat_eq t (codes "*") then [] else codes " "
 
 -- all text up to `after` stands before a new group
 abbrev pub opened_form : List ℕ → Form → Form

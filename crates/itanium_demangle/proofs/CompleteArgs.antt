@@ -12,7 +12,7 @@ use Rattle.itanium_grammar.specs.Tree.{Tree, shape_of, pack_of, trees}
 use Rattle.itanium_grammar.specs.Grammar.{Position, Cost, skip, within_list, ArgumentsAs, PackedAs, args, end_of_arguments, one_more_argument, pack, end_of_pack, one_more_packed}
 use Rattle.itanium_grammar.proofs.Progress.{argument_takes}
 use Rattle.itanium_grammar.proofs.Scopes.{argument_keeps}
-use Rattle.itanium_demangle.specs.Cases.{ArgsCase}
+use Rattle.itanium_grammar.specs.Cases.{ArgsCase}
 use Rattle.itanium_reader.specs.Parser.{after_turn, loop, add_argument, add_nowhere, ◌>>=◌, parse_argument}
 use Rattle.itanium_reader.specs.Parser.{parse_primary, parse_encoding, parse_special, parse_name, next_item, list_as}
 use Rattle.itanium_reader.specs.Parser.{list_turn, parse_list, parse_packed, parse_args, parse_pack}

@@ -34,9 +34,9 @@ use Rattle.itanium_grammar.specs.Grammar.{name_encoding, no_return_type, some_re
 use Rattle.itanium_grammar.specs.Grammar.{unscoped_name, std_name, substitution_name, global_name, none_attached}
 use Rattle.itanium_grammar.specs.Grammar.{args_attached, nested, end_of_segments, args_segment, name_segment}
 use Rattle.itanium_grammar.proofs.Progress.{unqualified_takes, args_takes}
-use Rattle.itanium_demangle.specs.Cases.{SymbolCase, SpecialCase, ReturnCase, SignatureCase, EntityCase}
-use Rattle.itanium_demangle.specs.Cases.{SubstitutionCase, TagCase, UnqualifiedCase, FreeCase, FirstCase, NameCase}
-use Rattle.itanium_demangle.specs.Cases.{UnscopedCase, AttachedCase, SegmentCase}
+use Rattle.itanium_grammar.specs.Cases.{SymbolCase, SpecialCase, ReturnCase, SignatureCase, EntityCase}
+use Rattle.itanium_grammar.specs.Cases.{SubstitutionCase, TagCase, UnqualifiedCase, FreeCase, FirstCase, NameCase}
+use Rattle.itanium_grammar.specs.Cases.{UnscopedCase, AttachedCase, SegmentCase}
 use Rattle.itanium_reader.specs.Parser.{ParserState, after_turn, loop, ◌>>=◌, tag_as, tag_turn, parse_tags, free_as}
 use Rattle.itanium_reader.specs.Parser.{parse_free, parse_type, substitution_as, parse_substitution, parameter_as}
 use Rattle.itanium_reader.specs.Parser.{parse_parameter, unqualified_as, parse_unqualified, first_as, attached_by}

@@ -14,7 +14,7 @@ use Rattle.itanium_grammar.specs.Grammar.{expansion_type, vendor_type, array_typ
 use Rattle.itanium_grammar.specs.Grammar.{pointer_type, cv_type, elaborated_type, parameter_type, substitution_type}
 use Rattle.itanium_grammar.specs.Grammar.{name_type, cv_function, cv_other, function, none_attached_to_type}
 use Rattle.itanium_grammar.specs.Grammar.{args_attached_to_type}
-use Rattle.itanium_demangle.specs.Cases.{TypeCase, CvCase, AttachedCase}
+use Rattle.itanium_grammar.specs.Cases.{TypeCase, CvCase, AttachedCase}
 use Rattle.itanium_reader.specs.Parser.{parse_function, cv_as, type_attached_as, type_as, parse_name, parse_args, parse_type}
 use Rattle.itanium_demangle.specs.Meaning.{state_at}
 use Rattle.itanium_demangle.proofs.Shapes.{same_read, one_more, shape-plain_text, shape-with_args, shape-pointer_to}

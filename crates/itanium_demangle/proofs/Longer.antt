@@ -12,7 +12,7 @@ use Rattle.itanium_grammar.specs.Grammar.{SegmentsAs, EntityAs, no_tag, next_tag
 use Rattle.itanium_grammar.specs.Grammar.{destructor_unqualified, free_unqualified, unqualified, none_attached}
 use Rattle.itanium_grammar.specs.Grammar.{args_attached, end_of_segments, args_segment, name_segment}
 use Rattle.itanium_grammar.specs.Grammar.{string_literal_entity, default_argument_entity, name_entity}
-use Rattle.itanium_demangle.specs.Cases.{TagCase, UnqualifiedCase, AttachedCase, SegmentCase, EntityCase}
+use Rattle.itanium_grammar.specs.Cases.{TagCase, UnqualifiedCase, AttachedCase, SegmentCase, EntityCase}
 use Rattle.demangle_edit.specs.Lists.{arguments_shape}
 use Rattle.itanium_demangle.proofs.Grows.{appended_longer, tagged_longer, attached_longer, ctor_longer, parent_longer, leaf_longer, default_parent_longer, default_entity_longer}
 

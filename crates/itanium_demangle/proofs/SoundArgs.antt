@@ -13,7 +13,7 @@ use Rattle.itanium_grammar.specs.Grammar.{PackedAs, args, end_of_arguments, one_
 use Rattle.itanium_grammar.specs.Grammar.{one_more_packed}
 use Rattle.itanium_grammar.proofs.Progress.{argument_takes}
 use Rattle.itanium_grammar.proofs.Scopes.{argument_keeps}
-use Rattle.itanium_demangle.specs.Cases.{ArgsCase, EndOfArguments, NextArgument}
+use Rattle.itanium_grammar.specs.Cases.{ArgsCase, EndOfArguments, NextArgument}
 use Rattle.itanium_reader.specs.Parser as parser
 use Rattle.itanium_reader.specs.Parser.{ParserState, Turn, after_turn, loop, parse_loop, add_nowhere, ◌>>=◌}
 use Rattle.itanium_reader.specs.Parser.{parse_argument, parse_primary, parse_encoding, parse_special, parse_name}

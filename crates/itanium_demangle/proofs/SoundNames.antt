@@ -33,17 +33,17 @@ use Rattle.itanium_grammar.specs.Grammar.{some_return_type, no_signature, some_s
 use Rattle.itanium_grammar.specs.Grammar.{substitution_name, global_name, none_attached, args_attached, nested}
 use Rattle.itanium_grammar.specs.Grammar.{end_of_segments, args_segment, name_segment}
 use Rattle.itanium_grammar.proofs.Progress.{unqualified_takes, args_takes}
-use Rattle.itanium_demangle.specs.Cases.{SymbolCase, SpecialSymbol, NameSymbol, SpecialCase, TypeSpecial, NameSpecial}
-use Rattle.itanium_demangle.specs.Cases.{TemporarySpecial, ConstructionSpecial, ThunkSpecial, NoSpecial, ReturnCase}
-use Rattle.itanium_demangle.specs.Cases.{NoReturnType, SomeReturnType, SignatureCase, NoSignature, SomeSignature}
-use Rattle.itanium_demangle.specs.Cases.{EntityCase, StringLiteralEntity, DefaultArgumentEntity, NameEntity, NoEntity}
-use Rattle.itanium_demangle.specs.Cases.{SubstitutionCase, AbbreviationSubstitution, ComponentSubstitution, TagCase}
-use Rattle.itanium_demangle.specs.Cases.{NoTag, NextTag, UnqualifiedCase, ConstructorName, DestructorName, FreeName}
-use Rattle.itanium_demangle.specs.Cases.{FreeCase, SourceName, UnnamedTypeName, LambdaName, ConversionName}
-use Rattle.itanium_demangle.specs.Cases.{LiteralOperatorName, OperatorName, NoName, FirstCase, ParameterFirst, StdFirst}
-use Rattle.itanium_demangle.specs.Cases.{SubstitutionFirst, NameFirst, NameCase, NestedName, LocalName, UnscopedName}
-use Rattle.itanium_demangle.specs.Cases.{UnscopedCase, StdName, SubstitutionName, PlainName, AttachedCase, NoneAttached}
-use Rattle.itanium_demangle.specs.Cases.{ArgsAttached, SegmentCase, EndOfSegments, ArgsSegment, NameSegment}
+use Rattle.itanium_grammar.specs.Cases.{SymbolCase, SpecialSymbol, NameSymbol, SpecialCase, TypeSpecial, NameSpecial}
+use Rattle.itanium_grammar.specs.Cases.{TemporarySpecial, ConstructionSpecial, ThunkSpecial, NoSpecial, ReturnCase}
+use Rattle.itanium_grammar.specs.Cases.{NoReturnType, SomeReturnType, SignatureCase, NoSignature, SomeSignature}
+use Rattle.itanium_grammar.specs.Cases.{EntityCase, StringLiteralEntity, DefaultArgumentEntity, NameEntity, NoEntity}
+use Rattle.itanium_grammar.specs.Cases.{SubstitutionCase, AbbreviationSubstitution, ComponentSubstitution, TagCase}
+use Rattle.itanium_grammar.specs.Cases.{NoTag, NextTag, UnqualifiedCase, ConstructorName, DestructorName, FreeName}
+use Rattle.itanium_grammar.specs.Cases.{FreeCase, SourceName, UnnamedTypeName, LambdaName, ConversionName}
+use Rattle.itanium_grammar.specs.Cases.{LiteralOperatorName, OperatorName, NoName, FirstCase, ParameterFirst, StdFirst}
+use Rattle.itanium_grammar.specs.Cases.{SubstitutionFirst, NameFirst, NameCase, NestedName, LocalName, UnscopedName}
+use Rattle.itanium_grammar.specs.Cases.{UnscopedCase, StdName, SubstitutionName, PlainName, AttachedCase, NoneAttached}
+use Rattle.itanium_grammar.specs.Cases.{ArgsAttached, SegmentCase, EndOfSegments, ArgsSegment, NameSegment}
 use Rattle.itanium_reader.specs.Parser.{ParserState, after_turn, loop, ◌>>=◌, next_segment, substitution_as}
 use Rattle.itanium_reader.specs.Parser.{parse_substitution, parameter_as, parse_parameter, tag_as, tag_turn, parse_tags}
 use Rattle.itanium_reader.specs.Parser.{typed_params_as, free_as, parse_free, ctor_dtor_as, unqualified_as}

@@ -20,7 +20,7 @@ use Rattle.itanium_grammar.specs.Grammar.{operator_free, constructor_unqualified
 use Rattle.itanium_grammar.specs.Grammar.{free_unqualified, unqualified, std_name, substitution_name, global_name}
 use Rattle.itanium_grammar.specs.Grammar.{none_attached, args_attached, name, nested_name, local_name, unscoped_name}
 use Rattle.itanium_grammar.specs.Grammar.{nested, local, string_literal_entity, default_argument_entity, name_entity}
-use Rattle.itanium_demangle.specs.Cases.{NameCase, NestedName, LocalName, UnscopedName, TagCase, FreeCase, UnqualifiedCase, UnscopedCase, AttachedCase, EntityCase}
+use Rattle.itanium_grammar.specs.Cases.{NameCase, NestedName, LocalName, UnscopedName, TagCase, FreeCase, UnqualifiedCase, UnscopedCase, AttachedCase, EntityCase}
 
 -- a name without own qualifiers
 pub record HasNoOwn (t : Tree) : Type 0 where

@@ -9,7 +9,7 @@ use Rattle.itanium_grammar.specs.Tree.{Tree, shape_of, bare_shape, own_quals, pr
 use Rattle.itanium_grammar.specs.Grammar.{Position, Cost, both, counted, nothing, Name, NameAs, Local, EntityAs, name}
 use Rattle.itanium_grammar.specs.Grammar.{nested_name, local_name, unscoped_name, local, string_literal_entity}
 use Rattle.itanium_grammar.specs.Grammar.{default_argument_entity, name_entity}
-use Rattle.itanium_demangle.specs.Cases.{NameCase, EntityCase}
+use Rattle.itanium_grammar.specs.Cases.{NameCase, EntityCase}
 use Rattle.itanium_demangle.proofs.Grows.{quals_longer}
 use Rattle.itanium_demangle.proofs.Longer.{default_holds, local_holds}
 use Rattle.itanium_demangle.proofs.Waiting.{whole_name}

@@ -1,9 +1,9 @@
 -- The grammar: which front of the bytes is which tree (Itanium C++ ABI 5.1). A case without a constructor isn't read.
 --
--- x is a context. p, q, r and s are positions, one after another. t, u and v are trees, ts are trees in a list, and o, m
+-- x is a context. p, q, r and s are positions, one after another. t, u and v are trees, ts is a list of trees, and o, m
 -- and n are operands. c, d and e are costs. i, k and number are numbers. bytes, rest, value and text are bytes.
 --
--- The indices of a reading stand in this order: the case that the next bytes begin, where the family is named so (..As);
+-- The indices of a reading stand in this order: the case that the next bytes begin, where the family is named ..As;
 -- truth values; the context; what stands in front; the position before; the tree; the position after; the cost.
 use Rattle.std.specs.Prelude.{◌≡◌, ℕ, ◌+◌, ◌-◌, max, Bool, true, false, if◌then◌else◌, slice_get}
 use Rattle.std.specs.Prelude.{slice_index_or, List, [], ◌∷◌, ◌++◌, Option, Some, None, is_some, take, drop, length}

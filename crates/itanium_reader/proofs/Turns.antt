@@ -17,9 +17,9 @@ use Rattle.itanium_syntax.specs.Args.{args_case}
 use Rattle.itanium_syntax.specs.Types.{types_case}
 use Rattle.itanium_reader.specs.Outcome.{LoopSoFar}
 use Rattle.itanium_reader.proofs.Loops.{loop_start, loop_end, loop_more, loop_fail, ListSoFar, list_start, list_end, list_more, list_fail}
-use Rattle.itanium_reader.specs.Cases.{NoTag, NextTag}
-use Rattle.itanium_reader.specs.Cases.{SegmentCase, EndOfSegments, ArgsSegment, NameSegment, EndOfArguments, NextArgument}
-use Rattle.itanium_reader.specs.Cases.{EndOfTypes, NextType}
+use Rattle.itanium_grammar.specs.Cases.{NoTag, NextTag}
+use Rattle.itanium_grammar.specs.Cases.{SegmentCase, EndOfSegments, ArgsSegment, NameSegment, EndOfArguments, NextArgument}
+use Rattle.itanium_grammar.specs.Cases.{EndOfTypes, NextType}
 use Rattle.itanium_grammar.specs.Answer.{max_text}
 use Rattle.itanium_reader.specs.Parser.{ParserState, Parses, ParsesName, ◌>>=◌, is_wide, fitting}
 use Rattle.itanium_reader.specs.Parser.{enter, with_rest, save, skip, begin_list, add_argument}

@@ -25,8 +25,8 @@ use Rattle.itanium_reader.specs.declared.reader.Reader.{Reader}
 use Rattle.itanium_reader.specs.declared.stop.Stop.{Stop}
 use Rattle.itanium_reader.specs.declared.stop.Stop.TheVariants.{Unread, Memory}
 use Rattle.itanium_reader.specs.Outcome.{Gives, Measures}
-use Rattle.itanium_reader.specs.Cases.{UnqualifiedCase, FreeName, ConstructorName, DestructorName, SourceName, TagCase, NoTag, NextTag}
-use Rattle.itanium_reader.specs.Cases.{NameFirst}
+use Rattle.itanium_grammar.specs.Cases.{UnqualifiedCase, FreeName, ConstructorName, DestructorName, SourceName, TagCase, NoTag, NextTag}
+use Rattle.itanium_grammar.specs.Cases.{NameFirst}
 use Rattle.itanium_reader.specs.Parser.{ParserState, Turn, Parses, ParsesName, ParsesBareName, ◌>>=◌, is_wide, fitting}
 use Rattle.itanium_grammar.specs.Tree.{offset_text, thunk_shape, worded_shape}
 use Rattle.itanium_reader.specs.Parser.{fitting_bare, enter, with_rest, skip, save}

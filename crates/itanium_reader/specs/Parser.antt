@@ -35,27 +35,27 @@ use Rattle.itanium_grammar.specs.Answer.{max_text}
 use Rattle.itanium_grammar.specs.Tree.{offset_text, worded_shape, temporary_shape, construction_shape, thunk_shape, pre_shape}
 use Rattle.itanium_grammar.specs.Tree.{post_shape, binary_shape, greater_shape, conditional_shape, abbreviation_shape}
 use Rattle.itanium_grammar.specs.Tree.{conversion_shape, elaborated_shape, unnamed_text, literal_operator_text}
-use Rattle.itanium_reader.specs.Cases.{SymbolCase, SpecialSymbol, NameSymbol, SpecialCase, TypeSpecial, NameSpecial}
-use Rattle.itanium_reader.specs.Cases.{TemporarySpecial, ConstructionSpecial, ThunkSpecial, NoSpecial, NameCase}
-use Rattle.itanium_reader.specs.Cases.{NestedName, LocalName, UnscopedName, ReturnCase, NoReturnType, SomeReturnType}
-use Rattle.itanium_reader.specs.Cases.{SignatureCase, NoSignature, SomeSignature, EntityCase, StringLiteralEntity}
-use Rattle.itanium_reader.specs.Cases.{DefaultArgumentEntity, NameEntity, NoEntity, UnscopedCase, StdName}
-use Rattle.itanium_reader.specs.Cases.{SubstitutionName, PlainName, AttachedCase, NoneAttached, ArgsAttached, FirstCase}
-use Rattle.itanium_reader.specs.Cases.{ParameterFirst, StdFirst, SubstitutionFirst, NameFirst, SegmentCase}
-use Rattle.itanium_reader.specs.Cases.{EndOfSegments, ArgsSegment, NameSegment, UnqualifiedCase, ConstructorName}
-use Rattle.itanium_reader.specs.Cases.{DestructorName, FreeName, FreeCase, SourceName, UnnamedTypeName, LambdaName}
-use Rattle.itanium_reader.specs.Cases.{ConversionName, LiteralOperatorName, OperatorName, NoName, TagCase, NoTag}
-use Rattle.itanium_reader.specs.Cases.{NextTag, SubstitutionCase, AbbreviationSubstitution, ComponentSubstitution}
-use Rattle.itanium_reader.specs.Cases.{ArgsCase, EndOfArguments, NextArgument, LiteralCase, ExternalName, ValueLiteral}
-use Rattle.itanium_reader.specs.Cases.{NoLiteral, ExpressionCase, PreExpression, AddressExpression, UnaryExpression}
-use Rattle.itanium_reader.specs.Cases.{PostExpression, BinaryExpression, GreaterExpression, ConditionalExpression}
-use Rattle.itanium_reader.specs.Cases.{ParameterExpression, LiteralExpression, NoExpression, ArgumentCase}
-use Rattle.itanium_reader.specs.Cases.{ExpressionArgument, PackArgument, LiteralArgument, ConstraintArgument}
-use Rattle.itanium_reader.specs.Cases.{TypeArgument, TypeCase, BuiltinType, ExpansionType, VendorType, ArrayType}
-use Rattle.itanium_reader.specs.Cases.{FunctionType, MemberType, PointerType, CvType, ElaboratedType, ParameterType}
-use Rattle.itanium_reader.specs.Cases.{SubstitutionType, UnreadType, NameType, CvCase, CvFunction, CvOther}
-use Rattle.itanium_reader.specs.Cases.{FunctionCase, ExternFunction, PlainFunction, ParamsCase, NoParams, SomeParams}
-use Rattle.itanium_reader.specs.Cases.{TypesCase, EndOfTypes, NextType}
+use Rattle.itanium_grammar.specs.Cases.{SymbolCase, SpecialSymbol, NameSymbol, SpecialCase, TypeSpecial, NameSpecial}
+use Rattle.itanium_grammar.specs.Cases.{TemporarySpecial, ConstructionSpecial, ThunkSpecial, NoSpecial, NameCase}
+use Rattle.itanium_grammar.specs.Cases.{NestedName, LocalName, UnscopedName, ReturnCase, NoReturnType, SomeReturnType}
+use Rattle.itanium_grammar.specs.Cases.{SignatureCase, NoSignature, SomeSignature, EntityCase, StringLiteralEntity}
+use Rattle.itanium_grammar.specs.Cases.{DefaultArgumentEntity, NameEntity, NoEntity, UnscopedCase, StdName}
+use Rattle.itanium_grammar.specs.Cases.{SubstitutionName, PlainName, AttachedCase, NoneAttached, ArgsAttached, FirstCase}
+use Rattle.itanium_grammar.specs.Cases.{ParameterFirst, StdFirst, SubstitutionFirst, NameFirst, SegmentCase}
+use Rattle.itanium_grammar.specs.Cases.{EndOfSegments, ArgsSegment, NameSegment, UnqualifiedCase, ConstructorName}
+use Rattle.itanium_grammar.specs.Cases.{DestructorName, FreeName, FreeCase, SourceName, UnnamedTypeName, LambdaName}
+use Rattle.itanium_grammar.specs.Cases.{ConversionName, LiteralOperatorName, OperatorName, NoName, TagCase, NoTag}
+use Rattle.itanium_grammar.specs.Cases.{NextTag, SubstitutionCase, AbbreviationSubstitution, ComponentSubstitution}
+use Rattle.itanium_grammar.specs.Cases.{ArgsCase, EndOfArguments, NextArgument, LiteralCase, ExternalName, ValueLiteral}
+use Rattle.itanium_grammar.specs.Cases.{NoLiteral, ExpressionCase, PreExpression, AddressExpression, UnaryExpression}
+use Rattle.itanium_grammar.specs.Cases.{PostExpression, BinaryExpression, GreaterExpression, ConditionalExpression}
+use Rattle.itanium_grammar.specs.Cases.{ParameterExpression, LiteralExpression, NoExpression, ArgumentCase}
+use Rattle.itanium_grammar.specs.Cases.{ExpressionArgument, PackArgument, LiteralArgument, ConstraintArgument}
+use Rattle.itanium_grammar.specs.Cases.{TypeArgument, TypeCase, BuiltinType, ExpansionType, VendorType, ArrayType}
+use Rattle.itanium_grammar.specs.Cases.{FunctionType, MemberType, PointerType, CvType, ElaboratedType, ParameterType}
+use Rattle.itanium_grammar.specs.Cases.{SubstitutionType, UnreadType, NameType, CvCase, CvFunction, CvOther}
+use Rattle.itanium_grammar.specs.Cases.{FunctionCase, ExternFunction, PlainFunction, ParamsCase, NoParams, SomeParams}
+use Rattle.itanium_grammar.specs.Cases.{TypesCase, EndOfTypes, NextType}
 
 infixl 10 ◌>>=◌
 abbrev pub ◌>>=◌ : {A B : Type 0} → Option A → (A → Option B) → Option B

@@ -32,7 +32,7 @@ use Rattle.itanium_syntax.specs.declared.offsets.CallOffset.{CallOffset}
 use Rattle.itanium_syntax.specs.declared.offsets.CallOffset.TheVariants.{Plain, Virtual}
 use Rattle.itanium_syntax.specs.declared.offsets.ThunkOffsets.{ThunkOffsets}
 use Rattle.itanium_syntax.specs.declared.offsets.ThunkOffsets.TheVariants.{Single, Covariant}
-use Rattle.itanium_syntax.specs.Offsets.{with_sign, signed_number, signed_part, plain_offset, virtual_offset, call_offset, covariant_offsets, thunk_offsets, past_base_offset}
+use Rattle.itanium_syntax.specs.Offsets.{with_sign, signed_number, signed_part, virtual_offset, call_offset, covariant_offsets, thunk_offsets, past_base_offset}
 use Rattle.itanium_syntax.specs.Specials.{special_case}
 use Rattle.itanium_syntax.specs.Encodings.{entity_case}
 use Rattle.itanium_syntax.specs.Args.{attached_case, args_case, argument_case}
@@ -455,7 +455,7 @@ signed_number_takes bytes found e = go (begins (codes "n") bytes) e
 signed_part_takes : (bytes : List ℕ) (found : Signed × List ℕ) → signed_part bytes ≡ Some found → Takes found.1 bytes
 signed_part_takes bytes found e = ended_takes (signed_number bytes) bytes found (signed_number_takes bytes) e
 
-plain_offset_takes : (bytes : List ℕ) (found : CallOffset × List ℕ) → plain_offset bytes ≡ Some found → Takes found.1 bytes
+plain_offset_takes : (bytes : List ℕ) (found : CallOffset × List ℕ) → option_map (λ a. (Plain a.0, a.1)) (signed_part bytes) ≡ Some found → Takes found.1 bytes
 plain_offset_takes bytes found e = go (signed_part bytes) refl e
   where
     go : (o : Option (Signed × List ℕ)) → signed_part bytes ≡ o → option_map (λ n. (Plain n.0, n.1)) o ≡ Some found → Takes found.1 bytes
@@ -472,7 +472,7 @@ virtual_offset_takes bytes found e = option_and_then_some _ (signed_part bytes) 
 call_offset_takes : (bytes : List ℕ) (found : CallOffset × List ℕ) → call_offset bytes ≡ Some found → Takes found.1 bytes
 call_offset_takes bytes found e = go (begins (codes "h") bytes) (begins (codes "v") bytes) e
   where
-    go : (h v : Bool) → (if h then plain_offset (drop 1 bytes) else if v then virtual_offset (drop 1 bytes) else None) ≡ Some found → Takes found.1 bytes
+    go : (h v : Bool) → (if h then option_map (λ a. (Plain a.0, a.1)) (signed_part (drop 1 bytes)) else if v then virtual_offset (drop 1 bytes) else None) ≡ Some found → Takes found.1 bytes
     go true v f = after_takes (after_drop 1 bytes) (plain_offset_takes (drop 1 bytes) found f)
     go false true f = after_takes (after_drop 1 bytes) (virtual_offset_takes (drop 1 bytes) found f)
     go false false f = cc

@@ -2,7 +2,7 @@
 use Prim.Native.String.{String}
 use Rattle.std.specs.Prelude.{ℕ, List, [], ◌∷◌, Bool, Option, option_map}
 use Rattle.itanium_syntax.specs.declared.numerals.Radix.TheVariants.{Base36}
-use Rattle.itanium_syntax.specs.Bytes.{begins_positive}
+use Rattle.itanium_syntax.specs.Bytes.{begins_between}
 use Rattle.itanium_syntax.specs.Cases.{TypeCase, CvType}
 use Rattle.itanium_syntax.specs.Operators.{operator_in}
 use Rattle.itanium_syntax.specs.Scalars.{numeral}
@@ -13,7 +13,7 @@ sequence_id bytes = numeral Base36 bytes
 
 -- a <source-name> is next
 abbrev pub begins_source : List ℕ → Bool
-begins_source bytes = begins_positive bytes
+begins_source bytes = begins_between "1" "9" bytes
 
 -- a fact for the case of qualifiers
 abbrev pub OnCv : TypeCase → Type 0 → Type 0

@@ -48,15 +48,13 @@ expression_refused first second = is_code_of refused_codes first second
 
 -- such a code is next
 abbrev pub refused_here : List ℕ → Bool
-refused_here [] = false
-refused_here (first ∷ []) = false
 refused_here (first ∷ second ∷ bytes) = expression_refused first second
+refused_here bytes = false
 
 -- how many operands the code has that is next
 abbrev pub arity_here : List ℕ → Option ℕ
-arity_here [] = None
-arity_here (first ∷ []) = None
 arity_here (first ∷ second ∷ bytes) = operator_arity first second
+arity_here bytes = None
 
 -- the text of the operator whose code is next, and no text where none is
 abbrev pub expression_text : List ℕ → List ℕ

@@ -36,6 +36,5 @@ operator_arity first second = option_map (λ row. row.1) (operator_in operators 
 
 -- what follows `operator`, where a code of <operator-name> is next
 abbrev pub operator_here : List ℕ → Option (List ℕ)
-operator_here [] = None
-operator_here (first ∷ []) = None
 operator_here (first ∷ second ∷ bytes) = operator_text first second
+operator_here bytes = None

@@ -1,6 +1,6 @@
 -- Numbers and source names: how many bytes stand in front, and what they say (Itanium C++ ABI 5.1.2).
 use Rattle.std.specs.Prelude.{ℕ, ◌+◌, ◌-◌, ◌*◌, ◌^◌, ◌&&◌, nat_le, nat_lt, if◌then◌else◌, List, [], ◌∷◌, length, take, drop, Option, Some, None, option_and_then, option_map, codes}
-use Rattle.itanium_syntax.specs.Bytes.{letter, begins, is_digit, is_upper_case}
+use Rattle.itanium_syntax.specs.Bytes.{letter, begins, is_between, is_digit}
 use Rattle.itanium_syntax.specs.declared.numerals.Radix.{Radix}
 use Rattle.itanium_syntax.specs.declared.numerals.Radix.TheVariants.{Decimal, Base36}
 
@@ -14,7 +14,7 @@ abbrev pub digit_of : Radix → ℕ → Option ℕ
 digit_of Decimal b = if is_digit b then Some (b - letter "0") else None
 digit_of Base36 b =
     if is_digit b then Some (b - letter "0") else
-    if is_upper_case b then Some (b - letter "A" + 10) else None
+    if is_between "A" "Z" b then Some (b - letter "A" + 10) else None
 
 -- a digit and those after it, where it is one
 abbrev pub digit_then : Option ℕ → List ℕ → List ℕ

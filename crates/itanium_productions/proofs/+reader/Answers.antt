@@ -16,7 +16,7 @@ use Rattle.demangle_edit.specs.Names.{default_arg_shape}
 use Rattle.demangle_edit.specs.Built.{default_arg_opened, enclosed}
 use Rattle.itanium_syntax.specs.Scalars.{ordinal}
 use Rattle.itanium_syntax.specs.Encodings.{entity_case}
-use Rattle.itanium_reader.specs.Cases.{DefaultArgumentEntity}
+use Rattle.itanium_grammar.specs.Cases.{DefaultArgumentEntity}
 use Rattle.itanium_reader.specs.Outcome.{state, Gives, GivesUnsaved}
 use Rattle.itanium_reader.specs.declared.stop.Stop.{Stop}
 use Rattle.itanium_reader.specs.declared.stop.Stop.TheVariants.{Unread, Memory}
@@ -35,7 +35,7 @@ use Rattle.itanium_reader.proofs.Turns.{segments_read, segments_none, items_more
 use Rattle.itanium_reader.proofs.Turns.{typed_fail, attached_wide, attached_more_wide, segments_wide, pack_ends}
 use Rattle.itanium_reader.proofs.Turns.{pack_wide, typed_wide, items_wide}
 use Rattle.itanium_syntax.specs.Context.{inside_lambda}
-use Rattle.itanium_reader.specs.Cases.{SegmentCase, ArgsSegment, NameSegment, EndOfSegments}
+use Rattle.itanium_grammar.specs.Cases.{SegmentCase, ArgsSegment, NameSegment, EndOfSegments}
 use Rattle.itanium_syntax.specs.Names.{segment_case}
 use Rattle.itanium_productions.proofs.+reader.Goals.{names::read_prefix-in-ArgsSegment+in_ok-save_unsaved-in-ArgsSegment+in_ok-read_template_args-in-ArgsSegment, names::read_prefix-in-NameSegment+in_ok-save_unsaved-in-NameSegment+in_ok-read_segment-in-NameSegment}
 use Rattle.itanium_reader.proofs.Rules.{buffers, types}
