@@ -16,7 +16,8 @@ use Rattle.demangle_text.specs.declared.buffer.Buffer.{Buffer}
 use Rattle.demangle_text.specs.Shape.{Shape, Form, Plain, Declared, form_text, form_with, grouped, text, plain_shape, whole_shape, appended, flattened, flagged, moved}
 use Rattle.demangle_text.specs.Calls.{IsPlain}
 use Rattle.demangle_text.specs.State.{IsLiving, shape, Lives, Opens}
-use Rattle.demangle_edit.specs.Lists.{listed, arguments_closed, arguments_shape, pack_shape, lambda_shape}
+use Rattle.demangle_edit.specs.Lists.{listed, arguments_shape, pack_shape, lambda_shape}
+use Rattle.demangle_edit.specs.Built.{arguments_closed}
 use Rattle.demangle_edit.specs.Names.{angle_gap, attached, encoding_shape}
 use Rattle.demangle_edit.specs.Built.{separator, is_first, listed_more, listed_each, arguments_opened, params_opened, params_closed, lambda_closed}
 use Rattle.demangle_edit.proofs.Insertions.{inserted_twice}

@@ -1,10 +1,25 @@
--- Lists that are built as they are read: what opens them, what each text adds, and what closes them.
-use Rattle.std.specs.Prelude.{ℕ, ◌+◌, List, [], ◌∷◌, ◌++◌, codes, decimal, Bool, true, false, if◌then◌else◌}
+-- What is built as it is read: what opens a name or a list, what each text adds, and what closes it.
+use Rattle.std.specs.Prelude.{ℕ, ◌+◌, List, [], ◌∷◌, ◌++◌, codes, decimal, nat_eq, Bool, true, false, if◌then◌else◌}
+use Rattle.std.specs.List.{ends_with}
+use Rattle.demangle_text.specs.declared.shape.Place.TheVariants.{Start}
 use Rattle.demangle_quals.specs.declared.quals.Quals.{Quals}
 use Rattle.demangle_quals.specs.Quals.{quals_text}
 use Rattle.demangle_text.specs.declared.shape.Kind.TheVariants.{Function}
-use Rattle.demangle_text.specs.Shape.{Shape, text, plain_shape, whole_shape, appended, flattened, flagged, declared_at}
+use Rattle.demangle_text.specs.Shape.{Shape, text, plain_shape, whole_shape, inserted, appended, flattened, flagged, declared_at}
 use Rattle.demangle_edit.specs.Names.{angle_gap}
+
+-- the parent as a plain text, with the `::` after it that stands in front of a leaf
+abbrev pub parent_opened : Shape → Shape
+parent_opened parent = appended (codes "::") (flattened parent)
+
+-- the parent as a plain text, with `::{default arg#k}::` after it, k being the number of a default argument
+abbrev pub default_arg_opened : Shape → ℕ → Shape
+default_arg_opened parent number =
+    appended (codes "::{default arg#" ++ (decimal number ++ codes "}::")) (flattened parent)
+
+-- a name as a plain text, with the text in front that was opened for it: that of a parent or of a default argument
+abbrev pub enclosed : Shape → Shape → Shape
+enclosed opened name = inserted Start (text opened) (flattened name)
 
 -- what stands in front of a text of a list: nothing in front of the first
 abbrev pub separator : Bool → List ℕ
@@ -31,6 +46,10 @@ listed_more first list next = followed (separated first list) next
 abbrev pub listed_each : Bool → Shape → List Shape → Shape
 listed_each first list [] = list
 listed_each first list (next ∷ rest) = listed_each false (listed_more first list next) rest
+
+-- the end of a list of template arguments, with a space after `>`
+abbrev pub arguments_closed : Shape → Shape
+arguments_closed list = appended (if ends_with nat_eq (text list) (codes ">") then codes " >" else codes ">") list
 
 -- a name that its template arguments follow
 abbrev pub arguments_opened : Shape → Shape

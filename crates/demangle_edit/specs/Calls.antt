@@ -1,5 +1,5 @@
 -- What the edits answer where there may be no step, what they take away, and where they put what they answer.
-use Rattle.std.specs.Prelude.{ℕ, List, [], codes, nat_eq}
+use Rattle.std.specs.Prelude.{ℕ, List, [], ◌++◌, codes, nat_eq}
 use Rattle.std.specs.Prelude.{Bool, true, false, not, ◌&&◌, if◌then◌else◌, Option, Some, None}
 use Rattle.std.specs.List.{ends_with}
 use Rattle.demangle_text.specs.Shape.{Shape, Form, Plain, Declared, text, is_plain}
@@ -13,7 +13,7 @@ use Rattle.demangle_text.specs.declared.buffer.Buffer.{Buffer}
 use Rattle.demangle_text.specs.State.{StaysInPlace, JoinsInPlace, Appends}
 use Rattle.demangle_edit.specs.declared.expressions.LiteralForm.{LiteralForm}
 use Rattle.demangle_edit.specs.declared.expressions.LiteralForm.TheVariants.{Boolean, Null, Integer, Float, Cast}
-use Rattle.demangle_edit.specs.Expressions.{literal_shape, has_literal}
+use Rattle.demangle_edit.specs.Expressions.{literal_shape, has_literal, sign_text, digits_text}
 use Rattle.demangle_text.specs.State.{IsLiving}
 use Rattle.demangle_edit.specs.declared.parts.Glue.{Glue}
 use Rattle.demangle_edit.specs.declared.parts.Glue.TheVariants.{Text, Piece as Part}
@@ -75,6 +75,14 @@ IsPutAfter Null old new paren type literal = Appends old new literal
 IsPutAfter Integer old new paren type literal = Appends old new literal
 IsPutAfter Float old new paren type literal = Appends old new literal
 IsPutAfter Cast old new paren type literal = JoinsInPlace old new paren type literal
+
+-- the sign and the digits of a literal's value
+abbrev pub value_text : List ℕ → List ℕ
+value_text value = sign_text value ++ digits_text value
+
+-- the sign, and the digits in square brackets
+abbrev pub float_text : List ℕ → List ℕ
+float_text value = sign_text value ++ codes "[" ++ digits_text value ++ codes "]"
 
 -- the literal, where there is one
 abbrev pub literal_step : Shape → List ℕ → Option Shape

@@ -31,30 +31,15 @@ literal_form type minus =
 -- which values a literal has
 abbrev pub has_value : LiteralForm → List ℕ → Bool
 has_value Boolean value = bytes_eq value (codes "0") || bytes_eq value (codes "1")
-has_value Null value = true
-has_value Integer value = true
-has_value Float value = true
-has_value Cast value = true
-
--- the word of a boolean value
-abbrev pub boolean_text : List ℕ → List ℕ
-boolean_text value = if bytes_eq value (codes "0") then codes "false" else codes "true"
-
--- the sign and the digits
-abbrev pub value_text : List ℕ → List ℕ
-value_text value = sign_text value ++ digits_text value
-
--- the sign, and the digits in square brackets
-abbrev pub float_text : List ℕ → List ℕ
-float_text value = sign_text value ++ codes "[" ++ digits_text value ++ codes "]"
+has_value form value = true
 
 -- the literal, by its form, the text of its type and its value
 abbrev pub literal_text : LiteralForm → List ℕ → List ℕ → List ℕ
-literal_text Boolean type value = boolean_text value
+literal_text Boolean type value = if bytes_eq value (codes "0") then codes "false" else codes "true"
 literal_text Null type value = codes "nullptr"
-literal_text Integer type value = value_text value
-literal_text Float type value = float_text value
-literal_text Cast type value = codes "(" ++ type ++ codes ")" ++ value_text value
+literal_text Integer type value = sign_text value ++ digits_text value
+literal_text Float type value = sign_text value ++ codes "[" ++ digits_text value ++ codes "]"
+literal_text Cast type value = codes "(" ++ type ++ codes ")" ++ (sign_text value ++ digits_text value)
 
 -- the literal of the type with this value
 abbrev pub literal_shape : Shape → List ℕ → Shape

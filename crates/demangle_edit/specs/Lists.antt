@@ -6,7 +6,6 @@ use Rattle.demangle_quals.specs.declared.quals.Quals.{Quals}
 use Rattle.demangle_quals.specs.Quals.{quals_text}
 use Rattle.std.specs.Prelude.{decimal, if◌then◌else◌, nat_eq}
 use Rattle.std.specs.List.{ends_with}
-use Rattle.demangle_text.specs.Shape.{whole_shape, appended}
 
 -- the texts, with a comma and a space between them
 abbrev pub listed : List (List ℕ) → List ℕ
@@ -22,13 +21,11 @@ params_text params quals = codes "(" ++ (listed (map text params) ++ (codes ")" 
 abbrev pub glued : List (List ℕ) → Shape
 glued texts = plain_shape (concat texts)
 
--- the end of a list of template arguments, with a space after `>`
-abbrev pub arguments_closed : Shape → Shape
-arguments_closed list = appended (if ends_with nat_eq (text list) (codes ">") then codes " >" else codes ">") list
-
--- a list of template arguments by itself
+-- a list of template arguments by itself: a space parts its `>` from one in front of it
 abbrev pub arguments_shape : List Shape → Shape
-arguments_shape args = whole_shape (arguments_closed (plain_shape (codes "<" ++ listed (map text args))))
+arguments_shape args =
+    let opened = codes "<" ++ listed (map text args) in
+    plain_shape (opened ++ (if ends_with nat_eq opened (codes ">") then codes " >" else codes ">"))
 
 -- a pack of arguments
 abbrev pub pack_shape : List Shape → Shape

@@ -11,22 +11,10 @@ use Rattle.demangle_edit.specs.Lists.{params_text}
 abbrev pub qualified : Shape → Shape → Shape
 qualified parent leaf = inserted Start (text parent ++ codes "::") (flattened leaf)
 
--- the parent as a plain text, with the `::` after it that stands in front of a leaf
-abbrev pub parent_opened : Shape → Shape
-parent_opened parent = appended (codes "::") (flattened parent)
-
--- the parent as a plain text, with `::{default arg#k}::` after it, k being the number of a default argument
-abbrev pub default_arg_opened : Shape → ℕ → Shape
-default_arg_opened parent number =
-    appended (codes "::{default arg#" ++ (decimal number ++ codes "}::")) (flattened parent)
-
--- a name as a plain text, with the text in front that was opened for it: that of a parent or of a default argument
-abbrev pub enclosed : Shape → Shape → Shape
-enclosed opened name = inserted Start (text opened) (flattened name)
-
--- the entity as a plain text, in the default argument of a parent with this number
+-- the entity of a default argument as a plain text, with its parent and `::{default arg#k}::` in front
 abbrev pub default_arg_shape : Shape → ℕ → Shape → Shape
-default_arg_shape parent number entity = enclosed (default_arg_opened parent number) entity
+default_arg_shape parent number entity =
+    inserted Start (text parent ++ (codes "::{default arg#" ++ (decimal number ++ codes "}::"))) (flattened entity)
 
 -- the constructor of a parent, or its destructor: the base name is all after the `::`
 abbrev pub qualified_ctor : Shape → Bool → Shape

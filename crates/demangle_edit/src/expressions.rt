@@ -85,7 +85,7 @@ fn parenthesize(buf: &mut Buffer, piece: Piece) -> Result<Piece, AllocError>
 fn append_value(buf: &mut Buffer, piece: Piece, value: &[u8]) -> Result<Piece, AllocError>
     requires piece { IsLiving buf.old piece }
     ensures shape { IfOk result (λ p. Lives buf.new p
-        (whole_shape (appended (spec.value_text value.now) (shape buf.old piece)))) }
+        (whole_shape (appended (calls.value_text value.now) (shape buf.old piece)))) }
     ensures edit { OnOk result (IsEdit buf.old buf.new) }
     ensures in_place { IfOk result (λ p. StaysInPlace buf.old buf.new piece p) }
 {
@@ -96,7 +96,7 @@ fn append_value(buf: &mut Buffer, piece: Piece, value: &[u8]) -> Result<Piece, A
 
 // A value in square brackets, its sign in front of them.
 fn push_float(buf: &mut Buffer, value: &[u8]) -> Result<Piece, AllocError>
-    ensures shape { IfOk result (λ p. Lives buf.new p (plain_shape (spec.float_text value.now))) }
+    ensures shape { IfOk result (λ p. Lives buf.new p (plain_shape (calls.float_text value.now))) }
     ensures edit { OnOk result (IsEdit buf.old buf.new) }
     ensures appends { IfOk result (λ p. Appends buf.old buf.new p) }
 {

@@ -3,9 +3,9 @@ ghost use Rattle.std.specs.Prelude.{◌≡◌, ◌<◌, ◌++◌, All, map, deci
 ghost use Rattle.demangle_text.specs.Shape.{text_len, appended};
 ghost use Rattle.demangle_text.specs.State.{IsLiving, shape, Lives, IsEdit, KeepsAll, StaysInPlace, Appends};
 ghost use Rattle.demangle_text.specs.Calls.{IsLast, IsInner, text_after};
-ghost use Rattle.demangle_edit.specs.Lists.{glued, arguments_closed, pack_shape};
+ghost use Rattle.demangle_edit.specs.Lists.{glued, pack_shape};
 ghost use Rattle.demangle_edit.specs.Calls.{part_text, IsLivingPart};
-ghost use Rattle.demangle_edit.specs.Built.{arguments_opened, params_opened, params_closed, lambda_closed};
+ghost use Rattle.demangle_edit.specs.Built.{arguments_opened, arguments_closed, params_opened, params_closed, lambda_closed};
 
 use crate::appends::append_piece;
 use crate::dimensions::{MOST_DIGITS, number_bytes};

@@ -4,8 +4,8 @@ ghost use Rattle.demangle_quals.specs.Quals.{has_quals};
 ghost use Rattle.demangle_text.specs.Shape.{plain_shape};
 ghost use Rattle.demangle_text.specs.State.{IsLiving, shape, Lives, IsEdit, StaysInPlace, IsLeftOrStays, JoinsInPlace, Appends};
 ghost use Rattle.demangle_edit.specs.Names.{qualified, qualified_ctor, angle_gap, attached, tagged};
-ghost use Rattle.demangle_edit.specs.Names.{encoding_shape, with_name_qualifiers, default_arg_opened, default_arg_shape};
-ghost use Rattle.demangle_edit.specs.Names.{parent_opened, enclosed};
+ghost use Rattle.demangle_edit.specs.Names.{encoding_shape, with_name_qualifiers, default_arg_shape};
+ghost use Rattle.demangle_edit.specs.Built.{parent_opened, default_arg_opened, enclosed};
 
 use crate::appends::append_piece;
 use crate::lists::{append_number, close_params, open_params};

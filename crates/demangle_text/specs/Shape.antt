@@ -1,11 +1,12 @@
 -- What a piece stands for: a shape, its text, and the steps on shapes.
 use Rattle.std.specs.Prelude.{ℕ, ◌+◌, ◌-◌, ◌==◌, ◌||◌, Bool, true, false, if◌then◌else◌, List, [], ◌++◌, length}
-use Rattle.std.specs.Prelude.{take, drop, slice_range, slice_get, slice_index, nat_le, min, codes, Option, Some, None}
-use Prim.Native.String.{String}
+use Rattle.std.specs.Prelude.{take, drop, slice_range, nat_le, min, codes, Option, Some, None}
+use Rattle.std.specs.Prelude.{nat_eq}
+use Rattle.std.specs.List.{ends_with}
 use Rattle.demangle_text.specs.declared.shape.Kind.{Kind}
 use Rattle.demangle_text.specs.declared.shape.Kind.TheVariants.{Array, Function}
 use Rattle.demangle_text.specs.declared.shape.Place.{Place}
-use Rattle.demangle_text.specs.declared.shape.Place.TheVariants.{Start, Close, Suffix, End}
+use Rattle.demangle_text.specs.declared.shape.Place.TheVariants.{Start, Close, End}
 
 -- a plain text, or a declarator: what stands before, the group if there is one, what stands after
 pub data Form : Type 0 where
@@ -46,25 +47,20 @@ plain_shape t = record { form = Plain t; own = (0, length t); templ = false; cto
 
 -- where an insertion goes
 abbrev pub place_in : Place → Form → ℕ
-place_in Start f = 0
-place_in End f = length (form_text f)
-place_in Close (Plain t) = length t
-place_in Close (Declared k before None after) = length before
+place_in Start form = 0
+place_in End form = length (form_text form)
 place_in Close (Declared k before (Some group) after) = length before + 1 + length group
-place_in Suffix (Plain t) = length t
-place_in Suffix (Declared k before group after) = length before
+place_in place (Declared k before group after) = length before
+place_in place (Plain t) = length t
 
 -- the form with bytes at a place: at the end of a part, or in front of the first
 abbrev pub form_with : Place → List ℕ → Form → Form
 form_with Start bytes (Plain t) = Plain (bytes ++ t)
 form_with Start bytes (Declared k before group after) = Declared k (bytes ++ before) group after
-form_with End bytes (Plain t) = Plain (t ++ bytes)
+form_with place bytes (Plain t) = Plain (t ++ bytes)
 form_with End bytes (Declared k before group after) = Declared k before group (after ++ bytes)
-form_with Close bytes (Plain t) = Plain (t ++ bytes)
-form_with Close bytes (Declared k before None after) = Declared k (before ++ bytes) None after
 form_with Close bytes (Declared k before (Some group) after) = Declared k before (Some (group ++ bytes)) after
-form_with Suffix bytes (Plain t) = Plain (t ++ bytes)
-form_with Suffix bytes (Declared k before group after) = Declared k (before ++ bytes) group after
+form_with place bytes (Declared k before group after) = Declared k (before ++ bytes) group after
 
 -- a range when n bytes are inserted at a place: one that begins there or later moves on, of the
 -- others one that ends there or earlier stays, and one with the place inside grows
@@ -120,22 +116,11 @@ declared_at kind at s =
     let form = Declared kind (take at (text s)) None (drop at (text s)) in
     record s { form = form; own = own_in form s.own }
 
--- the byte of a letter
-abbrev pub letter : String → ℕ
-letter text = slice_index (codes text) 0
-
--- a space, `(` or `*`, which a group follows with no gap
-abbrev pub joins_group : ℕ → Bool
-joins_group byte = byte == letter " " || byte == letter "(" || byte == letter "*"
-
--- the gap after the last byte of a text, if it has one: nothing, or a space
-abbrev pub gap_after_byte : Option ℕ → List ℕ
-gap_after_byte None = []
-gap_after_byte (Some byte) = if joins_group byte then [] else codes " "
-
--- the gap between a text and a group
+-- the gap between a text and a group: a space, but none after an empty text, a space, `(` or `*`
 abbrev pub gap_after : List ℕ → List ℕ
-gap_after t = gap_after_byte (slice_get t (length t - 1))
+gap_after t =
+    if length t == 0 || ends_with nat_eq t (codes " ") || ends_with nat_eq t (codes "(")
+    || ends_with nat_eq t (codes "*") then [] else codes " "
 
 -- all text up to `after` stands before a new group
 abbrev pub opened_form : List ℕ → Form → Form

@@ -1,23 +1,23 @@
 -- Of template arguments: what the grammar reads, the parser reads.
 use Rattle.std.proofs.Common.{◌<◌, ◌≤◌, ℕ, zero, suc, ◌+◌, max, Bool, true, false, List, [], drop, map, length, refl, sym, ap, ◌∙◌, arith}
-use Rattle.std.proofs.lemmas.List.{length-map}
-use Rattle.std.specs.Prelude.{codes}
+use Rattle.std.specs.Prelude.{codes, option_map, Option, Some, None, if◌then◌else◌, ◌∷◌, ◌++◌}
 use Rattle.demangle_text.specs.Shape.{Shape, plain_shape, text_len}
 use Rattle.demangle_edit.specs.Built.{listed_each, listed_more}
 use Rattle.demangle_edit.proofs.Built.{arguments_alone, pack_built}
 use Rattle.itanium_syntax.specs.declared.context.Context.{Context}
+use Rattle.itanium_syntax.specs.Context.{opens_scope}
 use Rattle.itanium_syntax.specs.Args.{args_case}
 use Rattle.itanium_syntax.proofs.Fronts.{after_drop, after-le}
 use Rattle.itanium_grammar.specs.Tree.{Tree, shape_of, pack_of, trees}
-use Rattle.itanium_grammar.specs.Grammar as parsed
-use Rattle.itanium_grammar.specs.Grammar.{Position, Cost, skip, begin_list, scopes_in, ArgumentsAs, PackedAs, args, end_of_arguments, one_more_argument, pack, end_of_pack, one_more_packed}
+use Rattle.itanium_grammar.specs.Grammar.{Position, Cost, skip, within_list, ArgumentsAs, PackedAs, args, end_of_arguments, one_more_argument, pack, end_of_pack, one_more_packed}
 use Rattle.itanium_grammar.proofs.Progress.{argument_takes}
-use Rattle.itanium_demangle.specs.Cases.{ArgsCase}
+use Rattle.itanium_grammar.proofs.Scopes.{argument_keeps}
+use Rattle.itanium_grammar.specs.Cases.{ArgsCase}
 use Rattle.itanium_reader.specs.Parser.{after_turn, loop, add_argument, add_nowhere, ◌>>=◌, parse_argument}
 use Rattle.itanium_reader.specs.Parser.{parse_primary, parse_encoding, parse_special, parse_name, next_item, list_as}
 use Rattle.itanium_reader.specs.Parser.{list_turn, parse_list, parse_packed, parse_args, parse_pack}
 use Rattle.itanium_demangle.specs.Meaning.{state_at}
-use Rattle.itanium_demangle.proofs.Shapes.{same_read, add_argument-scopes, begin_list-scopes, shape-pack_of}
+use Rattle.itanium_demangle.proofs.Shapes.{same_read, IsInside, add_argument-scopes, begin_list-scopes, begin_list-inside, inside_more, shape-pack_of}
 use Rattle.itanium_demangle.specs.Readers.{shape_of_args}
 use Rattle.itanium_demangle.proofs.Fitting.{Met, met, met_then, met_then_again, met_as, met_turn, met_fits}
 use Rattle.itanium_demangle.proofs.Grows.{listed_more_item, listed_longer, closed_longer}
@@ -25,9 +25,10 @@ use Rattle.itanium_demangle.proofs.Readings.{Small, reached, ArgsComplete, Packs
 
 -- arguments put onto a list, in n turns
 abbrev TurnsMet : ℕ → ℕ → Type 0
-TurnsMet d n = (x : Context) (o : Bool) (k : ℕ) (p q : Position) (list : List Tree) (c : Cost) → ArgumentsAs (args_case p.rest) x o k p list q c → Small d c
+TurnsMet d n = (x : Context) (o : Bool) (k : ℕ) (outer : List (List Tree)) (own : Option (List Tree)) (p q : Position) (list : List Tree) (c : Cost)
+    → ArgumentsAs (args_case p.rest) x outer own p list q c → IsInside o k outer own → Small d c
     → (e m : ℕ) (first : Bool) (front : Shape) → length p.rest < n
-    → Met text_len (loop (list_turn (add_argument o k) (parse_argument d x)) n (first, front) (state_at p e m)) (reached (λ us. listed_each first front (map shape_of us)) list q c e m)
+    → Met text_len (loop (list_turn (add_argument o k) (parse_argument d x)) n (first, front) (state_at (within_list outer own p) e m)) (reached (λ us. listed_each first front (map shape_of us)) list q c e m)
 
 -- a pack's arguments put onto a list, in n turns
 abbrev PackedMet : ℕ → ℕ → Type 0
@@ -43,26 +44,27 @@ turn_longer first front item rest =
     omega arith
 
 module _ (d : ℕ) (each : ArgumentsComplete d) where
-  arguments_as_met : (n : ℕ) → TurnsMet d n → {case : ArgsCase} {x : Context} {o : Bool} {k : ℕ} {p q : Position} {list : List Tree} {c : Cost}
-      → ArgumentsAs case x o k p list q c → Small d c
+  arguments_as_met : (n : ℕ) → TurnsMet d n → {case : ArgsCase} {x : Context} {o : Bool} {k : ℕ} {outer : List (List Tree)} {own : Option (List Tree)} {p q : Position} {list : List Tree} {c : Cost}
+      → ArgumentsAs case x outer own p list q c → IsInside o k outer own → Small d c
       → (e m : ℕ) (first : Bool) (front : Shape) → length p.rest < suc n
-      → Met text_len (list_as case (add_argument o k) (parse_argument d x) (first, front) (state_at p e m)
+      → Met text_len (list_as case (add_argument o k) (parse_argument d x) (first, front) (state_at (within_list outer own p) e m)
       >>= λ r. after_turn r.0 (loop (list_turn (add_argument o k) (parse_argument d x)) n) r.1)
       (reached (λ us. listed_each first front (map shape_of us)) list q c e m)
-  arguments_as_met n again end_of_arguments deep e m first front room = met (same_read refl refl refl (omega arith) (omega arith))
-  arguments_as_met n again (one_more_argument {opens = o} {n = k} {q = q} {t = t} {ts = ts} {c = c} a more) deep e m first front room =
+  arguments_as_met n again end_of_arguments inside deep e m first front room = met (same_read refl refl refl (omega arith) (omega arith))
+  arguments_as_met n again {o = o} {k = k} (one_more_argument {q = q} {t = t} {ts = ts} {c = c} {outer = outer} {own = own} a more) inside deep e m first front room =
       let shorter = (argument_takes a).shorter in
       let list = listed_more first front (shape_of t) in
-      let rest = again _ _ _ _ _ _ _ more (omega arith) (e + c.count) (max m c.peak) false list (omega arith) in
+      let args = option_map (λ args. args ++ t ∷ []) own in
+      let rest = again _ o k _ _ _ _ _ _ more (inside_more t inside) (omega arith) (e + c.count) (max m c.peak) false list (omega arith) in
       met_then_again _ _ (each _ _ _ _ _ a (omega arith) e m) (turn_longer first front (shape_of t) (map shape_of ts))
-      (rw (add_argument-scopes o k t q.scopes)
-      (met_turn list (state_at (parsed.add_argument o k t q) (e + c.count) (max m c.peak)) next_item _ (listed_longer false list (map shape_of ts))
+      (rw (add_argument-scopes own t inside (argument_keeps a))
+      (met_turn list (state_at (within_list outer args q) (e + c.count) (max m c.peak)) next_item _ (listed_longer false list (map shape_of ts))
       (met_as rest (same_read refl refl refl (omega arith) (omega arith)))))
 
   arguments_met : (n : ℕ) → TurnsMet d n
   unfolding loop list_turn
-  arguments_met zero x o k p q list c a deep e m first front room = absurd (omega arith)
-  arguments_met (suc n) x o k p q list c a deep e m first front room = arguments_as_met n (arguments_met n) a deep e m first front room
+  arguments_met zero x o k outer own p q list c a inside deep e m first front room = absurd (omega arith)
+  arguments_met (suc n) x o k outer own p q list c a inside deep e m first front room = arguments_as_met n (arguments_met n) a inside deep e m first front room
 
   packed_as_met : (n : ℕ) → PackedMet d n → {case : ArgsCase} {x : Context} {p q : Position} {list : List Tree} {c : Cost} → PackedAs case x p list q c → Small d c
       → (e m : ℕ) (first : Bool) (front : Shape) → length p.rest < suc n
@@ -84,18 +86,18 @@ module _ (d : ℕ) (each : ArgumentsComplete d) where
   packed_met (suc n) x p q list c a deep e m first front room = packed_as_met n (packed_met n) a deep e m first front room
 
   -- a list from its I to its E
-  pub list_met : {x : Context} {o : Bool} (p : Position) {q : Position} {list : List Tree} {c : Cost}
-      → ArgumentsAs (args_case (drop 1 p.rest)) x o (scopes_in o p) (begin_list o (skip 1 p)) list q c → Small d c
+  pub list_met : {x : Context} (o : Bool) (p : Position) {q : Position} {list : List Tree} {c : Cost}
+      → ArgumentsAs (args_case (drop 1 p.rest)) x p.scopes (if o then Some [] else None) (skip 1 p) list q c → Small d c
       → (e m : ℕ)
       → Met text_len (parse_list (parse_argument d x) o (state_at p e m)) (reached shape_of_args list q c e m)
-  list_met {o = o} p {list = list} a deep e m =
+  list_met o p {list = list} a deep e m =
       let within = after-le (after_drop 1 p.rest) in
       let begun = plain_shape (codes "<") in
       let built = arguments_alone (map shape_of list) in
       let closed = closed_longer (listed_each true begun (map shape_of list)) in
       let same_len = ap text_len built in
-      rw (begin_list-scopes o p.scopes, length-map (begin_list o p).scopes (map shape_of))
-      (met_then _ (arguments_met (length (drop 1 p.rest) + 1) _ _ _ _ _ _ _ a deep e m true begun (omega arith)) (omega arith)
+      rw (begin_list-scopes o p.scopes)
+      (met_then _ (arguments_met (length (drop 1 p.rest) + 1) _ _ _ _ _ _ _ _ _ a (begin_list-inside o p.scopes) deep e m true begun (omega arith)) (omega arith)
       (met (same_read built refl refl refl refl)))
 
   -- a pack from its J to its E
@@ -110,7 +112,7 @@ module _ (d : ℕ) (each : ArgumentsComplete d) where
 pub args_complete : (d : ℕ) → ArgumentsComplete d → ArgsComplete (suc d)
 unfolding parse_args parse_argument parse_primary parse_encoding parse_special parse_name
 args_complete d each x of_name p q list c (args a) deep e m =
-    met_fits (met_as (list_met d each p a (omega arith) (e + 1) m) (same_read refl refl refl (omega arith) refl)) (omega arith)
+    met_fits (met_as (list_met d each (opens_scope of_name x) p a (omega arith) (e + 1) m) (same_read refl refl refl (omega arith) refl)) (omega arith)
 
 pub packs_complete : (d : ℕ) → ArgumentsComplete d → PacksComplete (suc d)
 unfolding parse_pack parse_argument parse_primary parse_encoding parse_special parse_name

@@ -10,7 +10,7 @@ use Rattle.itanium_grammar.specs.Grammar.{value_literal, expression, operand_of,
 use Rattle.itanium_grammar.specs.Grammar.{unary_expression, post_expression, binary_expression, greater_expression}
 use Rattle.itanium_grammar.specs.Grammar.{conditional_expression, parameter_expression, literal_expression}
 use Rattle.itanium_grammar.specs.Grammar.{expression_argument, pack_argument, literal_argument, type_argument}
-use Rattle.itanium_demangle.specs.Cases.{LiteralCase, ExpressionCase, ArgumentCase}
+use Rattle.itanium_grammar.specs.Cases.{LiteralCase, ExpressionCase, ArgumentCase}
 use Rattle.itanium_reader.specs.Parser.{parse_type, parse_name, parse_special, parse_pack, parse_encoding, literal_as}
 use Rattle.itanium_reader.specs.Parser.{parse_primary, operand_by, expression_as, parse_expression, argument_as}
 use Rattle.itanium_reader.specs.Parser.{parse_argument}

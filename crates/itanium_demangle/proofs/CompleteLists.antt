@@ -7,7 +7,7 @@ use Rattle.itanium_syntax.specs.Types.{types_case}
 use Rattle.itanium_grammar.specs.Tree.{Tree, shape_of}
 use Rattle.itanium_grammar.specs.Grammar.{Position, Cost, ParamsAs, TypesAs, no_params, some_params, end_of_types, one_more_type}
 use Rattle.itanium_grammar.proofs.Progress.{type_takes}
-use Rattle.itanium_demangle.specs.Cases.{ParamsCase, TypesCase}
+use Rattle.itanium_grammar.specs.Cases.{ParamsCase, TypesCase}
 use Rattle.itanium_reader.specs.Parser.{after_turn, loop, ◌>>=◌, next_item, typed_as, typed_turn, typed_params_as, parse_type}
 use Rattle.itanium_demangle.specs.Meaning.{state_at}
 use Rattle.itanium_demangle.proofs.Shapes.{same_read}

@@ -11,8 +11,9 @@ use Rattle.itanium_syntax.specs.declared.context.Context.{Context}
 use Rattle.itanium_syntax.specs.declared.offsets.ThunkOffsets.{ThunkOffsets}
 use Rattle.itanium_syntax.specs.Offsets.{thunk_offsets}
 use Rattle.itanium_syntax.specs.Specials.{special_case, special_text, special_close}
+use Rattle.itanium_syntax.specs.Names.{segment_case}
 use Rattle.itanium_syntax.specs.Names.{source_text, symbol_case, name_case, name_quals, tag_case}
-use Rattle.itanium_syntax.specs.Encodings.{shows_words}
+use Rattle.itanium_reader.specs.Parser.{shows_words}
 use Rattle.itanium_syntax.specs.Context.{inside_lambda, inside_local, inside_encoding}
 use Rattle.itanium_syntax.proofs.Fronts.{initializer_after, after_drop, source_takes, after-le}
 use Rattle.itanium_grammar.specs.Tree.{Tree, bare_shape, own_quals, thunk_of, with_args, trees, unnamed_text, literal_operator_text, shape_of, name_printing}
@@ -20,22 +21,22 @@ use Rattle.itanium_grammar.specs.Grammar.{Position, Cost, with_rest, SpecialAs, 
 use Rattle.itanium_grammar.specs.Grammar.{type_special, name_special, temporary_special, construction_special}
 use Rattle.itanium_grammar.specs.Grammar.{thunk_special, thunk, special_symbol, name_symbol, past_initializer, last_of}
 use Rattle.itanium_grammar.specs.Grammar.{SubstitutionAs, Substitution, ParameterAs, Parameter, TaggedAs, UnqualifiedAs}
-use Rattle.itanium_grammar.specs.Grammar.{Unqualified, FirstAs, Name, NameAs, Local, EntityAs, Encoding, EncodingAs}
-use Rattle.itanium_grammar.specs.Grammar.{ReturnAs, SignatureAs, UnscopedAs, AttachedAs, Nested, Segments, SegmentsAs}
-use Rattle.itanium_grammar.specs.Grammar.{abbreviation_substitution, component_substitution, substitution}
+use Rattle.itanium_grammar.specs.Grammar.{Unqualified, FirstAs, Name, NameAs, Local, EntityAs, EncodingAs}
+use Rattle.itanium_grammar.specs.Grammar.{ReturnAs, SignatureAs, UnscopedAs, AttachedAs, Nested, SegmentsAs}
+use Rattle.itanium_grammar.specs.Grammar.{abbreviation_substitution, component_substitution}
 use Rattle.itanium_grammar.specs.Grammar.{auto_parameter, scope_parameter, parameter, no_tag, next_tag, FreeAs}
 use Rattle.itanium_grammar.specs.Grammar.{source_free, unnamed_type_free, lambda_free, conversion_free}
 use Rattle.itanium_grammar.specs.Grammar.{literal_operator_free, operator_free, constructor_unqualified}
 use Rattle.itanium_grammar.specs.Grammar.{destructor_unqualified, free_unqualified, unqualified, parameter_first}
 use Rattle.itanium_grammar.specs.Grammar.{std_first, substitution_first, name_first, name, nested_name, local_name}
-use Rattle.itanium_grammar.specs.Grammar.{local, string_literal_entity, default_argument_entity, name_entity, encoding}
+use Rattle.itanium_grammar.specs.Grammar.{local, string_literal_entity, default_argument_entity, name_entity}
 use Rattle.itanium_grammar.specs.Grammar.{name_encoding, no_return_type, some_return_type, no_signature, some_signature}
 use Rattle.itanium_grammar.specs.Grammar.{unscoped_name, std_name, substitution_name, global_name, none_attached}
-use Rattle.itanium_grammar.specs.Grammar.{args_attached, nested, segments, end_of_segments, args_segment, name_segment}
+use Rattle.itanium_grammar.specs.Grammar.{args_attached, nested, end_of_segments, args_segment, name_segment}
 use Rattle.itanium_grammar.proofs.Progress.{unqualified_takes, args_takes}
-use Rattle.itanium_demangle.specs.Cases.{SymbolCase, SpecialCase, ReturnCase, SignatureCase, EntityCase}
-use Rattle.itanium_demangle.specs.Cases.{SubstitutionCase, TagCase, UnqualifiedCase, FreeCase, FirstCase, NameCase}
-use Rattle.itanium_demangle.specs.Cases.{UnscopedCase, AttachedCase, SegmentCase}
+use Rattle.itanium_grammar.specs.Cases.{SymbolCase, SpecialCase, ReturnCase, SignatureCase, EntityCase}
+use Rattle.itanium_grammar.specs.Cases.{SubstitutionCase, TagCase, UnqualifiedCase, FreeCase, FirstCase, NameCase}
+use Rattle.itanium_grammar.specs.Cases.{UnscopedCase, AttachedCase, SegmentCase}
 use Rattle.itanium_reader.specs.Parser.{ParserState, after_turn, loop, ◌>>=◌, tag_as, tag_turn, parse_tags, free_as}
 use Rattle.itanium_reader.specs.Parser.{parse_free, parse_type, substitution_as, parse_substitution, parameter_as}
 use Rattle.itanium_reader.specs.Parser.{parse_parameter, unqualified_as, parse_unqualified, first_as, attached_by}
@@ -53,7 +54,7 @@ use Rattle.itanium_demangle.proofs.Shapes.{shape-encoding_of, shape-function_enc
 use Rattle.itanium_demangle.proofs.CompleteLists.{typed_params_met}
 use Rattle.itanium_demangle.proofs.Fitting.{bare_len, Met, met, met_then, met_as, met_step, met_fits, met_fits_bare, fits}
 use Rattle.itanium_demangle.proofs.Grows.{lambda_longer, params_longer}
-use Rattle.itanium_demangle.proofs.Longer.{in_parent_longer, tags_longer, attached_as_longer, segments_longer, entity_longer}
+use Rattle.itanium_demangle.proofs.Longer.{in_parent_longer, tags_longer, attached_as_longer, segment_longer, entity_longer}
 use Rattle.itanium_demangle.proofs.Whole.{without_quals}
 use Rattle.itanium_demangle.proofs.Readings.{Small, reached, given, ArgsComplete, TypesComplete, BareNamesComplete, NamesComplete, ThunksComplete}
 use Rattle.itanium_demangle.proofs.Waiting.{unscoped_none, bare-nested_of, bare-string_literal_of, bare-default_argument_of, bare-local_in, same_return, whole_name}
@@ -64,13 +65,13 @@ substitution_as_complete : {case : SubstitutionCase} {p q : Position} {t : Tree}
 substitution_as_complete (abbreviation_substitution {abbreviated = a} found) e m = rw (found, ← shape-abbreviation a) refl
 substitution_as_complete (component_substitution {p = p} {i = i} found there) e m = rw (found, slice_get-map shape_of p.saved i, there) refl
 
-pub substitution_complete : {p q : Position} {t : Tree} → Substitution p t q → (e m : ℕ) → parse_substitution (state_at p e m) ≡ Some (shape_of t, state_at q e m)
+pub substitution_complete : (p : Position) {q : Position} {t : Tree} → Substitution p t q → (e m : ℕ) → parse_substitution (state_at p e m) ≡ Some (shape_of t, state_at q e m)
 unfolding parse_substitution
-substitution_complete (substitution a) e m = substitution_as_complete a e m
+substitution_complete p a e m = substitution_as_complete a e m
 
 parameter_as_complete : {lambda : Bool} {i : ℕ} {p : Position} {t : Tree} → ParameterAs lambda i p t → (e m : ℕ) → parameter_as lambda i (state_at p e m) ≡ Some (shape_of t)
 parameter_as_complete auto_parameter e m = ap Some (sym (shape-plain_text (codes "auto")))
-parameter_as_complete (scope_parameter {i = i} {p = p} there) e m = rw (last-map p.scopes, slice_get-map shape_of (last_of p.scopes) i, there) refl
+parameter_as_complete (scope_parameter {p = p} {i = i} there) e m = rw (last-map p.scopes, slice_get-map shape_of (last_of p.scopes) i, there) refl
 
 pub parameter_complete : {x : Context} {p q : Position} {t : Tree} → Parameter x p t q → (e m : ℕ) → parse_parameter x (state_at p e m) ≡ Some (shape_of t, state_at q e m)
 unfolding parse_parameter
@@ -84,7 +85,7 @@ TagsComplete n = (t u : Tree) (p q : Position) → TaggedAs (tag_case p.rest) t 
 tag_as_complete : (n : ℕ) → TagsComplete n → {case : TagCase} {t u : Tree} {p q : Position} → TaggedAs case t p u q → (e m : ℕ) → length p.rest < suc n
     → (tag_as case (shape_of t) (state_at p e m) >>= λ r. after_turn r.0 (loop tag_turn n) r.1) ≡ Some (shape_of u, state_at q e m)
 tag_as_complete n again no_tag e m room = refl
-tag_as_complete n again (next_tag {t = t} {p = p} {bytes = b} {rest = r} found tags) e m room =
+tag_as_complete n again (next_tag {p = p} {t = t} {bytes = b} {rest = r} found tags) e m room =
     let shorter = (source_takes (drop 1 p.rest) (b, r) found).shorter in
     let within = after-le (after_drop 1 p.rest) in
     rw (found, ← shape-tagged_with t (source_text b)) (again _ _ _ _ tags e m (omega arith))
@@ -122,7 +123,7 @@ module _ (d : ℕ) (lists : ArgsComplete d) (kinds : TypesComplete d) where
       met (rw (← shape-ctor_dtor_of parent false, parse_tags_complete tags e m) (same_read refl refl refl (omega arith) (omega arith)))
   unqualified_as_met (destructor_unqualified {parent = parent} tags) deep e m =
       met (rw (← shape-ctor_dtor_of parent true, parse_tags_complete tags e m) (same_read refl refl refl (omega arith) (omega arith)))
-  unqualified_as_met (free_unqualified {x = x} {parent = parent} {p = p} {r = r} {u = u} {c = c} a tags) deep e m =
+  unqualified_as_met (free_unqualified {x = x} {p = p} {r = r} {u = u} {parent = parent} {c = c} a tags) deep e m =
       let named : Met text_len (parse_free (parse_type d x) (parse_type d (inside_lambda x)) (state_at p e m)) (reached shape_of u r c e m) =
       met_then _ (free_met a deep e m) (tags_longer tags) (met (parse_tags_complete tags (e + c.count) (max m c.peak))) in
       met_then _ named (in_parent_longer parent u) (met (same_read (sym (shape-in_parent parent u)) refl refl refl refl))
@@ -137,14 +138,14 @@ module _ (d : ℕ) (lists : ArgsComplete d) (kinds : TypesComplete d) where
   first_met (parameter_first {q = q} {t = t} a) deep e m =
       met (rw (parameter_complete a e m) (same_read refl (one_more q.saved t) refl (omega arith) (omega (arith, length-map q.saved shape_of))))
   first_met std_first deep e m = met (same_read (sym (shape-plain_text (codes "std"))) refl refl (omega arith) (omega arith))
-  first_met (substitution_first a) deep e m = met (substitution_complete a e m ∙ same_read refl refl refl (omega arith) (omega arith))
+  first_met (substitution_first {p = p} a) deep e m = met (substitution_complete p a e m ∙ same_read refl refl refl (omega arith) (omega arith))
   first_met (name_first {q = q} {t = t} a) deep e m =
       met_then _ (unqualified_met a (omega arith) e m) (omega arith) (met (same_read refl (one_more q.saved t) refl (omega arith) (omega (arith, length-map q.saved shape_of))))
 
   attached_complete : {case : AttachedCase} {x : Context} {t u : Tree} {p q : Position} {c : Cost} → AttachedAs case x t p u q c → Small d c → (e m : ℕ)
       → attached_as case (parse_args d x true) (shape_of t) (state_at p e m) ≡ given shape_of u q c e m
   attached_complete none_attached deep e m = same_read refl refl refl (omega arith) (omega arith)
-  attached_complete (args_attached {t = t} {p = p} {list = ts} a) deep e m =
+  attached_complete (args_attached {p = p} {t = t} {ts = ts} a) deep e m =
       rw (one_more p.saved t, lists _ _ _ _ _ _ a (omega arith) e (max m (length (map shape_of p.saved) + 1)), ← shape-with_args t ts)
       (same_read refl refl refl (omega arith) (omega (arith, length-map p.saved shape_of)))
 
@@ -154,43 +155,45 @@ module _ (d : ℕ) (lists : ArgsComplete d) (kinds : TypesComplete d) where
       rw (← shape-plain_text (codes "std"))
       (met_then _ (unqualified_met a (omega arith) e m) (attached_as_longer b)
       (met (attached_complete b (omega arith) (e + c.count) (max m c.peak) ∙ same_read refl refl refl (omega arith) (omega arith))))
-  unscoped_met (substitution_name {t = t} {list = ts} a case b) deep e m =
-      met (rw (substitution_complete a e m, case, lists _ _ _ _ _ _ b deep e m, ← shape-with_args t ts) refl)
+  unscoped_met (substitution_name {p = p} {t = t} {ts = ts} a case b) deep e m =
+      met (rw (substitution_complete p a e m, case, lists _ _ _ _ _ _ b deep e m, ← shape-with_args t ts) refl)
   unscoped_met (global_name {c = c} a b) deep e m =
       met_then _ (unqualified_met a (omega arith) e m) (attached_as_longer b)
       (met (attached_complete b (omega arith) (e + c.count) (max m c.peak) ∙ same_read refl refl refl (omega arith) (omega arith)))
 
-  mutual
-    unfolding loop segment_turn
+  -- the segments after what stands, in n turns
+  abbrev SegmentsMet : ℕ → Type 0
+  SegmentsMet n = (x : Context) (takes : Bool) (t u : Tree) (p q : Position) (c : Cost) → SegmentsAs (segment_case p.rest) takes x t p u q c → Small d c → (e m : ℕ) → length p.rest < n
+      → Met text_len (loop (segment_turn (parse_unqualified (parse_type d x) (parse_type d (inside_lambda x)))
+      (parse_args d x true)) n (takes, shape_of t) (state_at p e m)) (reached shape_of u q c e m)
 
-    pub segments_met : {x : Context} {takes : Bool} {t u : Tree} {p q : Position} {c : Cost} → Segments x takes t p u q c → Small d c → (e m n : ℕ) → length p.rest < n
-        → Met text_len (loop (segment_turn (parse_unqualified (parse_type d x) (parse_type d (inside_lambda x)))
-        (parse_args d x true)) n (takes, shape_of t) (state_at p e m)) (reached shape_of u q c e m)
-    segments_met (segments a) deep e m zero room = absurd (omega arith)
-    segments_met (segments a) deep e m (suc n) room = segment_met a deep e m n room
+  segment_met : (n : ℕ) → SegmentsMet n → {case : SegmentCase} {x : Context} {takes : Bool} {t u : Tree} {p q : Position} {c : Cost} → SegmentsAs case takes x t p u q c → Small d c → (e m : ℕ) → length p.rest < suc n
+      → Met text_len (segment_as case (parse_unqualified (parse_type d x) (parse_type d (inside_lambda x)))
+      (parse_args d x true) (takes, shape_of t) (state_at p e m) >>= λ r. after_turn r.0
+      (loop (segment_turn (parse_unqualified (parse_type d x) (parse_type d (inside_lambda x)))
+      (parse_args d x true)) n) r.1) (reached shape_of u q c e m)
+  segment_met n again (end_of_segments {takes = takes} {p = p}) deep e m room = met (same_read refl (taken-map takes p.saved) refl (omega arith) (omega arith))
+  segment_met n again (args_segment {x = x} {p = p} {q = q} {t = t} {ts = ts} {c = c} a b) deep e m room =
+      let attached : attached_by (parse_args d x true) (shape_of t) (state_at p e m) ≡ given shape_of (with_args t (trees ts)) q c e m =
+      rw (lists _ _ _ _ _ _ a (omega arith) e m, ← shape-with_args t ts) refl in
+      let shorter = (args_takes a).shorter in
+      let within = after-le (initializer_after q.rest) in
+      let rest = again _ _ _ _ _ _ _ b (omega arith) (e + c.count) (max (max m c.peak) (length (map shape_of q.saved) + 1)) (omega arith) in
+      met_step _ _ (met attached) (segment_longer b)
+      (rw (one_more q.saved (with_args t (trees ts)))
+      (met_as rest (same_read refl refl refl (omega arith) (omega (arith, length-map q.saved shape_of)))))
+  segment_met n again (name_segment {q = q} {u = u} {c = c} a b) deep e m room =
+      let shorter = (unqualified_takes a).shorter in
+      let within = after-le (initializer_after q.rest) in
+      let rest = again _ _ _ _ _ _ _ b (omega arith) (e + c.count) (max (max m c.peak) (length (map shape_of q.saved) + 1)) (omega arith) in
+      met_step _ _ (unqualified_met a (omega arith) e m) (segment_longer b)
+      (rw (one_more q.saved u)
+      (met_as rest (same_read refl refl refl (omega arith) (omega (arith, length-map q.saved shape_of)))))
 
-    segment_met : {case : SegmentCase} {x : Context} {takes : Bool} {t u : Tree} {p q : Position} {c : Cost} → SegmentsAs case x takes t p u q c → Small d c → (e m n : ℕ) → length p.rest < suc n
-        → Met text_len (segment_as case (parse_unqualified (parse_type d x) (parse_type d (inside_lambda x)))
-        (parse_args d x true) (takes, shape_of t) (state_at p e m) >>= λ r. after_turn r.0
-        (loop (segment_turn (parse_unqualified (parse_type d x) (parse_type d (inside_lambda x)))
-        (parse_args d x true)) n) r.1) (reached shape_of u q c e m)
-    segment_met (end_of_segments {takes = takes} {p = p}) deep e m n room = met (same_read refl (taken-map takes p.saved) refl (omega arith) (omega arith))
-    segment_met (args_segment {x = x} {p = p} {q = q} {t = t} {list = ts} {c = c} a b) deep e m n room =
-        let attached : attached_by (parse_args d x true) (shape_of t) (state_at p e m) ≡ given shape_of (with_args t (trees ts)) q c e m =
-        rw (lists _ _ _ _ _ _ a (omega arith) e m, ← shape-with_args t ts) refl in
-        let shorter = (args_takes a).shorter in
-        let within = after-le (initializer_after q.rest) in
-        let rest = segments_met b (omega arith) (e + c.count) (max (max m c.peak) (length (map shape_of q.saved) + 1)) n (omega arith) in
-        met_step _ _ (met attached) (segments_longer b)
-        (rw (one_more q.saved (with_args t (trees ts)))
-        (met_as rest (same_read refl refl refl (omega arith) (omega (arith, length-map q.saved shape_of)))))
-    segment_met (name_segment {q = q} {u = u} {c = c} a b) deep e m n room =
-        let shorter = (unqualified_takes a).shorter in
-        let within = after-le (initializer_after q.rest) in
-        let rest = segments_met b (omega arith) (e + c.count) (max (max m c.peak) (length (map shape_of q.saved) + 1)) n (omega arith) in
-        met_step _ _ (unqualified_met a (omega arith) e m) (segments_longer b)
-        (rw (one_more q.saved u)
-        (met_as rest (same_read refl refl refl (omega arith) (omega (arith, length-map q.saved shape_of)))))
+  pub segments_met : (n : ℕ) → SegmentsMet n
+  unfolding loop segment_turn
+  segments_met zero x takes t u p q c a deep e m room = absurd (omega arith)
+  segments_met (suc n) x takes t u p q c a deep e m room = segment_met n (segments_met n) a deep e m room
 
   nested_met : {x : Context} {p q : Position} {t : Tree} {c : Cost} → Nested x p t q c → Small d c → (e m : ℕ)
       → Met bare_len (parse_nested (parse_unqualified (parse_type d x) (parse_type d (inside_lambda x))) (parse_args d x true) x (state_at p e m)) (reached bare_of t q c e m)
@@ -198,9 +201,9 @@ module _ (d : ℕ) (lists : ArgsComplete d) (kinds : TypesComplete d) where
   nested_met (nested {x = x} {p = p} {q = q} {u = u} {c = c} a b) deep e m =
       let bare = bare-nested_of u (name_quals p.rest) x.shown in
       let same_len = ap text_len bare in
-      let longer = segments_longer b in
+      let longer = segment_longer b in
       met_then _ (first_met a (omega arith) e m) (omega arith)
-      (met_then _ (segments_met b (omega arith) (e + c.count) (max m c.peak) (length (past_initializer q).rest + 1) (omega arith)) (omega arith)
+      (met_then _ (segments_met (length (past_initializer q).rest + 1) _ _ _ _ _ _ _ b (omega arith) (e + c.count) (max m c.peak) (omega arith)) (omega arith)
       (met (same_read (ap (λ s. (s, name_quals p.rest)) (sym bare)) refl refl (omega arith) (omega arith))))
 
 -- the return type of an encoding
@@ -283,10 +286,10 @@ module _ (d : ℕ) (kinds : TypesComplete d) (bares : BareNamesComplete d) (thun
       )
       (met_as (signature_met d kinds g (omega arith) (e + c.count + f.count) (max (max m c.peak) f.peak)) (same_read refl refl refl (omega arith) (omega arith)))
 
-  pub encoding_met : {x : Context} {p q : Position} {t : Tree} {c : Cost} → Encoding x p t q c → Small d c → (e m : ℕ)
+  pub encoding_met : {x : Context} {p q : Position} {t : Tree} {c : Cost} → EncodingAs (symbol_case p.rest) x p t q c → Small d c → (e m : ℕ)
       → Met text_len (parse_encoding d x (state_at p e m)) (reached shape_of t q c e m)
   unfolding parse_encoding
-  encoding_met (encoding a) deep e m = encoding_as_met a deep e m
+  encoding_met a deep e m = encoding_as_met a deep e m
 
   entity_complete : {case : EntityCase} {x : Context} {t u : Tree} {p q : Position} {c : Cost} → EntityAs case true x t p u q c → Small d c → (e m : ℕ)
       → entity_as case (parse_bare_name d x) (shape_of t) (state_at p e m) ≡ given bare_of u q c e m

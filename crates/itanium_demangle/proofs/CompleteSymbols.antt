@@ -2,7 +2,7 @@
 use Rattle.std.proofs.Common.{◌≡◌, ℕ, zero, suc, arith}
 use Rattle.itanium_syntax.specs.declared.context.Context.{Context}
 use Rattle.itanium_grammar.specs.Tree.{Tree, shape_of}
-use Rattle.itanium_grammar.specs.Grammar.{Position, Cost, Symbol, name, args, pack, type, expression, thunk, symbol}
+use Rattle.itanium_grammar.specs.Grammar.{Position, Cost, Symbol, name, args, pack, type, expression, thunk}
 use Rattle.itanium_reader.specs.Parser.{parse_symbol}
 use Rattle.itanium_demangle.specs.Meaning.{state_at}
 use Rattle.itanium_demangle.proofs.Readings.{Small, given, BareNamesComplete, ArgsComplete, PacksComplete, TypesComplete, ExpressionsComplete, ThunksComplete}
@@ -46,5 +46,5 @@ all_complete (suc d) =
 pub symbol_complete : {x : Context} {p q : Position} {t : Tree} {c : Cost} → Symbol x p t q c → (d : ℕ) → Small d c → (e m : ℕ)
     → parse_symbol d x (state_at p e m) ≡ given shape_of t q c e m
 unfolding parse_symbol
-symbol_complete (symbol a) d deep e m =
+symbol_complete a d deep e m =
     let (bares, lists, packs, kinds, values, thunks) = all_complete d in symbol_as_complete d kinds bares thunks a deep e m

@@ -14,7 +14,7 @@ use Rattle.itanium_grammar.specs.Grammar.{expansion_type, vendor_type, array_typ
 use Rattle.itanium_grammar.specs.Grammar.{pointer_type, cv_type, elaborated_type, parameter_type, substitution_type}
 use Rattle.itanium_grammar.specs.Grammar.{name_type, cv_function, cv_other, function, none_attached_to_type}
 use Rattle.itanium_grammar.specs.Grammar.{args_attached_to_type}
-use Rattle.itanium_demangle.specs.Cases.{TypeCase, CvCase, AttachedCase}
+use Rattle.itanium_grammar.specs.Cases.{TypeCase, CvCase, AttachedCase}
 use Rattle.itanium_reader.specs.Parser.{parse_function, cv_as, type_attached_as, type_as, parse_name, parse_args, parse_type}
 use Rattle.itanium_demangle.specs.Meaning.{state_at}
 use Rattle.itanium_demangle.proofs.Shapes.{same_read, one_more, shape-plain_text, shape-with_args, shape-pointer_to}
@@ -29,7 +29,7 @@ use Rattle.itanium_demangle.proofs.Readings.{Small, reached, given, NamesComplet
 module _ (d : ℕ) (kinds : TypesComplete d) where
   pub function_met : {x : Context} {quals : Quals} {p q : Position} {t : Tree} {c : Cost} → Function x quals p t q c → Small d c → (e m : ℕ)
       → Met text_len (parse_function (parse_type d x) quals (state_at p e m)) (reached shape_of t q c e m)
-  function_met (function {quals = quals} {r = r} {t = t} {ts = ts} {c = c} plain a b there) deep e m =
+  function_met (function {r = r} {t = t} {ts = ts} {c = c} {quals = quals} plain a b there) deep e m =
       let all = with_reference quals r.rest in
       let opened = function_opened (shape_of t) in
       let list = listed_each true opened (map shape_of ts) in
@@ -42,12 +42,12 @@ module _ (d : ℕ) (kinds : TypesComplete d) where
   pub cv_met : {case : CvCase} {x : Context} {quals : Quals} {p q : Position} {t : Tree} {c : Cost} → CvAs case x quals p t q c → Small d c → (e m : ℕ)
       → Met text_len (cv_as case (parse_type d x) quals (state_at p e m)) (reached shape_of t q c e m)
   cv_met (cv_function a) deep e m = function_met a deep e m
-  cv_met (cv_other {quals = quals} {t = t} a) deep e m = met (rw (kinds _ _ _ _ _ a deep e m, ← shape-cv_of quals t) refl)
+  cv_met (cv_other {t = t} {quals = quals} a) deep e m = met (rw (kinds _ _ _ _ _ a deep e m, ← shape-cv_of quals t) refl)
 
 type_attached_complete : (d : ℕ) → ArgsComplete d → {case : AttachedCase} {x : Context} {t u : Tree} {p q : Position} {c : Cost} → TypeAttachedAs case x t p u q c → Small d c → (e m : ℕ)
     → type_attached_as case (parse_args d x false) (shape_of t) (state_at p e m) ≡ given shape_of u q c e m
 type_attached_complete d lists none_attached_to_type deep e m = same_read refl refl refl (omega arith) (omega arith)
-type_attached_complete d lists (args_attached_to_type {t = t} {q = q} {list = ts} a) deep e m =
+type_attached_complete d lists (args_attached_to_type {q = q} {t = t} {ts = ts} a) deep e m =
     rw (lists _ _ _ _ _ _ a (omega arith) e m, ← shape-with_args t ts)
     (same_read refl (one_more q.saved (with_args t (trees ts))) refl (omega arith) (omega (arith, length-map q.saved shape_of)))
 
@@ -68,7 +68,7 @@ type_as_met d kinds names lists (function_type {q = q} {t = t} a) deep e m =
 type_as_met d kinds names lists (member_type {r = r} {t = t} {u = u} {c = c} a b there) deep e m =
     met (rw (kinds _ _ _ _ _ a (omega arith) e m, kinds _ _ _ _ _ b (omega arith) (e + c.count) (max m c.peak), there, ← shape-member_of t u)
     (same_read refl (one_more r.saved (member_of t u)) refl (omega arith) (omega (arith, length-map r.saved shape_of))))
-type_as_met d kinds names lists (pointer_type {kind = kind} {q = q} {t = t} a) deep e m =
+type_as_met d kinds names lists (pointer_type {q = q} {t = t} {kind = kind} a) deep e m =
     met (rw (kinds _ _ _ _ _ a (omega arith) e m, ← shape-pointer_to kind t)
     (same_read refl (one_more q.saved (pointer_to kind t)) refl (omega arith) (omega (arith, length-map q.saved shape_of))))
 type_as_met d kinds names lists (cv_type {q = q} {t = t} a) deep e m =
@@ -79,8 +79,8 @@ type_as_met d kinds names lists (elaborated_type {p = p} {q = q} {t = t} a) deep
 type_as_met d kinds names lists (parameter_type {q = q} {t = t} a b) deep e m =
     met (rw (parameter_complete a e m, one_more q.saved t, type_attached_complete d lists b (omega arith) e (max m (length (map shape_of q.saved) + 1)))
     (same_read refl refl refl (omega arith) (omega (arith, length-map q.saved shape_of))))
-type_as_met d kinds names lists (substitution_type a b) deep e m =
-    met (rw (substitution_complete a e m, type_attached_complete d lists b deep e m) refl)
+type_as_met d kinds names lists (substitution_type {p = p} a b) deep e m =
+    met (rw (substitution_complete p a e m, type_attached_complete d lists b deep e m) refl)
 type_as_met d kinds names lists (name_type {q = q} {t = t} a) deep e m =
     met (rw (names _ _ _ _ _ a (omega arith) e m) (same_read refl (one_more q.saved t) refl (omega arith) (omega (arith, length-map q.saved shape_of))))
 

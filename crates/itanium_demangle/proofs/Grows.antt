@@ -6,8 +6,9 @@ use Rattle.demangle_text.specs.Shape.{Shape, Form, Plain, Declared, text, text_l
 use Rattle.demangle_text.specs.declared.shape.Place.TheVariants.{End}
 use Rattle.demangle_quals.specs.declared.quals.Quals.{Quals}
 use Rattle.demangle_quals.specs.Quals.{quals_text, words_text, reference_text, has_quals}
-use Rattle.demangle_edit.specs.Lists.{arguments_closed}
-use Rattle.demangle_edit.specs.Names.{qualified, default_arg_opened, default_arg_shape, qualified_ctor, angle_gap, attached, tagged, with_name_qualifiers}
+use Rattle.demangle_edit.specs.Built.{arguments_closed}
+use Rattle.demangle_edit.specs.Built.{default_arg_opened}
+use Rattle.demangle_edit.specs.Names.{qualified, default_arg_shape, qualified_ctor, angle_gap, attached, tagged, with_name_qualifiers}
 use Rattle.demangle_edit.specs.Built.{separator, listed_more, listed_each, params_opened, params_closed, lambda_closed, function_closed}
 
 -- a form with bytes at its end

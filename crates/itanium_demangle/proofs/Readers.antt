@@ -4,13 +4,13 @@ use Rattle.std.proofs.lemmas.Option.{same_Some}
 use Rattle.demangle_text.specs.Shape.{Shape, text_len}
 use Rattle.itanium_syntax.specs.declared.context.Context.{Context}
 use Rattle.itanium_grammar.specs.Tree.{Tree, shape_of}
-use Rattle.itanium_grammar.specs.Grammar.{Position, Cost, Name, Encoding, Thunk, Symbol, Args, Pack, Expression, TypeOf}
-use Rattle.itanium_grammar.proofs.Unambiguous.{Same, one_name, one_encoding, one_special, one_thunk, one_symbol, one_args, one_argument, one_pack, one_literal, one_expression, one_type}
+use Rattle.itanium_grammar.specs.Grammar.{Position, Cost, Name, Thunk, Symbol, Args, Pack, Expression, TypeOf}
+use Rattle.itanium_grammar.proofs.Unambiguous.{Same, one_name, one_encoding_as, one_special, one_thunk, one_symbol_as, one_args, one_argument, one_pack, one_literal, one_expression, one_type}
 use Rattle.itanium_reader.specs.Parser.{ParserState, Parses, parse_bare_name, parse_name, parse_encoding, parse_special}
 use Rattle.itanium_reader.specs.Parser.{parse_thunk, parse_symbol, parse_args, parse_argument, parse_pack}
 use Rattle.itanium_reader.specs.Parser.{parse_primary, parse_expression, parse_type}
 use Rattle.itanium_demangle.specs.Meaning.{state_at}
-use Rattle.itanium_demangle.specs.Readers.{IsParserOf, Narrow, bare_of, shape_of_args, SpecialName, Argument, Primary, LawsOfReaders}
+use Rattle.itanium_demangle.specs.Readers.{Encoding, IsParserOf, Narrow, bare_of, shape_of_args, SpecialName, Argument, Primary, LawsOfReaders}
 use Rattle.itanium_demangle.proofs.Fitting.{met_narrow, met_is}
 use Rattle.itanium_demangle.proofs.Readings.{Small, small, small_fits, IsComplete, IsMet, IsSound, Within, ArgumentsComplete, ArgumentsSound}
 use Rattle.itanium_demangle.proofs.CompleteNames.{names_complete, special_complete, encoding_met}
@@ -86,7 +86,7 @@ encodings d x =
     let (bares, lists, packs, kinds, values, thunks) = all_sound d in
     narrow_parser_of (Encoding x) d (parse_encoding d x)
     (λ p q t c a deep e m. encoding_met d kinds_are bares_are thunks_are a deep e m)
-    (encoding_sound d kinds_are bares_are thunks_are kinds bares thunks x) (λ p q r t u c f a b. one_encoding a b)
+    (encoding_sound d kinds_are bares_are thunks_are kinds bares thunks x) (λ p q r t u c f a b. one_encoding_as a b)
 
 special_names_complete : (d : ℕ) (x : Context) → IsComplete (SpecialName x) shape_of d (parse_special d x)
 special_names_complete d x p q t c a deep e m =
@@ -106,11 +106,11 @@ thunks d x = parser_of (Thunk x) shape_of d (parse_thunk d x) ((all_complete d).
 pub symbols : (d : ℕ) (x : Context) → IsParserOf (Symbol x) (Symbol x) shape_of d (parse_symbol d x)
 symbols d x =
     parser_of (Symbol x) shape_of d (parse_symbol d x)
-    (λ p q t c a deep e m. symbol_complete a d deep e m) (symbol_sound d x) (λ p q r t u c f a b. one_symbol a b)
+    (λ p q t c a deep e m. symbol_complete a d deep e m) (symbol_sound d x) (λ p q r t u c f a b. one_symbol_as a b)
 
-lists : (d : ℕ) (x : Context) (of_name : Bool) → IsParserOf (Args x of_name) (Args x of_name) shape_of_args d (parse_args d x of_name)
+lists : (d : ℕ) (x : Context) (of_name : Bool) → IsParserOf (Args of_name x) (Args of_name x) shape_of_args d (parse_args d x of_name)
 lists d x of_name =
-    parser_of (Args x of_name) shape_of_args d (parse_args d x of_name)
+    parser_of (Args of_name x) shape_of_args d (parse_args d x of_name)
     ((all_complete d).1 x of_name) ((all_sound d).1 x of_name) (λ p q r t u c f a b. one_args a b)
 
 arguments_met : (d : ℕ) → ArgumentsComplete d

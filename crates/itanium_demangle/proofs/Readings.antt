@@ -60,7 +60,7 @@ abbrev pub NamesComplete : ℕ → Type 0
 NamesComplete d = (x : Context) → IsComplete (Name false x) shape_of d (parse_name d x)
 
 abbrev pub ArgsComplete : ℕ → Type 0
-ArgsComplete d = (x : Context) (of_name : Bool) → IsComplete (Args x of_name) shape_of_args d (parse_args d x of_name)
+ArgsComplete d = (x : Context) (of_name : Bool) → IsComplete (Args of_name x) shape_of_args d (parse_args d x of_name)
 
 abbrev pub PacksComplete : ℕ → Type 0
 PacksComplete d = (x : Context) → IsComplete (Pack x) shape_of d (parse_pack d x)
@@ -84,7 +84,7 @@ abbrev pub NamesSound : ℕ → Type 0
 NamesSound d = (x : Context) → IsSound (Name false x) shape_of d (parse_name d x)
 
 abbrev pub ArgsSound : ℕ → Type 0
-ArgsSound d = (x : Context) (of_name : Bool) → IsSound (Args x of_name) shape_of_args d (parse_args d x of_name)
+ArgsSound d = (x : Context) (of_name : Bool) → IsSound (Args of_name x) shape_of_args d (parse_args d x of_name)
 
 abbrev pub PacksSound : ℕ → Type 0
 PacksSound d = (x : Context) → IsSound (Pack x) shape_of d (parse_pack d x)

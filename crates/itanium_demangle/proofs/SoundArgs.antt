@@ -1,24 +1,25 @@
 -- Of template arguments: what the parser reads, the grammar reads.
 use Rattle.std.proofs.Common.{◌≡◌, ◌<◌, ℕ, zero, suc, ◌+◌, max, Bool, true, false, [], ◌∷◌, map, length, ◌∙◌, sym, arith, Some, codes}
 use Rattle.std.proofs.lemmas.Option.{same_Some, option_and_then_some}
-use Rattle.std.proofs.lemmas.List.{length-map}
+use Rattle.std.specs.Prelude.{option_map, List, Option, None, if◌then◌else◌, ◌++◌}
 use Rattle.demangle_text.specs.Shape.{Shape, plain_shape}
 use Rattle.itanium_syntax.specs.declared.context.Context.{Context}
 use Rattle.itanium_syntax.specs.Context.{opens_scope, inside_pack}
 use Rattle.itanium_syntax.specs.Args.{args_case}
 use Rattle.itanium_syntax.proofs.Fronts.{after_drop, after-le}
-use Rattle.itanium_grammar.specs.Tree.{shape_of}
-use Rattle.itanium_grammar.specs.Grammar.{Position, add_argument, begin_list, skip, both, Args, ArgumentsAs, Pack}
+use Rattle.itanium_grammar.specs.Tree.{Tree, shape_of}
+use Rattle.itanium_grammar.specs.Grammar.{Position, within_list, skip, both, Args, ArgumentsAs, Pack}
 use Rattle.itanium_grammar.specs.Grammar.{PackedAs, args, end_of_arguments, one_more_argument, pack, end_of_pack}
 use Rattle.itanium_grammar.specs.Grammar.{one_more_packed}
 use Rattle.itanium_grammar.proofs.Progress.{argument_takes}
-use Rattle.itanium_demangle.specs.Cases.{ArgsCase, EndOfArguments, NextArgument}
+use Rattle.itanium_grammar.proofs.Scopes.{argument_keeps}
+use Rattle.itanium_grammar.specs.Cases.{ArgsCase, EndOfArguments, NextArgument}
 use Rattle.itanium_reader.specs.Parser as parser
 use Rattle.itanium_reader.specs.Parser.{ParserState, Turn, after_turn, loop, parse_loop, add_nowhere, ◌>>=◌}
 use Rattle.itanium_reader.specs.Parser.{parse_argument, parse_primary, parse_encoding, parse_special, parse_name}
 use Rattle.itanium_reader.specs.Parser.{next_item, list_as, list_turn, parse_list, parse_packed, parse_args, parse_pack}
 use Rattle.itanium_demangle.specs.Meaning.{state_at}
-use Rattle.itanium_demangle.proofs.Shapes.{add_argument-scopes, begin_list-scopes}
+use Rattle.itanium_demangle.proofs.Shapes.{IsInside, add_argument-scopes, begin_list-scopes, begin_list-inside, inside_more}
 use Rattle.itanium_demangle.proofs.Fitting.{met_passed, past_fitting}
 use Rattle.itanium_demangle.proofs.Readings.{Within, PacksSound, ArgsSound, ArgumentsComplete, ArgumentsSound}
 use Rattle.itanium_demangle.proofs.CompleteArgs.{list_met, pack_met, args_complete, packs_complete}
@@ -26,8 +27,10 @@ use Rattle.demangle_edit.specs.Built.{listed_more}
 
 -- the arguments after what stands of a list, in n turns
 abbrev TurnsSound : ℕ → ℕ → Type 0
-TurnsSound d n = (x : Context) (o : Bool) (k : ℕ) (first : Bool) (front : Shape) (p : Position) (e m : ℕ) (y : Shape × ParserState) → length p.rest < n
-    → loop (list_turn (parser.add_argument o k) (parse_argument d x)) n (first, front) (state_at p e m) ≡ Some y → Within (ArgumentsAs (args_case p.rest) x o k p) d
+TurnsSound d n = (x : Context) (o : Bool) (k : ℕ) (outer : List (List Tree)) (own : Option (List Tree)) (first : Bool) (front : Shape) (p : Position) (e m : ℕ) (y : Shape × ParserState)
+    → IsInside o k outer own → length p.rest < n
+    → loop (list_turn (parser.add_argument o k) (parse_argument d x)) n (first, front) (state_at (within_list outer own p) e m) ≡ Some y
+    → Within (ArgumentsAs (args_case p.rest) x outer own p) d
 
 -- a pack's arguments after what stands of its list, in n turns
 abbrev PackedSound : ℕ → ℕ → Type 0
@@ -35,21 +38,23 @@ PackedSound d n = (x : Context) (first : Bool) (front : Shape) (p : Position) (e
     → loop (list_turn add_nowhere (parse_argument d x)) n (first, front) (state_at p e m) ≡ Some y → Within (PackedAs (args_case p.rest) x p) d
 
 module _ (d : ℕ) (each : ArgumentsSound d) where
-  arguments_as_sound : (n : ℕ) → TurnsSound d n → (case : ArgsCase) (x : Context) (o : Bool) (k : ℕ) (first : Bool) (front : Shape) (p : Position) (e m : ℕ) (y : Shape × ParserState)
-      → length p.rest < suc n
-      → (list_as case (parser.add_argument o k) (parse_argument d x) (first, front) (state_at p e m)
+  arguments_as_sound : (n : ℕ) → TurnsSound d n → (case : ArgsCase) (x : Context) (o : Bool) (k : ℕ) (outer : List (List Tree)) (own : Option (List Tree)) (first : Bool) (front : Shape) (p : Position) (e m : ℕ) (y : Shape × ParserState)
+      → IsInside o k outer own → length p.rest < suc n
+      → (list_as case (parser.add_argument o k) (parse_argument d x) (first, front) (state_at (within_list outer own p) e m)
       >>= λ r. after_turn r.0 (loop (list_turn (parser.add_argument o k) (parse_argument d x)) n) r.1) ≡ Some y
-      → Within (ArgumentsAs case x o k p) d
-  arguments_as_sound n again EndOfArguments x o k first front p e m y room is = record { tree = _; next = _; cost = _; reading = end_of_arguments; deep = omega arith }
-  arguments_as_sound n again NextArgument x o k first front p e m y room is =
-      option_and_then_some _ (list_as NextArgument (parser.add_argument o k) (parse_argument d x) (first, front) (state_at p e m)) y is (λ v turned rest.
-      option_and_then_some _ (parse_argument d x (state_at p e m)) v turned (λ z arg made.
-      let found = each x p e m z arg in
+      → Within (ArgumentsAs case x outer own p) d
+  arguments_as_sound n again EndOfArguments x o k outer own first front p e m y inside room is = record { tree = _; next = _; cost = _; reading = end_of_arguments; deep = omega arith }
+  arguments_as_sound n again NextArgument x o k outer own first front p e m y inside room is =
+      let here = within_list outer own p in
+      option_and_then_some _ (list_as NextArgument (parser.add_argument o k) (parse_argument d x) (first, front) (state_at here e m)) y is (λ v turned rest.
+      option_and_then_some _ (parse_argument d x (state_at here e m)) v turned (λ z arg made.
+      let found = each x here e m z arg in
       let i = found.within in
       let shorter = (argument_takes i.reading).shorter in
       let stepped = past_fitting (listed_more first front z.0, parser.add_argument o k z.0 z.1) next_item v made in
-      let there = rw (← same_Some _ _ stepped, found.is, add_argument-scopes o k i.tree i.next.scopes) at rest in
-      let r = again x o k false (listed_more first front (shape_of i.tree)) (add_argument o k i.tree i.next) (e + i.cost.count) (max m i.cost.peak) y (omega arith) there in
+      let there = rw (← same_Some _ _ stepped, found.is, add_argument-scopes own i.tree inside (argument_keeps i.reading)) at rest in
+      let args = option_map (λ args. args ++ i.tree ∷ []) own in
+      let r = again x o k outer args false (listed_more first front (shape_of i.tree)) i.next (e + i.cost.count) (max m i.cost.peak) y (inside_more i.tree inside) (omega arith) there in
       record {
         tree = i.tree ∷ r.tree;
         next = r.next;
@@ -60,8 +65,8 @@ module _ (d : ℕ) (each : ArgumentsSound d) where
 
   arguments_sound : (n : ℕ) → TurnsSound d n
   unfolding loop list_turn
-  arguments_sound zero x o k first front p e m y room is = cc
-  arguments_sound (suc n) x o k first front p e m y room is = arguments_as_sound n (arguments_sound n) (args_case p.rest) x o k first front p e m y room is
+  arguments_sound zero x o k outer own first front p e m y inside room is = cc
+  arguments_sound (suc n) x o k outer own first front p e m y inside room is = arguments_as_sound n (arguments_sound n) (args_case p.rest) x o k outer own first front p e m y inside room is
 
   packed_as_sound : (n : ℕ) → PackedSound d n → (case : ArgsCase) (x : Context) (first : Bool) (front : Shape) (p : Position) (e m : ℕ) (y : Shape × ParserState)
       → length p.rest < suc n
@@ -95,15 +100,17 @@ pub args_sound : (d : ℕ) → ArgumentsComplete d → ArgumentsSound d → Args
 unfolding parse_args parse_argument parse_primary parse_encoding parse_special parse_name
 args_sound d each_is each x of_name p e m y is =
     let opens = opens_scope of_name x in
-    let begun = begin_list opens (skip 1 p) in
+    let own : Option (List Tree) = if opens then Some [] else None in
+    let begun = within_list p.scopes own (skip 1 p) in
+    let count = length (map (map shape_of) begun.scopes) in
     let within = after-le (after_drop 1 p.rest) in
     option_and_then_some _ (parse_list (parse_argument d x) opens (state_at p (e + 1) m)) y is (λ u read through.
-    let there = rw (begin_list-scopes opens p.scopes, length-map begun.scopes (map shape_of)) at read in
-    option_and_then_some _ (parse_loop (list_turn (parser.add_argument opens (length begun.scopes)) (parse_argument d x)) (true, plain_shape (codes "<")) (state_at begun (e + 1) m)) u there
+    let there = rw (begin_list-scopes opens p.scopes) at read in
+    option_and_then_some _ (parse_loop (list_turn (parser.add_argument opens count) (parse_argument d x)) (true, plain_shape (codes "<")) (state_at begun (e + 1) m)) u there
     (λ z list _.
-    let r = arguments_sound d each _ x opens (length begun.scopes) true (plain_shape (codes "<")) begun (e + 1) m z (omega arith) list in
-    let narrow = met_passed (list_met d each_is p r.reading r.deep (e + 1) m) read through in
-    let w : Within (Args x of_name p) (suc d) = record { tree = _; next = _; cost = _; reading = args r.reading; deep = omega (arith, r.deep, narrow) } in
+    let r = arguments_sound d each _ x opens count p.scopes own true (plain_shape (codes "<")) (skip 1 p) (e + 1) m z (begin_list-inside opens p.scopes) (omega arith) list in
+    let narrow = met_passed (list_met d each_is opens p r.reading r.deep (e + 1) m) read through in
+    let w : Within (Args of_name x p) (suc d) = record { tree = _; next = _; cost = _; reading = args r.reading; deep = omega (arith, r.deep, narrow) } in
     record { within = w; is = same_Some _ _ (sym is ∙ args_complete d each_is x of_name _ _ _ _ w.reading w.deep e m) }))
 
 pub packs_sound : (d : ℕ) → ArgumentsComplete d → ArgumentsSound d → PacksSound (suc d)

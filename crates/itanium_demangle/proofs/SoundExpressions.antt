@@ -16,12 +16,12 @@ use Rattle.itanium_grammar.specs.Grammar.{address_expression, unary_expression, 
 use Rattle.itanium_grammar.specs.Grammar.{greater_expression, conditional_expression, parameter_expression}
 use Rattle.itanium_grammar.specs.Grammar.{literal_expression, expression_argument, pack_argument, literal_argument}
 use Rattle.itanium_grammar.specs.Grammar.{type_argument}
-use Rattle.itanium_demangle.specs.Cases.{LiteralCase, ExternalName, ValueLiteral, NoLiteral, ExpressionCase}
-use Rattle.itanium_demangle.specs.Cases.{PreExpression, AddressExpression, UnaryExpression, PostExpression}
-use Rattle.itanium_demangle.specs.Cases.{BinaryExpression, GreaterExpression, ConditionalExpression}
-use Rattle.itanium_demangle.specs.Cases.{ParameterExpression, LiteralExpression, NoExpression, ArgumentCase}
-use Rattle.itanium_demangle.specs.Cases.{ExpressionArgument, PackArgument, LiteralArgument, ConstraintArgument}
-use Rattle.itanium_demangle.specs.Cases.{TypeArgument}
+use Rattle.itanium_grammar.specs.Cases.{LiteralCase, ExternalName, ValueLiteral, NoLiteral, ExpressionCase}
+use Rattle.itanium_grammar.specs.Cases.{PreExpression, AddressExpression, UnaryExpression, PostExpression}
+use Rattle.itanium_grammar.specs.Cases.{BinaryExpression, GreaterExpression, ConditionalExpression}
+use Rattle.itanium_grammar.specs.Cases.{ParameterExpression, LiteralExpression, NoExpression, ArgumentCase}
+use Rattle.itanium_grammar.specs.Cases.{ExpressionArgument, PackArgument, LiteralArgument, ConstraintArgument}
+use Rattle.itanium_grammar.specs.Cases.{TypeArgument}
 use Rattle.itanium_reader.specs.Parser.{ParserState, parse_type, parse_name, parse_special, parse_pack, parse_encoding}
 use Rattle.itanium_reader.specs.Parser.{past_end, literal_as, parse_primary, operand_by, expression_as}
 use Rattle.itanium_reader.specs.Parser.{parse_expression, argument_as, parse_argument}

@@ -8,7 +8,7 @@ use Rattle.itanium_syntax.specs.Types.{types_case}
 use Rattle.itanium_grammar.specs.Tree.{shape_of}
 use Rattle.itanium_grammar.specs.Grammar.{Position, ParamsAs, TypesAs, no_params, some_params, end_of_types, one_more_type}
 use Rattle.itanium_grammar.proofs.Progress.{type_takes}
-use Rattle.itanium_demangle.specs.Cases.{ParamsCase, NoParams, SomeParams, TypesCase, EndOfTypes, NextType}
+use Rattle.itanium_grammar.specs.Cases.{ParamsCase, NoParams, SomeParams, TypesCase, EndOfTypes, NextType}
 use Rattle.itanium_reader.specs.Parser.{ParserState, after_turn, loop, ◌>>=◌, next_item, typed_as, typed_turn, typed_params_as, parse_type}
 use Rattle.itanium_demangle.specs.Meaning.{state_at}
 use Rattle.itanium_demangle.proofs.Fitting.{met_is, past_fitting}

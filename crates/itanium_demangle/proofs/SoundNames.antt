@@ -20,30 +20,30 @@ use Rattle.itanium_grammar.specs.Grammar.{saving, SubstitutionAs, Substitution, 
 use Rattle.itanium_grammar.specs.Grammar.{FreeAs, UnqualifiedAs, Unqualified, FirstAs, NameAs, Name, nothing, SpecialAs}
 use Rattle.itanium_grammar.specs.Grammar.{SymbolAs, Thunk, special_encoding, type_special, name_special}
 use Rattle.itanium_grammar.specs.Grammar.{temporary_special, construction_special, thunk_special, thunk, special_symbol}
-use Rattle.itanium_grammar.specs.Grammar.{name_symbol, Local, EntityAs, Encoding, EncodingAs, ReturnAs, SignatureAs}
-use Rattle.itanium_grammar.specs.Grammar.{UnscopedAs, AttachedAs, Nested, Segments, SegmentsAs, Args}
-use Rattle.itanium_grammar.specs.Grammar.{abbreviation_substitution, component_substitution, substitution}
+use Rattle.itanium_grammar.specs.Grammar.{name_symbol, Local, EntityAs, EncodingAs, ReturnAs, SignatureAs}
+use Rattle.itanium_grammar.specs.Grammar.{UnscopedAs, AttachedAs, Nested, SegmentsAs, Args}
+use Rattle.itanium_grammar.specs.Grammar.{abbreviation_substitution, component_substitution}
 use Rattle.itanium_grammar.specs.Grammar.{auto_parameter, scope_parameter, parameter, no_tag, next_tag, source_free}
 use Rattle.itanium_grammar.specs.Grammar.{unnamed_type_free, lambda_free, conversion_free, literal_operator_free}
 use Rattle.itanium_grammar.specs.Grammar.{operator_free, constructor_unqualified, destructor_unqualified}
 use Rattle.itanium_grammar.specs.Grammar.{free_unqualified, unqualified, parameter_first, std_first, substitution_first}
 use Rattle.itanium_grammar.specs.Grammar.{name_first, name, nested_name, local_name, local, string_literal_entity}
-use Rattle.itanium_grammar.specs.Grammar.{default_argument_entity, name_entity, encoding, name_encoding, no_return_type}
+use Rattle.itanium_grammar.specs.Grammar.{default_argument_entity, name_entity, name_encoding, no_return_type}
 use Rattle.itanium_grammar.specs.Grammar.{some_return_type, no_signature, some_signature, unscoped_name, std_name}
 use Rattle.itanium_grammar.specs.Grammar.{substitution_name, global_name, none_attached, args_attached, nested}
-use Rattle.itanium_grammar.specs.Grammar.{segments, end_of_segments, args_segment, name_segment}
+use Rattle.itanium_grammar.specs.Grammar.{end_of_segments, args_segment, name_segment}
 use Rattle.itanium_grammar.proofs.Progress.{unqualified_takes, args_takes}
-use Rattle.itanium_demangle.specs.Cases.{SymbolCase, SpecialSymbol, NameSymbol, SpecialCase, TypeSpecial, NameSpecial}
-use Rattle.itanium_demangle.specs.Cases.{TemporarySpecial, ConstructionSpecial, ThunkSpecial, NoSpecial, ReturnCase}
-use Rattle.itanium_demangle.specs.Cases.{NoReturnType, SomeReturnType, SignatureCase, NoSignature, SomeSignature}
-use Rattle.itanium_demangle.specs.Cases.{EntityCase, StringLiteralEntity, DefaultArgumentEntity, NameEntity, NoEntity}
-use Rattle.itanium_demangle.specs.Cases.{SubstitutionCase, AbbreviationSubstitution, ComponentSubstitution, TagCase}
-use Rattle.itanium_demangle.specs.Cases.{NoTag, NextTag, UnqualifiedCase, ConstructorName, DestructorName, FreeName}
-use Rattle.itanium_demangle.specs.Cases.{FreeCase, SourceName, UnnamedTypeName, LambdaName, ConversionName}
-use Rattle.itanium_demangle.specs.Cases.{LiteralOperatorName, OperatorName, NoName, FirstCase, ParameterFirst, StdFirst}
-use Rattle.itanium_demangle.specs.Cases.{SubstitutionFirst, NameFirst, NameCase, NestedName, LocalName, UnscopedName}
-use Rattle.itanium_demangle.specs.Cases.{UnscopedCase, StdName, SubstitutionName, PlainName, AttachedCase, NoneAttached}
-use Rattle.itanium_demangle.specs.Cases.{ArgsAttached, SegmentCase, EndOfSegments, ArgsSegment, NameSegment}
+use Rattle.itanium_grammar.specs.Cases.{SymbolCase, SpecialSymbol, NameSymbol, SpecialCase, TypeSpecial, NameSpecial}
+use Rattle.itanium_grammar.specs.Cases.{TemporarySpecial, ConstructionSpecial, ThunkSpecial, NoSpecial, ReturnCase}
+use Rattle.itanium_grammar.specs.Cases.{NoReturnType, SomeReturnType, SignatureCase, NoSignature, SomeSignature}
+use Rattle.itanium_grammar.specs.Cases.{EntityCase, StringLiteralEntity, DefaultArgumentEntity, NameEntity, NoEntity}
+use Rattle.itanium_grammar.specs.Cases.{SubstitutionCase, AbbreviationSubstitution, ComponentSubstitution, TagCase}
+use Rattle.itanium_grammar.specs.Cases.{NoTag, NextTag, UnqualifiedCase, ConstructorName, DestructorName, FreeName}
+use Rattle.itanium_grammar.specs.Cases.{FreeCase, SourceName, UnnamedTypeName, LambdaName, ConversionName}
+use Rattle.itanium_grammar.specs.Cases.{LiteralOperatorName, OperatorName, NoName, FirstCase, ParameterFirst, StdFirst}
+use Rattle.itanium_grammar.specs.Cases.{SubstitutionFirst, NameFirst, NameCase, NestedName, LocalName, UnscopedName}
+use Rattle.itanium_grammar.specs.Cases.{UnscopedCase, StdName, SubstitutionName, PlainName, AttachedCase, NoneAttached}
+use Rattle.itanium_grammar.specs.Cases.{ArgsAttached, SegmentCase, EndOfSegments, ArgsSegment, NameSegment}
 use Rattle.itanium_reader.specs.Parser.{ParserState, after_turn, loop, ◌>>=◌, next_segment, substitution_as}
 use Rattle.itanium_reader.specs.Parser.{parse_substitution, parameter_as, parse_parameter, tag_as, tag_turn, parse_tags}
 use Rattle.itanium_reader.specs.Parser.{typed_params_as, free_as, parse_free, ctor_dtor_as, unqualified_as}
@@ -67,7 +67,8 @@ use Rattle.itanium_demangle.proofs.CompleteNames.{bare_names_complete, names_com
 use Rattle.itanium_syntax.specs.Types.{params_case}
 use Rattle.itanium_syntax.specs.Operators.{operator_here}
 use Rattle.itanium_syntax.specs.Context.{inside_lambda, inside_local, inside_encoding}
-use Rattle.itanium_syntax.specs.Encodings.{return_case, signature_case, entity_case, shows_words}
+use Rattle.itanium_syntax.specs.Encodings.{return_case, signature_case, entity_case}
+use Rattle.itanium_reader.specs.Parser.{shows_words}
 use Rattle.demangle_quals.specs.declared.quals.Quals.{Quals}
 use Rattle.demangle_edit.specs.Built.{params_opened}
 use Rattle.demangle_edit.specs.Names.{with_name_qualifiers}
@@ -109,8 +110,8 @@ pub substitution_sound : (p : Position) (e m : ℕ) (y : Shape × ParserState) �
 unfolding parse_substitution
 substitution_sound p e m y is =
     let s = substitution_as_sound (substitution_case (drop 1 p.rest)) (skip 1 p) e m y is in
-    let r : Substitution p s.tree s.next = substitution s.reading in
-    record { tree = s.tree; next = s.next; reading = r; is = same_Some _ _ (sym is ∙ substitution_complete r e m) }
+    let r : Substitution p s.tree s.next = s.reading in
+    record { tree = s.tree; next = s.next; reading = r; is = same_Some _ _ (sym is ∙ substitution_complete p r e m) }
 
 record Named (lambda : Bool) (i : ℕ) (p : Position) : Type 0 where
   tree : Tree
@@ -251,7 +252,7 @@ module _ (d : ℕ) (complete : TypesComplete d) (lists_are : ArgsComplete d) (ki
 
 -- a list of arguments after a tree, and the answer y is what the tree with them gives
 pub record Attached (x : Context) (of_name : Bool) (name : Tree) (p : Position) (d e m : ℕ) (y : Shape × ParserState) : Type 0 where
-  pub within : Within (Args x of_name p) d
+  pub within : Within (Args of_name x p) d
   pub is : y ≡ (shape_of (with_args name (trees within.tree)), state_at within.next (e + within.cost.count) (max m within.cost.peak))
 
 pub attached_sound : (d : ℕ) → ArgsSound d → (x : Context) (of_name : Bool) (name : Tree) (p : Position) (e m : ℕ) (y : Shape × ParserState)
@@ -265,7 +266,7 @@ attached_sound d lists x of_name t p e m y is =
 
 record Templated (case : AttachedCase) (x : Context) (t : Tree) (p : Position) (d : ℕ) : Type 0 where
   case_is : case ≡ ArgsAttached
-  within : Within (Args x true p) d
+  within : Within (Args true x p) d
 
 module _ (d : ℕ) (complete : TypesComplete d) (lists_are : ArgsComplete d) (kinds : TypesSound d) (lists : ArgsSound d) where
   attached_as_sound : (case : AttachedCase) (x : Context) (t : Tree) (p : Position) (e m : ℕ) (y : Shape × ParserState)
@@ -304,7 +305,7 @@ module _ (d : ℕ) (complete : TypesComplete d) (lists_are : ArgsComplete d) (ki
 abbrev SegmentsSound : ℕ → ℕ → Type 0
 SegmentsSound d n = (x : Context) (takes : Bool) (t : Tree) (p : Position) (e m : ℕ) (y : Shape × ParserState) → length p.rest < n
     → loop (segment_turn (parse_unqualified (parse_type d x) (parse_type d (inside_lambda x))) (parse_args d x true))
-    n (takes, shape_of t) (state_at p e m) ≡ Some y → Found (Segments x takes t p) shape_of d e m y
+    n (takes, shape_of t) (state_at p e m) ≡ Some y → Found (SegmentsAs (segment_case p.rest) takes x t p) shape_of d e m y
 
 module _ (d : ℕ) (complete : TypesComplete d) (lists_are : ArgsComplete d) (kinds : TypesSound d) (lists : ArgsSound d) where
   segment_sound : (n : ℕ) → SegmentsSound d n → (case : SegmentCase) (x : Context) (takes : Bool) (t : Tree) (p : Position) (e m : ℕ) (y : Shape × ParserState) → length p.rest < suc n
@@ -312,7 +313,7 @@ module _ (d : ℕ) (complete : TypesComplete d) (lists_are : ArgsComplete d) (ki
       (takes, shape_of t) (state_at p e m) >>= λ r. after_turn r.0
       (loop (segment_turn (parse_unqualified (parse_type d x) (parse_type d (inside_lambda x))) (parse_args d x true))
       n) r.1) ≡ Some y
-      → Within (SegmentsAs case x takes t p) d
+      → Within (SegmentsAs case takes x t p) d
   segment_sound n again EndOfSegments x takes t p e m y room is = record { tree = _; next = _; cost = _; reading = end_of_segments; deep = omega arith }
   segment_sound n again ArgsSegment x takes t p e m y room is =
       option_and_then_some _ (attached_by (parse_args d x true) (shape_of t) (state_at p e m) >>= fitting >>= next_segment) y is (λ v turned rest.
@@ -356,9 +357,8 @@ module _ (d : ℕ) (complete : TypesComplete d) (lists_are : ArgsComplete d) (ki
   unfolding loop segment_turn
   segments_sound zero x takes t p e m y room is = cc
   segments_sound (suc n) x takes t p e m y room is =
-      let r = segment_sound n (segments_sound n) (segment_case p.rest) x takes t p e m y room is in
-      let w : Within (Segments x takes t p) d = record { tree = _; next = _; cost = _; reading = segments r.reading; deep = r.deep } in
-      record { within = w; is = met_is (segments_met d lists_are complete w.reading w.deep e m (suc n) room) is }
+      let w = segment_sound n (segments_sound n) (segment_case p.rest) x takes t p e m y room is in
+      record { within = w; is = met_is (segments_met d lists_are complete (suc n) _ _ _ _ _ _ _ w.reading w.deep e m room) is }
 
   nested_sound : (x : Context) (p : Position) (e m : ℕ) (y : (Shape × Quals) × ParserState)
       → parse_nested (parse_unqualified (parse_type d x) (parse_type d (inside_lambda x))) (parse_args d x true) x
@@ -487,11 +487,10 @@ module _ (d : ℕ) (complete : TypesComplete d) (bares_are : BareNamesComplete d
       let s = signature_sound d complete kinds (signature_case r.next.rest) x i.tree r.next (e + i.cost.count + r.cost.count) (max (max m i.cost.peak) r.cost.peak) y (rw r.is at signed) in
       record { tree = _; next = _; cost = _; reading = name_encoding i.reading r.reading s.reading; deep = omega (arith, i.deep, r.deep, s.deep) }))
 
-  pub encoding_sound : (x : Context) (p : Position) (e m : ℕ) (y : Shape × ParserState) → parse_encoding d x (state_at p e m) ≡ Some y → Found (Encoding x p) shape_of d e m y
+  pub encoding_sound : (x : Context) (p : Position) (e m : ℕ) (y : Shape × ParserState) → parse_encoding d x (state_at p e m) ≡ Some y → Found (EncodingAs (symbol_case p.rest) x p) shape_of d e m y
   unfolding parse_encoding
   encoding_sound x p e m y is =
-      let r = encoding_as_sound (symbol_case p.rest) x p e m y is in
-      let w : Within (Encoding x p) d = record { tree = _; next = _; cost = _; reading = encoding r.reading; deep = r.deep } in
+      let w = encoding_as_sound (symbol_case p.rest) x p e m y is in
       record { within = w; is = met_is (encoding_met d complete bares_are thunks_are w.reading w.deep e m) is }
 
   entity_sound : (case : EntityCase) (x : Context) (t : Tree) (p : Position) (e m : ℕ) (y : (Shape × Quals) × ParserState)

@@ -5,10 +5,10 @@ use Rattle.demangle_text.specs.Shape.{Shape}
 use Rattle.itanium_syntax.specs.declared.context.Context.{Context}
 use Rattle.itanium_syntax.specs.Names.{symbol_case}
 use Rattle.itanium_grammar.specs.Tree.{shape_of}
-use Rattle.itanium_grammar.specs.Grammar.{Position, Symbol, symbol}
+use Rattle.itanium_grammar.specs.Grammar.{Position, Symbol}
 use Rattle.itanium_reader.specs.Parser.{ParserState, parse_bare_name, parse_symbol}
 use Rattle.itanium_demangle.specs.Meaning.{state_at}
-use Rattle.itanium_demangle.proofs.Readings.{Within, Found, BareNamesSound, ArgsSound, PacksSound, TypesSound, ExpressionsSound, ThunksSound}
+use Rattle.itanium_demangle.proofs.Readings.{Found, BareNamesSound, ArgsSound, PacksSound, TypesSound, ExpressionsSound, ThunksSound}
 use Rattle.itanium_demangle.proofs.CompleteSymbols.{all_complete, symbol_complete}
 use Rattle.itanium_demangle.proofs.CompleteNames.{names_complete}
 use Rattle.itanium_demangle.proofs.SoundNames.{bare_names_sound, names_sound, thunks_sound, symbol_as_sound}
@@ -39,6 +39,5 @@ unfolding parse_symbol
 symbol_sound d x p e m y is =
     let (bares_are, lists_are, packs_are, kinds_are, values_are, thunks_are) = all_complete d in
     let (bares, lists, packs, kinds, values, thunks) = all_sound d in
-    let r = symbol_as_sound d kinds_are bares_are thunks_are kinds bares thunks (symbol_case p.rest) x p e m y is in
-    let w : Within (Symbol x p) d = record { tree = _; next = _; cost = _; reading = symbol r.reading; deep = r.deep } in
+    let w = symbol_as_sound d kinds_are bares_are thunks_are kinds bares thunks (symbol_case p.rest) x p e m y is in
     record { within = w; is = same_Some _ _ (sym is ∙ symbol_complete w.reading d w.deep e m) }

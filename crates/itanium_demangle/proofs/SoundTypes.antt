@@ -18,11 +18,11 @@ use Rattle.itanium_grammar.specs.Grammar.{TypeAttachedAs, type, builtin_type, ex
 use Rattle.itanium_grammar.specs.Grammar.{function_type, member_type, pointer_type, cv_type, elaborated_type}
 use Rattle.itanium_grammar.specs.Grammar.{parameter_type, substitution_type, name_type, cv_function, cv_other, function}
 use Rattle.itanium_grammar.specs.Grammar.{none_attached_to_type, args_attached_to_type}
-use Rattle.itanium_demangle.specs.Cases.{TypeCase, BuiltinType, ExpansionType, VendorType, ArrayType, FunctionType}
-use Rattle.itanium_demangle.specs.Cases.{MemberType, PointerType, CvType, ElaboratedType, ParameterType}
-use Rattle.itanium_demangle.specs.Cases.{SubstitutionType, UnreadType, NameType, CvCase, CvFunction, CvOther}
-use Rattle.itanium_demangle.specs.Cases.{FunctionCase, ExternFunction, PlainFunction, AttachedCase, NoneAttached}
-use Rattle.itanium_demangle.specs.Cases.{ArgsAttached}
+use Rattle.itanium_grammar.specs.Cases.{TypeCase, BuiltinType, ExpansionType, VendorType, ArrayType, FunctionType}
+use Rattle.itanium_grammar.specs.Cases.{MemberType, PointerType, CvType, ElaboratedType, ParameterType}
+use Rattle.itanium_grammar.specs.Cases.{SubstitutionType, UnreadType, NameType, CvCase, CvFunction, CvOther}
+use Rattle.itanium_grammar.specs.Cases.{FunctionCase, ExternFunction, PlainFunction, AttachedCase, NoneAttached}
+use Rattle.itanium_grammar.specs.Cases.{ArgsAttached}
 use Rattle.itanium_reader.specs.Parser.{ParserState, parse_source, parse_parameter, saved_parameter, parse_substitution}
 use Rattle.itanium_reader.specs.Parser.{attached_by, type_attached_as, typed_params_as, function_as, parse_function}
 use Rattle.itanium_reader.specs.Parser.{cv_as, vendor_as, type_as, parse_name, parse_args, parse_type}

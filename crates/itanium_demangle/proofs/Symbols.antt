@@ -18,7 +18,7 @@ use Rattle.itanium_syntax.proofs.Fronts.{IsAfter, after_then}
 use Rattle.itanium_grammar.specs.Tree.{shape_of, printing}
 use Rattle.itanium_grammar.specs.Grammar.{Position, Cost, Symbol}
 use Rattle.itanium_grammar.specs.Answer.{after_prefix, start, initial, suffix, max_depth, HasAnswer, HasNoAnswer, IsAnswer, HasCounts, HasComponents, HasSaved, HasBounds}
-use Rattle.itanium_grammar.proofs.Progress.{symbol_takes}
+use Rattle.itanium_grammar.proofs.Progress.{symbol_as_takes}
 use Rattle.itanium_reader.specs.declared.reader.Reader.{Reader}
 use Rattle.itanium_reader.specs.declared.stop.Stop.{Stop}
 use Rattle.itanium_reader.specs.declared.stop.Stop.TheVariants.{Unread, Memory}
@@ -154,7 +154,7 @@ pub suffix_utf8 : (symbol inside : List ℕ) (e m : ℕ) (found : Shape) (after 
     → HasReading (Symbol initial (start inside)) shape_of max_depth e m found after → IsUtf8 (suffix after.rest)
 suffix_utf8 symbol inside e m found after utf8 prefix has =
     let same_rest : after.rest ≡ has.next.rest = ap (λ (s : ParserState). s.rest) has.state_is in
-    rw same_rest (suffix_from symbol has.next.rest utf8 (after_then (prefix_after symbol inside prefix) (symbol_takes has.reading).after))
+    rw same_rest (suffix_from symbol has.next.rest utf8 (after_then (prefix_after symbol inside prefix) (symbol_as_takes has.reading).after))
 
 -- the counts of a reading that was found are those of every reading
 pub counted : (symbol inside : List ℕ) (found : Shape) (after : ParserState) → after_prefix symbol ≡ Some inside

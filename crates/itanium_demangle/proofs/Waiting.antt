@@ -6,11 +6,13 @@ use Rattle.demangle_text.specs.declared.shape.Place.TheVariants.{Start}
 use Rattle.demangle_text.specs.Shape.{Shape, Plain, text, flattened, inserted, appended, moved}
 use Rattle.demangle_quals.specs.declared.quals.Quals.{Quals}
 use Rattle.demangle_quals.specs.Quals.{no_quals, has_quals, words_text, reference_text}
-use Rattle.demangle_edit.specs.Names.{qualified, default_arg_opened, default_arg_shape, with_name_qualifiers}
+use Rattle.demangle_edit.specs.Built.{default_arg_opened}
+use Rattle.demangle_edit.specs.Names.{qualified, default_arg_shape, with_name_qualifiers}
 use Rattle.itanium_syntax.specs.declared.context.Context.{Context}
 use Rattle.itanium_syntax.specs.Names.{name_case}
-use Rattle.itanium_syntax.specs.Encodings.{return_case, shows_words}
-use Rattle.itanium_grammar.specs.Tree.{Tree, shape_as, shape_of, bare_shape, own_quals, local_in, nested_of, string_literal_of, default_argument_of}
+use Rattle.itanium_syntax.specs.Encodings.{return_case}
+use Rattle.itanium_reader.specs.Parser.{shows_words}
+use Rattle.itanium_grammar.specs.Tree.{Tree, shape_of, bare_shape, own_quals, local_in, nested_of, string_literal_of, default_argument_of}
 use Rattle.itanium_grammar.specs.Grammar.{Position, Cost, TaggedAs, FreeAs, UnqualifiedAs, Unqualified, UnscopedAs}
 use Rattle.itanium_grammar.specs.Grammar.{AttachedAs, Name, NameAs, EntityAs, no_tag, next_tag, source_free}
 use Rattle.itanium_grammar.specs.Grammar.{unnamed_type_free, lambda_free, conversion_free, literal_operator_free}
@@ -18,7 +20,7 @@ use Rattle.itanium_grammar.specs.Grammar.{operator_free, constructor_unqualified
 use Rattle.itanium_grammar.specs.Grammar.{free_unqualified, unqualified, std_name, substitution_name, global_name}
 use Rattle.itanium_grammar.specs.Grammar.{none_attached, args_attached, name, nested_name, local_name, unscoped_name}
 use Rattle.itanium_grammar.specs.Grammar.{nested, local, string_literal_entity, default_argument_entity, name_entity}
-use Rattle.itanium_demangle.specs.Cases.{NameCase, NestedName, LocalName, UnscopedName, TagCase, FreeCase, UnqualifiedCase, UnscopedCase, AttachedCase, EntityCase}
+use Rattle.itanium_grammar.specs.Cases.{NameCase, NestedName, LocalName, UnscopedName, TagCase, FreeCase, UnqualifiedCase, UnscopedCase, AttachedCase, EntityCase}
 
 -- a name without own qualifiers
 pub record HasNoOwn (t : Tree) : Type 0 where
@@ -26,12 +28,12 @@ pub record HasNoOwn (t : Tree) : Type 0 where
   pub bare : bare_shape t ≡ shape_of t
 
 tagged_none : {case : TagCase} {t u : Tree} {p q : Position} → TaggedAs case t p u q → HasNoOwn t → HasNoOwn u
-unfolding shape_as
+unfolding shape_of
 tagged_none no_tag none = none
 tagged_none (next_tag found tags) none = tagged_none tags (record { quals = refl; bare = refl })
 
 free_none : {case : FreeCase} {x : Context} {p q : Position} {t : Tree} {c : Cost} → FreeAs case x p t q c → HasNoOwn t
-unfolding shape_as
+unfolding shape_of
 free_none (source_free found) = record { quals = refl; bare = refl }
 free_none (unnamed_type_free found) = record { quals = refl; bare = refl }
 free_none (lambda_free a found) = record { quals = refl; bare = refl }
@@ -40,7 +42,7 @@ free_none (literal_operator_free found) = record { quals = refl; bare = refl }
 free_none (operator_free found) = record { quals = refl; bare = refl }
 
 unqualified_as_none : {case : UnqualifiedCase} {x : Context} {parent : Option Tree} {p q : Position} {t : Tree} {c : Cost} → UnqualifiedAs case x parent p t q c → HasNoOwn t
-unfolding shape_as
+unfolding shape_of
 unqualified_as_none (constructor_unqualified tags) = tagged_none tags (record { quals = refl; bare = refl })
 unqualified_as_none (destructor_unqualified tags) = tagged_none tags (record { quals = refl; bare = refl })
 unqualified_as_none (free_unqualified {parent = None} a tags) = tagged_none tags (free_none a)
@@ -50,34 +52,34 @@ unqualified_none : {x : Context} {parent : Option Tree} {p q : Position} {t : Tr
 unqualified_none (unqualified a) = unqualified_as_none a
 
 attached_none : {case : AttachedCase} {x : Context} {t u : Tree} {p q : Position} {c : Cost} → AttachedAs case x t p u q c → HasNoOwn t → HasNoOwn u
-unfolding shape_as
+unfolding shape_of
 attached_none none_attached none = none
 attached_none (args_attached a) none = record { quals = refl; bare = refl }
 
 pub unscoped_none : {case : UnscopedCase} {x : Context} {p q : Position} {t : Tree} {c : Cost} → UnscopedAs case x p t q c → HasNoOwn t
-unfolding shape_as
+unfolding shape_of
 unscoped_none (std_name a b) = attached_none b (unqualified_none a)
 unscoped_none (substitution_name a case b) = record { quals = refl; bare = refl }
 unscoped_none (global_name a b) = attached_none b (unqualified_none a)
 
 pub bare-nested_of : (t : Tree) (quals : Quals) (shown : Bool) → bare_shape (nested_of t quals shown) ≡ shape_of t
-unfolding shape_as
+unfolding shape_of
 bare-nested_of t quals shown = refl
 
 pub bare-string_literal_of : (encoding : Tree)
     → ◌≡◌ {A = Shape × Quals} (appended (codes "::string literal") (shape_of encoding), no_quals)
     (bare_shape (string_literal_of encoding), own_quals (string_literal_of encoding))
-unfolding shape_as
+unfolding shape_of
 bare-string_literal_of encoding = refl
 
 pub bare-default_argument_of : (encoding : Tree) (number : ℕ) (entity : Tree)
     → bare_shape (default_argument_of encoding number entity) ≡ default_arg_shape (shape_of encoding) number
     (bare_shape entity)
-unfolding shape_as
+unfolding shape_of
 bare-default_argument_of encoding number entity = refl
 
 pub bare-local_in : (encoding entity : Tree) → bare_shape (local_in encoding entity) ≡ qualified (shape_of encoding) (bare_shape entity)
-unfolding shape_as
+unfolding shape_of
 bare-local_in encoding entity = refl
 
 -- an entity as a plain text, with a text in front
@@ -115,7 +117,7 @@ shown_inside UnscopedName = refl
 
 -- a name's own qualifiers, applied to what is left without them, give the whole
 mutual
-  unfolding shape_as
+  unfolding shape_of
 
   pub whole_name : {waits : Bool} {x : Context} {p q : Position} {t : Tree} {c : Cost} → Name waits x p t q c
       → with_name_qualifiers (bare_shape t) (own_quals t) (shows_words (name_case p.rest) x.shown) ≡ shape_of t
@@ -134,7 +136,7 @@ mutual
       sym (entity_quals (text (default_arg_opened (shape_of t) k)) (bare_shape u) (own_quals u))
       ∙ ap (λ (b : Bool). default_arg_shape (shape_of t) k (with_name_qualifiers (bare_shape u) (own_quals u) b)) (sym (ap (shows_words (name_case r)) on ∙ shown_inside (name_case r)))
       ∙ ap (default_arg_shape (shape_of t) k) (whole_name a)
-  whole_entity (name_entity {t = t} {u = u} {p = p} a) on =
+  whole_entity (name_entity {p = p} {t = t} {u = u} a) on =
       sym (entity_quals (text (shape_of t) ++ codes "::") (bare_shape u) (own_quals u))
       ∙ ap (λ (b : Bool). qualified (shape_of t) (with_name_qualifiers (bare_shape u) (own_quals u) b))
       (sym (ap (shows_words (name_case (drop 1 p.rest))) on ∙ shown_inside (name_case (drop 1 p.rest))))

@@ -4,12 +4,12 @@ use Rattle.std.proofs.Common.{◌≡◌, ◌≤◌, ℕ, max, Bool, true, false,
 use Rattle.demangle_text.specs.Shape.{text_len}
 use Rattle.itanium_syntax.specs.declared.context.Context.{Context}
 use Rattle.itanium_syntax.specs.Names.{name_case}
-use Rattle.itanium_syntax.specs.Encodings.{shows_words}
+use Rattle.itanium_reader.specs.Parser.{shows_words}
 use Rattle.itanium_grammar.specs.Tree.{Tree, shape_of, bare_shape, own_quals, printing, name_printing}
 use Rattle.itanium_grammar.specs.Grammar.{Position, Cost, both, counted, nothing, Name, NameAs, Local, EntityAs, name}
 use Rattle.itanium_grammar.specs.Grammar.{nested_name, local_name, unscoped_name, local, string_literal_entity}
 use Rattle.itanium_grammar.specs.Grammar.{default_argument_entity, name_entity}
-use Rattle.itanium_demangle.specs.Cases.{NameCase, EntityCase}
+use Rattle.itanium_grammar.specs.Cases.{NameCase, EntityCase}
 use Rattle.itanium_demangle.proofs.Grows.{quals_longer}
 use Rattle.itanium_demangle.proofs.Longer.{default_holds, local_holds}
 use Rattle.itanium_demangle.proofs.Waiting.{whole_name}

@@ -1,5 +1,4 @@
 pub mod Ascii
-pub mod Cases
 pub mod Meaning
 pub mod Readers
 pub mod Demangler

@@ -7,9 +7,10 @@ use Rattle.demangle_quals.specs.declared.quals.Quals.{Quals}
 use Rattle.itanium_syntax.specs.declared.context.Context.{Context}
 use Rattle.itanium_syntax.specs.Args.{argument_case}
 use Rattle.itanium_syntax.specs.Expressions.{literal_case}
+use Rattle.itanium_syntax.specs.Names.{symbol_case}
 use Rattle.itanium_syntax.specs.Specials.{special_case}
 use Rattle.itanium_grammar.specs.Tree.{Tree, shape_of, bare_shape, own_quals, printing}
-use Rattle.itanium_grammar.specs.Grammar.{Position, Cost, Name, Encoding, SpecialAs, Thunk, Symbol, Args, ArgumentAs}
+use Rattle.itanium_grammar.specs.Grammar.{Position, Cost, Name, EncodingAs, SpecialAs, Thunk, Symbol, Args, ArgumentAs}
 use Rattle.itanium_grammar.specs.Grammar.{Pack, LiteralAs, Expression, TypeOf}
 use Rattle.itanium_grammar.specs.Answer.{max_text}
 use Rattle.itanium_reader.specs.Parser.{ParserState, Parses, parse_bare_name, parse_name, parse_encoding, parse_special}
@@ -44,6 +45,10 @@ bare_of t = (bare_shape t, own_quals t)
 -- the shape of a list of arguments
 abbrev pub shape_of_args : List Tree → Shape
 shape_of_args ts = arguments_shape (map shape_of ts)
+
+-- <encoding>, by what it begins with
+abbrev pub Encoding : Context → Position → Tree → Position → Cost → Type 0
+Encoding x p = EncodingAs (symbol_case p.rest) x p
 
 -- <special-name>, by what it begins with
 abbrev pub SpecialName : Context → Position → Tree → Position → Cost → Type 0
@@ -86,7 +91,7 @@ pub record LawsOfReaders : Type 0 where
   -- <template-args>, those of a name or others
   pub lists :
       (depth : ℕ) (x : Context) (of_name : Bool)
-      → IsParserOf (Args x of_name) (Args x of_name) shape_of_args depth (parse_args depth x of_name)
+      → IsParserOf (Args of_name x) (Args of_name x) shape_of_args depth (parse_args depth x of_name)
   -- <template-arg>
   pub arguments :
       (depth : ℕ) (x : Context)

@@ -8,14 +8,14 @@ use Rattle.itanium_grammar.specs.Tree.{Tree, printing}
 use Rattle.itanium_grammar.specs.Grammar.{Position, Cost, Symbol}
 use Rattle.itanium_grammar.specs.Answer.{after_prefix, start, initial, suffix, IsWithin, IsReading, HasAnswer, IsAnswer, HasOneReading}
 use Rattle.itanium_grammar.specs.Laws.{LawsOfReadings, LawsOfAnswers}
-use Rattle.itanium_grammar.proofs.Unambiguous.{one_symbol}
-use Rattle.itanium_grammar.proofs.Progress.{symbol_takes}
+use Rattle.itanium_grammar.proofs.Unambiguous.{one_symbol_as}
+use Rattle.itanium_grammar.proofs.Progress.{symbol_as_takes}
 
 pub one_reading : (symbol : List ℕ) → HasOneReading symbol
 one_reading symbol = record {
   agree = λ t u q r c d a b within other.
       let here : b.inside ≡ a.inside = cc in
-      let same = one_symbol a.reading (subst (λ v. Symbol initial (start v) u r d) here b.reading) in
+      let same = one_symbol_as a.reading (subst (λ v. Symbol initial (start v) u r d) here b.reading) in
       (same.tree, same.next, same.cost);
 }
 
@@ -79,4 +79,4 @@ laws_of_answers = record {
 }
 
 pub laws_of_readings : LawsOfReadings
-laws_of_readings = record { one_reading = one_reading; takes = λ x p q t c reading. (symbol_takes reading).shorter }
+laws_of_readings = record { one_reading = one_reading; takes = λ x p q t c reading. (symbol_as_takes reading).shorter }

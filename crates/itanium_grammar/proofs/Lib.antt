@@ -1,4 +1,5 @@
 pub mod Progress
+pub mod Scopes
 pub mod Unambiguous
 pub mod Widths
 pub mod Agreement

@@ -1,5 +1,5 @@
 -- Each reading takes a front of the bytes, of one byte at least.
-use Rattle.std.proofs.Common.{◌≡◌, ℕ, Bool, List, Option, drop, refl, arith, is_some}
+use Rattle.std.proofs.Common.{◌≡◌, Bool, List, Option, drop, refl, arith, is_some}
 use Rattle.demangle_quals.specs.declared.quals.Quals.{Quals}
 use Rattle.itanium_syntax.specs.declared.context.Context.{Context}
 use Rattle.itanium_syntax.specs.declared.numerals.Radix.TheVariants.{Decimal, Base36}
@@ -26,33 +26,33 @@ use Rattle.itanium_grammar.specs.Grammar.{expression, operand_of, pre_expression
 use Rattle.itanium_grammar.specs.Grammar.{post_expression, binary_expression, greater_expression}
 use Rattle.itanium_grammar.specs.Grammar.{conditional_expression, parameter_expression, literal_expression}
 use Rattle.itanium_grammar.specs.Grammar.{SubstitutionAs, Substitution, Parameter, TaggedAs, UnqualifiedAs, Unqualified}
-use Rattle.itanium_grammar.specs.Grammar.{FirstAs, Name, NameAs, Local, EntityAs, Encoding, EncodingAs, ReturnAs}
-use Rattle.itanium_grammar.specs.Grammar.{SignatureAs, UnscopedAs, AttachedAs, Nested, Segments, SegmentsAs, Args}
+use Rattle.itanium_grammar.specs.Grammar.{FirstAs, Name, NameAs, Local, EntityAs, EncodingAs, ReturnAs}
+use Rattle.itanium_grammar.specs.Grammar.{SignatureAs, UnscopedAs, AttachedAs, Nested, SegmentsAs, Args}
 use Rattle.itanium_grammar.specs.Grammar.{ArgumentsAs, ArgumentAs, TypeOf, TypeAs, CvAs, Function, ParamsAs, TypesAs}
-use Rattle.itanium_grammar.specs.Grammar.{TypeAttachedAs, SymbolAs, Symbol, abbreviation_substitution}
-use Rattle.itanium_grammar.specs.Grammar.{component_substitution, substitution, parameter, no_tag, next_tag}
+use Rattle.itanium_grammar.specs.Grammar.{TypeAttachedAs, SymbolAs, abbreviation_substitution}
+use Rattle.itanium_grammar.specs.Grammar.{component_substitution, parameter, no_tag, next_tag}
 use Rattle.itanium_grammar.specs.Grammar.{source_free, unnamed_type_free, lambda_free, conversion_free}
 use Rattle.itanium_grammar.specs.Grammar.{literal_operator_free, operator_free, FreeAs, free_unqualified}
 use Rattle.itanium_grammar.specs.Grammar.{constructor_unqualified, destructor_unqualified, unqualified, parameter_first}
 use Rattle.itanium_grammar.specs.Grammar.{std_first, substitution_first, name_first, name, nested_name, local_name}
-use Rattle.itanium_grammar.specs.Grammar.{local, string_literal_entity, default_argument_entity, name_entity, encoding}
+use Rattle.itanium_grammar.specs.Grammar.{local, string_literal_entity, default_argument_entity, name_entity}
 use Rattle.itanium_grammar.specs.Grammar.{name_encoding, no_return_type, some_return_type, no_signature, some_signature}
 use Rattle.itanium_grammar.specs.Grammar.{unscoped_name, std_name, substitution_name, global_name, none_attached}
-use Rattle.itanium_grammar.specs.Grammar.{args_attached, nested, segments, end_of_segments, args_segment, name_segment}
+use Rattle.itanium_grammar.specs.Grammar.{args_attached, nested, end_of_segments, args_segment, name_segment}
 use Rattle.itanium_grammar.specs.Grammar.{args, end_of_arguments, one_more_argument, pack_argument, type_argument, Pack}
 use Rattle.itanium_grammar.specs.Grammar.{PackedAs, pack, end_of_pack, one_more_packed, expansion_type, type}
 use Rattle.itanium_grammar.specs.Grammar.{builtin_type, vendor_type, array_type, function_type, member_type}
 use Rattle.itanium_grammar.specs.Grammar.{pointer_type, cv_type, elaborated_type, parameter_type, substitution_type}
 use Rattle.itanium_grammar.specs.Grammar.{name_type, cv_function, cv_other, function, no_params, some_params}
 use Rattle.itanium_grammar.specs.Grammar.{end_of_types, one_more_type, none_attached_to_type, args_attached_to_type}
-use Rattle.itanium_grammar.specs.Grammar.{name_symbol, symbol}
+use Rattle.itanium_grammar.specs.Grammar.{name_symbol}
 
 substitution_as_takes : {case : SubstitutionCase} {p q : Position} {t : Tree} → SubstitutionAs case p t q → Takes q.rest p.rest
 substitution_as_takes (abbreviation_substitution {p = p} known) = abbreviation_takes p.rest _ known
 substitution_as_takes (component_substitution {p = p} {i = i} {rest = r} found there) = index_takes Base36 p.rest (i, r) found
 
-pub substitution_takes : {p q : Position} {t : Tree} → Substitution p t q → Takes q.rest p.rest
-substitution_takes (substitution {p = p} a) = after_takes (after_drop 1 p.rest) (substitution_as_takes a)
+pub substitution_takes : (p : Position) {q : Position} {t : Tree} → Substitution p t q → Takes q.rest p.rest
+substitution_takes p a = after_takes (after_drop 1 p.rest) (substitution_as_takes a)
 
 pub parameter_takes : {x : Context} {p q : Position} {t : Tree} → Parameter x p t q → Takes q.rest p.rest
 parameter_takes (parameter {p = p} {i = i} {rest = r} found there) = after_takes (after_drop 1 p.rest) (index_takes Decimal (drop 1 p.rest) (i, r) found)
@@ -72,7 +72,7 @@ mutual
   name_as_takes (unscoped_name a) = unscoped_takes a
 
   pub local_takes : {waits : Bool} {x : Context} {p q : Position} {t : Tree} {c : Cost} → Local waits x p t q c → Takes q.rest p.rest
-  local_takes (local a b) = takes_then (encoding_takes a) (entity_after b)
+  local_takes (local a b) = takes_then (encoding_as_takes a) (entity_after b)
 
   entity_after : {case : EntityCase} {waits : Bool} {x : Context} {t u : Tree} {p q : Position} {c : Cost} → EntityAs case waits x t p u q c → IsAfter q.rest p.rest
   entity_after (string_literal_entity {p = p}) = after_drop 2 p.rest
@@ -80,10 +80,7 @@ mutual
       after_then (after_drop 2 p.rest) (takes_takes (ordinal_takes (drop 2 p.rest) (n, r) found) (name_takes a)).after
   entity_after (name_entity {p = p} a) = after_then (after_drop 1 p.rest) (name_takes a).after
 
-  pub encoding_takes : {x : Context} {p q : Position} {t : Tree} {c : Cost} → Encoding x p t q c → Takes q.rest p.rest
-  encoding_takes (encoding a) = encoding_as_takes a
-
-  encoding_as_takes : {case : SymbolCase} {x : Context} {p q : Position} {t : Tree} {c : Cost} → EncodingAs case x p t q c → Takes q.rest p.rest
+  pub encoding_as_takes : {case : SymbolCase} {x : Context} {p q : Position} {t : Tree} {c : Cost} → EncodingAs case x p t q c → Takes q.rest p.rest
   encoding_as_takes (special_encoding a) = special_takes a
   encoding_as_takes (name_encoding a b d) = takes_then (name_takes a) (after_then (return_after b) (signature_after d))
 
@@ -100,7 +97,7 @@ mutual
   thunk_takes (thunk {p = p} {offsets = o} {rest = r} found a) =
       after_takes (after_then (after_drop 1 p.rest) (thunk_offsets_after (drop 1 p.rest) (o, r) found)) (symbol_as_takes a)
 
-  symbol_as_takes : {case : SymbolCase} {x : Context} {p q : Position} {t : Tree} {c : Cost} → SymbolAs case x p t q c → Takes q.rest p.rest
+  pub symbol_as_takes : {case : SymbolCase} {x : Context} {p q : Position} {t : Tree} {c : Cost} → SymbolAs case x p t q c → Takes q.rest p.rest
   symbol_as_takes (special_symbol a) = special_takes a
   symbol_as_takes (name_symbol a) = name_takes a
 
@@ -114,7 +111,7 @@ mutual
 
   unscoped_takes : {case : UnscopedCase} {x : Context} {p q : Position} {t : Tree} {c : Cost} → UnscopedAs case x p t q c → Takes q.rest p.rest
   unscoped_takes (std_name {p = p} a b) = takes_then (after_takes (after_drop 2 p.rest) (unqualified_takes a)) (attached_after b)
-  unscoped_takes (substitution_name a form b) = takes_then (substitution_takes a) (args_after b)
+  unscoped_takes (substitution_name {p = p} a form b) = takes_then (substitution_takes p a) (args_after b)
   unscoped_takes (global_name a b) = takes_then (unqualified_takes a) (attached_after b)
 
   attached_after : {case : AttachedCase} {x : Context} {t u : Tree} {p q : Position} {c : Cost} → AttachedAs case x t p u q c → IsAfter q.rest p.rest
@@ -143,29 +140,26 @@ mutual
   pub first_takes : {case : FirstCase} {x : Context} {p q : Position} {t : Tree} {c : Cost} → first_case p.rest ≡ case → FirstAs case x p t q c → Takes q.rest p.rest
   first_takes form (parameter_first a) = parameter_takes a
   first_takes form (std_first {p = p}) = record { after = after_drop 2 p.rest; shorter = std_shorter p.rest form }
-  first_takes form (substitution_first a) = substitution_takes a
+  first_takes form (substitution_first {p = p} a) = substitution_takes p a
   first_takes form (name_first a) = unqualified_takes a
 
   nested_takes : {x : Context} {p q : Position} {t : Tree} {c : Cost} → Nested x p t q c → Takes q.rest p.rest
   nested_takes (nested {p = p} {q = q} a b) =
-      after_takes (quals_after p.rest) (takes_takes (first_takes refl a) (after_takes (initializer_after q.rest) (segments_takes b)))
+      after_takes (quals_after p.rest) (takes_takes (first_takes refl a) (after_takes (initializer_after q.rest) (segment_takes refl b)))
 
-  pub segments_takes : {x : Context} {takes : Bool} {t u : Tree} {p q : Position} {c : Cost} → Segments x takes t p u q c → Takes q.rest p.rest
-  segments_takes (segments a) = segment_takes refl a
-
-  segment_takes : {case : SegmentCase} {x : Context} {takes : Bool} {t u : Tree} {p q : Position} {c : Cost} → segment_case p.rest ≡ case → SegmentsAs case x takes t p u q c → Takes q.rest p.rest
+  pub segment_takes : {case : SegmentCase} {x : Context} {takes : Bool} {t u : Tree} {p q : Position} {c : Cost} → segment_case p.rest ≡ case → SegmentsAs case takes x t p u q c → Takes q.rest p.rest
   segment_takes form (end_of_segments {p = p}) = record { after = after_drop 1 p.rest; shorter = segments_end_shorter p.rest form }
-  segment_takes form (args_segment {q = q} a b) = after_takes (args_after a) (after_takes (initializer_after q.rest) (segments_takes b))
-  segment_takes form (name_segment {q = q} a b) = takes_takes (unqualified_takes a) (after_takes (initializer_after q.rest) (segments_takes b))
+  segment_takes form (args_segment {q = q} a b) = after_takes (args_after a) (after_takes (initializer_after q.rest) (segment_takes refl b))
+  segment_takes form (name_segment {q = q} a b) = takes_takes (unqualified_takes a) (after_takes (initializer_after q.rest) (segment_takes refl b))
 
-  pub args_takes : {x : Context} {of_name : Bool} {p q : Position} {list : List Tree} {c : Cost} → Args x of_name p list q c → Takes q.rest p.rest
+  pub args_takes : {x : Context} {of_name : Bool} {p q : Position} {list : List Tree} {c : Cost} → Args of_name x p list q c → Takes q.rest p.rest
   args_takes (args {p = p} a) = after_takes (after_drop 1 p.rest) (arguments_takes refl a)
 
-  args_after : {x : Context} {of_name : Bool} {p q : Position} {list : List Tree} {c : Cost} → Args x of_name p list q c → IsAfter q.rest p.rest
+  args_after : {x : Context} {of_name : Bool} {p q : Position} {list : List Tree} {c : Cost} → Args of_name x p list q c → IsAfter q.rest p.rest
   args_after (args {p = p} a) = (after_takes (after_drop 1 p.rest) (arguments_takes refl a)).after
 
-  pub arguments_takes : {case : ArgsCase} {x : Context} {o : Bool} {k : ℕ} {p q : Position} {list : List Tree}
-      {c : Cost} → args_case p.rest ≡ case → ArgumentsAs case x o k p list q c → Takes q.rest p.rest
+  pub arguments_takes : {case : ArgsCase} {x : Context} {outer : List (List Tree)} {own : Option (List Tree)} {p q : Position} {list : List Tree}
+      {c : Cost} → args_case p.rest ≡ case → ArgumentsAs case x outer own p list q c → Takes q.rest p.rest
   arguments_takes form (end_of_arguments {p = p}) = record { after = after_drop 1 p.rest; shorter = arguments_end_shorter p.rest form }
   arguments_takes form (one_more_argument a b) = takes_takes (argument_takes a) (arguments_takes refl b)
 
@@ -176,7 +170,7 @@ mutual
   argument_takes (type_argument a) = type_takes a
 
   pub literal_takes : {case : LiteralCase} {x : Context} {p q : Position} {t : Tree} {c : Cost} → LiteralAs case x p t q c → Takes q.rest p.rest
-  literal_takes (external_name {p = p} {q = q} a end) = takes_then (after_takes (after_drop 3 p.rest) (encoding_takes a)) (after_drop 1 q.rest)
+  literal_takes (external_name {p = p} {q = q} a end) = takes_then (after_takes (after_drop 3 p.rest) (encoding_as_takes a)) (after_drop 1 q.rest)
   literal_takes (value_literal {p = p} {q = q} {value = v} {rest = r} a found has) =
       takes_takes (after_takes (after_drop 1 p.rest) (type_takes a)) (literal_value_takes q.rest (v, r) found)
 
@@ -220,7 +214,7 @@ mutual
   type_as_takes form (cv_type {p = p} a) = after_takes (cv_after p.rest) (cv_takes a)
   type_as_takes form (elaborated_type {p = p} a) = after_takes (after_drop 2 p.rest) (name_takes a)
   type_as_takes form (parameter_type a b) = takes_then (parameter_takes a) (type_attached_after b)
-  type_as_takes form (substitution_type a b) = takes_then (substitution_takes a) (type_attached_after b)
+  type_as_takes form (substitution_type {p = p} a b) = takes_then (substitution_takes p a) (type_attached_after b)
   type_as_takes form (name_type a) = name_takes a
 
   cv_takes : {case : CvCase} {x : Context} {quals : Quals} {p q : Position} {t : Tree} {c : Cost} → CvAs case x quals p t q c → Takes q.rest p.rest
@@ -242,6 +236,3 @@ mutual
   type_attached_after : {case : AttachedCase} {x : Context} {t u : Tree} {p q : Position} {c : Cost} → TypeAttachedAs case x t p u q c → IsAfter q.rest p.rest
   type_attached_after (none_attached_to_type {p = p}) = after_none p.rest
   type_attached_after (args_attached_to_type a) = args_after a
-
-pub symbol_takes : {x : Context} {p q : Position} {t : Tree} {c : Cost} → Symbol x p t q c → Takes q.rest p.rest
-symbol_takes (symbol a) = symbol_as_takes a

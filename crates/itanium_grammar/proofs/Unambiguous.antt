@@ -1,5 +1,6 @@
 -- Of one position there is at most one reading.
-use Rattle.std.proofs.Common.{◌≡◌, ℕ, Bool, true, ◌∷◌, List, Option, length, refl, sym, subst, ap, ap₂, ◌∙◌, ◌++◌, drop, codes}
+use Rattle.std.proofs.Common.{◌≡◌, ℕ, Bool, true, ◌∷◌, List, Option, length, refl, sym, subst, ap, ap₂, ◌∙◌, ◌++◌, drop, codes, []}
+use Rattle.std.specs.Prelude.{option_map}
 use Rattle.std.proofs.lemmas.Option.{some_pair_parts, same_Some}
 use Rattle.demangle_quals.specs.declared.quals.Quals.{Quals}
 use Rattle.itanium_syntax.specs.declared.context.Context.{Context}
@@ -7,7 +8,7 @@ use Rattle.itanium_grammar.specs.Cases.{SymbolCase, SpecialCase, LiteralCase, Ex
 use Rattle.itanium_grammar.specs.Cases.{SignatureCase, EntityCase, UnscopedCase, AttachedCase, FirstCase, SegmentCase}
 use Rattle.itanium_grammar.specs.Cases.{UnqualifiedCase, FreeCase, TagCase, SubstitutionCase, ArgsCase, ArgumentCase}
 use Rattle.itanium_grammar.specs.Cases.{TypeCase, CvCase, ParamsCase, TypesCase}
-use Rattle.itanium_syntax.specs.Names.{symbol_case, source_text, tag_case, past_name_quals, name_quals, saves_first, first_case}
+use Rattle.itanium_syntax.specs.Names.{segment_case, symbol_case, source_text, tag_case, past_name_quals, name_quals, saves_first, first_case}
 use Rattle.itanium_syntax.specs.Scalars.{ordinal, index_of}
 use Rattle.itanium_syntax.specs.declared.numerals.Radix.TheVariants.{Base36}
 use Rattle.itanium_syntax.specs.Context.{inside_local}
@@ -31,28 +32,28 @@ use Rattle.itanium_grammar.specs.Grammar.{expression_argument, literal_argument,
 use Rattle.itanium_grammar.specs.Grammar.{expression, operand_of, pre_expression, address_expression, unary_expression}
 use Rattle.itanium_grammar.specs.Grammar.{post_expression, binary_expression, greater_expression}
 use Rattle.itanium_grammar.specs.Grammar.{conditional_expression, parameter_expression, literal_expression, with_rest}
-use Rattle.itanium_grammar.specs.Grammar.{skip, counted, saving, save, add_argument, past_initializer, both}
-use Rattle.itanium_grammar.specs.Grammar.{SubstitutionAs, Substitution, ParameterAs, Parameter, TaggedAs, UnqualifiedAs}
-use Rattle.itanium_grammar.specs.Grammar.{Unqualified, FirstAs, Name, NameAs, Local, EntityAs, Encoding, EncodingAs}
-use Rattle.itanium_grammar.specs.Grammar.{ReturnAs, SignatureAs, UnscopedAs, AttachedAs, Nested, Segments, SegmentsAs}
+use Rattle.itanium_grammar.specs.Grammar.{skip, counted, saving, save, past_initializer, both}
+use Rattle.itanium_grammar.specs.Grammar.{SubstitutionAs, ParameterAs, Parameter, TaggedAs, UnqualifiedAs}
+use Rattle.itanium_grammar.specs.Grammar.{Unqualified, FirstAs, Name, NameAs, Local, EntityAs, EncodingAs}
+use Rattle.itanium_grammar.specs.Grammar.{ReturnAs, SignatureAs, UnscopedAs, AttachedAs, Nested, SegmentsAs}
 use Rattle.itanium_grammar.specs.Grammar.{Args, ArgumentsAs, ArgumentAs, TypeOf, TypeAs, CvAs, Function, ParamsAs}
-use Rattle.itanium_grammar.specs.Grammar.{TypesAs, TypeAttachedAs, SymbolAs, Symbol, abbreviation_substitution}
-use Rattle.itanium_grammar.specs.Grammar.{component_substitution, substitution, auto_parameter, scope_parameter}
+use Rattle.itanium_grammar.specs.Grammar.{TypesAs, TypeAttachedAs, SymbolAs, abbreviation_substitution}
+use Rattle.itanium_grammar.specs.Grammar.{component_substitution, auto_parameter, scope_parameter}
 use Rattle.itanium_grammar.specs.Grammar.{parameter, no_tag, next_tag, source_free, unnamed_type_free, lambda_free}
 use Rattle.itanium_grammar.specs.Grammar.{conversion_free, literal_operator_free, operator_free, FreeAs}
 use Rattle.itanium_grammar.specs.Grammar.{free_unqualified, nothing, constructor_unqualified, destructor_unqualified}
 use Rattle.itanium_grammar.specs.Grammar.{unqualified, parameter_first, std_first, substitution_first, name_first, name}
 use Rattle.itanium_grammar.specs.Grammar.{nested_name, local_name, local, string_literal_entity}
-use Rattle.itanium_grammar.specs.Grammar.{default_argument_entity, name_entity, encoding, name_encoding, no_return_type}
+use Rattle.itanium_grammar.specs.Grammar.{default_argument_entity, name_entity, name_encoding, no_return_type}
 use Rattle.itanium_grammar.specs.Grammar.{some_return_type, no_signature, some_signature, unscoped_name, std_name}
 use Rattle.itanium_grammar.specs.Grammar.{substitution_name, global_name, none_attached, args_attached, nested}
-use Rattle.itanium_grammar.specs.Grammar.{segments, end_of_segments, args_segment, name_segment, args, end_of_arguments}
+use Rattle.itanium_grammar.specs.Grammar.{end_of_segments, args_segment, name_segment, args, end_of_arguments}
 use Rattle.itanium_grammar.specs.Grammar.{one_more_argument, pack_argument, type_argument, Pack, PackedAs, pack}
 use Rattle.itanium_grammar.specs.Grammar.{end_of_pack, one_more_packed, expansion_type, type, builtin_type, vendor_type}
 use Rattle.itanium_grammar.specs.Grammar.{array_type, function_type, member_type, pointer_type, cv_type}
 use Rattle.itanium_grammar.specs.Grammar.{elaborated_type, parameter_type, substitution_type, name_type, cv_function}
 use Rattle.itanium_grammar.specs.Grammar.{cv_other, function, no_params, some_params, end_of_types, one_more_type}
-use Rattle.itanium_grammar.specs.Grammar.{none_attached_to_type, args_attached_to_type, name_symbol, symbol}
+use Rattle.itanium_grammar.specs.Grammar.{none_attached_to_type, args_attached_to_type, name_symbol}
 
 -- two readings have the same tree, the same position after them and the same cost
 pub record Same {T : Type 0} (t u : T) (q r : Position) (c d : Cost) : Type 0 where
@@ -97,9 +98,6 @@ one_substitution_as : {case : SubstitutionCase} {p q r : Position} {t u : Tree} 
 one_substitution_as (abbreviation_substitution e) (abbreviation_substitution g) = (ap abbreviation (same_Some _ _ (sym e ∙ g)), refl)
 one_substitution_as (component_substitution e f) (component_substitution g h) = let found = some_pair_parts _ _ _ _ (sym e ∙ g) in (cc, cc)
 
-pub one_substitution : {p q r : Position} {t u : Tree} → Substitution p t q → Substitution p u r → (t ≡ u) × (q ≡ r)
-one_substitution (substitution a) (substitution b) = one_substitution_as a b
-
 one_parameter_as : {lambda : Bool} {i : ℕ} {p : Position} {t u : Tree} → ParameterAs lambda i p t → ParameterAs lambda i p u → t ≡ u
 one_parameter_as auto_parameter auto_parameter = refl
 one_parameter_as (scope_parameter e) (scope_parameter g) = same_Some _ _ (sym e ∙ g)
@@ -111,7 +109,7 @@ one_parameter (parameter {x = x} {p = p} e a) (parameter {t = u} g b) =
 
 one_tagged : {case : TagCase} {t u v : Tree} {p q r : Position} → TaggedAs case t p u q → TaggedAs case t p v r → (u ≡ v) × (q ≡ r)
 one_tagged no_tag no_tag = (refl, refl)
-one_tagged (next_tag {t = t} {p = p} e a) (next_tag {u = u} {q = r} g b) =
+one_tagged (next_tag {p = p} {t = t} e a) (next_tag {q = r} {u = u} g b) =
     let found = some_pair_parts _ _ _ _ (sym g ∙ e) in
     one_tagged a (along (λ s v. TaggedAs (tag_case v) (tagged_with t (source_text s)) (with_rest v p) u r) found.0 found.1 b)
 
@@ -131,23 +129,20 @@ mutual
 
   one_local : {waits : Bool} {x : Context} {p q r : Position} {t u : Tree} {c d : Cost} → Local waits x p t q c → Local waits x p u r d → Same t u q r c d
   one_local (local {waits = waits} {x = x} a b) (local {r = r} {u = v} {d = d} f h) =
-      let first = one_encoding a f in
+      let first = one_encoding_as a f in
       let same = one_entity b (along (λ s o. EntityAs (entity_case o.rest) waits (inside_local x) s o v r d) (sym first.tree) (sym first.next) h) in
       record { tree = same.tree; next = same.next; cost = ap₂ both first.cost same.cost }
 
   one_entity : {case : EntityCase} {waits : Bool} {x : Context} {t u v : Tree} {p q r : Position} {c d : Cost}
       → EntityAs case waits x t p u q c → EntityAs case waits x t p v r d → Same u v q r c d
   one_entity string_literal_entity string_literal_entity = record { tree = refl; next = refl; cost = refl }
-  one_entity (default_argument_entity {waits = waits} {x = x} {t = t} {p = p} e a) (default_argument_entity {u = v} {q = r} {c = d} g b) =
+  one_entity (default_argument_entity {waits = waits} {x = x} {p = p} {t = t} e a) (default_argument_entity {q = r} {u = v} {c = d} g b) =
       let found = some_pair_parts _ _ _ _ (sym g ∙ e) in
       let same = one_name a (subst (λ o. Name waits x (with_rest o p) v r d) found.1 b) in
       record { tree = ap₂ (default_argument_of t) (sym found.0) same.tree; next = same.next; cost = same.cost }
   one_entity (name_entity {t = t} a) (name_entity b) = same_made (local_in t) (one_name a b)
 
-  pub one_encoding : {x : Context} {p q r : Position} {t u : Tree} {c d : Cost} → Encoding x p t q c → Encoding x p u r d → Same t u q r c d
-  one_encoding (encoding a) (encoding b) = one_encoding_as a b
-
-  one_encoding_as : {case : SymbolCase} {x : Context} {p q r : Position} {t u : Tree} {c d : Cost} → EncodingAs case x p t q c → EncodingAs case x p u r d
+  pub one_encoding_as : {case : SymbolCase} {x : Context} {p q r : Position} {t u : Tree} {c d : Cost} → EncodingAs case x p t q c → EncodingAs case x p u r d
       → Same t u q r c d
   one_encoding_as (special_encoding a) (special_encoding b) = one_special a b
   one_encoding_as (name_encoding {x = x} a b g) (name_encoding {r = r} {s = s} {u = u} {d = d} {e = e} f h k) =
@@ -177,7 +172,7 @@ mutual
       let same = one_symbol_as a (subst (λ v. SymbolAs (symbol_case v) x (with_rest v p) u r d) found.1 b) in
       same_counted printing (record { tree = ap₂ thunk_of (sym found.0) same.tree; next = same.next; cost = same.cost })
 
-  one_symbol_as : {case : SymbolCase} {x : Context} {p q r : Position} {t u : Tree} {c d : Cost}
+  pub one_symbol_as : {case : SymbolCase} {x : Context} {p q r : Position} {t u : Tree} {c d : Cost}
       → SymbolAs case x p t q c → SymbolAs case x p u r d → Same t u q r c d
   one_symbol_as (special_symbol a) (special_symbol b) = one_special a b
   one_symbol_as (name_symbol a) (name_symbol b) = one_name a b
@@ -198,9 +193,9 @@ mutual
       let first = one_unqualified a f in
       let same = one_attached b (along (λ s o. AttachedAs (attached_case o.rest) x s o v r d) (sym first.tree) (sym first.next) h) in
       record { tree = same.tree; next = same.next; cost = ap₂ both first.cost same.cost }
-  one_unscoped (substitution_name {x = x} a e b) (substitution_name {r = r} {list = us} {c = d} f g h) =
-      let first = one_substitution a f in
-      let same = one_args b (subst (λ o. Args x true o us r d) (sym first.1) h) in
+  one_unscoped (substitution_name {x = x} a e b) (substitution_name {r = r} {ts = us} {c = d} f g h) =
+      let first = one_substitution_as a f in
+      let same = one_args b (subst (λ o. Args true x o us r d) (sym first.1) h) in
       record { tree = ap₂ (λ n ts. with_args n (trees ts)) first.0 same.tree; next = same.next; cost = same.cost }
   one_unscoped (global_name {x = x} a b) (global_name {r = r} {u = v} {d = d} f h) =
       let first = one_unqualified a f in
@@ -210,7 +205,7 @@ mutual
   one_attached : {case : AttachedCase} {x : Context} {t u v : Tree} {p q r : Position} {c d : Cost}
       → AttachedAs case x t p u q c → AttachedAs case x t p v r d → Same u v q r c d
   one_attached none_attached none_attached = record { tree = refl; next = refl; cost = refl }
-  one_attached (args_attached {t = t} {p = p} a) (args_attached b) =
+  one_attached (args_attached {p = p} {t = t} a) (args_attached b) =
       let same = one_args a b in
       record { tree = ap (λ ts. with_args t (trees ts)) same.tree; next = same.next; cost = ap (both (saving p)) same.cost }
 
@@ -250,47 +245,43 @@ mutual
   one_first (parameter_first a) (parameter_first b) =
       let same = one_parameter a b in record { tree = same.0; next = ap₂ save same.0 same.1; cost = ap saving same.1 }
   one_first std_first std_first = record { tree = refl; next = refl; cost = refl }
-  one_first (substitution_first a) (substitution_first b) = let same = one_substitution a b in record { tree = same.0; next = same.1; cost = refl }
+  one_first (substitution_first a) (substitution_first b) = let same = one_substitution_as a b in record { tree = same.0; next = same.1; cost = refl }
   one_first (name_first a) (name_first b) = same_saved (one_unqualified a b)
 
   one_nested : {x : Context} {p q r : Position} {t u : Tree} {c d : Cost} → Nested x p t q c → Nested x p u r d → Same t u q r c d
   one_nested (nested {x = x} {p = p} a b) (nested {r = r} {u = v} {d = d} g h) =
       let first = one_first a g in
       let takes = saves_first (first_case (past_name_quals p.rest)) in
-      let same = one_segments b (along (λ s o. Segments x takes s o v r d) (sym first.tree) (ap past_initializer (sym first.next)) h) in
+      let same = one_segment_as b (along (λ s o. SegmentsAs (segment_case o.rest) takes x s o v r d) (sym first.tree) (ap past_initializer (sym first.next)) h) in
       record { tree = ap (λ n. nested_of n (name_quals p.rest) x.shown) same.tree; next = same.next; cost = ap₂ both first.cost same.cost }
 
-  one_segments : {x : Context} {takes : Bool} {s t u : Tree} {p q r : Position} {c d : Cost}
-      → Segments x takes s p t q c → Segments x takes s p u r d → Same t u q r c d
-  one_segments (segments a) (segments b) = one_segment_as a b
-
   one_segment_as : {case : SegmentCase} {x : Context} {takes : Bool} {s t u : Tree} {p q r : Position} {c d : Cost}
-      → SegmentsAs case x takes s p t q c → SegmentsAs case x takes s p u r d → Same t u q r c d
+      → SegmentsAs case takes x s p t q c → SegmentsAs case takes x s p u r d → Same t u q r c d
   one_segment_as end_of_segments end_of_segments = record { tree = refl; next = refl; cost = refl }
   one_segment_as (args_segment {x = x} {t = t} a b) (args_segment {r = r} {v = v} {d = d} e f) =
       let list = one_args a e in
       let whole = ap (λ ts. with_args t (trees ts)) list.tree in
       let next = ap past_initializer (ap₂ save (sym whole) (sym list.next)) in
-      let same = one_segments b (along (λ s o. Segments x true s o v r d) (sym whole) next f) in
+      let same = one_segment_as b (along (λ s o. SegmentsAs (segment_case o.rest) true x s o v r d) (sym whole) next f) in
       record { tree = same.tree; next = same.next; cost = ap₂ both list.cost (ap₂ both (ap saving list.next) same.cost) }
   one_segment_as (name_segment {x = x} a b) (name_segment {r = r} {v = v} {d = d} e f) =
       let first = one_unqualified a e in
       let next = ap past_initializer (ap₂ save (sym first.tree) (sym first.next)) in
-      let same = one_segments b (along (λ s o. Segments x true s o v r d) (sym first.tree) next f) in
+      let same = one_segment_as b (along (λ s o. SegmentsAs (segment_case o.rest) true x s o v r d) (sym first.tree) next f) in
       record { tree = same.tree; next = same.next; cost = ap₂ both first.cost (ap₂ both (ap saving first.next) same.cost) }
 
   pub one_args : {x : Context} {of_name : Bool} {p q r : Position} {ts us : List Tree} {c d : Cost}
-      → Args x of_name p ts q c → Args x of_name p us r d → Same ts us q r c d
+      → Args of_name x p ts q c → Args of_name x p us r d → Same ts us q r c d
   one_args (args a) (args b) =
       let same = one_arguments a b in
       record { tree = same.tree; next = same.next; cost = ap₂ counted (ap (λ ts. length (list_printing ts)) same.tree) same.cost }
 
-  one_arguments : {case : ArgsCase} {x : Context} {o : Bool} {k : ℕ} {p q r : Position} {ts us : List Tree} {c d : Cost}
-      → ArgumentsAs case x o k p ts q c → ArgumentsAs case x o k p us r d → Same ts us q r c d
+  one_arguments : {case : ArgsCase} {x : Context} {outer : List (List Tree)} {own : Option (List Tree)} {p q r : Position} {ts us : List Tree} {c d : Cost}
+      → ArgumentsAs case x outer own p ts q c → ArgumentsAs case x outer own p us r d → Same ts us q r c d
   one_arguments end_of_arguments end_of_arguments = record { tree = refl; next = refl; cost = refl }
-  one_arguments (one_more_argument {x = x} {opens = o} {n = k} a b) (one_more_argument {r = r} {ts = us} {d = d} g h) =
+  one_arguments (one_more_argument {x = x} {outer = outer} {own = own} a b) (one_more_argument {r = r} {ts = us} {d = d} g h) =
       let first = one_argument a g in
-      let same = one_arguments b (subst (λ v. ArgumentsAs (args_case v.rest) x o k v us r d) (ap₂ (add_argument o k) (sym first.tree) (sym first.next)) h) in
+      let same = one_arguments b (along (λ t o. ArgumentsAs (args_case o.rest) x outer (option_map (λ args. args ++ t ∷ []) own) o us r d) (sym first.tree) (sym first.next) h) in
       record { tree = ap₂ (λ t ts. t ∷ ts) first.tree same.tree; next = same.next; cost = ap₂ both first.cost same.cost }
 
   pub one_argument : {case : ArgumentCase} {x : Context} {p q r : Position} {t u : Tree} {c d : Cost}
@@ -302,7 +293,7 @@ mutual
 
   pub one_literal : {case : LiteralCase} {x : Context} {p q r : Position} {t u : Tree} {c d : Cost}
       → LiteralAs case x p t q c → LiteralAs case x p u r d → Same t u q r c d
-  one_literal (external_name a end) (external_name b other) = same_skipped (one_encoding a b)
+  one_literal (external_name a end) (external_name b other) = same_skipped (one_encoding_as a b)
   one_literal (value_literal a e has) (value_literal b g also) =
       let same = one_type a b in
       let found = some_pair_parts _ _ _ _ (sym e ∙ ap (λ o. literal_value o.rest) same.next ∙ g) in
@@ -386,7 +377,7 @@ mutual
       let same = one_type_attached b (along (λ s o. TypeAttachedAs (attached_case o.rest) x s (save s o) v r d) (sym found.0) (sym found.1) h) in
       record { tree = same.tree; next = same.next; cost = ap₂ both (ap saving found.1) same.cost }
   one_type_as (substitution_type {x = x} a b) (substitution_type {r = r} {u = v} {c = d} f h) =
-      let found = one_substitution a f in
+      let found = one_substitution_as a f in
       one_type_attached b (along (λ s o. TypeAttachedAs (attached_case o.rest) x s o v r d) (sym found.0) (sym found.1) h)
   one_type_as (name_type a) (name_type b) = same_saved (one_name a b)
 
@@ -426,6 +417,3 @@ mutual
   one_type_attached (args_attached_to_type {t = t} a) (args_attached_to_type b) =
       let same = one_args a b in
       same_saved (record { tree = ap (λ ts. with_args t (trees ts)) same.tree; next = same.next; cost = same.cost })
-
-pub one_symbol : {x : Context} {p q r : Position} {t u : Tree} {c d : Cost} → Symbol x p t q c → Symbol x p u r d → Same t u q r c d
-one_symbol (symbol a) (symbol b) = one_symbol_as a b

@@ -1,36 +1,35 @@
 -- How long the printing of a symbol can be: not counted itself, it holds two counted productions at most, and few words.
 use Rattle.std.proofs.Common.{◌≡◌, ◌<◌, ◌≤◌, ℕ, ◌+◌, ◌*◌, ◌^◌, Bool, true, false, List, [], ◌∷◌, ◌++◌, length, drop, refl, ap, arith, Option, Some, None, codes, decimal, if◌then◌else◌, nat_lt}
 use Rattle.std.specs.List.{concat}
-use Rattle.std.specs.Prelude.{option_map}
 use Rattle.std.proofs.lemmas.Bool.Decides.{nat_tests}
 use Rattle.std.proofs.lemmas.Fmt.{length-decimal-le}
 use Rattle.std.proofs.lemmas.List.{length-append, length-drop}
-use Rattle.std.proofs.lemmas.Option.{option_and_then_some, cond_some}
+use Rattle.std.proofs.lemmas.Option.{some_pair_parts, cond_some}
 use Rattle.itanium_syntax.specs.declared.context.Context.{Context}
 use Rattle.itanium_syntax.specs.declared.numerals.Radix.{Radix}
 use Rattle.itanium_syntax.specs.Bytes.{begins}
-use Rattle.itanium_syntax.specs.Scalars.{numeral, next_number, past_underscore, index_by, index_of}
+use Rattle.itanium_syntax.specs.Scalars.{numeral, following, ended, index_of}
 use Rattle.itanium_syntax.specs.Specials.{begins_t_and, special_text, special_close}
 use Rattle.itanium_grammar.specs.Answer.{max_text, after_prefix, suffix, HasAnswer, IsAnswer, HasLength}
-use Rattle.itanium_grammar.specs.Tree.{Tree, shape_as, printing, worded, temporary_of, construction_of}
-use Rattle.itanium_grammar.specs.Grammar.{Position, Cost, Name, TypeOf, Thunk, SpecialAs, SymbolAs, Symbol, name, type}
+use Rattle.itanium_grammar.specs.Tree.{Tree, shape_of, printing, worded, temporary_of, construction_of}
+use Rattle.itanium_grammar.specs.Grammar.{Position, Cost, Name, TypeOf, Thunk, SpecialAs, SymbolAs, name, type}
 use Rattle.itanium_grammar.specs.Grammar.{thunk, type_special, name_special, temporary_special, construction_special}
-use Rattle.itanium_grammar.specs.Grammar.{thunk_special, special_symbol, name_symbol, symbol}
+use Rattle.itanium_grammar.specs.Grammar.{thunk_special, special_symbol, name_symbol}
 use Rattle.itanium_grammar.specs.Cases.{SpecialCase, SymbolCase}
-use Rattle.itanium_grammar.proofs.Progress.{symbol_takes}
+use Rattle.itanium_grammar.proofs.Progress.{symbol_as_takes}
 use Rattle.itanium_grammar.proofs.Agreement.{one_reading}
 
 -- what special names print
 worded_prints : (word : List ℕ) (t : Tree) (close : List ℕ) → printing (worded word t close) ≡ concat (word ∷ printing t ∷ close ∷ [])
-unfolding shape_as
+unfolding shape_of
 worded_prints word t close = refl
 
 temporary_prints : (number : ℕ) (t : Tree) → printing (temporary_of number t) ≡ concat (codes "reference temporary #" ∷ decimal number ∷ codes " for " ∷ printing t ∷ [])
-unfolding shape_as
+unfolding shape_of
 temporary_prints number t = refl
 
 construction_prints : (t u : Tree) → printing (construction_of t u) ≡ concat (codes "construction vtable for " ∷ printing t ∷ codes "-in-" ∷ printing u ∷ [])
-unfolding shape_as
+unfolding shape_of
 construction_prints t u = refl
 
 -- what a counted production prints isn't longer than its reading is wide
@@ -80,23 +79,27 @@ close_len bytes = go (begins_t_and (codes "VT") bytes)
     go false = omega arith
 
 -- a number that is read fits 64 bits
-next_small : (n i : ℕ) → next_number n ≡ Some i → i < 2 ^ 64
-next_small n i is = let parts = cond_some (nat_lt (n + 1) (2 ^ 64)) (n + 1) i is in grind (arith, nat_tests, parts.0, parts.1)
+following_small : (o : Option (ℕ × List ℕ)) (found : ℕ × List ℕ) → following o ≡ Some found → found.0 < 2 ^ 64
+following_small None found is = cc
+following_small (Some n) found is =
+    let parts = cond_some (nat_lt (n.0 + 1) (2 ^ 64)) _ found is in
+    let next : n.0 + 1 ≡ found.0 = ap (λ (f : ℕ × List ℕ). f.0) parts.1 in
+    grind (arith, nat_tests, parts.0, next)
 
-mapped : (i : ℕ) (o : Option (List ℕ)) (found : ℕ × List ℕ) → option_map (λ (rest : List ℕ). (i, rest)) o ≡ Some found → found.0 ≡ i
-mapped i None found is = cc
-mapped i (Some rest) found is = cc
+ended_small : (o : Option (ℕ × List ℕ)) (found : ℕ × List ℕ) → ((n : ℕ × List ℕ) → o ≡ Some n → n.0 < 2 ^ 64) → ended o ≡ Some found → found.0 < 2 ^ 64
+ended_small None found small is = cc
+ended_small (Some n) found small is =
+    let parts = cond_some (begins (codes "_") n.1) _ found is in
+    let same : n.0 ≡ found.0 = ap (λ (f : ℕ × List ℕ). f.0) parts.1 in
+    omega (arith, small n refl, same)
 
 index_small : (r : Radix) (bytes : List ℕ) (found : ℕ × List ℕ) → index_of r bytes ≡ Some found → found.0 < 2 ^ 64
 unfolding index_of
-index_small r bytes found is = go (past_underscore bytes) is
+index_small r bytes found is = go (begins (codes "_") bytes) is
   where
-    go : (o : Option (List ℕ)) → index_by r bytes o ≡ Some found → found.0 < 2 ^ 64
-    go (Some rest) e = let zero_is : found.0 ≡ 0 = cc in omega (arith, zero_is)
-    go None e =
-        option_and_then_some _ (numeral r bytes) found e (λ n read more.
-        option_and_then_some _ (next_number n.0) found more (λ i next made.
-        omega (arith, next_small n.0 i next, mapped i (past_underscore n.1) found made)))
+    go : (t : Bool) → (if t then Some (0, drop 1 bytes) else ended (following (numeral r bytes))) ≡ Some found → found.0 < 2 ^ 64
+    go true e = let zero_is : 0 ≡ found.0 = (some_pair_parts 0 found.0 (drop 1 bytes) found.1 e).0 in omega (arith, zero_is)
+    go false e = ended_small (following (numeral r bytes)) found (following_small (numeral r bytes)) e
 
 enough : 18 ≤ max_text
 unfolding max_text
@@ -125,13 +128,10 @@ symbol_as_wide (special_symbol a) narrow = special_wide a narrow
 symbol_as_wide (name_symbol a) narrow = omega (arith, name_narrow a)
 
 -- a symbol's printing
-pub symbol_wide : {x : Context} {p q : Position} {t : Tree} {c : Cost} → Symbol x p t q c → c.width ≤ max_text → length (printing t) ≤ 2 * max_text + 28
-symbol_wide (symbol a) narrow = symbol_as_wide a narrow
-
 -- an answer is no longer than the longest printing and its suffix
 pub answer_wide : (bytes answer : List ℕ) (has : HasAnswer bytes answer) → length answer ≤ 2 * max_text + 28 + length (suffix has.next.rest)
 answer_wide bytes answer has =
-    let wide = symbol_wide has.reading.reading has.within.width_fits in
+    let wide = symbol_as_wide has.reading.reading has.within.width_fits in
     omega (arith, ap length has.answer_is, length-append (printing has.tree) (suffix has.next.rest), wide)
 
 -- what is after the prefix, and the suffix in it, is no longer than the symbol
@@ -152,7 +152,7 @@ suffix_short rest = go (begins (codes ".") rest)
 
 pub answer_short : (bytes answer : List ℕ) → HasAnswer bytes answer → length answer ≤ 2 * max_text + 28 + length bytes
 answer_short bytes answer has =
-    let takes = (symbol_takes has.reading.reading).shorter in
+    let takes = (symbol_as_takes has.reading.reading).shorter in
     omega (arith, answer_wide bytes answer has, suffix_short has.next.rest, takes, inside_short bytes has.reading.inside has.reading.prefix)
 
 -- so long is an answer at most

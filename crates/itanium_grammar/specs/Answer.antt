@@ -58,14 +58,17 @@ pub record HasAnswer (symbol answer : List ℕ) : Type 0 where
   pub utf8 : IsUtf8 (printing tree)
   pub answer_is : answer ≡ printing tree ++ suffix next.rest
 
--- no reading within the limits has a printing in UTF-8
-abbrev pub HasNoAnswer : List ℕ → Type 0
-HasNoAnswer symbol =
+-- a fact of every reading of the symbol within the limits
+abbrev pub OfEachReading : List ℕ → (Tree → Position → Cost → Type 0) → Type 0
+OfEachReading symbol Fact =
     (tree : Tree) (next : Position) (cost : Cost)
     → IsReading symbol tree next cost
     → IsWithin cost
-    → IsUtf8 (printing tree)
-    → ⊥
+    → Fact tree next cost
+
+-- no reading within the limits has a printing in UTF-8
+abbrev pub HasNoAnswer : List ℕ → Type 0
+HasNoAnswer symbol = OfEachReading symbol (λ tree next cost. IsUtf8 (printing tree) → ⊥)
 
 -- the answer of a symbol
 abbrev pub IsAnswer : List ℕ → Option (List ℕ) → Type 0
@@ -83,42 +86,30 @@ pub record HasOneReading (symbol : List ℕ) : Type 0 where
       → IsWithin d
       → (t ≡ u) × (q ≡ r) × (c ≡ d)
 
--- the counts are those of every reading of the symbol within the limits
+-- the counts are those of every reading within the limits
 abbrev pub HasCounts : List ℕ → ℕ → ℕ → Type 0
 HasCounts symbol entered most_saved =
-    (tree : Tree) (next : Position) (cost : Cost)
-    → IsReading symbol tree next cost
-    → IsWithin cost
-    → (entered ≡ cost.count) × (most_saved ≡ cost.peak)
+    OfEachReading symbol (λ tree next cost. (entered ≡ cost.count) × (most_saved ≡ cost.peak))
 
--- where there is an answer, these are the printings of the trees that every reading within the limits leaves saved;
--- elsewhere there are none
+-- where there is an answer, this is what f gives of the trees that every reading within the limits leaves saved;
+-- elsewhere there is nothing
+abbrev pub HasEach : {A : Type 0} → (Tree → A) → List ℕ → Option (List ℕ) → List A → Type 0
+HasEach f symbol (Some answer) kept = OfEachReading symbol (λ tree next cost. kept ≡ map f next.saved)
+HasEach f symbol None kept = kept ≡ []
+
+-- the printings of these trees
 abbrev pub HasComponents : List ℕ → Option (List ℕ) → List (List ℕ) → Type 0
-HasComponents symbol (Some answer) components =
-    (tree : Tree) (next : Position) (cost : Cost)
-    → IsReading symbol tree next cost
-    → IsWithin cost
-    → components ≡ map printing next.saved
-HasComponents symbol None components = components ≡ []
+HasComponents symbol answer components = HasEach printing symbol answer components
 
--- the same of shapes: where there is an answer, these are the shapes of the trees that every reading within the limits
--- leaves saved; elsewhere there are none
+-- the shapes of these trees
 abbrev pub HasSaved : List ℕ → Option (List ℕ) → List Shape → Type 0
-HasSaved symbol (Some answer) shapes =
-    (tree : Tree) (next : Position) (cost : Cost)
-    → IsReading symbol tree next cost
-    → IsWithin cost
-    → shapes ≡ map shape_of next.saved
-HasSaved symbol None shapes = shapes ≡ []
+HasSaved symbol answer shapes = HasEach shape_of symbol answer shapes
 
 -- where there is an answer, it is at most so long that two types of the longest text fit in it, with the 28 bytes of
 -- the words around them, and the suffix of every reading within the limits
 abbrev pub HasLength : List ℕ → Option (List ℕ) → Type 0
 HasLength symbol (Some answer) =
-    (tree : Tree) (next : Position) (cost : Cost)
-    → IsReading symbol tree next cost
-    → IsWithin cost
-    → length answer ≤ 2097180 + length (suffix next.rest)
+    OfEachReading symbol (λ tree next cost. length answer ≤ 2097180 + length (suffix next.rest))
 HasLength symbol None = Unit {0}
 
 -- at most two counted productions are entered for each byte of the symbol, and at no moment are more components saved

@@ -1,8 +1,13 @@
--- The grammar: which front of the bytes is which tree (Itanium C++ ABI 5.1). A reading is indexed by the context, the
--- position where it begins, the tree, the position after it, and the cost. A case without a constructor isn't read.
-use Rattle.std.specs.Prelude.{◌≡◌, ℕ, ◌+◌, ◌-◌, max, Bool, true, false, if◌then◌else◌, slice_get, slice_set}
+-- The grammar: which front of the bytes is which tree (Itanium C++ ABI 5.1). A case without a constructor isn't read.
+--
+-- x is a context. p, q, r and s are positions, one after another. t, u and v are trees, ts is a list of trees, and o, m
+-- and n are operands. c, d and e are costs. i, k and number are numbers. bytes, rest, value and text are bytes.
+--
+-- The indices of a reading stand in this order: the case that the next bytes begin, where the family is named ..As;
+-- truth values; the context; what stands in front; the position before; the tree; the position after; the cost.
+use Rattle.std.specs.Prelude.{◌≡◌, ℕ, ◌+◌, ◌-◌, max, Bool, true, false, if◌then◌else◌, slice_get}
 use Rattle.std.specs.Prelude.{slice_index_or, List, [], ◌∷◌, ◌++◌, Option, Some, None, is_some, take, drop, length}
-use Rattle.std.specs.Prelude.{codes}
+use Rattle.std.specs.Prelude.{codes, option_map}
 use Rattle.demangle_text.specs.Shape.{is_plain}
 use Rattle.demangle_quals.specs.declared.quals.Pointer.{Pointer}
 use Rattle.demangle_quals.specs.declared.quals.Quals.{Quals}
@@ -54,7 +59,7 @@ use Rattle.itanium_grammar.specs.Tree.{tagged_with, with_args, lambda_of, conver
 use Rattle.itanium_grammar.specs.Tree.{array_of, member_of, function_to, elaborated, pack_of, trees, in_parent}
 use Rattle.itanium_grammar.specs.Tree.{unnamed_text, literal_operator_text, expanded, shape_of, printing, list_printing}
 
--- where a reading stands: the bytes that are left, the trees saved so far, and the scopes with their arguments
+-- a position: the bytes that are left, the trees saved so far, and the scopes with their arguments
 pub record Position : Type 0 where
   pub rest : List ℕ
   pub saved : List Tree
@@ -109,25 +114,18 @@ both c d = record {
 abbrev pub counted : ℕ → Cost → Cost
 counted bytes c = record { count = c.count + 1; depth = c.depth + 1; peak = c.peak; width = max bytes c.width }
 
--- a list begins: it may open a scope
-abbrev pub begin_list : Bool → Position → Position
-begin_list opens p = record p { scopes = if opens then p.scopes ++ [] ∷ [] else p.scopes }
-
--- how many scopes there are once a list has begun
-abbrev pub scopes_in : Bool → Position → ℕ
-scopes_in opens p = length (begin_list opens p).scopes
-
 -- the arguments of the last scope
 abbrev pub last_of : List (List Tree) → List Tree
 last_of scopes = slice_index_or scopes (length scopes - 1) []
 
--- the last scope gains an argument
-abbrev pub with_last : Tree → List (List Tree) → List (List Tree)
-with_last t scopes = slice_set scopes (length scopes - 1) (last_of scopes ++ t ∷ [])
+-- the scopes inside a list: those outside, and the list's own if it opened one
+abbrev pub scopes_inside : List (List Tree) → Option (List Tree) → List (List Tree)
+scopes_inside outer None = outer
+scopes_inside outer (Some own) = outer ++ own ∷ []
 
--- the scopes past the first n, which an argument opened, are dropped, and it goes into the scope that its list opened
-abbrev pub add_argument : Bool → ℕ → Tree → Position → Position
-add_argument opens n t p = record p { scopes = if opens then with_last t (take n p.scopes) else take n p.scopes }
+-- the same position, inside a list
+abbrev pub within_list : List (List Tree) → Option (List Tree) → Position → Position
+within_list outer own p = record p { scopes = scopes_inside outer own }
 
 -- <substitution> after its S
 pub data SubstitutionAs : SubstitutionCase → Position → Tree → Position → Type 0 where
@@ -144,21 +142,18 @@ pub data SubstitutionAs : SubstitutionCase → Position → Tree → Position �
       → SubstitutionAs ComponentSubstitution p t (with_rest rest p)
 
 -- <substitution> ::= S [<seq-id>] _ | Sa | Sb | Ss | Si | So | Sd
-pub data Substitution : Position → Tree → Position → Type 0 where
-  substitution :
-      {p q : Position} {t : Tree}
-      → SubstitutionAs (substitution_case (drop 1 p.rest)) (skip 1 p) t q
-      → Substitution p t q
+abbrev pub Substitution : Position → Tree → Position → Type 0
+Substitution p = SubstitutionAs (substitution_case (drop 1 p.rest)) (skip 1 p)
 
 -- the argument that a <template-param> names
 pub data ParameterAs : Bool → ℕ → Position → Tree → Type 0 where
   -- `auto` in a lambda's signature
   auto_parameter :
-      {i : ℕ} {p : Position}
+      {p : Position} {i : ℕ}
       → ParameterAs true i p (plain_text (codes "auto"))
   -- an argument of the last scope, among those already read
   scope_parameter :
-      {i : ℕ} {p : Position} {t : Tree}
+      {p : Position} {t : Tree} {i : ℕ}
       → slice_get (last_of p.scopes) i ≡ Some t
       → ParameterAs false i p t
 
@@ -174,11 +169,11 @@ pub data Parameter : Context → Position → Tree → Position → Type 0 where
 pub data TaggedAs : TagCase → Tree → Position → Tree → Position → Type 0 where
   -- no tag
   no_tag :
-      {t : Tree} {p : Position}
+      {p : Position} {t : Tree}
       → TaggedAs NoTag t p t p
   -- B <source-name>, and further tags
   next_tag :
-      {t u : Tree} {p q : Position} {bytes rest : List ℕ}
+      {p q : Position} {t u : Tree} {bytes rest : List ℕ}
       → source_name (drop 1 p.rest) ≡ Some (bytes, rest)
       → TaggedAs (tag_case rest) (tagged_with t (source_text bytes)) (with_rest rest p) u q
       → TaggedAs NextTag t p u q
@@ -215,7 +210,7 @@ mutual
   pub data Local : Bool → Context → Position → Tree → Position → Cost → Type 0 where
     local :
         {waits : Bool} {x : Context} {p q r : Position} {t u : Tree} {c d : Cost}
-        → Encoding (inside_encoding x) p t q c
+        → EncodingAs (symbol_case p.rest) (inside_encoding x) p t q c
         → EntityAs (entity_case q.rest) waits (inside_local x) t q u r d
         → Local waits x p u r (both c d)
 
@@ -223,28 +218,21 @@ mutual
   pub data EntityAs : EntityCase → Bool → Context → Tree → Position → Tree → Position → Cost → Type 0 where
     -- E s
     string_literal_entity :
-        {waits : Bool} {x : Context} {t : Tree} {p : Position}
+        {waits : Bool} {x : Context} {p : Position} {t : Tree}
         → EntityAs StringLiteralEntity waits x t p (string_literal_of t) (skip 2 p) nothing
     -- E d [<number>] _ <name>
     default_argument_entity :
-        {waits : Bool} {x : Context} {t u : Tree} {p q : Position} {c : Cost} {number : ℕ} {rest : List ℕ}
+        {waits : Bool} {x : Context} {p q : Position} {t u : Tree} {c : Cost} {number : ℕ} {rest : List ℕ}
         → ordinal (drop 2 p.rest) ≡ Some (number, rest)
         → Name waits x (with_rest rest p) u q c
         → EntityAs DefaultArgumentEntity waits x t p (default_argument_of t number u) q c
     -- E <name>
     name_entity :
-        {waits : Bool} {x : Context} {t u : Tree} {p q : Position} {c : Cost}
+        {waits : Bool} {x : Context} {p q : Position} {t u : Tree} {c : Cost}
         → Name waits x (skip 1 p) u q c
         → EntityAs NameEntity waits x t p (local_in t u) q c
 
-  -- <encoding> ::= <special-name> | <name> [<return type>] [<parameter types>]
-  pub data Encoding : Context → Position → Tree → Position → Cost → Type 0 where
-    encoding :
-        {x : Context} {p q : Position} {t : Tree} {c : Cost}
-        → EncodingAs (symbol_case p.rest) x p t q c
-        → Encoding x p t q c
-
-  -- <encoding>, by what it begins with
+  -- <encoding> ::= <special-name> | <name> [<return type>] [<parameter types>], by what it begins with
   pub data EncodingAs : SymbolCase → Context → Position → Tree → Position → Cost → Type 0 where
     -- <special-name>
     special_encoding :
@@ -327,11 +315,11 @@ mutual
   pub data SignatureAs : SignatureCase → Context → Tree → Position → Tree → Position → Cost → Type 0 where
     -- the E after the name or its return type
     no_signature :
-        {x : Context} {t : Tree} {p : Position}
+        {x : Context} {p : Position} {t : Tree}
         → SignatureAs NoSignature x t p (encoding_of t) p nothing
     -- <parameter types>
     some_signature :
-        {x : Context} {t : Tree} {p q : Position} {ts : List Tree} {c : Cost}
+        {x : Context} {p q : Position} {t : Tree} {ts : List Tree} {c : Cost}
         → ParamsAs (params_case p.rest) false x p ts q c
         → SignatureAs SomeSignature x t p (function_encoding t (trees ts)) q c
 
@@ -345,11 +333,11 @@ mutual
         → UnscopedAs StdName x p u r (both c d)
     -- <substitution> <template-args>
     substitution_name :
-        {x : Context} {p q r : Position} {t : Tree} {list : List Tree} {c : Cost}
+        {x : Context} {p q r : Position} {t : Tree} {ts : List Tree} {c : Cost}
         → Substitution p t q
         → attached_case q.rest ≡ ArgsAttached
-        → Args x true q list r c
-        → UnscopedAs SubstitutionName x p (with_args t (trees list)) r c
+        → Args true x q ts r c
+        → UnscopedAs SubstitutionName x p (with_args t (trees ts)) r c
     -- <unqualified-name> [<template-args>]
     global_name :
         {x : Context} {p q r : Position} {t u : Tree} {c d : Cost}
@@ -361,13 +349,13 @@ mutual
   pub data AttachedAs : AttachedCase → Context → Tree → Position → Tree → Position → Cost → Type 0 where
     -- no <template-args>
     none_attached :
-        {x : Context} {t : Tree} {p : Position}
+        {x : Context} {p : Position} {t : Tree}
         → AttachedAs NoneAttached x t p t p nothing
     -- <template-args>: the name is saved before they are read
     args_attached :
-        {x : Context} {t : Tree} {p q : Position} {list : List Tree} {c : Cost}
-        → Args x true (save t p) list q c
-        → AttachedAs ArgsAttached x t p (with_args t (trees list)) q (both (saving p) c)
+        {x : Context} {p q : Position} {t : Tree} {ts : List Tree} {c : Cost}
+        → Args true x (save t p) ts q c
+        → AttachedAs ArgsAttached x t p (with_args t (trees ts)) q (both (saving p) c)
 
   -- <unqualified-name> that asks for no parent, without its tags
   pub data FreeAs : FreeCase → Context → Position → Tree → Position → Cost → Type 0 where
@@ -407,17 +395,17 @@ mutual
   pub data UnqualifiedAs : UnqualifiedCase → Context → Option Tree → Position → Tree → Position → Cost → Type 0 where
     -- <ctor-dtor-name> ::= C1 | .. | C5, and then [<abi-tags>]
     constructor_unqualified :
-        {x : Context} {parent : Tree} {p q : Position} {t : Tree}
+        {x : Context} {p q : Position} {parent t : Tree}
         → TaggedAs (tag_case (drop 2 p.rest)) (ctor_dtor_of parent false) (skip 2 p) t q
         → UnqualifiedAs ConstructorName x (Some parent) p t q nothing
     -- <ctor-dtor-name> ::= D0 | D1 | D2 | D4 | D5, and then [<abi-tags>]
     destructor_unqualified :
-        {x : Context} {parent : Tree} {p q : Position} {t : Tree}
+        {x : Context} {p q : Position} {parent t : Tree}
         → TaggedAs (tag_case (drop 2 p.rest)) (ctor_dtor_of parent true) (skip 2 p) t q
         → UnqualifiedAs DestructorName x (Some parent) p t q nothing
     -- another name and [<abi-tags>], and then in its parent
     free_unqualified :
-        {x : Context} {parent : Option Tree} {p q r : Position} {t u : Tree} {c : Cost}
+        {x : Context} {p q r : Position} {t u : Tree} {parent : Option Tree} {c : Cost}
         → FreeAs (free_case p.rest) x p t q c
         → TaggedAs (tag_case q.rest) t q u r
         → UnqualifiedAs FreeName x parent p (in_parent parent u) r c
@@ -425,7 +413,7 @@ mutual
   -- [L] and an <unqualified-name>
   pub data Unqualified : Context → Option Tree → Position → Tree → Position → Cost → Type 0 where
     unqualified :
-        {x : Context} {parent : Option Tree} {p q : Position} {t : Tree} {c : Cost}
+        {x : Context} {p q : Position} {t : Tree} {parent : Option Tree} {c : Cost}
         → UnqualifiedAs (unqualified_case (is_some parent) (past_internal p.rest)) x parent
         (with_rest (past_internal p.rest) p) t q c
         → Unqualified x parent p t q c
@@ -458,63 +446,60 @@ mutual
     nested :
         {x : Context} {p q r : Position} {t u : Tree} {c d : Cost}
         → FirstAs (first_case (past_name_quals p.rest)) x (with_rest (past_name_quals p.rest) p) t q c
-        → Segments x (saves_first (first_case (past_name_quals p.rest))) t (past_initializer q) u r d
+        → SegmentsAs (segment_case (past_initializer q).rest) (saves_first (first_case (past_name_quals p.rest))) x t
+        (past_initializer q) u r d
         → Nested x p (nested_of u (name_quals p.rest) x.shown) r (both c d)
 
-  -- the later segments of a <nested-name> after what stands, up to its E; the last tree that it saved is taken back
-  pub data Segments : Context → Bool → Tree → Position → Tree → Position → Cost → Type 0 where
-    segments :
-        {x : Context} {takes : Bool} {p q : Position} {t u : Tree} {c : Cost}
-        → SegmentsAs (segment_case p.rest) x takes t p u q c
-        → Segments x takes t p u q c
-
-  -- one more segment of a <prefix>, or the E after it
-  pub data SegmentsAs : SegmentCase → Context → Bool → Tree → Position → Tree → Position → Cost → Type 0 where
+  -- one more segment of a <prefix> after what stands, or the E after it: the last tree that was saved is taken back
+  pub data SegmentsAs : SegmentCase → Bool → Context → Tree → Position → Tree → Position → Cost → Type 0 where
     -- E
     end_of_segments :
-        {x : Context} {takes : Bool} {p : Position} {t : Tree}
-        → SegmentsAs EndOfSegments x takes t p t (taken_back takes (skip 1 p)) nothing
+        {takes : Bool} {x : Context} {p : Position} {t : Tree}
+        → SegmentsAs EndOfSegments takes x t p t (taken_back takes (skip 1 p)) nothing
     -- <template-args>: what stands with them is saved
     args_segment :
-        {x : Context} {takes : Bool} {p q r : Position} {t v : Tree} {list : List Tree} {c d : Cost}
-        → Args x true p list q c
-        → Segments x true (with_args t (trees list)) (past_initializer (save (with_args t (trees list)) q)) v r d
-        → SegmentsAs ArgsSegment x takes t p v r (both c (both (saving q) d))
+        {takes : Bool} {x : Context} {p q r : Position} {t v : Tree} {ts : List Tree} {c d : Cost}
+        → Args true x p ts q c
+        → SegmentsAs (segment_case (past_initializer q).rest) true x (with_args t (trees ts))
+        (past_initializer (save (with_args t (trees ts)) q)) v r d
+        → SegmentsAs ArgsSegment takes x t p v r (both c (both (saving q) d))
     -- <unqualified-name> in the parent of what stands: both together are saved
     name_segment :
-        {x : Context} {takes : Bool} {p q r : Position} {t u v : Tree} {c d : Cost}
+        {takes : Bool} {x : Context} {p q r : Position} {t u v : Tree} {c d : Cost}
         → Unqualified x (Some t) p u q c
-        → Segments x true u (past_initializer (save u q)) v r d
-        → SegmentsAs NameSegment x takes t p v r (both c (both (saving q) d))
+        → SegmentsAs (segment_case (past_initializer q).rest) true x u (past_initializer (save u q)) v r d
+        → SegmentsAs NameSegment takes x t p v r (both c (both (saving q) d))
 
   -- <template-args> ::= I <template-arg>* E, of a name or of a type: counted
-  pub data Args : Context → Bool → Position → List Tree → Position → Cost → Type 0 where
+  pub data Args : Bool → Context → Position → List Tree → Position → Cost → Type 0 where
     args :
-        {x : Context} {of_name : Bool} {p q : Position} {list : List Tree} {c : Cost}
-        → ArgumentsAs (args_case (drop 1 p.rest)) x (opens_scope of_name x) (scopes_in (opens_scope of_name x) p)
-        (begin_list (opens_scope of_name x) (skip 1 p)) list q c
-        → Args x of_name p list q (counted (length (list_printing list)) c)
+        {of_name : Bool} {x : Context} {p q : Position} {ts : List Tree} {c : Cost}
+        → ArgumentsAs (args_case (drop 1 p.rest)) x p.scopes (if opens_scope of_name x then Some [] else None)
+        (skip 1 p) ts q c
+        → Args of_name x p ts q (counted (length (list_printing ts)) c)
 
-  -- one more <template-arg>, or the E after them; the scopes that each opened are dropped, and it goes into the list's
-  -- own
-  pub data ArgumentsAs : ArgsCase → Context → Bool → ℕ → Position → List Tree → Position → Cost → Type 0 where
+  -- one more <template-arg>, or the E after them, inside these scopes and in the list's own if it opened one: an
+  -- argument goes into that, and the scopes that it opened are dropped
+  pub data ArgumentsAs : ArgsCase → Context → List (List Tree) → Option (List Tree) → Position → List Tree → Position
+      → Cost → Type 0 where
     -- E
     end_of_arguments :
-        {x : Context} {opens : Bool} {n : ℕ} {p : Position}
-        → ArgumentsAs EndOfArguments x opens n p [] (skip 1 p) nothing
+        {x : Context} {p : Position} {outer : List (List Tree)} {own : Option (List Tree)}
+        → ArgumentsAs EndOfArguments x outer own p [] (within_list outer own (skip 1 p)) nothing
     -- <template-arg>
     one_more_argument :
-        {x : Context} {opens : Bool} {n : ℕ} {p q r : Position} {t : Tree} {ts : List Tree} {c d : Cost}
-        → ArgumentAs (argument_case p.rest) x p t q c
-        → ArgumentsAs (args_case q.rest) x opens n (add_argument opens n t q) ts r d
-        → ArgumentsAs NextArgument x opens n p (t ∷ ts) r (both c d)
+        {x : Context} {p q r : Position} {t : Tree} {ts : List Tree} {c d : Cost} {outer : List (List Tree)}
+        {own : Option (List Tree)}
+        → ArgumentAs (argument_case p.rest) x (within_list outer own p) t q c
+        → ArgumentsAs (args_case q.rest) x outer (option_map (λ args. args ++ t ∷ []) own) q ts r d
+        → ArgumentsAs NextArgument x outer own p (t ∷ ts) r (both c d)
 
   -- <template-arg> ::= J <template-arg>* E: counted, with the context of a pack inside
   pub data Pack : Context → Position → Tree → Position → Cost → Type 0 where
     pack :
-        {x : Context} {p q : Position} {list : List Tree} {c : Cost}
-        → PackedAs (args_case (drop 1 p.rest)) (inside_pack x) (skip 1 p) list q c
-        → Pack x p (pack_of (trees list)) q (counted (length (printing (pack_of (trees list)))) c)
+        {x : Context} {p q : Position} {ts : List Tree} {c : Cost}
+        → PackedAs (args_case (drop 1 p.rest)) (inside_pack x) (skip 1 p) ts q c
+        → Pack x p (pack_of (trees ts)) q (counted (length (printing (pack_of (trees ts)))) c)
 
   -- one more <template-arg> of a pack, or the E after them; no scope is dropped between them
   pub data PackedAs : ArgsCase → Context → Position → List Tree → Position → Cost → Type 0 where
@@ -558,7 +543,7 @@ mutual
     -- L _Z <encoding> E: an external name
     external_name :
         {x : Context} {p q : Position} {t : Tree} {c : Cost}
-        → Encoding (inside_encoding x) (skip 3 p) t q c
+        → EncodingAs (symbol_case (drop 3 p.rest)) (inside_encoding x) (skip 3 p) t q c
         → begins (codes "E") q.rest ≡ true
         → LiteralAs ExternalName x p t (skip 1 q) c
     -- L <type> <value> E, where the type as it is printed has such a value
@@ -681,7 +666,7 @@ mutual
         → TypeAs MemberType x p (member_of t u) (save (member_of t u) r) (both c (both d (saving r)))
     -- P <type>, R <type> and O <type>
     pointer_type :
-        {kind : Pointer} {x : Context} {p q : Position} {t : Tree} {c : Cost}
+        {x : Context} {p q : Position} {t : Tree} {c : Cost} {kind : Pointer}
         → TypeOf x (skip 1 p) t q c
         → TypeAs (PointerType kind) x p (pointer_to kind t) (save (pointer_to kind t) q) (both c (saving q))
     -- <qualified-type> ::= <CV-qualifiers> <type>: saved once
@@ -717,19 +702,19 @@ mutual
   pub data CvAs : CvCase → Context → Quals → Position → Tree → Position → Cost → Type 0 where
     -- <function-type>, which takes them in, and whose F is no type of its own
     cv_function :
-        {x : Context} {quals : Quals} {p q : Position} {t : Tree} {c : Cost}
+        {x : Context} {p q : Position} {t : Tree} {c : Cost} {quals : Quals}
         → Function x quals p t q c
         → CvAs CvFunction x quals p t q c
     -- <type>
     cv_other :
-        {x : Context} {quals : Quals} {p q : Position} {t : Tree} {c : Cost}
+        {x : Context} {p q : Position} {t : Tree} {c : Cost} {quals : Quals}
         → TypeOf x p t q c
         → CvAs CvOther x quals p (cv_of quals t) q c
 
   -- <function-type> ::= F <return type> <parameter types> [<ref-qualifier>] E
   pub data Function : Context → Quals → Position → Tree → Position → Cost → Type 0 where
     function :
-        {x : Context} {quals : Quals} {p q r : Position} {t : Tree} {ts : List Tree} {c d : Cost}
+        {x : Context} {p q r : Position} {t : Tree} {ts : List Tree} {c d : Cost} {quals : Quals}
         → function_case p.rest ≡ PlainFunction
         → TypeOf x (skip 1 p) t q c
         → ParamsAs (params_case q.rest) true x q ts r d
@@ -766,18 +751,15 @@ mutual
   pub data TypeAttachedAs : AttachedCase → Context → Tree → Position → Tree → Position → Cost → Type 0 where
     -- no <template-args>
     none_attached_to_type :
-        {x : Context} {t : Tree} {p : Position}
+        {x : Context} {p : Position} {t : Tree}
         → TypeAttachedAs NoneAttached x t p t p nothing
     -- <template-args>: the type with them is saved
     args_attached_to_type :
-        {x : Context} {t : Tree} {p q : Position} {list : List Tree} {c : Cost}
-        → Args x false p list q c
-        → TypeAttachedAs ArgsAttached x t p (with_args t (trees list))
-        (save (with_args t (trees list)) q) (both c (saving q))
+        {x : Context} {p q : Position} {t : Tree} {ts : List Tree} {c : Cost}
+        → Args false x p ts q c
+        → TypeAttachedAs ArgsAttached x t p (with_args t (trees ts))
+        (save (with_args t (trees ts)) q) (both c (saving q))
 
 -- what follows the prefix of a symbol
-pub data Symbol : Context → Position → Tree → Position → Cost → Type 0 where
-  symbol :
-      {x : Context} {p q : Position} {t : Tree} {c : Cost}
-      → SymbolAs (symbol_case p.rest) x p t q c
-      → Symbol x p t q c
+abbrev pub Symbol : Context → Position → Tree → Position → Cost → Type 0
+Symbol x p = SymbolAs (symbol_case p.rest) x p

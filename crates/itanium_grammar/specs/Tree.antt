@@ -145,20 +145,12 @@ conditional_shape t u v = binary_shape t (codes "?") (binary_shape u (codes " : 
 abbrev pub offset_sign : Signed → List ℕ
 offset_sign n = if n.negative then codes "-" else []
 
--- the printed text of a plain offset
-abbrev pub plain_offset_text : Signed → List ℕ
-plain_offset_text n = concat (codes "{offset(" ∷ offset_sign n ∷ decimal n.magnitude ∷ codes ")}" ∷ [])
-
--- the printed text of a virtual offset
-abbrev pub virtual_offset_text : Signed → Signed → List ℕ
-virtual_offset_text n m =
-    concat (codes "{virtual offset(" ∷ offset_sign n ∷ decimal n.magnitude ∷ codes ", " ∷ offset_sign m
-    ∷ decimal m.magnitude ∷ codes ")}" ∷ [])
-
 -- the printed text of a call offset
 abbrev pub offset_text : CallOffset → List ℕ
-offset_text (Plain n) = plain_offset_text n
-offset_text (Virtual n m) = virtual_offset_text n m
+offset_text (Plain n) = concat (codes "{offset(" ∷ offset_sign n ∷ decimal n.magnitude ∷ codes ")}" ∷ [])
+offset_text (Virtual n m) =
+    concat (codes "{virtual offset(" ∷ offset_sign n ∷ decimal n.magnitude ∷ codes ", " ∷ offset_sign m
+    ∷ decimal m.magnitude ∷ codes ")}" ∷ [])
 
 -- words around a text
 abbrev pub worded_shape : List ℕ → Shape → List ℕ → Shape
@@ -172,21 +164,13 @@ temporary_shape number t = glued (codes "reference temporary #" ∷ decimal numb
 abbrev pub construction_shape : Shape → Shape → Shape
 construction_shape t u = glued (codes "construction vtable for " ∷ text t ∷ codes "-in-" ∷ text u ∷ [])
 
--- a thunk with one offset
-abbrev pub single_thunk_shape : CallOffset → Shape → Shape
-single_thunk_shape o t =
+-- a thunk, with one offset or two
+abbrev pub thunk_shape : ThunkOffsets → Shape → Shape
+thunk_shape (Single o) t =
     glued (codes "{virtual override thunk(" ∷ offset_text o ∷ codes ", " ∷ text t ∷ codes ")}" ∷ [])
-
--- a thunk with two offsets
-abbrev pub covariant_thunk_shape : CallOffset → CallOffset → Shape → Shape
-covariant_thunk_shape o p t =
+thunk_shape (Covariant o p) t =
     glued (codes "{virtual override thunk(" ∷ offset_text o ∷ codes ", " ∷ offset_text p ∷ codes ", " ∷ text t
     ∷ codes ")}" ∷ [])
-
--- a thunk
-abbrev pub thunk_shape : ThunkOffsets → Shape → Shape
-thunk_shape (Single o) t = single_thunk_shape o t
-thunk_shape (Covariant o p) t = covariant_thunk_shape o p t
 
 -- the qualifiers of a name that follow its parameters where it has some: those of a nested name, and those of the
 -- entity of a local name, also in a default argument
@@ -196,64 +180,67 @@ own_quals (local_in encoding entity) = own_quals entity
 own_quals (default_argument_of encoding number entity) = own_quals entity
 own_quals t = no_quals
 
--- the shape that the tree prints; where its own qualifiers wait, without them
 unfoldable mutual
-  pub shape_as : Bool → Tree → Shape
-  shape_as waits (plain_text bytes) = plain_shape bytes
-  shape_as waits (abbreviation abbreviated) = abbreviation_shape abbreviated
-  shape_as waits (name_in parent leaf) = qualified (shape_as false parent) (shape_as false leaf)
-  shape_as waits (ctor_dtor_of parent destructor) = qualified_ctor (shape_as false parent) destructor
-  shape_as waits (tagged_with name tag) = tagged (shape_as false name) tag
-  shape_as waits (with_args name list) = attached (shape_as false name) (arguments_shape (shape_each list))
-  shape_as waits (lambda_of params number) = lambda_shape (shape_each params) number
-  shape_as waits (conversion_to t) = conversion_shape (shape_as false t)
-  shape_as waits (nested_of name quals shown) =
-      if waits then shape_as false name else with_name_qualifiers (shape_as false name) quals shown
-  shape_as waits (local_in encoding entity) = qualified (shape_as false encoding) (shape_as waits entity)
-  shape_as waits (string_literal_of encoding) = appended (codes "::string literal") (shape_as false encoding)
-  shape_as waits (default_argument_of encoding number entity) =
-      default_arg_shape (shape_as false encoding) number (shape_as waits entity)
-  shape_as waits (encoding_of name) = with_name_qualifiers (shape_as true name) (own_quals name) true
-  shape_as waits (function_encoding name params) =
-      encoding_shape (shape_as true name) (shape_each params) (own_quals name)
-  shape_as waits (pointer_to kind t) = pointer_shape kind (shape_as false t)
-  shape_as waits (cv_of quals t) = cv_shape quals (shape_as false t)
-  shape_as waits (array_of dimension t) = array_shape dimension (shape_as false t)
-  shape_as waits (member_of class t) = member_pointer_shape (shape_as false class) (shape_as false t)
-  shape_as waits (function_to ret params quals) = function_shape (shape_as false ret) (shape_each params) quals
-  shape_as waits (elaborated word name) = elaborated_shape word (shape_as false name)
-  shape_as waits (expansion_of t) = expansion_shape (shape_as false t)
-  shape_as waits (pack_of list) = pack_shape (shape_each list)
-  shape_as waits (worded word t close) = worded_shape word (shape_as false t) close
-  shape_as waits (temporary_of number t) = temporary_shape number (shape_as false t)
-  shape_as waits (construction_of t u) = construction_shape (shape_as false t) (shape_as false u)
-  shape_as waits (thunk_of offsets t) = thunk_shape offsets (shape_as false t)
-  shape_as waits (literal_of t value) = literal_shape (shape_as false t) value
-  shape_as waits (address_of name) = address_shape (shape_as false name)
-  shape_as waits (pre_of op t) = pre_shape op (shape_as false t)
-  shape_as waits (unary_of op t) = pre_shape op (shape_of_operand t)
-  shape_as waits (post_of t op) = post_shape (shape_of_operand t) op
-  shape_as waits (binary_of t op u) = binary_shape (shape_of_operand t) op (shape_of_operand u)
-  shape_as waits (greater_of t u) = greater_shape (shape_as false t) (shape_as false u)
-  shape_as waits (conditional_of t u v) =
+  -- the shape that the tree prints
+  pub shape_of : Tree → Shape
+  shape_of (plain_text bytes) = plain_shape bytes
+  shape_of (abbreviation abbreviated) = abbreviation_shape abbreviated
+  shape_of (name_in parent leaf) = qualified (shape_of parent) (shape_of leaf)
+  shape_of (ctor_dtor_of parent destructor) = qualified_ctor (shape_of parent) destructor
+  shape_of (tagged_with name tag) = tagged (shape_of name) tag
+  shape_of (with_args name list) = attached (shape_of name) (arguments_shape (shape_each list))
+  shape_of (lambda_of params number) = lambda_shape (shape_each params) number
+  shape_of (conversion_to t) = conversion_shape (shape_of t)
+  shape_of (nested_of name quals shown) = with_name_qualifiers (shape_of name) quals shown
+  shape_of (local_in encoding entity) = qualified (shape_of encoding) (shape_of entity)
+  shape_of (string_literal_of encoding) = appended (codes "::string literal") (shape_of encoding)
+  shape_of (default_argument_of encoding number entity) =
+      default_arg_shape (shape_of encoding) number (shape_of entity)
+  shape_of (encoding_of name) = with_name_qualifiers (bare_in (shape_of name) name) (own_quals name) true
+  shape_of (function_encoding name params) =
+      encoding_shape (bare_in (shape_of name) name) (shape_each params) (own_quals name)
+  shape_of (pointer_to kind t) = pointer_shape kind (shape_of t)
+  shape_of (cv_of quals t) = cv_shape quals (shape_of t)
+  shape_of (array_of dimension t) = array_shape dimension (shape_of t)
+  shape_of (member_of class t) = member_pointer_shape (shape_of class) (shape_of t)
+  shape_of (function_to ret params quals) = function_shape (shape_of ret) (shape_each params) quals
+  shape_of (elaborated word name) = elaborated_shape word (shape_of name)
+  shape_of (expansion_of t) = expansion_shape (shape_of t)
+  shape_of (pack_of list) = pack_shape (shape_each list)
+  shape_of (worded word t close) = worded_shape word (shape_of t) close
+  shape_of (temporary_of number t) = temporary_shape number (shape_of t)
+  shape_of (construction_of t u) = construction_shape (shape_of t) (shape_of u)
+  shape_of (thunk_of offsets t) = thunk_shape offsets (shape_of t)
+  shape_of (literal_of t value) = literal_shape (shape_of t) value
+  shape_of (address_of name) = address_shape (shape_of name)
+  shape_of (pre_of op t) = pre_shape op (shape_of t)
+  shape_of (unary_of op t) = pre_shape op (shape_of_operand t)
+  shape_of (post_of t op) = post_shape (shape_of_operand t) op
+  shape_of (binary_of t op u) = binary_shape (shape_of_operand t) op (shape_of_operand u)
+  shape_of (greater_of t u) = greater_shape (shape_of t) (shape_of u)
+  shape_of (conditional_of t u v) =
       conditional_shape (shape_of_operand t) (shape_of_operand u) (shape_of_operand v)
+
+  -- the shape of a name without its own qualifiers, from its whole shape, which it is where a name has none
+  pub bare_in : Shape → Tree → Shape
+  bare_in whole (nested_of name quals shown) = shape_of name
+  bare_in whole (local_in encoding entity) = qualified (shape_of encoding) (bare_in (shape_of entity) entity)
+  bare_in whole (default_argument_of encoding number entity) =
+      default_arg_shape (shape_of encoding) number (bare_in (shape_of entity) entity)
+  bare_in whole t = whole
 
   -- the shape of an operand: in parentheses, but for an external name
   pub shape_of_operand : Operand → Shape
-  shape_of_operand (operand external t) = operand_shape (not external) (shape_as false t)
+  shape_of_operand (operand external t) = operand_shape (not external) (shape_of t)
 
   -- the shapes of the trees, in order
   pub shape_each : Trees → List Shape
   shape_each no_trees = []
-  shape_each (more_trees t ts) = shape_as false t ∷ shape_each ts
-
--- the shape that the tree prints
-abbrev pub shape_of : Tree → Shape
-shape_of = shape_as false
+  shape_each (more_trees t ts) = shape_of t ∷ shape_each ts
 
 -- the shape of a name without its own qualifiers
 abbrev pub bare_shape : Tree → Shape
-bare_shape = shape_as true
+bare_shape t = bare_in (shape_of t) t
 
 -- the text that the tree prints
 abbrev pub printing : Tree → List ℕ
@@ -261,7 +248,8 @@ printing t = text (shape_of t)
 
 -- the text that a name prints; where its own qualifiers wait, without them
 abbrev pub name_printing : Bool → Tree → List ℕ
-name_printing waits t = text (shape_as waits t)
+name_printing true t = text (bare_shape t)
+name_printing false t = printing t
 
 -- the text that a list of template arguments prints
 abbrev pub list_printing : List Tree → List ℕ

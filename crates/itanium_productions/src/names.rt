@@ -5,7 +5,7 @@ ghost use Rattle.demangle_text.specs.Shape.{text};
 ghost use Rattle.demangle_text.specs.Calls.{IsLast};
 ghost use Rattle.itanium_syntax.specs.Names.{free_case, first_case, unscoped_case, saves_first};
 ghost use Rattle.itanium_syntax.specs.Context.{inside_lambda};
-ghost use Rattle.itanium_reader.specs.Cases.{FreeName};
+ghost use Rattle.itanium_grammar.specs.Cases.{FreeName};
 ghost use Rattle.itanium_reader.specs.Parser as spec;
 ghost use Rattle.itanium_reader.specs.Outcome.{state, Gives, GivesBareName, GivesName, GivesUnsaved, HasRoom, TakesSome};
 ghost use Rattle.itanium_reader.specs.Outcome.{SavedBounds};

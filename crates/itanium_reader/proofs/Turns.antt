@@ -5,20 +5,21 @@ use Rattle.std.proofs.lemmas.List.{length-append}
 use Rattle.demangle_text.specs.Shape.{Shape, plain_shape, whole_shape, text, text_len, appended}
 use Rattle.demangle_edit.specs.Names.{angle_gap, attached, tagged}
 use Rattle.demangle_edit.specs.Built.{separator, listed_more, arguments_opened}
-use Rattle.demangle_edit.specs.Lists.{arguments_closed}
+use Rattle.demangle_edit.specs.Built.{arguments_closed}
 use Rattle.demangle_edit.proofs.Built.{begun_list, closed_attached}
 use Rattle.itanium_syntax.specs.declared.context.Context.{Context}
 use Rattle.itanium_syntax.specs.Scalars.{source_name}
 use Rattle.itanium_syntax.specs.Context.{opens_scope, inside_pack}
 use Rattle.itanium_syntax.specs.Names.{segment_case, tag_case, source_text}
-use Rattle.itanium_syntax.specs.Names.{past_initializer_letter, begins_source}
+use Rattle.itanium_syntax.specs.Names.{past_initializer_letter}
+use Rattle.itanium_syntax.specs.Calls.{begins_source}
 use Rattle.itanium_syntax.specs.Args.{args_case}
 use Rattle.itanium_syntax.specs.Types.{types_case}
 use Rattle.itanium_reader.specs.Outcome.{LoopSoFar}
 use Rattle.itanium_reader.proofs.Loops.{loop_start, loop_end, loop_more, loop_fail, ListSoFar, list_start, list_end, list_more, list_fail}
-use Rattle.itanium_reader.specs.Cases.{NoTag, NextTag}
-use Rattle.itanium_reader.specs.Cases.{SegmentCase, EndOfSegments, ArgsSegment, NameSegment, EndOfArguments, NextArgument}
-use Rattle.itanium_reader.specs.Cases.{EndOfTypes, NextType}
+use Rattle.itanium_grammar.specs.Cases.{NoTag, NextTag}
+use Rattle.itanium_grammar.specs.Cases.{SegmentCase, EndOfSegments, ArgsSegment, NameSegment, EndOfArguments, NextArgument}
+use Rattle.itanium_grammar.specs.Cases.{EndOfTypes, NextType}
 use Rattle.itanium_grammar.specs.Answer.{max_text}
 use Rattle.itanium_reader.specs.Parser.{ParserState, Parses, ParsesName, ◌>>=◌, is_wide, fitting}
 use Rattle.itanium_reader.specs.Parser.{enter, with_rest, save, skip, begin_list, add_argument}

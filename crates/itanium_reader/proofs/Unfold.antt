@@ -15,7 +15,8 @@ use Rattle.itanium_syntax.specs.Offsets.{thunk_offsets}
 use Rattle.itanium_syntax.specs.Scalars.{index_of, source_name}
 use Rattle.itanium_syntax.specs.Context.{opens_scope, inside_type, inside_pack, inside_lambda, inside_local, inside_encoding}
 use Rattle.itanium_syntax.specs.Names.{symbol_case, name_case, unqualified_case, tag_case, source_text}
-use Rattle.itanium_syntax.specs.Names.{free_case, begins_source, first_case, substitution_case}
+use Rattle.itanium_syntax.specs.Names.{free_case, first_case, substitution_case}
+use Rattle.itanium_syntax.specs.Calls.{begins_source}
 use Rattle.itanium_syntax.specs.Names.{past_internal, past_name_quals, name_quals, saves_first}
 use Rattle.itanium_syntax.specs.Expressions.{expression_case}
 use Rattle.itanium_syntax.specs.Encodings.{entity_case}
@@ -24,8 +25,8 @@ use Rattle.itanium_reader.specs.declared.reader.Reader.{Reader}
 use Rattle.itanium_reader.specs.declared.stop.Stop.{Stop}
 use Rattle.itanium_reader.specs.declared.stop.Stop.TheVariants.{Unread, Memory}
 use Rattle.itanium_reader.specs.Outcome.{Gives, Measures}
-use Rattle.itanium_reader.specs.Cases.{UnqualifiedCase, FreeName, ConstructorName, DestructorName, SourceName, TagCase, NoTag, NextTag}
-use Rattle.itanium_reader.specs.Cases.{NameFirst}
+use Rattle.itanium_grammar.specs.Cases.{UnqualifiedCase, FreeName, ConstructorName, DestructorName, SourceName, TagCase, NoTag, NextTag}
+use Rattle.itanium_grammar.specs.Cases.{NameFirst}
 use Rattle.itanium_reader.specs.Parser.{ParserState, Turn, Parses, ParsesName, ParsesBareName, ◌>>=◌, is_wide, fitting}
 use Rattle.itanium_grammar.specs.Tree.{offset_text, thunk_shape, worded_shape}
 use Rattle.itanium_reader.specs.Parser.{fitting_bare, enter, with_rest, skip, save}

@@ -12,8 +12,7 @@ use Rattle.demangle_edit.specs.Names.{qualified, default_arg_shape, qualified_ct
 use Rattle.demangle_edit.specs.Types.{pointer_shape, cv_shape, expansion_shape}
 use Rattle.demangle_edit.specs.Calls.{array_step, member_pointer_step, opening_step, literal_step}
 use Rattle.demangle_edit.specs.Expressions.{operand_shape, address_shape}
-use Rattle.demangle_edit.specs.Built.{listed_more, lambda_closed, params_opened, params_closed, function_closed}
-use Rattle.demangle_edit.specs.Lists.{arguments_closed}
+use Rattle.demangle_edit.specs.Built.{listed_more, arguments_closed, lambda_closed, params_opened, params_closed, function_closed}
 use Rattle.itanium_syntax.specs.declared.context.Context.{Context}
 use Rattle.itanium_syntax.specs.declared.numerals.Radix.TheVariants.{Decimal, Base36}
 use Rattle.itanium_syntax.specs.declared.offsets.ThunkOffsets.{ThunkOffsets}
@@ -29,34 +28,34 @@ use Rattle.itanium_syntax.specs.Bytes.{begins}
 use Rattle.itanium_syntax.specs.Expressions.{is_external, literal_case, literal_value, expression_text, expression_case}
 use Rattle.itanium_syntax.specs.Offsets.{thunk_offsets, past_base_offset}
 use Rattle.itanium_syntax.specs.Specials.{special_case, special_text, special_close}
-use Rattle.itanium_syntax.specs.Encodings.{return_case, signature_case, entity_case, shows_words}
+use Rattle.itanium_syntax.specs.Encodings.{return_case, signature_case, entity_case}
 use Rattle.itanium_syntax.specs.Args.{attached_case, args_case, argument_case}
 use Rattle.itanium_syntax.specs.Types.{type_case, builtin_text, past_builtin, cv_quals, past_cv, with_reference, past_reference, cv_case, function_case, params_case, types_case, elaborated_text}
 use Rattle.itanium_grammar.specs.Answer.{max_text}
 use Rattle.itanium_grammar.specs.Tree.{offset_text, worded_shape, temporary_shape, construction_shape, thunk_shape, pre_shape}
 use Rattle.itanium_grammar.specs.Tree.{post_shape, binary_shape, greater_shape, conditional_shape, abbreviation_shape}
 use Rattle.itanium_grammar.specs.Tree.{conversion_shape, elaborated_shape, unnamed_text, literal_operator_text}
-use Rattle.itanium_reader.specs.Cases.{SymbolCase, SpecialSymbol, NameSymbol, SpecialCase, TypeSpecial, NameSpecial}
-use Rattle.itanium_reader.specs.Cases.{TemporarySpecial, ConstructionSpecial, ThunkSpecial, NoSpecial, NameCase}
-use Rattle.itanium_reader.specs.Cases.{NestedName, LocalName, UnscopedName, ReturnCase, NoReturnType, SomeReturnType}
-use Rattle.itanium_reader.specs.Cases.{SignatureCase, NoSignature, SomeSignature, EntityCase, StringLiteralEntity}
-use Rattle.itanium_reader.specs.Cases.{DefaultArgumentEntity, NameEntity, NoEntity, UnscopedCase, StdName}
-use Rattle.itanium_reader.specs.Cases.{SubstitutionName, PlainName, AttachedCase, NoneAttached, ArgsAttached, FirstCase}
-use Rattle.itanium_reader.specs.Cases.{ParameterFirst, StdFirst, SubstitutionFirst, NameFirst, SegmentCase}
-use Rattle.itanium_reader.specs.Cases.{EndOfSegments, ArgsSegment, NameSegment, UnqualifiedCase, ConstructorName}
-use Rattle.itanium_reader.specs.Cases.{DestructorName, FreeName, FreeCase, SourceName, UnnamedTypeName, LambdaName}
-use Rattle.itanium_reader.specs.Cases.{ConversionName, LiteralOperatorName, OperatorName, NoName, TagCase, NoTag}
-use Rattle.itanium_reader.specs.Cases.{NextTag, SubstitutionCase, AbbreviationSubstitution, ComponentSubstitution}
-use Rattle.itanium_reader.specs.Cases.{ArgsCase, EndOfArguments, NextArgument, LiteralCase, ExternalName, ValueLiteral}
-use Rattle.itanium_reader.specs.Cases.{NoLiteral, ExpressionCase, PreExpression, AddressExpression, UnaryExpression}
-use Rattle.itanium_reader.specs.Cases.{PostExpression, BinaryExpression, GreaterExpression, ConditionalExpression}
-use Rattle.itanium_reader.specs.Cases.{ParameterExpression, LiteralExpression, NoExpression, ArgumentCase}
-use Rattle.itanium_reader.specs.Cases.{ExpressionArgument, PackArgument, LiteralArgument, ConstraintArgument}
-use Rattle.itanium_reader.specs.Cases.{TypeArgument, TypeCase, BuiltinType, ExpansionType, VendorType, ArrayType}
-use Rattle.itanium_reader.specs.Cases.{FunctionType, MemberType, PointerType, CvType, ElaboratedType, ParameterType}
-use Rattle.itanium_reader.specs.Cases.{SubstitutionType, UnreadType, NameType, CvCase, CvFunction, CvOther}
-use Rattle.itanium_reader.specs.Cases.{FunctionCase, ExternFunction, PlainFunction, ParamsCase, NoParams, SomeParams}
-use Rattle.itanium_reader.specs.Cases.{TypesCase, EndOfTypes, NextType}
+use Rattle.itanium_grammar.specs.Cases.{SymbolCase, SpecialSymbol, NameSymbol, SpecialCase, TypeSpecial, NameSpecial}
+use Rattle.itanium_grammar.specs.Cases.{TemporarySpecial, ConstructionSpecial, ThunkSpecial, NoSpecial, NameCase}
+use Rattle.itanium_grammar.specs.Cases.{NestedName, LocalName, UnscopedName, ReturnCase, NoReturnType, SomeReturnType}
+use Rattle.itanium_grammar.specs.Cases.{SignatureCase, NoSignature, SomeSignature, EntityCase, StringLiteralEntity}
+use Rattle.itanium_grammar.specs.Cases.{DefaultArgumentEntity, NameEntity, NoEntity, UnscopedCase, StdName}
+use Rattle.itanium_grammar.specs.Cases.{SubstitutionName, PlainName, AttachedCase, NoneAttached, ArgsAttached, FirstCase}
+use Rattle.itanium_grammar.specs.Cases.{ParameterFirst, StdFirst, SubstitutionFirst, NameFirst, SegmentCase}
+use Rattle.itanium_grammar.specs.Cases.{EndOfSegments, ArgsSegment, NameSegment, UnqualifiedCase, ConstructorName}
+use Rattle.itanium_grammar.specs.Cases.{DestructorName, FreeName, FreeCase, SourceName, UnnamedTypeName, LambdaName}
+use Rattle.itanium_grammar.specs.Cases.{ConversionName, LiteralOperatorName, OperatorName, NoName, TagCase, NoTag}
+use Rattle.itanium_grammar.specs.Cases.{NextTag, SubstitutionCase, AbbreviationSubstitution, ComponentSubstitution}
+use Rattle.itanium_grammar.specs.Cases.{ArgsCase, EndOfArguments, NextArgument, LiteralCase, ExternalName, ValueLiteral}
+use Rattle.itanium_grammar.specs.Cases.{NoLiteral, ExpressionCase, PreExpression, AddressExpression, UnaryExpression}
+use Rattle.itanium_grammar.specs.Cases.{PostExpression, BinaryExpression, GreaterExpression, ConditionalExpression}
+use Rattle.itanium_grammar.specs.Cases.{ParameterExpression, LiteralExpression, NoExpression, ArgumentCase}
+use Rattle.itanium_grammar.specs.Cases.{ExpressionArgument, PackArgument, LiteralArgument, ConstraintArgument}
+use Rattle.itanium_grammar.specs.Cases.{TypeArgument, TypeCase, BuiltinType, ExpansionType, VendorType, ArrayType}
+use Rattle.itanium_grammar.specs.Cases.{FunctionType, MemberType, PointerType, CvType, ElaboratedType, ParameterType}
+use Rattle.itanium_grammar.specs.Cases.{SubstitutionType, UnreadType, NameType, CvCase, CvFunction, CvOther}
+use Rattle.itanium_grammar.specs.Cases.{FunctionCase, ExternFunction, PlainFunction, ParamsCase, NoParams, SomeParams}
+use Rattle.itanium_grammar.specs.Cases.{TypesCase, EndOfTypes, NextType}
 
 infixl 10 ◌>>=◌
 abbrev pub ◌>>=◌ : {A B : Type 0} → Option A → (A → Option B) → Option B
@@ -435,6 +434,11 @@ abbrev pub encoding_end : Parses Shape → Shape × Quals → Parses Shape
 encoding_end type name s =
     return_as (return_case name.0.templ name.0.ctor s.rest) type s >>= λ after.
     signature_as (signature_case after.rest) type name after
+
+-- the words of a name's own qualifiers are shown inside a local name, so also of its entity
+abbrev pub shows_words : NameCase → Bool → Bool
+shows_words LocalName shown = true
+shows_words case shown = shown
 
 -- a name with its own qualifiers
 abbrev pub qualified_by : ParsesBareName → Context → Parses Shape

@@ -8,7 +8,7 @@ ghost use Rattle.demangle_edit.specs.Built.{separated, separator};
 ghost use Rattle.itanium_syntax.specs.Names.{past_internal, segment_case};
 ghost use Rattle.itanium_syntax.specs.Types.{builtin_text, past_builtin};
 ghost use Rattle.itanium_grammar.specs.Answer.{max_text};
-ghost use Rattle.itanium_reader.specs.Cases.{EndOfSegments};
+ghost use Rattle.itanium_grammar.specs.Cases.{EndOfSegments};
 ghost use Rattle.itanium_reader.specs.Parser as spec;
 ghost use Rattle.itanium_reader.specs.Outcome.{state, Enters, Gives, Measures, OnlyTakes, HasRoom, TakesSome, SavedBounds};
 

@@ -32,15 +32,15 @@ use Rattle.itanium_syntax.specs.declared.offsets.CallOffset.{CallOffset}
 use Rattle.itanium_syntax.specs.declared.offsets.CallOffset.TheVariants.{Plain, Virtual}
 use Rattle.itanium_syntax.specs.declared.offsets.ThunkOffsets.{ThunkOffsets}
 use Rattle.itanium_syntax.specs.declared.offsets.ThunkOffsets.TheVariants.{Single, Covariant}
-use Rattle.itanium_syntax.specs.Offsets.{with_sign, signed_number, signed_part, plain_offset, virtual_offset, call_offset, covariant_offsets, thunk_offsets, past_base_offset}
+use Rattle.itanium_syntax.specs.Offsets.{with_sign, signed_number, signed_part, virtual_offset, call_offset, covariant_offsets, thunk_offsets, past_base_offset}
 use Rattle.itanium_syntax.specs.Specials.{special_case}
 use Rattle.itanium_syntax.specs.Encodings.{entity_case}
 use Rattle.itanium_syntax.specs.Args.{attached_case, args_case, argument_case}
 use Rattle.itanium_syntax.specs.Types.{type_case, types_case, cv_case, params_case, past_builtin, past_cv, past_reference}
 use Rattle.itanium_syntax.specs.Operators.{operator_here}
 use Rattle.itanium_syntax.specs.Scalars.{front_digits, digit_then, digit_of, weighted, base, numeral, number}
-use Rattle.itanium_syntax.specs.Scalars.{source_name, past_underscore, next_number, index_by, index_of, ordinal}
-use Rattle.itanium_syntax.specs.Scalars.{optional_number_by, optional_number}
+use Rattle.itanium_syntax.specs.Scalars.{source_name, following, ended, index_of, ordinal}
+use Rattle.itanium_syntax.specs.Scalars.{optional_number}
 
 -- the rest lies after a front of the bytes
 pub record IsAfter (rest bytes : List ℕ) : Type 0 where
@@ -368,36 +368,48 @@ pub ruleset cases = (
   builtin_shorter,
 )
 
-take_none : (b : ℕ) (bytes : List ℕ) (found : List ℕ) → past_underscore (b ∷ bytes) ≡ Some found → found ≡ bytes
-take_none b bytes found e = sym ((cond_some (b == 95) bytes found e).1)
+begins_some : (bytes : List ℕ) → begins (codes "_") bytes ≡ true → 0 < length bytes
+begins_some [] e = cc
+begins_some (b ∷ bytes) e = omega arith
 
-pub underscore_takes : (bytes rest : List ℕ) → past_underscore bytes ≡ Some rest → Takes rest bytes
-underscore_takes [] rest e = cc
-underscore_takes (b ∷ bytes) rest e = let is = take_none b bytes rest e in record { after = record { count = 1; is = is }; shorter = omega (arith, ap length is) }
+-- a value, and the `_` after it
+pub ended_takes : {A : Type 0} (front : Option (A × List ℕ)) (bytes : List ℕ) (found : A × List ℕ)
+    → ((value : A × List ℕ) → front ≡ Some value → Takes value.1 bytes) → ended front ≡ Some found → Takes found.1 bytes
+ended_takes None bytes found takes e = cc
+ended_takes (Some value) bytes found takes e =
+    let parts = cond_some (begins (codes "_") value.1) _ found e in
+    let is : drop 1 value.1 ≡ found.1 = ap (λ f. f.1) parts.1 in
+    rw (← is) (takes_takes (takes value refl) (takes_drop 1 value.1 (omega arith) (begins_some value.1 parts.0)))
+
+-- the number after one that was read
+pub following_takes : (front : Option (ℕ × List ℕ)) (bytes : List ℕ) (found : ℕ × List ℕ)
+    → ((value : ℕ × List ℕ) → front ≡ Some value → Takes value.1 bytes) → following front ≡ Some found → Takes found.1 bytes
+following_takes None bytes found takes e = cc
+following_takes (Some value) bytes found takes e =
+    let parts = cond_some (nat_lt (value.0 + 1) (2 ^ 64)) _ found e in
+    let is : value.1 ≡ found.1 = ap (λ f. f.1) parts.1 in
+    rw (← is) (takes value refl)
+
+-- `_`, or else a value and `_`
+optional_takes : {A : Type 0} (none : A) (front : Option (A × List ℕ)) (bytes : List ℕ) (found : A × List ℕ)
+    → ((value : A × List ℕ) → front ≡ Some value → Takes value.1 bytes)
+    → (if begins (codes "_") bytes then Some (none, drop 1 bytes) else ended front) ≡ Some found → Takes found.1 bytes
+optional_takes none front bytes found takes e = go (begins (codes "_") bytes) refl e
+  where
+    go : (t : Bool) → begins (codes "_") bytes ≡ t → (if t then Some (none, drop 1 bytes) else ended front) ≡ Some found → Takes found.1 bytes
+    go true starts f =
+        let is : drop 1 bytes ≡ found.1 = (some_pair_parts none found.0 (drop 1 bytes) found.1 f).1 in
+        rw (← is) (takes_drop 1 bytes (omega arith) (begins_some bytes starts))
+    go false starts f = ended_takes front bytes found takes f
 
 pub index_takes : (r : Radix) (bytes : List ℕ) (found : ℕ × List ℕ) → index_of r bytes ≡ Some found → Takes found.1 bytes
 unfolding index_of
-index_takes r bytes found e = go (past_underscore bytes) refl e
-  where
-    after_number : (n : ℕ × List ℕ) (i : ℕ) (o : Option (List ℕ)) → past_underscore n.1 ≡ o → option_map (λ rest. (i, rest)) o ≡ Some found → Takes found.1 n.1
-    after_number n i None f g = cc
-    after_number n i (Some rest) f g =
-        let is : rest ≡ found.1 = (some_pair_parts i found.0 rest found.1 g).1 in
-        rw (← is) (underscore_takes n.1 rest f)
-
-    go : (o : Option (List ℕ)) → past_underscore bytes ≡ o → index_by r bytes o ≡ Some found → Takes found.1 bytes
-    go (Some rest) f g = let is : rest ≡ found.1 = (some_pair_parts 0 found.0 rest found.1 g).1 in rw (← is) (underscore_takes bytes rest f)
-    go None f g = option_and_then_some _ (numeral r bytes) found g (λ n read more.
-        option_and_then_some _ (next_number n.0) found more (λ i next there.
-        takes_takes (numeral_takes r bytes n read) (after_number n i (past_underscore n.1) refl there)))
+index_takes r bytes found e =
+    optional_takes 0 (following (numeral r bytes)) bytes found (λ v. following_takes (numeral r bytes) bytes v (numeral_takes r bytes)) e
 
 pub ordinal_takes : (bytes : List ℕ) (found : ℕ × List ℕ) → ordinal bytes ≡ Some found → Takes found.1 bytes
 unfolding ordinal
-ordinal_takes bytes found e = option_and_then_some _ (index_of Decimal bytes) found e (λ n read made. go n read (next_number n.0) made)
-  where
-    go : (n : ℕ × List ℕ) → index_of Decimal bytes ≡ Some n → (o : Option ℕ) → option_map (λ k. (k, n.1)) o ≡ Some found → Takes found.1 bytes
-    go n read None g = cc
-    go n read (Some k) g = let is : n.1 ≡ found.1 = (some_pair_parts k found.0 n.1 found.1 g).1 in rw (← is) (index_takes Decimal bytes n read)
+ordinal_takes bytes found e = following_takes (index_of Decimal bytes) bytes found (index_takes Decimal bytes) e
 
 -- a code of an operator is two bytes
 pub operator_takes : (bytes text : List ℕ) → operator_here bytes ≡ Some text → Takes (drop 2 bytes) bytes
@@ -407,17 +419,11 @@ operator_takes (a ∷ b ∷ bytes) text e = takes_drop 2 (a ∷ b ∷ bytes) (om
 
 pub optional_number_takes : (bytes : List ℕ) (found : Option ℕ × List ℕ) → optional_number bytes ≡ Some found → Takes found.1 bytes
 unfolding optional_number
-optional_number_takes bytes found e = go (past_underscore bytes) refl e
+optional_number_takes bytes found e = optional_takes None (option_map (λ n. (Some n.0, n.1)) (number bytes)) bytes found (λ v. go v (number bytes) refl) e
   where
-    go : (o : Option (List ℕ)) → past_underscore bytes ≡ o → optional_number_by bytes o ≡ Some found → Takes found.1 bytes
-    go (Some rest) f g = let is : rest ≡ found.1 = (some_pair_parts None found.0 rest found.1 g).1 in rw (← is) (underscore_takes bytes rest f)
-    go None f g = option_and_then_some _ (number bytes) found g (λ n read more. after_number n (past_underscore n.1) refl (number_takes bytes n read) more)
-      where
-        after_number : (n : ℕ × List ℕ) (o : Option (List ℕ)) → past_underscore n.1 ≡ o → Takes n.1 bytes → option_map (λ rest. (Some n.0, rest)) o ≡ Some found → Takes found.1 bytes
-        after_number n None f a g = cc
-        after_number n (Some rest) f a g =
-            let is : rest ≡ found.1 = (some_pair_parts (Some n.0) found.0 rest found.1 g).1 in
-            rw (← is) (takes_takes a (underscore_takes n.1 rest f))
+    go : (v : Option ℕ × List ℕ) (o : Option (ℕ × List ℕ)) → number bytes ≡ o → option_map (λ n. (Some n.0, n.1)) o ≡ Some v → Takes v.1 bytes
+    go v None read g = cc
+    go v (Some n) read g = let is : n.1 ≡ v.1 = (some_pair_parts (Some n.0) v.0 n.1 v.1 g).1 in rw (← is) (number_takes bytes n read)
 
 pub reference_after : (bytes : List ℕ) → IsAfter (past_reference bytes) bytes
 reference_after bytes = if_after _ 1 bytes
@@ -447,13 +453,9 @@ signed_number_takes bytes found e = go (begins (codes "n") bytes) e
     go false f = numbered false bytes (numeral Decimal bytes) refl f
 
 signed_part_takes : (bytes : List ℕ) (found : Signed × List ℕ) → signed_part bytes ≡ Some found → Takes found.1 bytes
-signed_part_takes bytes found e = option_and_then_some _ (signed_number bytes) found e (λ n read more. takes_takes (signed_number_takes bytes n read) (go n (past_underscore n.1) refl more))
-  where
-    go : (n : Signed × List ℕ) (o : Option (List ℕ)) → past_underscore n.1 ≡ o → option_map (λ rest. (n.0, rest)) o ≡ Some found → Takes found.1 n.1
-    go n None f g = cc
-    go n (Some rest) f g = let is : rest ≡ found.1 = (some_pair_parts n.0 found.0 rest found.1 g).1 in rw (← is) (underscore_takes n.1 rest f)
+signed_part_takes bytes found e = ended_takes (signed_number bytes) bytes found (signed_number_takes bytes) e
 
-plain_offset_takes : (bytes : List ℕ) (found : CallOffset × List ℕ) → plain_offset bytes ≡ Some found → Takes found.1 bytes
+plain_offset_takes : (bytes : List ℕ) (found : CallOffset × List ℕ) → option_map (λ a. (Plain a.0, a.1)) (signed_part bytes) ≡ Some found → Takes found.1 bytes
 plain_offset_takes bytes found e = go (signed_part bytes) refl e
   where
     go : (o : Option (Signed × List ℕ)) → signed_part bytes ≡ o → option_map (λ n. (Plain n.0, n.1)) o ≡ Some found → Takes found.1 bytes
@@ -470,7 +472,7 @@ virtual_offset_takes bytes found e = option_and_then_some _ (signed_part bytes) 
 call_offset_takes : (bytes : List ℕ) (found : CallOffset × List ℕ) → call_offset bytes ≡ Some found → Takes found.1 bytes
 call_offset_takes bytes found e = go (begins (codes "h") bytes) (begins (codes "v") bytes) e
   where
-    go : (h v : Bool) → (if h then plain_offset (drop 1 bytes) else if v then virtual_offset (drop 1 bytes) else None) ≡ Some found → Takes found.1 bytes
+    go : (h v : Bool) → (if h then option_map (λ a. (Plain a.0, a.1)) (signed_part (drop 1 bytes)) else if v then virtual_offset (drop 1 bytes) else None) ≡ Some found → Takes found.1 bytes
     go true v f = after_takes (after_drop 1 bytes) (plain_offset_takes (drop 1 bytes) found f)
     go false true f = after_takes (after_drop 1 bytes) (virtual_offset_takes (drop 1 bytes) found f)
     go false false f = cc

@@ -1,23 +1,18 @@
 -- The abbreviations of std (Itanium C++ ABI 5.1.10, "Compression").
-use Rattle.std.specs.Prelude.{ℕ, List, [], ◌∷◌, codes, Option, Some, None, if◌then◌else◌}
-use Rattle.itanium_syntax.specs.Bytes.{is}
+use Rattle.std.specs.Prelude.{ℕ, List, codes, Option, Some, None, if◌then◌else◌}
+use Rattle.itanium_syntax.specs.Bytes.{begins}
 use Rattle.itanium_syntax.specs.declared.abbreviations.Abbreviation.{Abbreviation}
 use Rattle.itanium_syntax.specs.declared.abbreviations.Abbreviation.TheVariants.{Allocator, BasicString, StdString, Istream, Ostream, Iostream}
 
--- which name the letter stands for
-abbrev pub abbreviation_letter : ℕ → Option Abbreviation
-abbreviation_letter letter =
-    if is "a" letter then Some Allocator else
-    if is "b" letter then Some BasicString else
-    if is "s" letter then Some StdString else
-    if is "i" letter then Some Istream else
-    if is "o" letter then Some Ostream else
-    if is "d" letter then Some Iostream else None
-
--- the abbreviation that stands in front
+-- which name the letter stands for that is next
 abbrev pub abbreviation_of : List ℕ → Option Abbreviation
-abbreviation_of [] = None
-abbreviation_of (letter ∷ bytes) = abbreviation_letter letter
+abbreviation_of bytes =
+    if begins (codes "a") bytes then Some Allocator else
+    if begins (codes "b") bytes then Some BasicString else
+    if begins (codes "s") bytes then Some StdString else
+    if begins (codes "i") bytes then Some Istream else
+    if begins (codes "o") bytes then Some Ostream else
+    if begins (codes "d") bytes then Some Iostream else None
 
 -- what is printed
 abbrev pub abbreviation_text : Abbreviation → List ℕ

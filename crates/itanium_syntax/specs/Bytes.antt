@@ -18,10 +18,6 @@ is_between low high byte = nat_le (letter low) byte && nat_le byte (letter high)
 abbrev pub is_digit : ℕ → Bool
 is_digit byte = is_between "0" "9" byte
 
--- the byte is an upper-case letter
-abbrev pub is_upper_case : ℕ → Bool
-is_upper_case byte = is_between "A" "Z" byte
-
 -- the bytes begin with the word
 abbrev pub begins : List ℕ → List ℕ → Bool
 begins [] bytes = true
@@ -36,14 +32,6 @@ begins_between low high (b ∷ bytes) = is_between low high b
 -- a digit is next
 abbrev pub begins_digit : List ℕ → Bool
 begins_digit bytes = begins_between "0" "9" bytes
-
--- a digit is next that isn't 0
-abbrev pub begins_positive : List ℕ → Bool
-begins_positive bytes = begins_between "1" "9" bytes
-
--- a lower-case letter is next
-abbrev pub begins_lower_case : List ℕ → Bool
-begins_lower_case bytes = begins_between "a" "z" bytes
 
 -- the byte is one of the word's
 abbrev pub one_of : List ℕ → ℕ → Bool

@@ -1,7 +1,7 @@
 -- The cases of encodings and of local names. Of several cases the first one that fits holds.
-use Rattle.std.specs.Prelude.{ℕ, List, Bool, true, not, ◌&&◌, ◌||◌, drop, codes, if◌then◌else◌}
+use Rattle.std.specs.Prelude.{ℕ, List, Bool, not, ◌&&◌, ◌||◌, drop, codes, if◌then◌else◌}
 use Rattle.itanium_syntax.specs.Bytes.{begins, begins_digit}
-use Rattle.itanium_syntax.specs.Cases.{NameCase, LocalName, ReturnCase, NoReturnType, SomeReturnType, SignatureCase}
+use Rattle.itanium_syntax.specs.Cases.{ReturnCase, NoReturnType, SomeReturnType, SignatureCase}
 use Rattle.itanium_syntax.specs.Cases.{NoSignature, SomeSignature, EntityCase, StringLiteralEntity}
 use Rattle.itanium_syntax.specs.Cases.{DefaultArgumentEntity, NameEntity, NoEntity}
 
@@ -22,8 +22,3 @@ entity_case bytes =
     if begins (codes "Ed") bytes && (begins (codes "_") (drop 2 bytes) || begins_digit (drop 2 bytes))
     then DefaultArgumentEntity else
     if begins (codes "E") bytes then NameEntity else NoEntity
-
--- the words of a name's own qualifiers are shown inside a local name, so also of its entity
-abbrev pub shows_words : NameCase → Bool → Bool
-shows_words LocalName shown = true
-shows_words case shown = shown

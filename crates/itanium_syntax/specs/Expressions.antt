@@ -1,6 +1,6 @@
 -- The cases of literals and of expressions. Of several cases the first one that fits holds.
 use Prim.Native.String.{String}
-use Rattle.std.specs.Prelude.{ℕ, ◌+◌, List, [], ◌∷◌, length, take, drop, Bool, false, not, ◌&&◌, ◌||◌, ◌==◌, nat_lt, codes, if◌then◌else◌, Option, Some, None}
+use Rattle.std.specs.Prelude.{ℕ, ◌+◌, List, [], ◌∷◌, length, take, drop, Bool, false, not, ◌&&◌, ◌||◌, ◌==◌, nat_lt, codes, if◌then◌else◌, Option, Some, None, unwrap_or}
 use Rattle.std.specs.List.{prefix_len}
 use Rattle.std.specs.Str.{is_utf8}
 use Rattle.itanium_syntax.specs.Bytes.{is, begins, begins_one_of}
@@ -40,9 +40,7 @@ refused_codes =
 -- the code is one of these
 abbrev pub is_code_of : List String → ℕ → ℕ → Bool
 is_code_of [] first second = false
-is_code_of (code ∷ []) first second = is_code (codes code) first second
-is_code_of (code ∷ next ∷ table) first second =
-    is_code (codes code) first second || is_code_of (next ∷ table) first second
+is_code_of (code ∷ table) first second = is_code (codes code) first second || is_code_of table first second
 
 -- the code of an expression that isn't read
 abbrev pub expression_refused : ℕ → ℕ → Bool
@@ -50,24 +48,17 @@ expression_refused first second = is_code_of refused_codes first second
 
 -- such a code is next
 abbrev pub refused_here : List ℕ → Bool
-refused_here [] = false
-refused_here (first ∷ []) = false
 refused_here (first ∷ second ∷ bytes) = expression_refused first second
+refused_here bytes = false
 
 -- how many operands the code has that is next
 abbrev pub arity_here : List ℕ → Option ℕ
-arity_here [] = None
-arity_here (first ∷ []) = None
 arity_here (first ∷ second ∷ bytes) = operator_arity first second
+arity_here bytes = None
 
--- the text of a code, and no text where it is none
-abbrev pub text_or : Option (List ℕ) → List ℕ
-text_or None = []
-text_or (Some text) = text
-
--- the text of the operator whose code is next
+-- the text of the operator whose code is next, and no text where none is
 abbrev pub expression_text : List ℕ → List ℕ
-expression_text bytes = text_or (operator_here bytes)
+expression_text bytes = unwrap_or (operator_here bytes) []
 
 -- an expression that isn't an operator's: a <template-param>, or a literal or an external name
 abbrev pub operand_case : List ℕ → ExpressionCase

@@ -11,3 +11,4 @@ pub mod Offsets
 pub mod Specials
 pub mod Abbreviations
 pub mod Context
+pub mod Calls

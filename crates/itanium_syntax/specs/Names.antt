@@ -2,7 +2,7 @@
 use Rattle.std.specs.Prelude.{ℕ, List, Bool, true, false, ◌&&◌, ◌||◌, drop, codes, if◌then◌else◌, is_some}
 use Rattle.demangle_quals.specs.declared.quals.Quals.{Quals}
 use Rattle.demangle_quals.specs.Quals.{no_quals}
-use Rattle.itanium_syntax.specs.Bytes.{letter, begins, begins_between, begins_digit, begins_positive, begins_lower_case, past_letter}
+use Rattle.itanium_syntax.specs.Bytes.{letter, begins, begins_between, begins_digit, past_letter}
 use Rattle.itanium_syntax.specs.Operators.{operator_here}
 use Rattle.itanium_syntax.specs.Cases.{SymbolCase, SpecialSymbol, NameSymbol, NameCase, NestedName, LocalName}
 use Rattle.itanium_syntax.specs.Cases.{UnscopedName, UnscopedCase, StdName, SubstitutionName, PlainName, FirstCase}
@@ -11,7 +11,7 @@ use Rattle.itanium_syntax.specs.Cases.{EndOfSegments, ArgsSegment, NameSegment, 
 use Rattle.itanium_syntax.specs.Cases.{DestructorName, FreeName, FreeCase, SourceName, UnnamedTypeName, LambdaName}
 use Rattle.itanium_syntax.specs.Cases.{ConversionName, LiteralOperatorName, OperatorName, NoName, TagCase, NoTag}
 use Rattle.itanium_syntax.specs.Cases.{NextTag, SubstitutionCase, AbbreviationSubstitution, ComponentSubstitution}
-use Rattle.itanium_syntax.specs.Types.{cv_quals, past_cv, reference_of, past_reference}
+use Rattle.itanium_syntax.specs.Types.{cv_quals, past_cv, with_reference, past_reference}
 
 -- what follows the prefix of a symbol, and what an encoding begins with: a special name, or a name
 abbrev pub symbol_case : List ℕ → SymbolCase
@@ -38,10 +38,9 @@ first_case bytes =
 
 -- whether the first segment of a <nested-name> is saved: all but `St` and a substitution are
 abbrev pub saves_first : FirstCase → Bool
-saves_first ParameterFirst = true
 saves_first StdFirst = false
 saves_first SubstitutionFirst = false
-saves_first NameFirst = true
+saves_first first = true
 
 -- a later segment of a <nested-name>, or its end
 abbrev pub segment_case : List ℕ → SegmentCase
@@ -56,23 +55,17 @@ begins_constructor bytes = begins (codes "C") bytes && begins_between "1" "5" (d
 -- D0, D1, D2, D4 and D5 of <ctor-dtor-name>
 abbrev pub begins_destructor : List ℕ → Bool
 begins_destructor bytes =
-    let number = drop 1 bytes in
-    begins (codes "D") bytes
-    && (begins_between "0" "2" number || begins_between "4" "5" number)
-
--- an <operator-name>, or no name
-abbrev pub operator_case : List ℕ → FreeCase
-operator_case bytes = if is_some (operator_here bytes) then OperatorName else NoName
+    begins (codes "D") bytes && (begins_between "0" "2" (drop 1 bytes) || begins_between "4" "5" (drop 1 bytes))
 
 -- an <unqualified-name> that asks for no parent: it is no <ctor-dtor-name>
 abbrev pub free_case : List ℕ → FreeCase
 free_case bytes =
-    if begins_positive bytes then SourceName else
+    if begins_between "1" "9" bytes then SourceName else
     if begins (codes "Ut") bytes then UnnamedTypeName else
     if begins (codes "Ul") bytes then LambdaName else
     if begins (codes "cv") bytes then ConversionName else
     if begins (codes "li") bytes then LiteralOperatorName else
-    operator_case bytes
+    if is_some (operator_here bytes) then OperatorName else NoName
 
 -- <unqualified-name>: constructors and destructors have a parent
 abbrev pub unqualified_case : Bool → List ℕ → UnqualifiedCase
@@ -81,17 +74,13 @@ unqualified_case in_parent bytes =
     if in_parent && begins_destructor bytes then DestructorName else
     FreeName
 
--- a <source-name> is next
-abbrev pub begins_source : List ℕ → Bool
-begins_source bytes = begins_positive bytes
-
 -- an <abi-tag> or none
 abbrev pub tag_case : List ℕ → TagCase
 tag_case bytes = if begins (codes "B") bytes && begins_digit (drop 1 bytes) then NextTag else NoTag
 
 -- <substitution> after its S: a letter of std, or a number
 abbrev pub substitution_case : List ℕ → SubstitutionCase
-substitution_case bytes = if begins_lower_case bytes then AbbreviationSubstitution else ComponentSubstitution
+substitution_case bytes = if begins_between "a" "z" bytes then AbbreviationSubstitution else ComponentSubstitution
 
 -- past the L of an internal name, which a digit follows
 abbrev pub past_internal : List ℕ → List ℕ
@@ -107,9 +96,7 @@ source_text name = if begins (codes "_GLOBAL__N") name then codes "(anonymous na
 
 -- the qualifiers of a <nested-name>; one with an explicit object parameter, H, has none
 abbrev pub name_quals : List ℕ → Quals
-name_quals bytes =
-    let words = cv_quals bytes in
-    if begins (codes "H") bytes then no_quals else record words { reference = reference_of (past_cv bytes) }
+name_quals bytes = if begins (codes "H") bytes then no_quals else with_reference (cv_quals bytes) (past_cv bytes)
 
 -- what is after the qualifiers of a <nested-name>
 abbrev pub past_name_quals : List ℕ → List ℕ

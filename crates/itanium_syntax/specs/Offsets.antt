@@ -7,7 +7,7 @@ use Rattle.itanium_syntax.specs.declared.offsets.CallOffset.TheVariants.{Plain, 
 use Rattle.itanium_syntax.specs.declared.offsets.ThunkOffsets.{ThunkOffsets}
 use Rattle.itanium_syntax.specs.declared.offsets.ThunkOffsets.TheVariants.{Single, Covariant}
 use Rattle.itanium_syntax.specs.Bytes.{begins}
-use Rattle.itanium_syntax.specs.Scalars.{numeral, past_underscore}
+use Rattle.itanium_syntax.specs.Scalars.{numeral, ended}
 
 -- a number with a minus or without one: zero is never negative
 abbrev pub with_sign : Bool → ℕ → Signed
@@ -21,11 +21,7 @@ signed_number bytes =
 
 -- a number with `_` after it
 abbrev pub signed_part : List ℕ → Option (Signed × List ℕ)
-signed_part bytes = option_and_then (λ n. option_map (λ rest. (n.0, rest)) (past_underscore n.1)) (signed_number bytes)
-
--- <number> _ after its h
-abbrev pub plain_offset : List ℕ → Option (CallOffset × List ℕ)
-plain_offset bytes = option_map (λ n. (Plain n.0, n.1)) (signed_part bytes)
+signed_part bytes = ended (signed_number bytes)
 
 -- <number> _ <number> _ after its v
 abbrev pub virtual_offset : List ℕ → Option (CallOffset × List ℕ)
@@ -35,7 +31,7 @@ virtual_offset bytes =
 -- <call-offset> ::= h <number> _ | v <number> _ <number> _
 abbrev pub call_offset : List ℕ → Option (CallOffset × List ℕ)
 call_offset bytes =
-    if begins (codes "h") bytes then plain_offset (drop 1 bytes) else
+    if begins (codes "h") bytes then option_map (λ a. (Plain a.0, a.1)) (signed_part (drop 1 bytes)) else
     if begins (codes "v") bytes then virtual_offset (drop 1 bytes) else None
 
 -- the two offsets after `c`

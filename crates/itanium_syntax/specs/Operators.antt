@@ -1,19 +1,13 @@
 -- Operators (Itanium C++ ABI 5.1.3): what follows `operator` in a name, and how many operands an expression has.
 use Prim.Native.String.{String}
-use Rattle.std.specs.Prelude.{ℕ, List, [], ◌∷◌, Bool, false, ◌&&◌, ◌==◌, codes, if◌then◌else◌, Option, Some, None, is_some}
+use Rattle.std.specs.Prelude.{ℕ, List, [], ◌∷◌, Bool, false, ◌&&◌, ◌==◌, codes, if◌then◌else◌, Option, Some, None, option_map}
 
 -- the code is the one that the word spells
 abbrev pub is_code : List ℕ → ℕ → ℕ → Bool
 is_code (a ∷ b ∷ []) first second = first == a && second == b
 is_code word first second = false
 
--- each assignment: its code of <operator-name>, and what follows `operator`
-abbrev pub assignments : List (String × String)
-assignments =
-    ("aS", "=") ∷ ("pL", "+=") ∷ ("mI", "-=") ∷ ("mL", "*=") ∷ ("dV", "/=") ∷ ("rM", "%=") ∷ ("aN", "&=") ∷
-    ("oR", "|=") ∷ ("eO", "^=") ∷ ("lS", "<<=") ∷ ("rS", ">>=") ∷ []
-
--- each other operator: its code, what follows `operator`, and how many operands an expression of it has
+-- each operator: its code, what follows `operator`, and how many operands an expression of it has
 abbrev pub operators : List (String × String × ℕ)
 operators =
     ("nw", " new", 2) ∷ ("na", " new[]", 2) ∷ ("dl", " delete", 1) ∷ ("da", " delete[]", 1) ∷ ("ps", "+", 1) ∷
@@ -22,40 +16,25 @@ operators =
     ("ls", "<<", 2) ∷ ("rs", ">>", 2) ∷ ("eq", "==", 2) ∷ ("ne", "!=", 2) ∷ ("lt", "<", 2) ∷ ("gt", ">", 2) ∷
     ("le", "<=", 2) ∷ ("ge", ">=", 2) ∷ ("nt", "!", 1) ∷ ("aa", "&&", 2) ∷ ("oo", "||", 2) ∷ ("pp", "++", 1) ∷
     ("mm", "--", 1) ∷ ("cm", ",", 2) ∷ ("pm", "->*", 2) ∷ ("pt", "->", 2) ∷ ("cl", "()", 2) ∷ ("ix", "[]", 2) ∷
-    ("qu", "?:", 3) ∷ ("ss", "<=>", 2) ∷ []
+    ("qu", "?:", 3) ∷ ("ss", "<=>", 2) ∷ ("aS", "=", 2) ∷ ("pL", "+=", 2) ∷ ("mI", "-=", 2) ∷ ("mL", "*=", 2) ∷
+    ("dV", "/=", 2) ∷ ("rM", "%=", 2) ∷ ("aN", "&=", 2) ∷ ("oR", "|=", 2) ∷ ("eO", "^=", 2) ∷ ("lS", "<<=", 2) ∷
+    ("rS", ">>=", 2) ∷ []
 
--- what follows `operator` for a code in a table of assignments
-abbrev pub assignment_in : List (String × String) → ℕ → ℕ → Option (List ℕ)
-assignment_in [] first second = None
-assignment_in ((code, text) ∷ table) first second =
-    if is_code (codes code) first second then Some (codes text) else assignment_in table first second
-
--- what follows `operator` for a code of <operator-name> that names an assignment
-abbrev pub assignment_text : ℕ → ℕ → Option (List ℕ)
-assignment_text first second = assignment_in assignments first second
-
--- what follows `operator` for a code in a table of operators, or else for an assignment
-abbrev pub operator_in : List (String × String × ℕ) → ℕ → ℕ → Option (List ℕ)
-operator_in [] first second = assignment_text first second
+-- the text and the number of operands of a code in a table
+abbrev pub operator_in : List (String × String × ℕ) → ℕ → ℕ → Option (List ℕ × ℕ)
+operator_in [] first second = None
 operator_in ((code, text, operands) ∷ table) first second =
-    if is_code (codes code) first second then Some (codes text) else operator_in table first second
+    if is_code (codes code) first second then Some (codes text, operands) else operator_in table first second
 
--- the same for every code of <operator-name>
+-- what follows `operator` for a code of <operator-name>
 abbrev pub operator_text : ℕ → ℕ → Option (List ℕ)
-operator_text first second = operator_in operators first second
-
--- how many operands a code in a table of operators has; an assignment has two
-abbrev pub arity_in : List (String × String × ℕ) → ℕ → ℕ → Option ℕ
-arity_in [] first second = if is_some (assignment_text first second) then Some 2 else None
-arity_in ((code, text, operands) ∷ table) first second =
-    if is_code (codes code) first second then Some operands else arity_in table first second
+operator_text first second = option_map (λ row. row.0) (operator_in operators first second)
 
 -- how many operands an expression of the code has
 abbrev pub operator_arity : ℕ → ℕ → Option ℕ
-operator_arity first second = arity_in operators first second
+operator_arity first second = option_map (λ row. row.1) (operator_in operators first second)
 
 -- what follows `operator`, where a code of <operator-name> is next
 abbrev pub operator_here : List ℕ → Option (List ℕ)
-operator_here [] = None
-operator_here (first ∷ []) = None
 operator_here (first ∷ second ∷ bytes) = operator_text first second
+operator_here bytes = None

@@ -1,6 +1,6 @@
 -- Numbers and source names: how many bytes stand in front, and what they say (Itanium C++ ABI 5.1.2).
-use Rattle.std.specs.Prelude.{ℕ, ◌+◌, ◌-◌, ◌*◌, ◌^◌, ◌&&◌, nat_le, nat_lt, if◌then◌else◌, List, [], ◌∷◌, length, take, drop, Option, Some, None, option_and_then, option_map}
-use Rattle.itanium_syntax.specs.Bytes.{letter, is, is_digit, is_upper_case}
+use Rattle.std.specs.Prelude.{ℕ, ◌+◌, ◌-◌, ◌*◌, ◌^◌, ◌&&◌, nat_le, nat_lt, if◌then◌else◌, List, [], ◌∷◌, length, take, drop, Option, Some, None, option_and_then, option_map, codes}
+use Rattle.itanium_syntax.specs.Bytes.{letter, begins, is_between, is_digit}
 use Rattle.itanium_syntax.specs.declared.numerals.Radix.{Radix}
 use Rattle.itanium_syntax.specs.declared.numerals.Radix.TheVariants.{Decimal, Base36}
 
@@ -14,7 +14,7 @@ abbrev pub digit_of : Radix → ℕ → Option ℕ
 digit_of Decimal b = if is_digit b then Some (b - letter "0") else None
 digit_of Base36 b =
     if is_digit b then Some (b - letter "0") else
-    if is_upper_case b then Some (b - letter "A" + 10) else None
+    if is_between "A" "Z" b then Some (b - letter "A" + 10) else None
 
 -- a digit and those after it, where it is one
 abbrev pub digit_then : Option ℕ → List ℕ → List ℕ
@@ -47,41 +47,28 @@ unfoldable pub source_name : List ℕ → Option (List ℕ × List ℕ)
 source_name bytes = option_and_then (λ n.
     if nat_lt 0 n.0 && nat_le n.0 (length n.1) then Some (take n.0 n.1, drop n.0 n.1) else None) (number bytes)
 
--- <seq-id>: digits in base 36
-unfoldable pub sequence_id : List ℕ → Option (ℕ × List ℕ)
-sequence_id bytes = numeral Base36 bytes
+-- the number that follows the one that was read, which fits 64 bits
+abbrev pub following : Option (ℕ × List ℕ) → Option (ℕ × List ℕ)
+following None = None
+following (Some (n, rest)) = if nat_lt (n + 1) (2 ^ 64) then Some (n + 1, rest) else None
 
--- the number that follows n, which fits 64 bits
-abbrev pub next_number : ℕ → Option ℕ
-next_number n = if nat_lt (n + 1) (2 ^ 64) then Some (n + 1) else None
-
--- the next byte is `_`, and what follows it
-abbrev pub past_underscore : List ℕ → Option (List ℕ)
-past_underscore [] = None
-past_underscore (b ∷ bytes) = if is "_" b then Some bytes else None
-
--- after the `_` of an index without a numeral; else a numeral, `_`, and the number that follows it
-abbrev pub index_by : Radix → List ℕ → Option (List ℕ) → Option (ℕ × List ℕ)
-index_by r bytes (Some rest) = Some (0, rest)
-index_by r bytes None =
-    option_and_then (λ n.
-    option_and_then (λ i. option_map (λ rest. (i, rest)) (past_underscore n.1)) (next_number n.0)) (numeral r bytes)
+-- a value, and what follows it, where `_` stands between
+abbrev pub ended : {A : Type 0} → Option (A × List ℕ) → Option (A × List ℕ)
+ended None = None
+ended (Some (value, rest)) = if begins (codes "_") rest then Some (value, drop 1 rest) else None
 
 -- [<numeral>] _: 0 where the numeral is left out, else the number that follows it
 unfoldable pub index_of : Radix → List ℕ → Option (ℕ × List ℕ)
-index_of r bytes = index_by r bytes (past_underscore bytes)
+index_of r bytes =
+    if begins (codes "_") bytes then Some (0, drop 1 bytes) else ended (following (numeral r bytes))
 
 -- [<nonnegative number>] _ of an <unnamed-type-name>, a <closure-type-name> or a default argument: 1 where the number
 -- is left out, else the second number after it
 unfoldable pub ordinal : List ℕ → Option (ℕ × List ℕ)
-ordinal bytes = option_and_then (λ n. option_map (λ k. (k, n.1)) (next_number n.0)) (index_of Decimal bytes)
-
--- after the `_` where the number is left out; else the number and `_`
-abbrev pub optional_number_by : List ℕ → Option (List ℕ) → Option (Option ℕ × List ℕ)
-optional_number_by bytes (Some rest) = Some (None, rest)
-optional_number_by bytes None =
-    option_and_then (λ n. option_map (λ rest. (Some n.0, rest)) (past_underscore n.1)) (number bytes)
+ordinal bytes = following (index_of Decimal bytes)
 
 -- [<number>] _: the dimension of an array, which may be left out
 unfoldable pub optional_number : List ℕ → Option (Option ℕ × List ℕ)
-optional_number bytes = optional_number_by bytes (past_underscore bytes)
+optional_number bytes =
+    if begins (codes "_") bytes then Some (None, drop 1 bytes)
+    else ended (option_map (λ n. (Some n.0, n.1)) (number bytes))

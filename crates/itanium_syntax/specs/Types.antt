@@ -31,19 +31,12 @@ abbrev pub text_in : List (String × String) → ℕ → List ℕ
 text_in [] letter = []
 text_in ((name, text) ∷ table) letter = if is name letter then codes text else text_in table letter
 
--- <builtin-type> of a letter
-abbrev pub letter_text : ℕ → List ℕ
-letter_text letter = text_in letter_texts letter
-
--- <builtin-type> of D and a letter
-abbrev pub two_letter_text : ℕ → List ℕ
-two_letter_text letter = text_in two_letter_texts letter
-
 -- the text of a <builtin-type>
 abbrev pub builtin_text : List ℕ → List ℕ
 builtin_text [] = []
-builtin_text (first ∷ []) = letter_text first
-builtin_text (first ∷ second ∷ bytes) = if is "D" first then two_letter_text second else letter_text first
+builtin_text (first ∷ []) = text_in letter_texts first
+builtin_text (first ∷ second ∷ bytes) =
+    if is "D" first then text_in two_letter_texts second else text_in letter_texts first
 
 -- a <builtin-type> is next: a letter, or D and a letter, with a text
 abbrev pub is_builtin : List ℕ → Bool
@@ -101,11 +94,6 @@ with_reference quals bytes = record quals { reference = reference_of bytes }
 -- past the R or O
 abbrev pub past_reference : List ℕ → List ℕ
 past_reference bytes = if begins (codes "R") bytes || begins (codes "O") bytes then drop 1 bytes else bytes
-
--- a fact for the case of qualifiers
-abbrev pub OnCv : TypeCase → Type 0 → Type 0
-OnCv CvType P = P
-OnCv other P = Unit {0}
 
 -- what qualifiers stand in front of: a function type takes them in
 abbrev pub cv_case : List ℕ → CvCase

@@ -5,6 +5,7 @@ ghost use Rattle.std.specs.Option.{unwrap_or};
 ghost use Rattle.demangle_quals.specs.Quals.{no_quals};
 ghost use Rattle.itanium_syntax.specs.Names as spec;
 ghost use Rattle.itanium_syntax.specs.Scalars.{source_name};
+ghost use Rattle.itanium_syntax.specs.Calls as call_spec;
 
 use crate::operators::operator_here;
 use crate::scalar::source_name;
@@ -172,7 +173,7 @@ pub fn free_case(bytes: &[u8]) -> FreeCase
 /// Whether a `<source-name>` stands there: a digit from `1` to `9`.
 #[inline(always)]
 pub fn begins_source(bytes: &[u8]) -> bool
-    ensures value { result ≡ spec.begins_source bytes.now }
+    ensures value { result ≡ call_spec.begins_source bytes.now }
 {
     matches!(bytes, [b'1'..=b'9', ..])
 }

@@ -2,10 +2,11 @@
 //! expression of the code has.
 ghost use Rattle.std.specs.Prelude.{◌≡◌, option_map};
 ghost use Rattle.itanium_syntax.specs.Operators as spec;
+ghost use Rattle.itanium_syntax.specs.Calls as call_spec;
 
 /// What follows `operator` in the name of a code's assignment, or `None` where the code is none of an assignment.
 fn assignment_text(first: u8, second: u8) -> Option<&'static str>
-    ensures value { option_map (λ text. text.now) result ≡ spec.assignment_text first second }
+    ensures value { option_map (λ text. text.now) result ≡ call_spec.assignment_text first second }
 {
     match (first, second) {
         (b'a', b'S') => Some("="),

@@ -3,6 +3,7 @@
 ghost use Rattle.std.specs.Prelude.{◌≡◌, ◌<◌, ◌≤◌, IfSome, option_map, length, drop, slice_range};
 ghost use Rattle.itanium_syntax.specs.Scalars as spec;
 ghost use Rattle.itanium_syntax.specs.Offsets as offset_spec;
+ghost use Rattle.itanium_syntax.specs.Calls as call_spec;
 
 pub use crate::expressions::expression_refused;
 use crate::numerals::{Radix, numeral, short_numeral};
@@ -29,11 +30,11 @@ pub fn number(input: &[u8], place: usize) -> Option<(u64, usize)>
 /// `<seq-id>`: as many digits in base 36, `0` to `9` and `A` to `Z`, as stand at `place`, at least one. The value, and
 /// the place after the digits, in bytes; `None` where no digit stands there or the value is past 2^64 - 1.
 /// (Itanium C++ ABI 5.1.10, "Compression")
-#[tactic(auto, using(crate::proofs::Digits::dropped), unfolding(crate::specs::Scalars::sequence_id))]
+#[tactic(auto, using(crate::proofs::Digits::dropped), unfolding(crate::specs::Calls::sequence_id))]
 pub fn sequence_id(input: &[u8], place: usize) -> Option<(u64, usize)>
     requires place { place ≤ length input.now }
     ensures value { option_map (λ found. (found.0, drop found.1 input.now)) result
-        ≡ spec.sequence_id (drop place input.now) }
+        ≡ call_spec.sequence_id (drop place input.now) }
     ensures after { IfSome result (λ found. place < found.1) }
     ensures within { IfSome result (λ found. found.1 ≤ length input.now) }
 {

@@ -3,6 +3,7 @@
 ghost use Rattle.std.specs.Prelude.{◌≡◌, ◌<◌, ◌≤◌, length};
 ghost use Rattle.itanium_syntax.specs.Types as spec;
 ghost use Rattle.itanium_syntax.specs.Bytes as bytes_spec;
+ghost use Rattle.itanium_syntax.specs.Calls as call_spec;
 
 use demangle_quals::{Pointer, Quals, Reference};
 
@@ -57,7 +58,7 @@ pub enum TypesCase {
 #[inline(always)]
 pub fn type_case(bytes: &[u8]) -> TypeCase
     ensures case { result ≡ spec.type_case bytes.now }
-    ensures cv { spec.OnCv result (length (spec.past_cv bytes.now) < length bytes.now) }
+    ensures cv { call_spec.OnCv result (length (spec.past_cv bytes.now) < length bytes.now) }
 {
     match bytes {
         [b'u', ..] => TypeCase::VendorType,
@@ -135,7 +136,7 @@ pub fn builtin_text(bytes: &[u8]) -> &'static [u8]
 
 #[inline(always)]
 fn letter_text(letter: u8) -> &'static [u8]
-    ensures text { result.now ≡ spec.letter_text letter }
+    ensures text { result.now ≡ spec.text_in spec.letter_texts letter }
 {
     match letter {
         b'v' => b"void",
@@ -165,7 +166,7 @@ fn letter_text(letter: u8) -> &'static [u8]
 
 #[inline(never)]
 fn two_letter_text(letter: u8) -> &'static [u8]
-    ensures text { result.now ≡ spec.two_letter_text letter }
+    ensures text { result.now ≡ spec.text_in spec.two_letter_texts letter }
 {
     match letter {
         b's' => b"char16_t",

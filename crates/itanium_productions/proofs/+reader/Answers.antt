@@ -17,15 +17,17 @@ use Rattle.demangle_text.proofs.Laws.{runs, IsRun-edit, IsRun-same, IsRun-trans,
 use Rattle.demangle_text.proofs.Laws.{text_after-more, text_after-same, text_after-last}
 use Rattle.demangle_edit.specs.Built.{arguments_opened, separator}
 use Rattle.demangle_quals.specs.declared.quals.Quals.{Quals}
-use Rattle.demangle_edit.specs.Names.{default_arg_opened, default_arg_shape, enclosed}
+use Rattle.demangle_edit.specs.Names.{default_arg_shape}
+use Rattle.demangle_edit.specs.Built.{default_arg_opened, enclosed}
 use Rattle.itanium_syntax.specs.Scalars.{ordinal}
 use Rattle.itanium_syntax.specs.Encodings.{entity_case}
-use Rattle.itanium_reader.specs.Cases.{DefaultArgumentEntity}
+use Rattle.itanium_grammar.specs.Cases.{DefaultArgumentEntity}
 use Rattle.itanium_reader.specs.Outcome.{state, Gives, GivesUnsaved}
 use Rattle.itanium_reader.specs.declared.stop.Stop.{Stop}
 use Rattle.itanium_reader.specs.declared.stop.Stop.TheVariants.{Unread, Memory}
 use Rattle.itanium_reader.proofs.Unfold.{first_source_opens}
-use Rattle.itanium_syntax.specs.Names.{begins_source, first_case}
+use Rattle.itanium_syntax.specs.Names.{first_case}
+use Rattle.itanium_syntax.specs.Calls.{begins_source}
 use Rattle.itanium_syntax.specs.declared.context.Context.{Context}
 use Rattle.std.proofs.Common.{Err, None}
 use Rattle.itanium_reader.specs.declared.reader.Reader.{Reader}
@@ -38,7 +40,7 @@ use Rattle.itanium_reader.proofs.Turns.{segments_read, segments_none, items_more
 use Rattle.itanium_reader.proofs.Turns.{typed_fail, attached_wide, attached_more_wide, segments_wide, pack_ends}
 use Rattle.itanium_reader.proofs.Turns.{pack_wide, typed_wide, items_wide}
 use Rattle.itanium_syntax.specs.Context.{inside_lambda}
-use Rattle.itanium_reader.specs.Cases.{SegmentCase, ArgsSegment, NameSegment, EndOfSegments}
+use Rattle.itanium_grammar.specs.Cases.{SegmentCase, ArgsSegment, NameSegment, EndOfSegments}
 use Rattle.itanium_syntax.specs.Names.{segment_case}
 use Rattle.itanium_productions.proofs.+reader.Goals.{names::read_prefix-in-ArgsSegment+in_ok-save_unsaved-in-ArgsSegment+in_ok-read_template_args-in-ArgsSegment, names::read_prefix-in-NameSegment+in_ok-save_unsaved-in-NameSegment+in_ok-read_segment-in-NameSegment}
 use Rattle.itanium_reader.proofs.Rules.{buffers, types}

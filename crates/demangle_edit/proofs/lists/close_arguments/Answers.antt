@@ -7,7 +7,7 @@ use Rattle.demangle_text.specs.Shape.{Shape, text, appended}
 use Rattle.demangle_text.specs.State.{shape, Lives, main_bytes}
 use Rattle.demangle_text.specs.Calls.{text_after}
 use Rattle.demangle_text.proofs.Laws.{main_split, text_after-more}
-use Rattle.demangle_edit.specs.Lists.{arguments_closed}
+use Rattle.demangle_edit.specs.Built.{arguments_closed}
 use Rattle.demangle_edit.proofs.Built.{appended_text, appended_twice, last_byte}
 use Rattle.demangle_edit.proofs.lists.close_arguments.Goals as goal
 

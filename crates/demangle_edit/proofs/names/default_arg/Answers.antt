@@ -4,7 +4,7 @@ use Rattle.std.proofs.Common.{ap, ap₂, ◌∙◌, subst, IfOk}
 use Rattle.demangle_text.specs.Shape.{Shape}
 use Rattle.demangle_text.specs.State.{Lives}
 use Rattle.demangle_text.proofs.Laws.{Opens-edit, Appends-close}
-use Rattle.demangle_edit.specs.Names.{default_arg_opened, enclosed}
+use Rattle.demangle_edit.specs.Built.{default_arg_opened, enclosed}
 use Rattle.demangle_edit.proofs.names.default_arg.Goals as goal
 
 -- the parent and the entity are older than the mark, so both keep their shapes

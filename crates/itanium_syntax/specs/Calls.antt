@@ -1,0 +1,31 @@
+-- What functions promise in words of their own, which the grammar doesn't use.
+use Prim.Native.String.{String}
+use Rattle.std.specs.Prelude.{ℕ, List, [], ◌∷◌, Bool, Option, option_map}
+use Rattle.itanium_syntax.specs.declared.numerals.Radix.TheVariants.{Base36}
+use Rattle.itanium_syntax.specs.Bytes.{begins_between}
+use Rattle.itanium_syntax.specs.Cases.{TypeCase, CvType}
+use Rattle.itanium_syntax.specs.Operators.{operator_in}
+use Rattle.itanium_syntax.specs.Scalars.{numeral}
+
+-- <seq-id>: digits in base 36
+unfoldable pub sequence_id : List ℕ → Option (ℕ × List ℕ)
+sequence_id bytes = numeral Base36 bytes
+
+-- a <source-name> is next
+abbrev pub begins_source : List ℕ → Bool
+begins_source bytes = begins_between "1" "9" bytes
+
+-- a fact for the case of qualifiers
+abbrev pub OnCv : TypeCase → Type 0 → Type 0
+OnCv CvType P = P
+OnCv other P = Unit {0}
+
+-- each assignment of the table of operators, which is its end
+abbrev pub assignments : List (String × String × ℕ)
+assignments =
+    ("aS", "=", 2) ∷ ("pL", "+=", 2) ∷ ("mI", "-=", 2) ∷ ("mL", "*=", 2) ∷ ("dV", "/=", 2) ∷ ("rM", "%=", 2) ∷
+    ("aN", "&=", 2) ∷ ("oR", "|=", 2) ∷ ("eO", "^=", 2) ∷ ("lS", "<<=", 2) ∷ ("rS", ">>=", 2) ∷ []
+
+-- what follows `operator` for a code that names an assignment
+abbrev pub assignment_text : ℕ → ℕ → Option (List ℕ)
+assignment_text first second = option_map (λ row. row.0) (operator_in assignments first second)
