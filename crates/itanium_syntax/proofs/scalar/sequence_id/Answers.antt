@@ -1,4 +1,4 @@
-use Rattle.itanium_syntax.specs.Scalars.{sequence_id}
+use Rattle.itanium_syntax.specs.Calls.{sequence_id}
 use Rattle.std.proofs.Common.{arith}
 use Rattle.std.proofs.lemmas.Grind.{common_steps}
 use Rattle.itanium_syntax.proofs.scalar.sequence_id.Goals as goal
