@@ -478,8 +478,8 @@ mutual
         (skip 1 p) ts q c
         → Args of_name x p ts q (counted (length (list_printing ts)) c)
 
-  -- one more <template-arg>, or the E after them, inside these scopes and in the list's own if it opened one: an
-  -- argument goes into that, and the scopes that it opened are dropped
+  -- one more <template-arg>, or the E after them. It is read inside the scopes outside the list and the list's own, if
+  -- it opened one. Then the scopes that it opened are dropped, and it goes into the list's own
   pub data ArgumentsAs : ArgsCase → Context → List (List Tree) → Option (List Tree) → Position → List Tree → Position
       → Cost → Type 0 where
     -- E
@@ -491,7 +491,7 @@ mutual
         {x : Context} {p q r : Position} {t : Tree} {ts : List Tree} {c d : Cost} {outer : List (List Tree)}
         {own : Option (List Tree)}
         → ArgumentAs (argument_case p.rest) x (within_list outer own p) t q c
-        → ArgumentsAs (args_case q.rest) x outer (option_map (λ args. args ++ t ∷ []) own) q ts r d
+        → ArgumentsAs (args_case q.rest) x outer (option_map (λ list. list ++ t ∷ []) own) q ts r d
         → ArgumentsAs NextArgument x outer own p (t ∷ ts) r (both c d)
 
   -- <template-arg> ::= J <template-arg>* E: counted, with the context of a pack inside
