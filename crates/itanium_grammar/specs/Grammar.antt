@@ -440,8 +440,7 @@ mutual
         → Unqualified x None p t q c
         → FirstAs NameFirst x p t (save t q) (both c (saving q))
 
-  -- <nested-name> ::= N [<CV-qualifiers>] [<ref-qualifier>] <prefix> E | N H <prefix> E, after its N: one segment
-  -- or more
+  -- <nested-name> ::= N [<CV-qualifiers>] [<ref-qualifier>] <prefix> E | N H <prefix> E, after its N
   pub data Nested : Context → Position → Tree → Position → Cost → Type 0 where
     nested :
         {x : Context} {p q r : Position} {t u : Tree} {c d : Cost}
@@ -450,7 +449,8 @@ mutual
         (past_initializer q) u r d
         → Nested x p (nested_of u (name_quals p.rest) x.shown) r (both c d)
 
-  -- one more segment of a <prefix> after what stands, or the E after it: the last tree that was saved is taken back
+  -- one more segment of a <prefix> after what stands, or the E after it. The truth value says whether the E takes the
+  -- last saved tree back
   pub data SegmentsAs : SegmentCase → Bool → Context → Tree → Position → Tree → Position → Cost → Type 0 where
     -- E
     end_of_segments :
