@@ -91,17 +91,17 @@ abbrev pub HasCounts : List ℕ → ℕ → ℕ → Type 0
 HasCounts symbol entered most_saved =
     OfEachReading symbol (λ tree next cost. (entered ≡ cost.count) × (most_saved ≡ cost.peak))
 
--- where there is an answer, this is what f gives of the trees that every reading within the limits leaves saved;
--- elsewhere there is nothing
+-- where there is an answer, the list has f of each tree that every reading within the limits leaves saved; elsewhere it
+-- is empty
 abbrev pub HasEach : {A : Type 0} → (Tree → A) → List ℕ → Option (List ℕ) → List A → Type 0
 HasEach f symbol (Some answer) kept = OfEachReading symbol (λ tree next cost. kept ≡ map f next.saved)
 HasEach f symbol None kept = kept ≡ []
 
--- the printings of these trees
+-- where there is an answer, the printings of the trees that are left saved
 abbrev pub HasComponents : List ℕ → Option (List ℕ) → List (List ℕ) → Type 0
 HasComponents symbol answer components = HasEach printing symbol answer components
 
--- the shapes of these trees
+-- where there is an answer, the shapes of the trees that are left saved
 abbrev pub HasSaved : List ℕ → Option (List ℕ) → List Shape → Type 0
 HasSaved symbol answer shapes = HasEach shape_of symbol answer shapes
 

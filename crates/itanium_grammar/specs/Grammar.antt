@@ -440,8 +440,7 @@ mutual
         → Unqualified x None p t q c
         → FirstAs NameFirst x p t (save t q) (both c (saving q))
 
-  -- <nested-name> ::= N [<CV-qualifiers>] [<ref-qualifier>] <prefix> E | N H <prefix> E, after its N: one segment
-  -- or more
+  -- <nested-name> ::= N [<CV-qualifiers>] [<ref-qualifier>] <prefix> E | N H <prefix> E, after its N
   pub data Nested : Context → Position → Tree → Position → Cost → Type 0 where
     nested :
         {x : Context} {p q r : Position} {t u : Tree} {c d : Cost}
@@ -450,7 +449,8 @@ mutual
         (past_initializer q) u r d
         → Nested x p (nested_of u (name_quals p.rest) x.shown) r (both c d)
 
-  -- one more segment of a <prefix> after what stands, or the E after it: the last tree that was saved is taken back
+  -- one more segment of a <prefix> after what stands, or the E after it. The truth value says whether the E takes the
+  -- last saved tree back
   pub data SegmentsAs : SegmentCase → Bool → Context → Tree → Position → Tree → Position → Cost → Type 0 where
     -- E
     end_of_segments :
@@ -478,8 +478,8 @@ mutual
         (skip 1 p) ts q c
         → Args of_name x p ts q (counted (length (list_printing ts)) c)
 
-  -- one more <template-arg>, or the E after them, inside these scopes and in the list's own if it opened one: an
-  -- argument goes into that, and the scopes that it opened are dropped
+  -- one more <template-arg>, or the E after them. It is read inside the scopes outside the list and the list's own, if
+  -- it opened one. Then the scopes that it opened are dropped, and it goes into the list's own
   pub data ArgumentsAs : ArgsCase → Context → List (List Tree) → Option (List Tree) → Position → List Tree → Position
       → Cost → Type 0 where
     -- E
@@ -491,7 +491,7 @@ mutual
         {x : Context} {p q r : Position} {t : Tree} {ts : List Tree} {c d : Cost} {outer : List (List Tree)}
         {own : Option (List Tree)}
         → ArgumentAs (argument_case p.rest) x (within_list outer own p) t q c
-        → ArgumentsAs (args_case q.rest) x outer (option_map (λ args. args ++ t ∷ []) own) q ts r d
+        → ArgumentsAs (args_case q.rest) x outer (option_map (λ list. list ++ t ∷ []) own) q ts r d
         → ArgumentsAs NextArgument x outer own p (t ∷ ts) r (both c d)
 
   -- <template-arg> ::= J <template-arg>* E: counted, with the context of a pack inside
