@@ -1,7 +1,8 @@
 //! Texts that follow one another, and lists that are built as they are read.
-ghost use Rattle.std.specs.Prelude.{◌≡◌, ◌<◌, ◌++◌, All, map, decimal, IfOk, OnOk};
+ghost use Rattle.std.specs.Prelude.{◌≡◌, ℕ, ◌<◌, ◌++◌, All, map, length, decimal, IfOk, OnOk};
 ghost use Rattle.demangle_text.specs.Shape.{text_len, appended};
 ghost use Rattle.demangle_text.specs.State.{IsLiving, shape, Lives, IsEdit, KeepsAll, StaysInPlace, Appends};
+ghost use Rattle.demangle_text.specs.State.{Stands, main_bytes};
 ghost use Rattle.demangle_text.specs.Calls.{IsLast, IsInner, text_after};
 ghost use Rattle.demangle_edit.specs.Lists.{glued, pack_shape};
 ghost use Rattle.demangle_edit.specs.Calls.{part_text, IsLivingPart};
@@ -89,6 +90,8 @@ pub fn close_arguments(buf: &mut Buffer, list: Piece) -> Result<Piece, AllocErro
         (arguments_closed (appended (text_after buf.old list) (shape buf.old list)))) }
     ensures kept { OnOk result (KeepsAll buf.old buf.new) }
     ensures last { IfOk result (IsLast buf.new) }
+    ensures in_place { (from to : ℕ) → Stands list from to
+        → IfOk result (λ p. Stands p from (length (main_bytes buf.new))) }
 {
     let end: &[u8] = if buf.main_bytes().ends_with(b">") {
         b" >"

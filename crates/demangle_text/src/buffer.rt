@@ -86,6 +86,7 @@ impl Buffer {
         ensures no_scopes { scopes self.new ≡ [] }
         ensures no_mark { frame self.new ≡ outermost }
         ensures no_bytes { main_bytes self.new ≡ [] }
+        ensures no_spill { self.new.spill_text ≡ [] }
         ensures from_start { frame_start (frame self.new) ≡ 0 }
     {
         self.lists.saved.truncate(0);
@@ -405,6 +406,7 @@ impl Buffer {
         requires inner { IsInner self.now piece }
         ensures shape { Lives self.now result (appended (text_after self.now piece) (shape self.now piece)) }
         ensures last { IsLast self.now result }
+        ensures stands { (from to : ℕ) → Stands piece from to → Stands result from (length (main_bytes self.now)) }
     {
         let to = self.main.len();
         piece.extended(to - piece.to_byte, piece.from_byte, to)

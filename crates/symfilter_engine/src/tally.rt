@@ -1,7 +1,7 @@
 //! Adapts std's readers and writers: a source over a reader, and a sink over a writer.
-ghost use Rattle.std.specs.Prelude.{◌≡◌, ◌≤◌, true, false, ◌+◌, ◌-◌, ◌^◌, OnOk, OnErr};
+ghost use Rattle.std.specs.Prelude.{◌≡◌, ◌≤◌, ◌<◌, true, false, ◌+◌, ◌-◌, ◌^◌, length, take, IfOk, OnOk, OnErr};
 ghost use Rattle.std.specs.Io.{ReadsAtMost};
-ghost use Rattle.std.specs.Io.KnownBytes.{ReadConsumes};
+ghost use Rattle.std.specs.Io.KnownBytes.{Appends, Keeps, ReadConsumes};
 
 use super::ends::{Failed, Sink, Source};
 use std::io::{Read, Write};
@@ -73,7 +73,7 @@ impl<D: Read> Source for Tally<D> {
 
 /// Any error of the writer is a failure, and so is a write of 0 bytes where some were offered.
 impl<D: Write> Sink for Tally<D> {
-    ghost use Rattle.symfilter_engine.specs.Tally.{inner_of, has_failed};
+    ghost use Rattle.symfilter_engine.specs.Tally.{inner_of, has_failed, reads_left};
 
     ghost taken = { λ tally. D.contents (inner_of tally) };
 
@@ -83,7 +83,17 @@ impl<D: Write> Sink for Tally<D> {
         self.failed
     }
 
-    fn put(&mut self, bytes: &[u8]) -> Result<usize, Failed> {
+    fn put(&mut self, bytes: &[u8]) -> Result<usize, Failed>
+        ensures bound { IfOk result (λ count. count ≤ length bytes.now) }
+        ensures some { IfOk result (λ count. 0 < length bytes.now → 0 < count) }
+        ensures takes { IfOk result (λ count. Appends
+            (D.contents (inner_of self.old)) (D.contents (inner_of self.new)) (take count bytes.now)) }
+        ensures fails { OnErr result (has_failed self.new ≡ true) }
+        ensures takes_none { OnErr result (Keeps
+            (D.contents (inner_of self.old)) (D.contents (inner_of self.new))) }
+        ensures stays { OnOk result (has_failed self.new ≡ has_failed self.old) }
+        ensures reads { reads_left self.new ≡ reads_left self.old }
+    {
         match self.inner.write(bytes) {
             Ok(count) if count > 0 || bytes.is_empty() => Ok(count),
             _ => {
