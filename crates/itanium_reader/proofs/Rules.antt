@@ -1,5 +1,4 @@
 -- What the check may use for the readers: the laws of the buffer, and what unfolds each.
-use Rattle.std.proofs.lemmas.List.{append-nil}
 use Rattle.demangle_text.proofs.Laws.{laws, runs, StaysInPlace-edit, text_after-follows}
 pub use Rattle.demangle_text.proofs.Laws.{lasts}
 use Rattle.demangle_text.proofs.Laws.{text_after-last}
@@ -10,8 +9,6 @@ use Rattle.itanium_reader.proofs.Unfold.{no_thunk, special_opens, pack_opens, no
 use Rattle.itanium_reader.proofs.Unfold.{substitution_opens, parameter_opens, unqualified_opens, symbol_opens}
 use Rattle.itanium_reader.proofs.Unfold.{nested_opens, internal_source_opens, outer_source_opens}
 use Rattle.itanium_reader.proofs.Unfold.{first_named, first_source_opens}
-use Rattle.itanium_reader.proofs.Texts.{unsaved_back, nothing_in_front, signed_printed, plain_printed}
-use Rattle.itanium_reader.proofs.Texts.{virtual_printed}
 use Rattle.itanium_reader.proofs.Turns.{no_attached, no_tags}
 use Rattle.itanium_reader.proofs.Loops.{loop_start}
 
@@ -31,17 +28,9 @@ pub ruleset tagged_names = (buffers, no_tags)
 
 pub ruleset segments = (fronts, lasts)
 
-pub ruleset last_segments = (buffers, unsaved_back)
-
 pub ruleset first_segments = (fronts, lasts, first_named, first_source_opens)
 
-pub ruleset lists = (buffers, lasts, nothing_in_front, StaysInPlace-edit)
-
-pub ruleset separators = (buffers, append-nil)
-
 pub ruleset words = (buffers, lasts, text_after-follows)
-
-pub ruleset endings = (buffers, lasts, StaysInPlace-edit, append-nil, signed_printed, plain_printed, virtual_printed)
 
 pub ruleset free_names = (fronts, lasts, names_some)
 

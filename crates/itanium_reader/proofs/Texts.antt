@@ -1,23 +1,21 @@
 -- Texts and their lengths.
-use Rattle.std.proofs.Common.{◌≡◌, ◌<◌, ◌≤◌, ℕ, ◌+◌, ◌-◌, Bool, true, false, List, [], ◌∷◌, ◌++◌}
+use Rattle.std.proofs.Common.{◌≡◌, ◌<◌, ◌≤◌, ℕ, ◌+◌, ◌-◌, true, false, List, [], ◌∷◌, ◌++◌}
 use Rattle.std.proofs.Common.{length, refl, sym, ◌∙◌, ap, append_assoc, arith}
 use Rattle.std.proofs.Common.{codes, decimal}
 use Rattle.std.specs.Prelude.{nat_lt}
 use Rattle.std.proofs.lemmas.Bool.Decides.{nat_tests}
-use Rattle.std.proofs.lemmas.List.{append-nil, length-append, take_at}
+use Rattle.std.proofs.lemmas.List.{append-nil, length-append}
 use Rattle.demangle_text.specs.declared.shape.Place.TheVariants.{End}
-use Rattle.demangle_text.specs.Shape.{Shape, Plain, plain_shape, text, text_len, flattened, moved, appended, whole_shape}
+use Rattle.demangle_text.specs.Shape.{Shape, Plain, plain_shape, text, text_len, moved, appended, whole_shape}
 use Rattle.demangle_text.specs.Calls.{named}
 use Rattle.demangle_edit.specs.Names.{angle_gap, qualified, tagged}
-use Rattle.demangle_edit.specs.Built.{separated, arguments_opened}
+use Rattle.demangle_edit.specs.Built.{arguments_opened}
 use Rattle.demangle_edit.proofs.Insertions.{inserted_twice, inserted_thrice}
 use Rattle.itanium_syntax.specs.declared.offsets.Signed.{Signed}
 use Rattle.itanium_syntax.specs.declared.offsets.CallOffset.TheVariants as Offset
 use Rattle.itanium_grammar.specs.Answer.{max_text}
-use Rattle.itanium_reader.specs.Parser.{ParserState, is_wide}
+use Rattle.itanium_reader.specs.Parser.{is_wide}
 use Rattle.itanium_grammar.specs.Tree.{offset_sign, offset_text, worded_shape}
-use Rattle.itanium_reader.specs.Parser.{taken_back}
-use Rattle.itanium_reader.specs.Parser.{save_unsaved}
 
 -- a range moves in front of a place as it does after it
 moved_in : (front len more : ℕ) (own : ℕ × ℕ) → moved (front + len) more (moved 0 front own) ≡ moved 0 front (moved len more own)
@@ -56,19 +54,6 @@ not_wide t short = not_longer short
 
 pub wide_by : (t : Shape) → max_text < text_len t → is_wide t ≡ true
 wide_by t long = longer long
-
--- what waited is taken back
-pub unsaved_back : (unsaved : Bool) (t : Shape) (s : ParserState) → (taken_back unsaved (save_unsaved unsaved t s)).saved ≡ s.saved
-unsaved_back true t s = take_at s.saved (t ∷ []) (length (s.saved ++ t ∷ []) - 1) (omega (arith, length-append s.saved (t ∷ [])))
-unsaved_back false t s = refl
-
--- a range stays where nothing is put
-nothing_moved : (at : ℕ) (own : ℕ × ℕ) → moved at 0 own ≡ own
-nothing_moved at (from, to) = grind (arith, nat_tests)
-
--- in front of the first text of a list nothing is put
-pub nothing_in_front : (list : Shape) → separated true list ≡ flattened list
-nothing_in_front list = λ j. record { form = Plain (append-nil (text list) j); own = nothing_moved (length (text list)) list.own j; templ = list.templ; ctor = list.ctor }
 
 -- words, a text after them, and the words that close it
 words_joined : (words t close : List ℕ) → plain_shape ((words ++ t) ++ close) ≡ plain_shape (words ++ (t ++ (close ++ [])))
