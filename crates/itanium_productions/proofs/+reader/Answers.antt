@@ -795,9 +795,6 @@ expressions::read_expression-returns-in_err-depth-clause-reads t c = grind (arit
 pub expressions::read_expression-returns-in_err-read-clause-reads : goal.expressions::read_expression-returns-in_err-read-clause-reads
 expressions::read_expression-returns-in_err-read-clause-reads t c = grind (arith, expressions)
 
-pub expressions::read_expression-returns-in_err-measure-clause-reads : goal.expressions::read_expression-returns-in_err-measure-clause-reads
-expressions::read_expression-returns-in_err-measure-clause-reads t c = grind (arith, expressions)
-
 pub expressions::read_expression-returns-clause-reads : goal.expressions::read_expression-returns-clause-reads
 expressions::read_expression-returns-clause-reads t c = grind (arith, expressions)
 
