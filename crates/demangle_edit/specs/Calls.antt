@@ -6,7 +6,7 @@ use Rattle.demangle_text.specs.Shape.{Shape, Form, Plain, Declared, text, is_pla
 use Rattle.demangle_quals.specs.declared.quals.Quals.{Quals}
 use Rattle.demangle_quals.specs.declared.quals.Pointer.{Pointer}
 use Rattle.demangle_quals.specs.declared.quals.Pointer.TheVariants.{Star, Left, Right}
-use Rattle.demangle_edit.specs.Types.{array_shape, has_array, has_member_pointer, member_pointer_shape, function_shape}
+use Rattle.demangle_edit.specs.Types.{array_shape, may_be_element, may_be_member, member_pointer_shape, function_shape}
 use Rattle.demangle_edit.specs.Built.{function_opened}
 use Rattle.demangle_text.specs.declared.shape.Piece.{Piece}
 use Rattle.demangle_text.specs.declared.buffer.Buffer.{Buffer}
@@ -40,7 +40,7 @@ is_left Right s = is_kept true s
 
 -- the array of the type, where there is one
 abbrev pub array_step : Option ℕ → Shape → Option Shape
-array_step dimension s = if has_array s.form then Some (array_shape dimension s) else None
+array_step dimension s = if may_be_element s.form then Some (array_shape dimension s) else None
 
 -- what stands after the group of a declarator
 abbrev pub after_text : Form → List ℕ
@@ -50,7 +50,7 @@ after_text (Declared k before group after) = after
 -- the pointer to a member of the class, where there is one
 abbrev pub member_pointer_step : Shape → Shape → Option Shape
 member_pointer_step class member =
-    if has_member_pointer member.form then Some (member_pointer_shape class member) else None
+    if may_be_member member.form then Some (member_pointer_shape class member) else None
 
 -- what a function returns is plain
 abbrev pub function_step : Shape → List Shape → Quals → Option Shape

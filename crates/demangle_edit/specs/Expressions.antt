@@ -19,7 +19,7 @@ sign_text value = if is_minus value then codes "-" else []
 abbrev pub digits_text : List ℕ → List ℕ
 digits_text value = if is_minus value then drop 1 value else value
 
--- how a literal of a type with this text is printed, with a minus or without one
+-- how a literal is printed, by the text of its type and whether it has a minus: `bool` with a minus is a cast
 abbrev pub literal_form : List ℕ → Bool → LiteralForm
 literal_form type minus =
     if bytes_eq type (codes "bool") && not minus then Boolean else

@@ -21,7 +21,7 @@ params_text params quals = codes "(" ++ (listed (map text params) ++ (codes ")" 
 abbrev pub glued : List (List ℕ) → Shape
 glued texts = plain_shape (concat texts)
 
--- a list of template arguments by itself: a space parts its `>` from one in front of it
+-- <arguments> without a name: a space stands before the last `>` if the text so far ends in `>`
 abbrev pub arguments_shape : List Shape → Shape
 arguments_shape args =
     let opened = codes "<" ++ listed (map text args) in

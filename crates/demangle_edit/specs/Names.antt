@@ -7,7 +7,7 @@ use Rattle.demangle_quals.specs.declared.quals.Quals.{Quals}
 use Rattle.demangle_quals.specs.Quals.{words_text, reference_text, has_quals}
 use Rattle.demangle_edit.specs.Lists.{params_text}
 
--- the leaf as a plain text, with its parent and `::` in front
+-- the leaf as a plain text, with its parent and `::` in front: base name and flags are the leaf's
 abbrev pub qualified : Shape → Shape → Shape
 qualified parent leaf = inserted Start (text parent ++ codes "::") (flattened leaf)
 

@@ -1,4 +1,4 @@
--- The shapes of types, and which types there are.
+-- The shapes of types, and which types there are. A function `.._in` takes the form of its shape first, to match on it.
 use Rattle.std.specs.Prelude.{ℕ, List, [], ◌++◌, length, take, drop, codes, nat_eq, decimal}
 use Rattle.std.specs.Prelude.{Bool, true, false, not, ◌&&◌, ◌||◌, if◌then◌else◌, Option, Some, None, unwrap_or}
 use Rattle.std.specs.List.{ends_with}
@@ -23,7 +23,7 @@ pointed_in (Declared k before (Some group) after) token s = inserted Close token
 abbrev pub pointed : List ℕ → Shape → Shape
 pointed token s = pointed_in s.form token s
 
--- a reference to a plain text that ends in `&` adds nothing, and `&` takes one of `&&` away
+-- what a reference collapses to, or none: on a plain text that ends in `&`; `&` on `&&` leaves `&`, else the text stays
 abbrev pub collapse_step : Bool → Shape → Option Shape
 collapse_step rvalue s =
     if is_plain s.form && ends_with nat_eq (text s) (codes "&")
@@ -74,21 +74,21 @@ abbrev pub array_shape : Option ℕ → Shape → Shape
 array_shape dimension s = dimensioned_in s.form dimension s
 
 -- no type is an array of functions
-abbrev pub has_array : Form → Bool
-has_array (Plain t) = true
-has_array (Declared k before (Some group) after) = true
-has_array (Declared Array before None after) = true
-has_array (Declared Function before None after) = false
+abbrev pub may_be_element : Form → Bool
+may_be_element (Plain t) = true
+may_be_element (Declared k before (Some group) after) = true
+may_be_element (Declared Array before None after) = true
+may_be_element (Declared Function before None after) = false
 
 -- a space after a text that ends in neither `(` nor a space
 abbrev pub member_gap : List ℕ → List ℕ
 member_gap t = if ends_with nat_eq t (codes "(") || ends_with nat_eq t (codes " ") then [] else codes " "
 
 -- no type is a member pointer to an array, or to a pointer or a reference to one, whose shape is an array's too
-abbrev pub has_member_pointer : Form → Bool
-has_member_pointer (Plain t) = true
-has_member_pointer (Declared Function before group after) = true
-has_member_pointer (Declared Array before group after) = false
+abbrev pub may_be_member : Form → Bool
+may_be_member (Plain t) = true
+may_be_member (Declared Function before group after) = true
+may_be_member (Declared Array before group after) = false
 
 -- a token after a plain text, or in a group that is opened for it
 abbrev pub member_in : Form → List ℕ → Shape → Shape

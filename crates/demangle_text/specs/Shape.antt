@@ -1,4 +1,4 @@
--- What a piece stands for: a shape, its text, and the steps on shapes.
+-- Shapes: their texts, and what edits change in them.
 use Rattle.std.specs.Prelude.{ℕ, ◌+◌, ◌-◌, ◌==◌, ◌||◌, Bool, true, false, if◌then◌else◌, List, [], ◌++◌, length}
 use Rattle.std.specs.Prelude.{take, drop, slice_range, nat_le, min, codes, Option, Some, None}
 use Rattle.std.specs.Prelude.{nat_eq}
@@ -45,7 +45,7 @@ text_len s = length (form_text s.form)
 abbrev pub plain_shape : List ℕ → Shape
 plain_shape t = record { form = Plain t; own = (0, length t); templ = false; ctor = false }
 
--- where an insertion goes
+-- the index where bytes go: `Close` is the end of a group, `Suffix` that of `before`; in a plain text both are its end
 abbrev pub place_in : Place → Form → ℕ
 place_in Start form = 0
 place_in End form = length (form_text form)
@@ -53,7 +53,7 @@ place_in Close (Declared k before (Some group) after) = length before + 1 + leng
 place_in place (Declared k before group after) = length before
 place_in place (Plain t) = length t
 
--- the form with bytes at a place: at the end of a part, or in front of the first
+-- the form after the bytes are inserted at that index
 abbrev pub form_with : Place → List ℕ → Form → Form
 form_with Start bytes (Plain t) = Plain (bytes ++ t)
 form_with Start bytes (Declared k before group after) = Declared k (bytes ++ before) group after
@@ -62,8 +62,8 @@ form_with End bytes (Declared k before group after) = Declared k before group (a
 form_with Close bytes (Declared k before (Some group) after) = Declared k before (Some (group ++ bytes)) after
 form_with place bytes (Declared k before group after) = Declared k (before ++ bytes) group after
 
--- a range when n bytes are inserted at a place: one that begins there or later moves on, of the
--- others one that ends there or earlier stays, and one with the place inside grows
+-- The range of a base name after n bytes are inserted at an index. A range that begins there or later moves by n. Any
+-- other range stays if it ends there or earlier. Else it grows by n
 abbrev pub moved : ℕ → ℕ → ℕ × ℕ → ℕ × ℕ
 moved at n (from, to) =
     if nat_le at from then (from + n, to + n) else (if nat_le to at then (from, to) else (from, to + n))
@@ -84,33 +84,33 @@ inserted place bytes s =
 abbrev pub appended : List ℕ → Shape → Shape
 appended bytes s = inserted End bytes s
 
--- without the last n bytes: the base name is what is left of it
+-- the shape without its last n bytes: the base name is what is left of it
 abbrev pub shortened : ℕ → Shape → Shape
 shortened n s =
     let left = text_len s - n in
     record s { form = Plain (take left (text s)); own = (min s.own.0 left, min s.own.1 left) }
 
--- its text as a plain shape
+-- the shape with its whole text as a plain form: base name and flags stay
 abbrev pub flattened : Shape → Shape
 flattened s = record s { form = Plain (text s) }
 
--- with the whole text as its base name
+-- the shape with its whole text as the base name
 abbrev pub whole_shape : Shape → Shape
 whole_shape s = record s { own = (0, text_len s) }
 
--- its base name as a plain shape
+-- the base name of the shape, as a plain shape
 abbrev pub own_shape : Shape → Shape
 own_shape s = plain_shape (slice_range (text s) s.own.0 s.own.1)
 
--- with a range as its base name
+-- the shape with a range as its base name
 abbrev pub with_own : ℕ → ℕ → Shape → Shape
 with_own from to s = record s { own = (from, to) }
 
--- with these flags
+-- the shape with these flags
 abbrev pub flagged : Bool → Bool → Shape → Shape
 flagged templ ctor s = record s { templ = templ; ctor = ctor }
 
--- declared, with `after` from a byte on
+-- the shape as a declarator without a group: `after` is its text from an index on
 abbrev pub declared_at : Kind → ℕ → Shape → Shape
 declared_at kind at s =
     let form = Declared kind (take at (text s)) None (drop at (text s)) in

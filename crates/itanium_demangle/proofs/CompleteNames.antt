@@ -20,7 +20,7 @@ use Rattle.itanium_grammar.specs.Tree.{Tree, bare_shape, own_quals, thunk_of, wi
 use Rattle.itanium_grammar.specs.Grammar.{Position, Cost, with_rest, SpecialAs, SymbolAs, special_encoding}
 use Rattle.itanium_grammar.specs.Grammar.{type_special, name_special, temporary_special, construction_special}
 use Rattle.itanium_grammar.specs.Grammar.{thunk_special, thunk, special_symbol, name_symbol, past_initializer, last_of}
-use Rattle.itanium_grammar.specs.Grammar.{SubstitutionAs, Substitution, ParameterAs, Parameter, TaggedAs, UnqualifiedAs}
+use Rattle.itanium_grammar.specs.Grammar.{SubstitutionAs, Substitution, ArgumentNamed, Parameter, TaggedAs, UnqualifiedAs}
 use Rattle.itanium_grammar.specs.Grammar.{Unqualified, FirstAs, Name, NameAs, Local, EntityAs, EncodingAs}
 use Rattle.itanium_grammar.specs.Grammar.{ReturnAs, SignatureAs, UnscopedAs, AttachedAs, Nested, SegmentsAs}
 use Rattle.itanium_grammar.specs.Grammar.{abbreviation_substitution, component_substitution}
@@ -69,7 +69,7 @@ pub substitution_complete : (p : Position) {q : Position} {t : Tree} → Substit
 unfolding parse_substitution
 substitution_complete p a e m = substitution_as_complete a e m
 
-parameter_as_complete : {lambda : Bool} {i : ℕ} {p : Position} {t : Tree} → ParameterAs lambda i p t → (e m : ℕ) → parameter_as lambda i (state_at p e m) ≡ Some (shape_of t)
+parameter_as_complete : {lambda : Bool} {i : ℕ} {p : Position} {t : Tree} → ArgumentNamed lambda i p t → (e m : ℕ) → parameter_as lambda i (state_at p e m) ≡ Some (shape_of t)
 parameter_as_complete auto_parameter e m = ap Some (sym (shape-plain_text (codes "auto")))
 parameter_as_complete (scope_parameter {p = p} {i = i} there) e m = rw (last-map p.scopes, slice_get-map shape_of (last_of p.scopes) i, there) refl
 

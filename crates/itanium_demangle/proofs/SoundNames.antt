@@ -16,7 +16,7 @@ use Rattle.itanium_syntax.specs.Args.{attached_case}
 use Rattle.itanium_syntax.proofs.Fronts.{initializer_after, after_drop, source_takes, after-le}
 use Rattle.itanium_grammar.specs.Tree.{Tree, bare_shape, own_quals, plain_text, abbreviation, ctor_dtor_of, tagged_with, with_args, trees, shape_of}
 use Rattle.itanium_grammar.specs.Grammar.{Position, Cost, with_rest, skip, save, last_of, past_initializer, both}
-use Rattle.itanium_grammar.specs.Grammar.{saving, SubstitutionAs, Substitution, ParameterAs, Parameter, TaggedAs}
+use Rattle.itanium_grammar.specs.Grammar.{saving, SubstitutionAs, Substitution, ArgumentNamed, Parameter, TaggedAs}
 use Rattle.itanium_grammar.specs.Grammar.{FreeAs, UnqualifiedAs, Unqualified, FirstAs, NameAs, Name, nothing, SpecialAs}
 use Rattle.itanium_grammar.specs.Grammar.{SymbolAs, Thunk, special_encoding, type_special, name_special}
 use Rattle.itanium_grammar.specs.Grammar.{temporary_special, construction_special, thunk_special, thunk, special_symbol}
@@ -115,7 +115,7 @@ substitution_sound p e m y is =
 
 record Named (lambda : Bool) (i : ℕ) (p : Position) : Type 0 where
   tree : Tree
-  reading : ParameterAs lambda i p tree
+  reading : ArgumentNamed lambda i p tree
 
 parameter_as_sound : (lambda : Bool) (i : ℕ) (p : Position) (e m : ℕ) (v : Shape) → parameter_as lambda i (state_at p e m) ≡ Some v → Named lambda i p
 parameter_as_sound true i p e m v is = record { tree = plain_text (codes "auto"); reading = auto_parameter }

@@ -4,7 +4,7 @@ use Rattle.std.proofs.lemmas.Option.{same_Some, cond_some, option_and_then_some}
 use Rattle.demangle_text.specs.Shape.{Shape, is_plain}
 use Rattle.demangle_quals.specs.declared.quals.Quals.{Quals}
 use Rattle.demangle_quals.specs.Quals.{no_quals}
-use Rattle.demangle_edit.specs.Types.{has_array, has_member_pointer}
+use Rattle.demangle_edit.specs.Types.{may_be_element, may_be_member}
 use Rattle.demangle_edit.specs.Calls.{array_step, member_pointer_step, opening_step}
 use Rattle.itanium_syntax.specs.declared.context.Context.{Context}
 use Rattle.itanium_syntax.specs.Context.{inside_type}
@@ -46,11 +46,11 @@ type_attached_sound d lists ArgsAttached x t p e m y is =
 plain_sound : (ret v : Shape) → opening_step ret ≡ Some v → is_plain ret.form ≡ true
 plain_sound ret v is = (cond_some (is_plain ret.form) _ v is).0
 
-array_sound : (dimension : Option ℕ) (elem v : Shape) → array_step dimension elem ≡ Some v → has_array elem.form ≡ true
-array_sound dimension elem v is = (cond_some (has_array elem.form) _ v is).0
+array_sound : (dimension : Option ℕ) (elem v : Shape) → array_step dimension elem ≡ Some v → may_be_element elem.form ≡ true
+array_sound dimension elem v is = (cond_some (may_be_element elem.form) _ v is).0
 
-member_sound : (class member v : Shape) → member_pointer_step class member ≡ Some v → has_member_pointer member.form ≡ true
-member_sound class member v is = (cond_some (has_member_pointer member.form) _ v is).0
+member_sound : (class member v : Shape) → member_pointer_step class member ≡ Some v → may_be_member member.form ≡ true
+member_sound class member v is = (cond_some (may_be_member member.form) _ v is).0
 
 vendor_sound : (case : AttachedCase) (t : Shape) (s : ParserState) (y : Shape × ParserState) → vendor_as case t s ≡ Some y → case ≡ NoneAttached
 vendor_sound NoneAttached t s y is = refl

@@ -12,7 +12,7 @@ pub record LastRun : Type 0 where
   pub most_saved : ℕ
   -- where it has an answer, the texts of the components that are left saved
   pub components : List (List ℕ)
-  -- and their shapes
+  -- the shapes of these components, in the same order
   pub saved : List Shape
 
 -- nothing is left, as on a new value

@@ -33,7 +33,7 @@ use Rattle.itanium_grammar.specs.Grammar.{expression, operand_of, pre_expression
 use Rattle.itanium_grammar.specs.Grammar.{post_expression, binary_expression, greater_expression}
 use Rattle.itanium_grammar.specs.Grammar.{conditional_expression, parameter_expression, literal_expression, with_rest}
 use Rattle.itanium_grammar.specs.Grammar.{skip, counted, saving, save, past_initializer, both}
-use Rattle.itanium_grammar.specs.Grammar.{SubstitutionAs, ParameterAs, Parameter, TaggedAs, UnqualifiedAs}
+use Rattle.itanium_grammar.specs.Grammar.{SubstitutionAs, ArgumentNamed, Parameter, TaggedAs, UnqualifiedAs}
 use Rattle.itanium_grammar.specs.Grammar.{Unqualified, FirstAs, Name, NameAs, Local, EntityAs, EncodingAs}
 use Rattle.itanium_grammar.specs.Grammar.{ReturnAs, SignatureAs, UnscopedAs, AttachedAs, Nested, SegmentsAs}
 use Rattle.itanium_grammar.specs.Grammar.{Args, ArgumentsAs, ArgumentAs, TypeOf, TypeAs, CvAs, Function, ParamsAs}
@@ -98,14 +98,14 @@ one_substitution_as : {case : SubstitutionCase} {p q r : Position} {t u : Tree} 
 one_substitution_as (abbreviation_substitution e) (abbreviation_substitution g) = (ap abbreviation (same_Some _ _ (sym e ∙ g)), refl)
 one_substitution_as (component_substitution e f) (component_substitution g h) = let found = some_pair_parts _ _ _ _ (sym e ∙ g) in (cc, cc)
 
-one_parameter_as : {lambda : Bool} {i : ℕ} {p : Position} {t u : Tree} → ParameterAs lambda i p t → ParameterAs lambda i p u → t ≡ u
+one_parameter_as : {lambda : Bool} {i : ℕ} {p : Position} {t u : Tree} → ArgumentNamed lambda i p t → ArgumentNamed lambda i p u → t ≡ u
 one_parameter_as auto_parameter auto_parameter = refl
 one_parameter_as (scope_parameter e) (scope_parameter g) = same_Some _ _ (sym e ∙ g)
 
 pub one_parameter : {x : Context} {p q r : Position} {t u : Tree} → Parameter x p t q → Parameter x p u r → (t ≡ u) × (q ≡ r)
 one_parameter (parameter {x = x} {p = p} e a) (parameter {t = u} g b) =
     let found = some_pair_parts _ _ _ _ (sym g ∙ e) in
-    (one_parameter_as a (subst (λ k. ParameterAs x.lambda k p u) found.0 b), ap (λ v. with_rest v p) (sym found.1))
+    (one_parameter_as a (subst (λ k. ArgumentNamed x.lambda k p u) found.0 b), ap (λ v. with_rest v p) (sym found.1))
 
 one_tagged : {case : TagCase} {t u v : Tree} {p q r : Position} → TaggedAs case t p u q → TaggedAs case t p v r → (u ≡ v) × (q ≡ r)
 one_tagged no_tag no_tag = (refl, refl)

@@ -15,12 +15,12 @@ max_depth = 128
 unfoldable pub max_text : ℕ
 max_text = 1048576
 
--- a reading counts: at most so many counted productions nest, and none of them prints more than the limit
+-- the cost is within the limits: at most so many counted productions nest, and none of them prints more than max_text
 pub record Fits (depth : ℕ) (cost : Cost) : Type 0 where
   pub depth_fits : cost.depth ≤ depth
   pub width_fits : cost.width ≤ max_text
 
--- a symbol's reading counts: at most 128 counted productions nest, and none of them prints more than the limit
+-- the same of a symbol's reading: at most 128 counted productions nest
 abbrev pub IsWithin : Cost → Type 0
 IsWithin cost = Fits max_depth cost
 
@@ -97,11 +97,11 @@ abbrev pub HasEach : {A : Type 0} → (Tree → A) → List ℕ → Option (List
 HasEach f symbol (Some answer) kept = OfEachReading symbol (λ tree next cost. kept ≡ map f next.saved)
 HasEach f symbol None kept = kept ≡ []
 
--- where there is an answer, the printings of the trees that are left saved
+-- where there is an answer, the printings of the trees that are left saved; else none
 abbrev pub HasComponents : List ℕ → Option (List ℕ) → List (List ℕ) → Type 0
 HasComponents symbol answer components = HasEach printing symbol answer components
 
--- where there is an answer, the shapes of the trees that are left saved
+-- where there is an answer, the shapes of the trees that are left saved; else none
 abbrev pub HasSaved : List ℕ → Option (List ℕ) → List Shape → Type 0
 HasSaved symbol answer shapes = HasEach shape_of symbol answer shapes
 

@@ -1,7 +1,7 @@
 -- The grammar: which front of the bytes is which tree (Itanium C++ ABI 5.1). A case without a constructor isn't read.
 --
--- x is a context. p, q, r and s are positions, one after another. t, u and v are trees, ts is a list of trees, and o, m
--- and n are operands. c, d and e are costs. i, k and number are numbers. bytes, rest, value and text are bytes.
+-- x is a context. p, q, r and s are positions, one after another. t, u, v and parent are trees, ts is a list of trees,
+-- o, m and n are operands. c, d and e are costs. i, k and number are numbers. bytes, rest, value and text are bytes.
 --
 -- The indices of a reading stand in this order: the case that the next bytes begin, where the family is named ..As;
 -- truth values; the context; what stands in front; the position before; the tree; the position after; the cost.
@@ -12,7 +12,7 @@ use Rattle.demangle_text.specs.Shape.{is_plain}
 use Rattle.demangle_quals.specs.declared.quals.Pointer.{Pointer}
 use Rattle.demangle_quals.specs.declared.quals.Quals.{Quals}
 use Rattle.demangle_quals.specs.Quals.{no_quals}
-use Rattle.demangle_edit.specs.Types.{has_array, has_member_pointer}
+use Rattle.demangle_edit.specs.Types.{may_be_element, may_be_member}
 use Rattle.demangle_edit.specs.Expressions.{has_literal}
 use Rattle.itanium_syntax.specs.declared.abbreviations.Abbreviation.{Abbreviation}
 use Rattle.itanium_syntax.specs.declared.context.Context.{Context}
@@ -85,7 +85,7 @@ skip n p = with_rest (drop n p.rest) p
 abbrev pub save : Tree → Position → Position
 save t p = record p { saved = p.saved ++ t ∷ [] }
 
--- the last saved tree is taken back, where it is to be
+-- the last saved tree is removed if the truth value is true
 abbrev pub taken_back : Bool → Position → Position
 taken_back takes p = record p { saved = if takes then take (length p.saved - 1) p.saved else p.saved }
 
@@ -146,23 +146,23 @@ abbrev pub Substitution : Position → Tree → Position → Type 0
 Substitution p = SubstitutionAs (substitution_case (drop 1 p.rest)) (skip 1 p)
 
 -- the argument that a <template-param> names
-pub data ParameterAs : Bool → ℕ → Position → Tree → Type 0 where
+pub data ArgumentNamed : Bool → ℕ → Position → Tree → Type 0 where
   -- `auto` in a lambda's signature
   auto_parameter :
       {p : Position} {i : ℕ}
-      → ParameterAs true i p (plain_text (codes "auto"))
+      → ArgumentNamed true i p (plain_text (codes "auto"))
   -- an argument of the last scope, among those already read
   scope_parameter :
       {p : Position} {t : Tree} {i : ℕ}
       → slice_get (last_of p.scopes) i ≡ Some t
-      → ParameterAs false i p t
+      → ArgumentNamed false i p t
 
 -- <template-param> ::= T [<number>] _
 pub data Parameter : Context → Position → Tree → Position → Type 0 where
   parameter :
       {x : Context} {p : Position} {t : Tree} {i : ℕ} {rest : List ℕ}
       → index_of Decimal (drop 1 p.rest) ≡ Some (i, rest)
-      → ParameterAs x.lambda i p t
+      → ArgumentNamed x.lambda i p t
       → Parameter x p t (with_rest rest p)
 
 -- <abi-tags> ::= (B <source-name>)* after a name
@@ -180,7 +180,7 @@ pub data TaggedAs : TagCase → Tree → Position → Tree → Position → Type
 
 mutual
   -- <name> ::= <nested-name> | <local-name> | <unscoped-name> | <unscoped-template-name> <template-args>: counted. The
-  -- truth value says whether its own qualifiers wait for the parameters of an encoding
+  -- truth value is true in an <encoding>'s name and its entity: the encoding prints own qualifiers, so they don't count
   pub data Name : Bool → Context → Position → Tree → Position → Cost → Type 0 where
     name :
         {waits : Bool} {x : Context} {p q : Position} {t : Tree} {c : Cost}
@@ -286,7 +286,7 @@ mutual
         → SymbolAs (symbol_case rest) x (with_rest rest p) t q c
         → Thunk x p (thunk_of offsets t) q (counted (length (printing (thunk_of offsets t))) c)
 
-  -- what follows the prefix of a symbol, by what it begins with: a special name, or a name without its parameters
+  -- what follows the prefix of a symbol, or the offsets of a thunk: a special name, or a name without its parameters
   pub data SymbolAs : SymbolCase → Context → Position → Tree → Position → Cost → Type 0 where
     -- <special-name>
     special_symbol :
@@ -650,7 +650,7 @@ mutual
         {x : Context} {p q : Position} {t : Tree} {c : Cost} {dimension : Option ℕ} {rest : List ℕ}
         → optional_number (drop 1 p.rest) ≡ Some (dimension, rest)
         → TypeOf x (with_rest rest p) t q c
-        → has_array (shape_of t).form ≡ true
+        → may_be_element (shape_of t).form ≡ true
         → TypeAs ArrayType x p (array_of dimension t) (save (array_of dimension t) q) (both c (saving q))
     -- <function-type>
     function_type :
@@ -662,7 +662,7 @@ mutual
         {x : Context} {p q r : Position} {t u : Tree} {c d : Cost}
         → TypeOf x (skip 1 p) t q c
         → TypeOf x q u r d
-        → has_member_pointer (shape_of u).form ≡ true
+        → may_be_member (shape_of u).form ≡ true
         → TypeAs MemberType x p (member_of t u) (save (member_of t u) r) (both c (both d (saving r)))
     -- P <type>, R <type> and O <type>
     pointer_type :
@@ -734,7 +734,7 @@ mutual
         → TypesAs (types_case of_function p.rest) of_function x p ts q c
         → ParamsAs SomeParams of_function x p ts q c
 
-  -- one more type of a function's parameters, or their end
+  -- one more type of a list of parameters, or their end
   pub data TypesAs : TypesCase → Bool → Context → Position → List Tree → Position → Cost → Type 0 where
     -- the end, which isn't taken
     end_of_types :

@@ -1,5 +1,5 @@
--- What a symbol says, as a tree, and the shape of its printing. The shape is total: whether a step exists is a test
--- beside it.
+-- What a symbol says, as a tree, and the shape of its printing. Each tree has a shape here. What can't be printed isn't
+-- read: the grammar asks `may_be_element`, `may_be_member`, `has_literal` and `is_plain`.
 use Rattle.std.specs.Prelude.{ℕ, ◌+◌, Bool, true, false, not, List, [], ◌∷◌, ◌++◌, map, length, codes, decimal, Option, Some, None, if◌then◌else◌}
 use Rattle.demangle_text.specs.Shape.{Shape, plain_shape, with_own, flagged, appended, text}
 use Rattle.demangle_quals.specs.declared.quals.Quals.{Quals}
@@ -22,13 +22,13 @@ use Rattle.itanium_syntax.specs.Abbreviations.{abbreviation_text, abbreviation_o
 mutual
   -- what a symbol, or a part of it, says
   pub data Tree : Type 0 where
-    -- bytes that stand for themselves: a source name, a builtin type, `auto`, `std`
+    -- a plain text: a source name, an operator's name, an unnamed type, a builtin type, `auto`, `std`
     plain_text : List ℕ → Tree
     -- an abbreviation of std
     abbreviation : Abbreviation → Tree
     -- parent::leaf
     name_in : Tree → Tree → Tree
-    -- the constructor of a parent, or its destructor
+    -- the constructor of a parent; where the truth value is true, its destructor
     ctor_dtor_of : Tree → Bool → Tree
     -- a name with an ABI tag
     tagged_with : Tree → List ℕ → Tree
@@ -72,7 +72,7 @@ mutual
     temporary_of : ℕ → Tree → Tree
     -- the construction vtable of a type in another
     construction_of : Tree → Tree → Tree
-    -- a thunk: its offsets, and what it stands for
+    -- a thunk: its offsets, and its encoding
     thunk_of : ThunkOffsets → Tree → Tree
     -- a literal: its type, and its value as it stands in the bytes
     literal_of : Tree → List ℕ → Tree
@@ -117,7 +117,7 @@ abbreviation_shape abbreviated =
 abbrev pub elaborated_shape : List ℕ → Shape → Shape
 elaborated_shape word name = plain_shape (word ++ text name)
 
--- a conversion's name, as a plain text: it counts as a constructor's
+-- a conversion's name, as a plain text: its flag `ctor` is set
 abbrev pub conversion_shape : Shape → Shape
 conversion_shape t = flagged false true (plain_shape (codes "operator " ++ text t))
 
@@ -221,7 +221,7 @@ unfoldable mutual
   shape_of (conditional_of t u v) =
       conditional_shape (shape_of_operand t) (shape_of_operand u) (shape_of_operand v)
 
-  -- the shape of a name without its own qualifiers. A name that has none keeps its whole shape
+  -- the shape of a name without its own qualifiers, from its whole shape, which it is where the name can't have any
   pub bare_in : Shape → Tree → Shape
   bare_in whole (nested_of name quals shown) = shape_of name
   bare_in whole (local_in encoding entity) = qualified (shape_of encoding) (bare_in (shape_of entity) entity)

@@ -18,7 +18,7 @@ is_between low high byte = nat_le (letter low) byte && nat_le byte (letter high)
 abbrev pub is_digit : ℕ → Bool
 is_digit byte = is_between "0" "9" byte
 
--- the bytes begin with the word
+-- the bytes begin with the word, which comes first
 abbrev pub begins : List ℕ → List ℕ → Bool
 begins [] bytes = true
 begins (c ∷ word) [] = false

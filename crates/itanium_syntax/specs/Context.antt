@@ -2,7 +2,7 @@
 use Rattle.std.specs.Prelude.{Bool, true, false, not, ◌&&◌}
 use Rattle.itanium_syntax.specs.declared.context.Context.{Context}
 
--- a list opens a scope where it is a name's and no type is around it
+-- a list opens a scope if it belongs to a name and no type is around it
 abbrev pub opens_scope : Bool → Context → Bool
 opens_scope of_name x = of_name && not x.in_type
 

@@ -5,8 +5,8 @@ use Rattle.itanium_syntax.specs.Cases.{ReturnCase, NoReturnType, SomeReturnType,
 use Rattle.itanium_syntax.specs.Cases.{NoSignature, SomeSignature, EntityCase, StringLiteralEntity}
 use Rattle.itanium_syntax.specs.Cases.{DefaultArgumentEntity, NameEntity, NoEntity}
 
--- the return type in an encoding, or none: a template has one, unless it is a constructor or a conversion, or its name
--- is all of the encoding
+-- the return type in an encoding, or none: a template has one, unless it is a constructor, destructor or conversion, or
+-- its name is all of the encoding
 abbrev pub return_case : Bool → Bool → List ℕ → ReturnCase
 return_case templ ctor bytes =
     if templ && not ctor && not (begins (codes "E") bytes) then SomeReturnType else NoReturnType

@@ -10,7 +10,7 @@ use Rattle.itanium_syntax.specs.Cases.{BinaryExpression, GreaterExpression, Cond
 use Rattle.itanium_syntax.specs.Cases.{LiteralExpression, NoExpression}
 use Rattle.itanium_syntax.specs.Operators.{is_code, operator_here, operator_arity}
 
--- an external name, in place of a literal
+-- an external name is next
 abbrev pub is_external : List ℕ → Bool
 is_external bytes = begins (codes "L_Z") bytes
 
@@ -66,7 +66,7 @@ operand_case bytes =
     if begins (codes "T") bytes && not (begins_one_of (codes "sueL") (drop 1 bytes)) then ParameterExpression else
     if begins (codes "L") bytes then LiteralExpression else NoExpression
 
--- an expression by the number of its operator's operands
+-- an expression, by its operator's number of operands; `None` where no operator is next
 abbrev pub operator_case : List ℕ → Option ℕ → ExpressionCase
 operator_case bytes None = operand_case bytes
 operator_case bytes (Some arity) =
@@ -76,7 +76,7 @@ operator_case bytes (Some arity) =
     if arity == 1 then UnaryExpression else
     if arity == 3 then ConditionalExpression else BinaryExpression
 
--- ++ or -- is next, and is printed in front of its operand
+-- `pp_` or `mm_` is next: ++ or -- is printed in front of the operand
 abbrev pub is_pre : List ℕ → Bool
 is_pre bytes = begins (codes "pp_") bytes || begins (codes "mm_") bytes
 

@@ -57,7 +57,7 @@ abbrev pub begins_destructor : List ℕ → Bool
 begins_destructor bytes =
     begins (codes "D") bytes && (begins_between "0" "2" (drop 1 bytes) || begins_between "4" "5" (drop 1 bytes))
 
--- an <unqualified-name> that asks for no parent: it is no <ctor-dtor-name>
+-- an <unqualified-name> that is no <ctor-dtor-name>, so it can stand without a parent
 abbrev pub free_case : List ℕ → FreeCase
 free_case bytes =
     if begins_between "1" "9" bytes then SourceName else

@@ -13,17 +13,17 @@ use Rattle.itanium_syntax.specs.Scalars.{numeral, ended}
 abbrev pub with_sign : Bool → ℕ → Signed
 with_sign minus n = record { negative = minus && not (n == 0); magnitude = n }
 
--- a number with n in front for a minus
+-- [n] <number>, where n is a minus: the signed number, and the bytes after it
 abbrev pub signed_number : List ℕ → Option (Signed × List ℕ)
 signed_number bytes =
     let minus = begins (codes "n") bytes in
     option_map (λ n. (with_sign minus n.0, n.1)) (numeral Decimal (if minus then drop 1 bytes else bytes))
 
--- a number with `_` after it
+-- [n] <number> _, the same
 abbrev pub signed_part : List ℕ → Option (Signed × List ℕ)
 signed_part bytes = ended (signed_number bytes)
 
--- <number> _ <number> _ after its v
+-- <number> _ <number> _ after its v. `.0` is what was read, `.1` the bytes after it
 abbrev pub virtual_offset : List ℕ → Option (CallOffset × List ℕ)
 virtual_offset bytes =
     option_and_then (λ a. option_map (λ b. (Virtual a.0 b.0, b.1)) (signed_part a.1)) (signed_part bytes)

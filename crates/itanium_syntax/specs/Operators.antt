@@ -7,7 +7,7 @@ abbrev pub is_code : List ℕ → ℕ → ℕ → Bool
 is_code (a ∷ b ∷ []) first second = first == a && second == b
 is_code word first second = false
 
--- each operator: its code, what follows `operator`, and how many operands an expression of it has
+-- each operator: its code, what follows `operator`, and how many operands an expression of it has, if it is read
 abbrev pub operators : List (String × String × ℕ)
 operators =
     ("nw", " new", 2) ∷ ("na", " new[]", 2) ∷ ("dl", " delete", 1) ∷ ("da", " delete[]", 1) ∷ ("ps", "+", 1) ∷

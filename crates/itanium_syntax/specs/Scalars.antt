@@ -4,7 +4,7 @@ use Rattle.itanium_syntax.specs.Bytes.{letter, begins, is_between, is_digit}
 use Rattle.itanium_syntax.specs.declared.numerals.Radix.{Radix}
 use Rattle.itanium_syntax.specs.declared.numerals.Radix.TheVariants.{Decimal, Base36}
 
--- how many digits there are
+-- the base: how many values a digit has
 abbrev pub base : Radix → ℕ
 base Decimal = 10
 base Base36 = 36
@@ -16,7 +16,7 @@ digit_of Base36 b =
     if is_digit b then Some (b - letter "0") else
     if is_between "A" "Z" b then Some (b - letter "A" + 10) else None
 
--- a digit and those after it, where it is one
+-- the first digit in front of those after it; none if the first byte is no digit
 abbrev pub digit_then : Option ℕ → List ℕ → List ℕ
 digit_then None ds = []
 digit_then (Some d) ds = d ∷ ds

@@ -16,7 +16,7 @@ special_case bytes =
     if begins (codes "TC") bytes then ConstructionSpecial else
     if begins_t_and (codes "hvc") bytes then ThunkSpecial else NoSpecial
 
--- the words in front of a special name's type or name, where the case is one of these two
+-- the words in front of the type or name of a `TypeSpecial` or `NameSpecial`
 abbrev pub special_text : List ℕ → List ℕ
 special_text bytes =
     if begins (codes "TV") bytes then codes "{vtable(" else

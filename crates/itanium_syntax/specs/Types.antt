@@ -65,7 +65,7 @@ type_case bytes =
     if begins (codes "S") bytes then SubstitutionType else
     if begins (codes "U") bytes then UnreadType else NameType
 
--- <CV-qualifiers> ::= [r] [V] [K], and <ref-qualifier> ::= R | O after them
+-- <CV-qualifiers> ::= [r] [V] [K]. A reference after them is read by `with_reference`
 abbrev pub cv_quals : List ℕ → Quals
 cv_quals bytes =
     let after_restrict = past_letter (letter "r") bytes in
@@ -103,7 +103,7 @@ cv_case bytes = if begins (codes "F") bytes then CvFunction else CvOther
 abbrev pub function_case : List ℕ → FunctionCase
 function_case bytes = if begins (codes "FY") bytes then ExternFunction else PlainFunction
 
--- v is no parameter right in front of the E
+-- `v` right before the E stands for no parameters
 abbrev pub params_case : List ℕ → ParamsCase
 params_case bytes = if begins (codes "vE") bytes then NoParams else SomeParams
 
