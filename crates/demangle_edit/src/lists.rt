@@ -81,6 +81,9 @@ pub fn open_arguments(buf: &mut Buffer, name: Piece) -> Result<Piece, AllocError
 
 /// The piece that `open_arguments` returned with all that stands after it, which is the list of
 /// template arguments, and with the `>` of the list, after a space where the text ends in `>`.
+#[tactic(auto, using(
+// The laws of calls, of runs of calls, and of what ends the output.
+demangle_text::proofs::Laws::laws, demangle_text::proofs::Laws::lasts, demangle_text::proofs::Laws::runs))]
 #[inline(always)]
 pub fn close_arguments(buf: &mut Buffer, list: Piece) -> Result<Piece, AllocError>
     requires list { IsLiving buf.old list }

@@ -1,5 +1,4 @@
 -- The end of the output is that of the list, and what stands after the name then is the list with its end.
-use Rattle.demangle_text.proofs.Laws.{lasts, laws, runs}
 use Rattle.std.proofs.Common.{rules, ◌≡◌, ◌<◌, ◌++◌, ℕ, List, length, take, sym, ap, ◌∙◌, subst, arith, codes, nat_eq, if◌then◌else◌, Bool}
 use Rattle.std.specs.List.{ends_with}
 use Rattle.std.proofs.lemmas.List.{length-append}
@@ -34,6 +33,3 @@ returns-clause-shape c =
     ap (λ (t : Shape). appended (text_after new list) t) same ∙ ap (λ (v : List ℕ). appended v s) after
     ∙ sym (appended_twice more end s) ∙ ap (λ (v : List ℕ). appended v (appended more s)) end_is in
     subst (λ (t : Shape). Lives new c.up_to_end.result t) is c.up_to_end.ensures.shape
-
-pub up_to_end-requires-clause-inner : goal.up_to_end-requires-clause-inner
-up_to_end-requires-clause-inner c = grind (arith, lasts, laws, runs)
