@@ -14,6 +14,7 @@ use Rattle.itanium_syntax.specs.declared.numerals.Radix.{Radix}
 use Rattle.itanium_syntax.specs.declared.numerals.Radix.TheVariants.{Decimal}
 use Rattle.itanium_syntax.specs.Abbreviations.{abbreviation_of}
 use Rattle.itanium_syntax.specs.Bytes.{begins, begins_one_of, past_letter}
+use Rattle.itanium_syntax.specs.Cases.{EncodingEnd, AtE}
 use Rattle.itanium_syntax.specs.Cases.{TypeSpecial, NameSpecial, TemporarySpecial, ConstructionSpecial, ThunkSpecial}
 use Rattle.itanium_syntax.specs.Cases.{PreExpression, AddressExpression, UnaryExpression, PostExpression}
 use Rattle.itanium_syntax.specs.Cases.{BinaryExpression, GreaterExpression, ConditionalExpression, LiteralExpression}
@@ -190,7 +191,7 @@ pub destructor_some : (bytes : List ℕ) → unqualified_case true bytes ≡ Des
 destructor_some [] e = cc
 destructor_some (b ∷ bytes) e = omega arith
 
-pub types_end_some : (of_function : Bool) (bytes : List ℕ) → types_case of_function bytes ≡ EndOfTypes → 0 < length bytes
+pub types_end_some : (of_function : Bool) (bytes : List ℕ) → types_case AtE of_function bytes ≡ EndOfTypes → 0 < length bytes
 types_end_some true [] e = cc
 types_end_some false [] e = cc
 types_end_some of_function (b ∷ bytes) e = omega arith
@@ -216,9 +217,9 @@ pub cv_function_some : (bytes : List ℕ) → cv_case bytes ≡ CvFunction → 0
 cv_function_some [] e = cc
 cv_function_some (b ∷ bytes) e = omega arith
 
-pub no_params_some : (bytes : List ℕ) → params_case bytes ≡ NoParams → 0 < length bytes
-no_params_some [] e = cc
-no_params_some (b ∷ bytes) e = omega arith
+pub no_params_some : (end : EncodingEnd) (bytes : List ℕ) → params_case end bytes ≡ NoParams → 0 < length bytes
+no_params_some end [] e = cc
+no_params_some end (b ∷ bytes) e = omega arith
 
 -- a letter that stands there is gone past
 letter_shorter : (letter : ℕ) (bytes : List ℕ) → begins (letter ∷ []) bytes ≡ true → length (past_letter letter bytes) < length bytes

@@ -1,6 +1,8 @@
 -- What a production hands down to those inside it.
 use Rattle.std.specs.Prelude.{Bool, true, false, not, ◌&&◌}
 use Rattle.itanium_syntax.specs.declared.context.Context.{Context}
+use Rattle.itanium_syntax.specs.declared.encodings.EncodingEnd.{EncodingEnd}
+use Rattle.itanium_syntax.specs.declared.encodings.EncodingEnd.TheVariants.{AtSymbolEnd}
 
 -- a list opens a scope if it belongs to a name and no type is around it
 abbrev pub opens_scope : Bool → Context → Bool
@@ -25,3 +27,9 @@ inside_local x = record x { shown = true }
 -- the context inside the encoding of a local or an external name: no type is around it
 abbrev pub inside_encoding : Context → Context
 inside_encoding x = record x { shown = true; in_type = false }
+
+-- the context inside the parameters of an encoding that ends so: those of a signature have no dots where a pack is
+-- expanded
+abbrev pub inside_params : EncodingEnd → Context → Context
+inside_params AtSymbolEnd x = inside_pack x
+inside_params end x = x

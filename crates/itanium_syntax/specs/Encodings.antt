@@ -1,19 +1,37 @@
 -- The cases of encodings and of local names. Of several cases the first one that fits holds.
-use Rattle.std.specs.Prelude.{ℕ, List, Bool, not, ◌&&◌, ◌||◌, drop, codes, if◌then◌else◌}
-use Rattle.itanium_syntax.specs.Bytes.{begins, begins_digit}
+use Rattle.std.specs.Prelude.{ℕ, List, Bool, true, not, ◌&&◌, ◌||◌, drop, codes, if◌then◌else◌}
+use Rattle.itanium_syntax.specs.declared.encodings.EncodingEnd.{EncodingEnd}
+use Rattle.itanium_syntax.specs.declared.encodings.EncodingEnd.TheVariants.{AfterName, AtE, AtSymbolEnd}
+use Rattle.itanium_syntax.specs.Bytes.{begins, begins_digit, begins_between}
 use Rattle.itanium_syntax.specs.Cases.{ReturnCase, NoReturnType, SomeReturnType, SignatureCase}
 use Rattle.itanium_syntax.specs.Cases.{NoSignature, SomeSignature, EntityCase, StringLiteralEntity}
 use Rattle.itanium_syntax.specs.Cases.{DefaultArgumentEntity, NameEntity, NoEntity}
 
+-- an ASCII letter, a digit or an underscore is next
+abbrev pub begins_word : List ℕ → Bool
+begins_word bytes =
+    begins_digit bytes || begins_between "A" "Z" bytes || begins (codes "_") bytes || begins_between "a" "z" bytes
+
+-- an encoding that ends so ends here: right after its name, at the E of the name around it, or where a symbol ends
+abbrev pub is_here : EncodingEnd → List ℕ → Bool
+is_here AfterName bytes = true
+is_here AtE bytes = begins (codes "E") bytes
+is_here AtSymbolEnd bytes = not (begins_word bytes)
+
+-- how the encoding of a thunk ends: that of a signature's thunk where the symbol ends, else right after its name
+abbrev pub of_thunk : EncodingEnd → EncodingEnd
+of_thunk AtSymbolEnd = AtSymbolEnd
+of_thunk end = AfterName
+
 -- the return type in an encoding, or none: a template has one, unless it is a constructor, destructor or conversion, or
 -- its name is all of the encoding
-abbrev pub return_case : Bool → Bool → List ℕ → ReturnCase
-return_case templ ctor bytes =
-    if templ && not ctor && not (begins (codes "E") bytes) then SomeReturnType else NoReturnType
+abbrev pub return_case : EncodingEnd → Bool → Bool → List ℕ → ReturnCase
+return_case end templ ctor bytes =
+    if templ && not ctor && not (is_here end bytes) then SomeReturnType else NoReturnType
 
 -- the parameters of an encoding, or its end
-abbrev pub signature_case : List ℕ → SignatureCase
-signature_case bytes = if begins (codes "E") bytes then NoSignature else SomeSignature
+abbrev pub signature_case : EncodingEnd → List ℕ → SignatureCase
+signature_case end bytes = if is_here end bytes then NoSignature else SomeSignature
 
 -- what follows the encoding of a <local-name>: its E, and s for a string literal, d for a default argument, or a name
 abbrev pub entity_case : List ℕ → EntityCase

@@ -4,8 +4,10 @@ use Rattle.demangle_quals.specs.declared.quals.Quals.{Quals}
 use Rattle.demangle_quals.specs.Quals.{no_quals}
 use Rattle.itanium_syntax.specs.Bytes.{letter, begins, begins_between, begins_digit, past_letter}
 use Rattle.itanium_syntax.specs.Operators.{operator_here}
-use Rattle.itanium_syntax.specs.Cases.{SymbolCase, SpecialSymbol, NameSymbol, NameCase, NestedName, LocalName}
-use Rattle.itanium_syntax.specs.Cases.{UnscopedName, UnscopedCase, StdName, SubstitutionName, PlainName, FirstCase}
+use Rattle.itanium_syntax.specs.declared.encodings.EncodingEnd.{EncodingEnd}
+use Rattle.itanium_syntax.specs.declared.encodings.EncodingEnd.TheVariants.{AfterName}
+use Rattle.itanium_syntax.specs.Cases.{SymbolCase, SpecialSymbol, NameSymbol, FullSymbol, NameCase, NestedName}
+use Rattle.itanium_syntax.specs.Cases.{LocalName, UnscopedName, UnscopedCase, StdName, SubstitutionName, PlainName, FirstCase}
 use Rattle.itanium_syntax.specs.Cases.{ParameterFirst, StdFirst, SubstitutionFirst, NameFirst, SegmentCase}
 use Rattle.itanium_syntax.specs.Cases.{EndOfSegments, ArgsSegment, NameSegment, UnqualifiedCase, ConstructorName}
 use Rattle.itanium_syntax.specs.Cases.{DestructorName, FreeName, FreeCase, SourceName, UnnamedTypeName, LambdaName}
@@ -13,9 +15,14 @@ use Rattle.itanium_syntax.specs.Cases.{ConversionName, LiteralOperatorName, Oper
 use Rattle.itanium_syntax.specs.Cases.{NextTag, SubstitutionCase, AbbreviationSubstitution, ComponentSubstitution}
 use Rattle.itanium_syntax.specs.Types.{cv_quals, past_cv, with_reference, past_reference}
 
--- what follows the prefix of a symbol, and what an encoding begins with: a special name, or a name
-abbrev pub symbol_case : List ℕ → SymbolCase
-symbol_case bytes = if begins (codes "T") bytes || begins (codes "G") bytes then SpecialSymbol else NameSymbol
+-- an <encoding> of a name: the name alone, where it ends right after it
+abbrev pub named_case : EncodingEnd → SymbolCase
+named_case AfterName = NameSymbol
+named_case end = FullSymbol
+
+-- <encoding>: a special name, or one of a name
+abbrev pub symbol_case : EncodingEnd → List ℕ → SymbolCase
+symbol_case end bytes = if begins (codes "T") bytes || begins (codes "G") bytes then SpecialSymbol else named_case end
 
 -- <name>
 abbrev pub name_case : List ℕ → NameCase

@@ -2,6 +2,8 @@
 ghost use Rattle.std.specs.Prelude.{◌≡◌};
 ghost use Rattle.itanium_syntax.specs.Context as spec;
 
+use crate::encodings::EncodingEnd;
+
 /// Four truth values that a reading hands down. All are off at the start of a symbol.
 #[derive(Clone, Copy)]
 pub struct Context {
@@ -69,6 +71,17 @@ impl Context {
             shown: true,
             in_type: false,
             ..self
+        }
+    }
+
+    /// The context of the parameters of an encoding that ends so: in a signature, where a pack expansion prints the
+    /// arguments of its pack, it adds no dots.
+    pub fn inside_params(self, end: EncodingEnd) -> Context
+        ensures context { result ≡ spec.inside_params end self }
+    {
+        match end {
+            EncodingEnd::AtSymbolEnd => self.inside_pack(),
+            _ => self,
         }
     }
 

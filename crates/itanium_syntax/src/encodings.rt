@@ -3,6 +3,42 @@
 ghost use Rattle.std.specs.Prelude.{◌≡◌};
 ghost use Rattle.itanium_syntax.specs.Encodings as spec;
 
+/// How an `<encoding>` ends.
+#[derive(Clone, Copy)]
+pub enum EncodingEnd {
+    /// Right after its name, which alone is read of it: that of a symbol's name, or of a thunk in one.
+    AfterName,
+    /// At the `E` of the local or external name around it.
+    AtE,
+    /// Where a symbol ends: that of a signature, or of a thunk in one.
+    AtSymbolEnd,
+}
+
+impl EncodingEnd {
+    /// How the encoding of a thunk ends, where that of the special name around it ends so.
+    pub fn of_thunk(self) -> EncodingEnd
+        ensures end { result ≡ spec.of_thunk self }
+    {
+        match self {
+            EncodingEnd::AtSymbolEnd => EncodingEnd::AtSymbolEnd,
+            _ => EncodingEnd::AfterName,
+        }
+    }
+
+    /// Whether an encoding that ends so ends there. A symbol ends where no ASCII letter, digit or underscore is next.
+    pub fn is_here(self, bytes: &[u8]) -> bool
+        ensures value { result ≡ spec.is_here self bytes.now }
+    {
+        match self {
+            EncodingEnd::AfterName => true,
+            EncodingEnd::AtE => matches!(bytes, [b'E', ..]),
+            EncodingEnd::AtSymbolEnd => {
+                !matches!(bytes, [b'0'..=b'9' | b'A'..=b'Z' | b'_' | b'a'..=b'z', ..])
+            }
+        }
+    }
+}
+
 /// Whether a return type follows the name of an `<encoding>`.
 #[derive(Clone, Copy)]
 pub enum ReturnCase {
@@ -28,10 +64,10 @@ pub enum EntityCase {
 
 /// Whether a return type stands there, after a name with these flags: a template has one, unless it is a constructor or
 /// a conversion, or its name is all of the encoding.
-pub fn return_case(templ: bool, ctor: bool, bytes: &[u8]) -> ReturnCase
-    ensures case { result ≡ spec.return_case templ ctor bytes.now }
+pub fn return_case(end: EncodingEnd, templ: bool, ctor: bool, bytes: &[u8]) -> ReturnCase
+    ensures case { result ≡ spec.return_case end templ ctor bytes.now }
 {
-    if templ && !ctor && !matches!(bytes, [b'E', ..]) {
+    if templ && !ctor && !end.is_here(bytes) {
         ReturnCase::SomeReturnType
     } else {
         ReturnCase::NoReturnType
@@ -39,12 +75,13 @@ pub fn return_case(templ: bool, ctor: bool, bytes: &[u8]) -> ReturnCase
 }
 
 /// Whether parameters stand there.
-pub fn signature_case(bytes: &[u8]) -> SignatureCase
-    ensures case { result ≡ spec.signature_case bytes.now }
+pub fn signature_case(end: EncodingEnd, bytes: &[u8]) -> SignatureCase
+    ensures case { result ≡ spec.signature_case end bytes.now }
 {
-    match bytes {
-        [b'E', ..] => SignatureCase::NoSignature,
-        _ => SignatureCase::SomeSignature,
+    if end.is_here(bytes) {
+        SignatureCase::NoSignature
+    } else {
+        SignatureCase::SomeSignature
     }
 }
 

@@ -7,16 +7,18 @@ ghost use Rattle.itanium_syntax.specs.Names as spec;
 ghost use Rattle.itanium_syntax.specs.Scalars.{source_name};
 ghost use Rattle.itanium_syntax.specs.Calls as call_spec;
 
+use crate::encodings::EncodingEnd;
 use crate::operators::operator_here;
 use crate::scalar::source_name;
 use crate::types::{cv_quals, ref_qualifier};
 use demangle_quals::Quals;
 
-/// What follows the prefix of a symbol, and what an encoding begins with: a special name, or a name.
+/// `<encoding>`: a special name, a name that is all of it, or a name that its return type and parameters may follow.
 #[derive(Clone, Copy)]
 pub enum SymbolCase {
     SpecialSymbol,
     NameSymbol,
+    FullSymbol,
 }
 
 /// `<name>`
@@ -86,13 +88,14 @@ pub enum SubstitutionCase {
     ComponentSubstitution,
 }
 
-/// What an `<encoding>` begins with: a special name, or a name.
-pub fn symbol_case(bytes: &[u8]) -> SymbolCase
-    ensures case { result ≡ spec.symbol_case bytes.now }
+/// Which `<encoding>` that ends so stands there.
+pub fn symbol_case(end: EncodingEnd, bytes: &[u8]) -> SymbolCase
+    ensures case { result ≡ spec.symbol_case end bytes.now }
 {
-    match bytes {
-        [b'T' | b'G', ..] => SymbolCase::SpecialSymbol,
-        _ => SymbolCase::NameSymbol,
+    match (bytes, end) {
+        ([b'T' | b'G', ..], _) => SymbolCase::SpecialSymbol,
+        (_, EncodingEnd::AfterName) => SymbolCase::NameSymbol,
+        _ => SymbolCase::FullSymbol,
     }
 }
 

@@ -5,6 +5,7 @@ ghost use Rattle.itanium_syntax.specs.Types as spec;
 ghost use Rattle.itanium_syntax.specs.Bytes as bytes_spec;
 ghost use Rattle.itanium_syntax.specs.Calls as call_spec;
 
+use crate::encodings::EncodingEnd;
 use demangle_quals::{Pointer, Quals, Reference};
 
 /// `<type>`
@@ -39,14 +40,14 @@ pub enum FunctionCase {
     PlainFunction,
 }
 
-/// The parameters of a `<function-type>`.
+/// The parameters of a `<function-type>`, a lambda or an `<encoding>`.
 #[derive(Clone, Copy)]
 pub enum ParamsCase {
     NoParams,
     SomeParams,
 }
 
-/// The end of a function's parameters, with or without a `<ref-qualifier>`, or one more type.
+/// The end of such parameters, with or without a `<ref-qualifier>`, or one more type.
 #[derive(Clone, Copy)]
 pub enum TypesCase {
     EndOfTypes,
@@ -100,23 +101,23 @@ pub fn function_case(bytes: &[u8]) -> FunctionCase
     }
 }
 
-/// Whether a `<function-type>` has parameters: `v` right in front of its end stands for none.
-pub fn params_case(bytes: &[u8]) -> ParamsCase
-    ensures case { result ≡ spec.params_case bytes.now }
+/// Whether there are parameters in front of this end: `v` right in front of it stands for none.
+pub fn params_case(end: EncodingEnd, bytes: &[u8]) -> ParamsCase
+    ensures case { result ≡ spec.params_case end bytes.now }
 {
     match bytes {
-        [b'v', b'E', ..] => ParamsCase::NoParams,
+        [b'v', rest @ ..] if end.is_here(rest) => ParamsCase::NoParams,
         _ => ParamsCase::SomeParams,
     }
 }
 
-/// Whether one more type of a function's parameters stands there, or their end: `E`, or in a `<function-type>` a
-/// `<ref-qualifier>` in front of it.
-pub fn types_case(of_function: bool, bytes: &[u8]) -> TypesCase
-    ensures case { result ≡ spec.types_case of_function bytes.now }
+/// Whether one more type of such parameters stands there, or their end: in a `<function-type>` also a
+/// `<ref-qualifier>` in front of its `E`.
+pub fn types_case(end: EncodingEnd, of_function: bool, bytes: &[u8]) -> TypesCase
+    ensures case { result ≡ spec.types_case end of_function bytes.now }
 {
     match bytes {
-        [b'E', ..] => TypesCase::EndOfTypes,
+        _ if end.is_here(bytes) => TypesCase::EndOfTypes,
         [b'R' | b'O', b'E', ..] if of_function => TypesCase::EndOfTypes,
         _ => TypesCase::NextType,
     }
