@@ -3,7 +3,7 @@ use Rattle.std.proofs.Common.{◌≡◌, Bool, List, Option, drop, refl, arith, 
 use Rattle.demangle_quals.specs.declared.quals.Quals.{Quals}
 use Rattle.itanium_syntax.specs.declared.context.Context.{Context}
 use Rattle.itanium_syntax.specs.declared.numerals.Radix.TheVariants.{Decimal, Base36}
-use Rattle.itanium_grammar.specs.Cases.{SymbolCase, SpecialCase, LiteralCase, ExpressionCase, NameCase, ReturnCase}
+use Rattle.itanium_grammar.specs.Cases.{EncodingEnd, SymbolCase, SpecialCase, LiteralCase, ExpressionCase, NameCase, ReturnCase}
 use Rattle.itanium_grammar.specs.Cases.{SignatureCase, EntityCase, UnscopedCase, AttachedCase, FirstCase, SegmentCase}
 use Rattle.itanium_grammar.specs.Cases.{UnqualifiedCase, FreeCase, TagCase, SubstitutionCase, ArgsCase, ArgumentCase}
 use Rattle.itanium_grammar.specs.Cases.{TypeCase, CvCase, ParamsCase, TypesCase}
@@ -20,7 +20,7 @@ use Rattle.itanium_syntax.proofs.Fronts.{thunk_offsets_after, base_offset_takes}
 use Rattle.itanium_grammar.specs.Tree.{Tree, Operand}
 use Rattle.itanium_grammar.specs.Grammar.{Position, Cost, SpecialAs, Thunk, special_encoding, type_special}
 use Rattle.itanium_grammar.specs.Grammar.{name_special, temporary_special, construction_special, thunk_special, thunk}
-use Rattle.itanium_grammar.specs.Grammar.{special_symbol, Expression, ExpressionAs, OperandOf, LiteralAs}
+use Rattle.itanium_grammar.specs.Grammar.{Expression, ExpressionAs, OperandOf, LiteralAs}
 use Rattle.itanium_grammar.specs.Grammar.{expression_argument, literal_argument, external_name, value_literal}
 use Rattle.itanium_grammar.specs.Grammar.{expression, operand_of, pre_expression, address_expression, unary_expression}
 use Rattle.itanium_grammar.specs.Grammar.{post_expression, binary_expression, greater_expression}
@@ -29,7 +29,7 @@ use Rattle.itanium_grammar.specs.Grammar.{SubstitutionAs, Substitution, Paramete
 use Rattle.itanium_grammar.specs.Grammar.{FirstAs, Name, NameAs, Local, EntityAs, EncodingAs, ReturnAs}
 use Rattle.itanium_grammar.specs.Grammar.{SignatureAs, UnscopedAs, AttachedAs, Nested, SegmentsAs, Args}
 use Rattle.itanium_grammar.specs.Grammar.{ArgumentsAs, ArgumentAs, TypeOf, TypeAs, CvAs, Function, ParamsAs, TypesAs}
-use Rattle.itanium_grammar.specs.Grammar.{TypeAttachedAs, SymbolAs, abbreviation_substitution}
+use Rattle.itanium_grammar.specs.Grammar.{TypeAttachedAs, abbreviation_substitution}
 use Rattle.itanium_grammar.specs.Grammar.{component_substitution, parameter, no_tag, next_tag}
 use Rattle.itanium_grammar.specs.Grammar.{source_free, unnamed_type_free, lambda_free, conversion_free}
 use Rattle.itanium_grammar.specs.Grammar.{literal_operator_free, operator_free, FreeAs, free_unqualified}
@@ -45,7 +45,7 @@ use Rattle.itanium_grammar.specs.Grammar.{builtin_type, vendor_type, array_type,
 use Rattle.itanium_grammar.specs.Grammar.{pointer_type, cv_type, elaborated_type, parameter_type, substitution_type}
 use Rattle.itanium_grammar.specs.Grammar.{name_type, cv_function, cv_other, function, no_params, some_params}
 use Rattle.itanium_grammar.specs.Grammar.{end_of_types, one_more_type, none_attached_to_type, args_attached_to_type}
-use Rattle.itanium_grammar.specs.Grammar.{name_symbol}
+use Rattle.itanium_grammar.specs.Grammar.{name_alone}
 
 substitution_as_takes : {case : SubstitutionCase} {p q : Position} {t : Tree} → SubstitutionAs case p t q → Takes q.rest p.rest
 substitution_as_takes (abbreviation_substitution {p = p} known) = abbreviation_takes p.rest _ known
@@ -80,11 +80,12 @@ mutual
       after_then (after_drop 2 p.rest) (takes_takes (ordinal_takes (drop 2 p.rest) (n, r) found) (name_takes a)).after
   entity_after (name_entity {p = p} a) = after_then (after_drop 1 p.rest) (name_takes a).after
 
-  pub encoding_as_takes : {case : SymbolCase} {x : Context} {p q : Position} {t : Tree} {c : Cost} → EncodingAs case x p t q c → Takes q.rest p.rest
+  pub encoding_as_takes : {case : SymbolCase} {end : EncodingEnd} {x : Context} {p q : Position} {t : Tree} {c : Cost} → EncodingAs case end x p t q c → Takes q.rest p.rest
   encoding_as_takes (special_encoding a) = special_takes a
+  encoding_as_takes (name_alone a) = name_takes a
   encoding_as_takes (name_encoding a b d) = takes_then (name_takes a) (after_then (return_after b) (signature_after d))
 
-  special_takes : {case : SpecialCase} {x : Context} {p q : Position} {t : Tree} {c : Cost} → SpecialAs case x p t q c → Takes q.rest p.rest
+  special_takes : {case : SpecialCase} {end : EncodingEnd} {x : Context} {p q : Position} {t : Tree} {c : Cost} → SpecialAs case end x p t q c → Takes q.rest p.rest
   special_takes (type_special {p = p} a) = after_takes (after_drop 2 p.rest) (type_takes a)
   special_takes (name_special {p = p} a) = after_takes (after_drop 2 p.rest) (name_takes a)
   special_takes (temporary_special {p = p} {q = q} {number = k} {rest = r} a found) =
@@ -93,19 +94,15 @@ mutual
       after_takes (after_drop 2 p.rest) (takes_takes (type_takes a) (takes_takes (base_offset_takes q.rest r found) (type_takes b)))
   special_takes (thunk_special a) = thunk_takes a
 
-  pub thunk_takes : {x : Context} {p q : Position} {t : Tree} {c : Cost} → Thunk x p t q c → Takes q.rest p.rest
+  pub thunk_takes : {end : EncodingEnd} {x : Context} {p q : Position} {t : Tree} {c : Cost} → Thunk end x p t q c → Takes q.rest p.rest
   thunk_takes (thunk {p = p} {offsets = o} {rest = r} found a) =
-      after_takes (after_then (after_drop 1 p.rest) (thunk_offsets_after (drop 1 p.rest) (o, r) found)) (symbol_as_takes a)
-
-  pub symbol_as_takes : {case : SymbolCase} {x : Context} {p q : Position} {t : Tree} {c : Cost} → SymbolAs case x p t q c → Takes q.rest p.rest
-  symbol_as_takes (special_symbol a) = special_takes a
-  symbol_as_takes (name_symbol a) = name_takes a
+      after_takes (after_then (after_drop 1 p.rest) (thunk_offsets_after (drop 1 p.rest) (o, r) found)) (encoding_as_takes a)
 
   return_after : {case : ReturnCase} {x : Context} {p q : Position} {c : Cost} → ReturnAs case x p q c → IsAfter q.rest p.rest
   return_after (no_return_type {p = p}) = after_none p.rest
   return_after (some_return_type a) = (type_takes a).after
 
-  signature_after : {case : SignatureCase} {x : Context} {t u : Tree} {p q : Position} {c : Cost} → SignatureAs case x t p u q c → IsAfter q.rest p.rest
+  signature_after : {case : SignatureCase} {end : EncodingEnd} {x : Context} {t u : Tree} {p q : Position} {c : Cost} → SignatureAs case end x t p u q c → IsAfter q.rest p.rest
   signature_after (no_signature {p = p}) = after_none p.rest
   signature_after (some_signature a) = params_after a
 
@@ -225,11 +222,11 @@ mutual
   function_takes (function {p = p} {r = r} plain a b there) =
       after_takes (after_drop 1 p.rest) (takes_then (type_takes a) (after_then (params_after b) (after_then (reference_after r.rest) (after_drop 1 (past_reference r.rest)))))
 
-  params_after : {case : ParamsCase} {of_function : Bool} {x : Context} {p q : Position} {ts : List Tree} {c : Cost} → ParamsAs case of_function x p ts q c → IsAfter q.rest p.rest
+  params_after : {case : ParamsCase} {end : EncodingEnd} {of_function : Bool} {x : Context} {p q : Position} {ts : List Tree} {c : Cost} → ParamsAs case end of_function x p ts q c → IsAfter q.rest p.rest
   params_after (no_params {p = p}) = after_drop 1 p.rest
   params_after (some_params a) = types_after a
 
-  pub types_after : {case : TypesCase} {of_function : Bool} {x : Context} {p q : Position} {ts : List Tree} {c : Cost} → TypesAs case of_function x p ts q c → IsAfter q.rest p.rest
+  pub types_after : {case : TypesCase} {end : EncodingEnd} {of_function : Bool} {x : Context} {p q : Position} {ts : List Tree} {c : Cost} → TypesAs case end of_function x p ts q c → IsAfter q.rest p.rest
   types_after (end_of_types {p = p}) = after_none p.rest
   types_after (one_more_type a b) = after_then (type_takes a).after (types_after b)
 

@@ -4,13 +4,13 @@ use Rattle.std.proofs.lemmas.List.{append-nil}
 use Rattle.std.proofs.Math.Seq.{take-append_seam}
 use Rattle.demangle_quals.specs.declared.quals.Quals.{Quals}
 use Rattle.itanium_syntax.specs.declared.context.Context.{Context}
-use Rattle.itanium_grammar.specs.Cases.{ArgsCase, ArgumentCase, AttachedCase, CvCase, EntityCase, ExpressionCase}
+use Rattle.itanium_grammar.specs.Cases.{EncodingEnd, ArgsCase, ArgumentCase, AttachedCase, CvCase, EntityCase, ExpressionCase}
 use Rattle.itanium_grammar.specs.Cases.{FirstCase, FreeCase, LiteralCase, NameCase, ParamsCase, ReturnCase}
 use Rattle.itanium_grammar.specs.Cases.{SegmentCase, SignatureCase, SpecialCase, SubstitutionCase, SymbolCase}
 use Rattle.itanium_grammar.specs.Cases.{TagCase, TypeCase, TypesCase, UnqualifiedCase, UnscopedCase}
 use Rattle.itanium_grammar.specs.Tree.{Tree, Operand}
 use Rattle.itanium_grammar.specs.Grammar.{Position, Cost, scopes_inside, SubstitutionAs, Parameter, TaggedAs, Name}
-use Rattle.itanium_grammar.specs.Grammar.{NameAs, Local, EntityAs, EncodingAs, SpecialAs, Thunk, SymbolAs, ReturnAs}
+use Rattle.itanium_grammar.specs.Grammar.{NameAs, Local, EntityAs, EncodingAs, SpecialAs, Thunk, ReturnAs}
 use Rattle.itanium_grammar.specs.Grammar.{SignatureAs, UnscopedAs, AttachedAs, FreeAs, UnqualifiedAs, Unqualified}
 use Rattle.itanium_grammar.specs.Grammar.{FirstAs, Nested, SegmentsAs, Args, ArgumentsAs, Pack, PackedAs, ArgumentAs}
 use Rattle.itanium_grammar.specs.Grammar.{LiteralAs, Expression, OperandOf, ExpressionAs, TypeOf, TypeAs, CvAs}
@@ -19,7 +19,7 @@ use Rattle.itanium_grammar.specs.Grammar.{component_substitution, parameter, no_
 use Rattle.itanium_grammar.specs.Grammar.{local_name, unscoped_name, local, string_literal_entity}
 use Rattle.itanium_grammar.specs.Grammar.{default_argument_entity, name_entity, special_encoding, name_encoding}
 use Rattle.itanium_grammar.specs.Grammar.{type_special, name_special, temporary_special, construction_special}
-use Rattle.itanium_grammar.specs.Grammar.{thunk_special, thunk, special_symbol, name_symbol, no_return_type}
+use Rattle.itanium_grammar.specs.Grammar.{thunk_special, thunk, name_alone, no_return_type}
 use Rattle.itanium_grammar.specs.Grammar.{some_return_type, no_signature, some_signature, std_name, substitution_name}
 use Rattle.itanium_grammar.specs.Grammar.{global_name, none_attached, args_attached, source_free, unnamed_type_free}
 use Rattle.itanium_grammar.specs.Grammar.{lambda_free, conversion_free, literal_operator_free, operator_free}
@@ -87,29 +87,26 @@ mutual
   entity_keeps (default_argument_entity a b) = name_keeps b
   entity_keeps (name_entity a) = name_keeps a
 
-  encoding_keeps : {case : SymbolCase} {x : Context} {p : Position} {t : Tree} {q : Position} {c : Cost} → EncodingAs case x p t q c → Keeps p.scopes q.scopes
+  encoding_keeps : {case : SymbolCase} {end : EncodingEnd} {x : Context} {p : Position} {t : Tree} {q : Position} {c : Cost} → EncodingAs case end x p t q c → Keeps p.scopes q.scopes
   encoding_keeps (special_encoding a) = special_keeps a
+  encoding_keeps (name_alone a) = name_keeps a
   encoding_keeps (name_encoding a b d) = keeps_then (name_keeps a) (keeps_then (return_keeps b) (signature_keeps d))
 
-  special_keeps : {case : SpecialCase} {x : Context} {p : Position} {t : Tree} {q : Position} {c : Cost} → SpecialAs case x p t q c → Keeps p.scopes q.scopes
+  special_keeps : {case : SpecialCase} {end : EncodingEnd} {x : Context} {p : Position} {t : Tree} {q : Position} {c : Cost} → SpecialAs case end x p t q c → Keeps p.scopes q.scopes
   special_keeps (type_special a) = type_keeps a
   special_keeps (name_special a) = name_keeps a
   special_keeps (temporary_special a b) = name_keeps a
   special_keeps (construction_special a b d) = keeps_then (type_keeps a) (type_keeps d)
   special_keeps (thunk_special a) = thunk_keeps a
 
-  thunk_keeps : {x : Context} {p : Position} {t : Tree} {q : Position} {c : Cost} → Thunk x p t q c → Keeps p.scopes q.scopes
-  thunk_keeps (thunk a b) = symbol_keeps b
-
-  symbol_keeps : {case : SymbolCase} {x : Context} {p : Position} {t : Tree} {q : Position} {c : Cost} → SymbolAs case x p t q c → Keeps p.scopes q.scopes
-  symbol_keeps (special_symbol a) = special_keeps a
-  symbol_keeps (name_symbol a) = name_keeps a
+  thunk_keeps : {end : EncodingEnd} {x : Context} {p : Position} {t : Tree} {q : Position} {c : Cost} → Thunk end x p t q c → Keeps p.scopes q.scopes
+  thunk_keeps (thunk a b) = encoding_keeps b
 
   return_keeps : {case : ReturnCase} {x : Context} {p : Position} {q : Position} {c : Cost} → ReturnAs case x p q c → Keeps p.scopes q.scopes
   return_keeps no_return_type = keeps_all _
   return_keeps (some_return_type a) = type_keeps a
 
-  signature_keeps : {case : SignatureCase} {x : Context} {t : Tree} {p : Position} {u : Tree} {q : Position} {c : Cost} → SignatureAs case x t p u q c → Keeps p.scopes q.scopes
+  signature_keeps : {case : SignatureCase} {end : EncodingEnd} {x : Context} {t : Tree} {p : Position} {u : Tree} {q : Position} {c : Cost} → SignatureAs case end x t p u q c → Keeps p.scopes q.scopes
   signature_keeps no_signature = keeps_all _
   signature_keeps (some_signature a) = params_keeps a
 
@@ -217,11 +214,11 @@ mutual
   function_keeps : {x : Context} {quals : Quals} {p : Position} {t : Tree} {q : Position} {c : Cost} → Function x quals p t q c → Keeps p.scopes q.scopes
   function_keeps (function a b d f) = keeps_then (type_keeps b) (params_keeps d)
 
-  params_keeps : {case : ParamsCase} {b : Bool} {x : Context} {p : Position} {ts : List Tree} {q : Position} {c : Cost} → ParamsAs case b x p ts q c → Keeps p.scopes q.scopes
+  params_keeps : {case : ParamsCase} {end : EncodingEnd} {b : Bool} {x : Context} {p : Position} {ts : List Tree} {q : Position} {c : Cost} → ParamsAs case end b x p ts q c → Keeps p.scopes q.scopes
   params_keeps no_params = keeps_all _
   params_keeps (some_params a) = types_keeps a
 
-  types_keeps : {case : TypesCase} {b : Bool} {x : Context} {p : Position} {ts : List Tree} {q : Position} {c : Cost} → TypesAs case b x p ts q c → Keeps p.scopes q.scopes
+  types_keeps : {case : TypesCase} {end : EncodingEnd} {b : Bool} {x : Context} {p : Position} {ts : List Tree} {q : Position} {c : Cost} → TypesAs case end b x p ts q c → Keeps p.scopes q.scopes
   types_keeps end_of_types = keeps_all _
   types_keeps (one_more_type a b) = keeps_then (type_keeps a) (types_keeps b)
 

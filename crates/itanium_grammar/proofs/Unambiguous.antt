@@ -4,7 +4,7 @@ use Rattle.std.specs.Prelude.{option_map}
 use Rattle.std.proofs.lemmas.Option.{some_pair_parts, same_Some}
 use Rattle.demangle_quals.specs.declared.quals.Quals.{Quals}
 use Rattle.itanium_syntax.specs.declared.context.Context.{Context}
-use Rattle.itanium_grammar.specs.Cases.{SymbolCase, SpecialCase, LiteralCase, ExpressionCase, NameCase, ReturnCase}
+use Rattle.itanium_grammar.specs.Cases.{EncodingEnd, AtE, SymbolCase, SpecialCase, LiteralCase, ExpressionCase, NameCase, ReturnCase}
 use Rattle.itanium_grammar.specs.Cases.{SignatureCase, EntityCase, UnscopedCase, AttachedCase, FirstCase, SegmentCase}
 use Rattle.itanium_grammar.specs.Cases.{UnqualifiedCase, FreeCase, TagCase, SubstitutionCase, ArgsCase, ArgumentCase}
 use Rattle.itanium_grammar.specs.Cases.{TypeCase, CvCase, ParamsCase, TypesCase}
@@ -15,7 +15,7 @@ use Rattle.itanium_syntax.specs.Context.{inside_local}
 use Rattle.itanium_syntax.specs.Expressions.{is_external, literal_value, expression_text}
 use Rattle.itanium_syntax.specs.Offsets.{past_base_offset}
 use Rattle.itanium_syntax.specs.Specials.{special_text, special_close}
-use Rattle.itanium_syntax.specs.Encodings.{return_case, signature_case, entity_case}
+use Rattle.itanium_syntax.specs.Encodings.{of_thunk, return_case, signature_case, entity_case}
 use Rattle.itanium_syntax.specs.Args.{attached_case, args_case}
 use Rattle.itanium_syntax.specs.Types.{params_case, types_case, elaborated_text, with_reference, past_reference}
 use Rattle.itanium_grammar.specs.Tree.{Tree, worded, temporary_of, construction_of, thunk_of, Operand, operand}
@@ -27,7 +27,7 @@ use Rattle.itanium_grammar.specs.Tree.{pointer_to, cv_of, array_of, member_of, f
 use Rattle.itanium_grammar.specs.Tree.{in_parent, printing, list_printing}
 use Rattle.itanium_grammar.specs.Grammar.{Position, Cost, SpecialAs, Thunk, special_encoding, type_special}
 use Rattle.itanium_grammar.specs.Grammar.{name_special, temporary_special, construction_special, thunk_special, thunk}
-use Rattle.itanium_grammar.specs.Grammar.{special_symbol, Expression, ExpressionAs, OperandOf, LiteralAs}
+use Rattle.itanium_grammar.specs.Grammar.{Expression, ExpressionAs, OperandOf, LiteralAs}
 use Rattle.itanium_grammar.specs.Grammar.{expression_argument, literal_argument, external_name, value_literal}
 use Rattle.itanium_grammar.specs.Grammar.{expression, operand_of, pre_expression, address_expression, unary_expression}
 use Rattle.itanium_grammar.specs.Grammar.{post_expression, binary_expression, greater_expression}
@@ -37,7 +37,7 @@ use Rattle.itanium_grammar.specs.Grammar.{SubstitutionAs, ArgumentNamed, Paramet
 use Rattle.itanium_grammar.specs.Grammar.{Unqualified, FirstAs, Name, NameAs, Local, EntityAs, EncodingAs}
 use Rattle.itanium_grammar.specs.Grammar.{ReturnAs, SignatureAs, UnscopedAs, AttachedAs, Nested, SegmentsAs}
 use Rattle.itanium_grammar.specs.Grammar.{Args, ArgumentsAs, ArgumentAs, TypeOf, TypeAs, CvAs, Function, ParamsAs}
-use Rattle.itanium_grammar.specs.Grammar.{TypesAs, TypeAttachedAs, SymbolAs, abbreviation_substitution}
+use Rattle.itanium_grammar.specs.Grammar.{TypesAs, TypeAttachedAs, abbreviation_substitution}
 use Rattle.itanium_grammar.specs.Grammar.{component_substitution, auto_parameter, scope_parameter}
 use Rattle.itanium_grammar.specs.Grammar.{parameter, no_tag, next_tag, source_free, unnamed_type_free, lambda_free}
 use Rattle.itanium_grammar.specs.Grammar.{conversion_free, literal_operator_free, operator_free, FreeAs}
@@ -53,7 +53,7 @@ use Rattle.itanium_grammar.specs.Grammar.{end_of_pack, one_more_packed, expansio
 use Rattle.itanium_grammar.specs.Grammar.{array_type, function_type, member_type, pointer_type, cv_type}
 use Rattle.itanium_grammar.specs.Grammar.{elaborated_type, parameter_type, substitution_type, name_type, cv_function}
 use Rattle.itanium_grammar.specs.Grammar.{cv_other, function, no_params, some_params, end_of_types, one_more_type}
-use Rattle.itanium_grammar.specs.Grammar.{none_attached_to_type, args_attached_to_type, name_symbol}
+use Rattle.itanium_grammar.specs.Grammar.{none_attached_to_type, args_attached_to_type, name_alone}
 
 -- two readings have the same tree, the same position after them and the same cost
 pub record Same {T : Type 0} (t u : T) (q r : Position) (c d : Cost) : Type 0 where
@@ -86,7 +86,7 @@ same_skipped : {t u : Tree} {q r : Position} {c d : Cost} → Same t u q r c d �
 same_skipped same = record { tree = same.tree; next = ap (skip 1) same.next; cost = same.cost }
 
 -- a counted production around what was read
-same_counted : {t u : Tree} {q r : Position} {c d : Cost} (text : Tree → List ℕ) → Same t u q r c d → Same t u q r (counted (length (text t)) c) (counted (length (text u)) d)
+pub same_counted : {t u : Tree} {q r : Position} {c d : Cost} (text : Tree → List ℕ) → Same t u q r c d → Same t u q r (counted (length (text t)) c) (counted (length (text u)) d)
 same_counted text same = record {
   tree = same.tree;
   next = same.next;
@@ -142,17 +142,18 @@ mutual
       record { tree = ap₂ (default_argument_of t) (sym found.0) same.tree; next = same.next; cost = same.cost }
   one_entity (name_entity {t = t} a) (name_entity b) = same_made (local_in t) (one_name a b)
 
-  pub one_encoding_as : {case : SymbolCase} {x : Context} {p q r : Position} {t u : Tree} {c d : Cost} → EncodingAs case x p t q c → EncodingAs case x p u r d
+  pub one_encoding_as : {case : SymbolCase} {end : EncodingEnd} {x : Context} {p q r : Position} {t u : Tree} {c d : Cost} → EncodingAs case end x p t q c → EncodingAs case end x p u r d
       → Same t u q r c d
   one_encoding_as (special_encoding a) (special_encoding b) = one_special a b
-  one_encoding_as (name_encoding {x = x} a b g) (name_encoding {r = r} {s = s} {u = u} {d = d} {e = e} f h k) =
+  one_encoding_as (name_alone a) (name_alone b) = one_name a b
+  one_encoding_as (name_encoding {end = end} {x = x} a b g) (name_encoding {r = r} {s = s} {u = u} {d = d} {e = e} f h k) =
       let first = one_name a f in
-      let mid = one_return b (along (λ t o. ReturnAs (return_case (shape_of t).templ (shape_of t).ctor o.rest) x o r d) (sym first.tree) (sym first.next) h) in
-      let same = one_signature g (along (λ t o. SignatureAs (signature_case o.rest) x t o u s e) (sym first.tree) (sym mid.0) k) in
+      let mid = one_return b (along (λ t o. ReturnAs (return_case end (shape_of t).templ (shape_of t).ctor o.rest) x o r d) (sym first.tree) (sym first.next) h) in
+      let same = one_signature g (along (λ t o. SignatureAs (signature_case end o.rest) end x t o u s e) (sym first.tree) (sym mid.0) k) in
       record { tree = same.tree; next = same.next; cost = ap₂ both first.cost (ap₂ both mid.1 same.cost) }
 
-  pub one_special : {case : SpecialCase} {x : Context} {p q r : Position} {t u : Tree} {c d : Cost}
-      → SpecialAs case x p t q c → SpecialAs case x p u r d → Same t u q r c d
+  pub one_special : {case : SpecialCase} {end : EncodingEnd} {x : Context} {p q r : Position} {t u : Tree} {c d : Cost}
+      → SpecialAs case end x p t q c → SpecialAs case end x p u r d → Same t u q r c d
   one_special (type_special {p = p} a) (type_special b) = same_made (λ t. worded (special_text p.rest) t (special_close p.rest)) (one_type a b)
   one_special (name_special {p = p} a) (name_special b) = same_made (λ t. worded (special_text p.rest) t (special_close p.rest)) (one_name a b)
   one_special (temporary_special a e) (temporary_special b g) =
@@ -166,23 +167,18 @@ mutual
       record { tree = ap₂ construction_of same.tree first.tree; next = same.next; cost = ap₂ both first.cost same.cost }
   one_special (thunk_special a) (thunk_special b) = one_thunk a b
 
-  pub one_thunk : {x : Context} {p q r : Position} {t u : Tree} {c d : Cost} → Thunk x p t q c → Thunk x p u r d → Same t u q r c d
-  one_thunk (thunk {x = x} {p = p} e a) (thunk {q = r} {t = u} {c = d} g b) =
+  pub one_thunk : {end : EncodingEnd} {x : Context} {p q r : Position} {t u : Tree} {c d : Cost} → Thunk end x p t q c → Thunk end x p u r d → Same t u q r c d
+  one_thunk (thunk {end = end} {x = x} {p = p} e a) (thunk {q = r} {t = u} {c = d} g b) =
       let found = some_pair_parts _ _ _ _ (sym g ∙ e) in
-      let same = one_symbol_as a (subst (λ v. SymbolAs (symbol_case v) x (with_rest v p) u r d) found.1 b) in
+      let same = one_encoding_as a (subst (λ v. EncodingAs (symbol_case (of_thunk end) v) (of_thunk end) x (with_rest v p) u r d) found.1 b) in
       same_counted printing (record { tree = ap₂ thunk_of (sym found.0) same.tree; next = same.next; cost = same.cost })
-
-  pub one_symbol_as : {case : SymbolCase} {x : Context} {p q r : Position} {t u : Tree} {c d : Cost}
-      → SymbolAs case x p t q c → SymbolAs case x p u r d → Same t u q r c d
-  one_symbol_as (special_symbol a) (special_symbol b) = one_special a b
-  one_symbol_as (name_symbol a) (name_symbol b) = one_name a b
 
   one_return : {case : ReturnCase} {x : Context} {p q r : Position} {c d : Cost} → ReturnAs case x p q c → ReturnAs case x p r d → (q ≡ r) × (c ≡ d)
   one_return no_return_type no_return_type = (refl, refl)
   one_return (some_return_type a) (some_return_type b) = let same = one_type a b in (same.next, same.cost)
 
-  one_signature : {case : SignatureCase} {x : Context} {t u v : Tree} {p q r : Position} {c d : Cost}
-      → SignatureAs case x t p u q c → SignatureAs case x t p v r d → Same u v q r c d
+  one_signature : {case : SignatureCase} {end : EncodingEnd} {x : Context} {t u v : Tree} {p q r : Position} {c d : Cost}
+      → SignatureAs case end x t p u q c → SignatureAs case end x t p v r d → Same u v q r c d
   one_signature no_signature no_signature = record { tree = refl; next = refl; cost = refl }
   one_signature (some_signature {t = t} a) (some_signature b) =
       let same = one_params a b in record { tree = ap (λ ts. function_encoding t (trees ts)) same.tree; next = same.next; cost = same.cost }
@@ -390,7 +386,7 @@ mutual
       → Function x quals p t q c → Function x quals p u r d → Same t u q r c d
   one_function (function {x = x} {quals = quals} plain a b there) (function {r = r} {ts = us} {d = d} other f h here) =
       let ret = one_type a f in
-      let params = one_params b (subst (λ o. ParamsAs (params_case o.rest) true x o us r d) (sym ret.next) h) in
+      let params = one_params b (subst (λ o. ParamsAs (params_case AtE o.rest) AtE true x o us r d) (sym ret.next) h) in
       let quals_same = ap (λ o. with_reference quals o.rest) params.next in
       record {
         tree = λ j. function_to (ret.tree j) (trees (params.tree j)) (quals_same j);
@@ -398,17 +394,17 @@ mutual
         cost = ap₂ both ret.cost params.cost;
       }
 
-  one_params : {case : ParamsCase} {of_function : Bool} {x : Context} {p q r : Position} {ts us : List Tree} {c d : Cost}
-      → ParamsAs case of_function x p ts q c → ParamsAs case of_function x p us r d → Same ts us q r c d
+  one_params : {case : ParamsCase} {end : EncodingEnd} {of_function : Bool} {x : Context} {p q r : Position} {ts us : List Tree} {c d : Cost}
+      → ParamsAs case end of_function x p ts q c → ParamsAs case end of_function x p us r d → Same ts us q r c d
   one_params no_params no_params = record { tree = refl; next = refl; cost = refl }
   one_params (some_params a) (some_params b) = one_types a b
 
-  one_types : {case : TypesCase} {of_function : Bool} {x : Context} {p q r : Position} {ts us : List Tree} {c d : Cost}
-      → TypesAs case of_function x p ts q c → TypesAs case of_function x p us r d → Same ts us q r c d
+  one_types : {case : TypesCase} {end : EncodingEnd} {of_function : Bool} {x : Context} {p q r : Position} {ts us : List Tree} {c d : Cost}
+      → TypesAs case end of_function x p ts q c → TypesAs case end of_function x p us r d → Same ts us q r c d
   one_types end_of_types end_of_types = record { tree = refl; next = refl; cost = refl }
-  one_types (one_more_type {of_function = f} {x = x} a b) (one_more_type {r = r} {ts = us} {d = d} e g) =
+  one_types (one_more_type {end = end} {of_function = f} {x = x} a b) (one_more_type {r = r} {ts = us} {d = d} e g) =
       let first = one_type a e in
-      let others = one_types b (subst (λ o. TypesAs (types_case f o.rest) f x o us r d) (sym first.next) g) in
+      let others = one_types b (subst (λ o. TypesAs (types_case end f o.rest) end f x o us r d) (sym first.next) g) in
       record { tree = ap₂ (λ t ts. t ∷ ts) first.tree others.tree; next = others.next; cost = ap₂ both first.cost others.cost }
 
   one_type_attached : {case : AttachedCase} {x : Context} {t u v : Tree} {p q r : Position} {c d : Cost}

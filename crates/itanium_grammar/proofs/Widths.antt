@@ -1,5 +1,5 @@
 -- How long the printing of a symbol can be: not counted itself, it holds two counted productions at most, and few words.
-use Rattle.std.proofs.Common.{◌≡◌, ◌<◌, ◌≤◌, ℕ, ◌+◌, ◌*◌, ◌^◌, Bool, true, false, List, [], ◌∷◌, ◌++◌, length, drop, refl, ap, arith, Option, Some, None, codes, decimal, if◌then◌else◌, nat_lt}
+use Rattle.std.proofs.Common.{◌≡◌, ◌<◌, ◌≤◌, ℕ, ◌+◌, ◌*◌, ◌^◌, Bool, true, false, List, [], ◌∷◌, ◌++◌, length, drop, refl, ap, arith, Option, Some, None, codes, decimal, if◌then◌else◌, nat_lt, ◌||◌}
 use Rattle.std.specs.List.{concat}
 use Rattle.std.proofs.lemmas.Bool.Decides.{nat_tests}
 use Rattle.std.proofs.lemmas.Fmt.{length-decimal-le}
@@ -10,14 +10,14 @@ use Rattle.itanium_syntax.specs.declared.numerals.Radix.{Radix}
 use Rattle.itanium_syntax.specs.Bytes.{begins}
 use Rattle.itanium_syntax.specs.Scalars.{numeral, following, ended, index_of}
 use Rattle.itanium_syntax.specs.Specials.{begins_t_and, special_text, special_close}
-use Rattle.itanium_grammar.specs.Answer.{max_text, after_prefix, suffix, HasAnswer, IsAnswer, HasLength}
+use Rattle.itanium_grammar.specs.Answer.{max_text, longest_printing, after_prefix, suffix, ReadsInside, HasAnswerOf, IsAnswerOf, HasLengthOf}
+use Rattle.itanium_syntax.specs.Names.{symbol_case}
 use Rattle.itanium_grammar.specs.Tree.{Tree, shape_of, printing, worded, temporary_of, construction_of}
-use Rattle.itanium_grammar.specs.Grammar.{Position, Cost, Name, TypeOf, Thunk, SpecialAs, SymbolAs, name, type}
+use Rattle.itanium_grammar.specs.Grammar.{Position, Cost, Name, TypeOf, Thunk, SpecialAs, EncodingAs, Signature, signature, special_encoding, name_encoding, name, type}
 use Rattle.itanium_grammar.specs.Grammar.{thunk, type_special, name_special, temporary_special, construction_special}
-use Rattle.itanium_grammar.specs.Grammar.{thunk_special, special_symbol, name_symbol}
-use Rattle.itanium_grammar.specs.Cases.{SpecialCase, SymbolCase}
-use Rattle.itanium_grammar.proofs.Progress.{symbol_as_takes}
-use Rattle.itanium_grammar.proofs.Agreement.{one_reading}
+use Rattle.itanium_grammar.specs.Grammar.{thunk_special, name_alone}
+use Rattle.itanium_grammar.specs.Cases.{EncodingEnd, AfterName, SpecialCase, SymbolCase, SpecialSymbol, NameSymbol, FullSymbol}
+use Rattle.itanium_grammar.proofs.Agreement.{one_reading, inside_takes}
 
 -- what special names print
 worded_prints : (word : List ℕ) (t : Tree) (close : List ℕ) → printing (worded word t close) ≡ concat (word ∷ printing t ∷ close ∷ [])
@@ -39,7 +39,7 @@ type_narrow (type a) = omega arith
 name_narrow : {x : Context} {p q : Position} {t : Tree} {c : Cost} → Name false x p t q c → length (printing t) ≤ c.width
 name_narrow (name a) = omega arith
 
-thunk_narrow : {x : Context} {p q : Position} {t : Tree} {c : Cost} → Thunk x p t q c → length (printing t) ≤ c.width
+thunk_narrow : {end : EncodingEnd} {x : Context} {p q : Position} {t : Tree} {c : Cost} → Thunk end x p t q c → length (printing t) ≤ c.width
 thunk_narrow (thunk found a) = omega arith
 
 -- the words around it
@@ -108,7 +108,7 @@ enough = omega arith
 worded_len : (bytes : List ℕ) (t : Tree) → length (printing t) ≤ max_text → length (concat (special_text bytes ∷ printing t ∷ special_close bytes ∷ [])) ≤ 2 * max_text + 28
 worded_len bytes t narrow = omega (arith, three_len (special_text bytes) (printing t) (special_close bytes), words_len bytes, close_len bytes)
 
-special_wide : {case : SpecialCase} {x : Context} {p q : Position} {t : Tree} {c : Cost} → SpecialAs case x p t q c → c.width ≤ max_text → length (printing t) ≤ 2 * max_text + 28
+special_wide : {case : SpecialCase} {end : EncodingEnd} {x : Context} {p q : Position} {t : Tree} {c : Cost} → SpecialAs case end x p t q c → c.width ≤ max_text → length (printing t) ≤ 2 * max_text + 28
 special_wide (type_special {p = p} {t = t} a) narrow =
     rw (worded_prints (special_text p.rest) t (special_close p.rest)) (worded_len p.rest t (omega (arith, type_narrow a)))
 special_wide (name_special {p = p} {t = t} a) narrow =
@@ -123,15 +123,28 @@ special_wide (construction_special {t = t} {u = u} a found b) narrow =
     (omega (arith, four_len (codes "construction vtable for ") (printing u) (codes "-in-") (printing t), type_narrow a, type_narrow b))
 special_wide (thunk_special a) narrow = omega (arith, thunk_narrow a)
 
-symbol_as_wide : {case : SymbolCase} {x : Context} {p q : Position} {t : Tree} {c : Cost} → SymbolAs case x p t q c → c.width ≤ max_text → length (printing t) ≤ 2 * max_text + 28
-symbol_as_wide (special_symbol a) narrow = special_wide a narrow
-symbol_as_wide (name_symbol a) narrow = omega (arith, name_narrow a)
+symbol_as_wide : {case : SymbolCase} {x : Context} {p q : Position} {t : Tree} {c : Cost} → symbol_case AfterName p.rest ≡ case → EncodingAs case AfterName x p t q c → c.width ≤ max_text → length (printing t) ≤ 2 * max_text + 28
+symbol_as_wide is (special_encoding a) narrow = special_wide a narrow
+symbol_as_wide is (name_alone a) narrow = omega (arith, name_narrow a)
+symbol_as_wide {p = p} is (name_encoding a b d) narrow = absurd (go (begins (codes "T") p.rest || begins (codes "G") p.rest) is)
+  where
+    go : (special : Bool) → (if special then SpecialSymbol else NameSymbol) ≡ FullSymbol → ⊥
+    go true e = cc
+    go false e = cc
+
+signature_narrow : {x : Context} {p q : Position} {t : Tree} {c : Cost} → Signature x p t q c → length (printing t) ≤ c.width
+signature_narrow (signature a end) = omega arith
+
+inside_wide : (full : Bool) (inside : List ℕ) (t : Tree) (q : Position) (c : Cost) → ReadsInside full inside t q c → c.width ≤ max_text → length (printing t) ≤ longest_printing full
+unfolding max_text
+inside_wide true inside t q c a narrow = omega (arith, signature_narrow a)
+inside_wide false inside t q c a narrow = omega (arith, symbol_as_wide refl a narrow)
 
 -- a symbol's printing
 -- an answer is no longer than the longest printing and its suffix
-pub answer_wide : (bytes answer : List ℕ) (has : HasAnswer bytes answer) → length answer ≤ 2 * max_text + 28 + length (suffix has.next.rest)
-answer_wide bytes answer has =
-    let wide = symbol_as_wide has.reading.reading has.within.width_fits in
+pub answer_wide : (full : Bool) (bytes answer : List ℕ) (has : HasAnswerOf full bytes answer) → length answer ≤ longest_printing full + length (suffix has.next.rest)
+answer_wide full bytes answer has =
+    let wide = inside_wide full has.reading.inside has.tree has.next has.cost has.reading.reading has.within.width_fits in
     omega (arith, ap length has.answer_is, length-append (printing has.tree) (suffix has.next.rest), wide)
 
 -- what is after the prefix, and the suffix in it, is no longer than the symbol
@@ -150,16 +163,15 @@ suffix_short rest = go (begins (codes ".") rest)
     go true = omega arith
     go false = omega arith
 
-pub answer_short : (bytes answer : List ℕ) → HasAnswer bytes answer → length answer ≤ 2 * max_text + 28 + length bytes
-answer_short bytes answer has =
-    let takes = (symbol_as_takes has.reading.reading).shorter in
-    omega (arith, answer_wide bytes answer has, suffix_short has.next.rest, takes, inside_short bytes has.reading.inside has.reading.prefix)
+pub answer_short : (full : Bool) (bytes answer : List ℕ) → HasAnswerOf full bytes answer → length answer ≤ longest_printing full + length bytes
+answer_short full bytes answer has =
+    let takes = (inside_takes full has.reading.inside has.tree has.next has.cost has.reading.reading).shorter in
+    omega (arith, answer_wide full bytes answer has, suffix_short has.next.rest, takes, inside_short bytes has.reading.inside has.reading.prefix)
 
 -- so long is an answer at most
-pub answer_length : (bytes : List ℕ) (answer : Option (List ℕ)) → IsAnswer bytes answer → HasLength bytes answer
-unfolding max_text
-answer_length bytes None none = tt
-answer_length bytes (Some answer) has = λ tree next cost reading within.
-    let same = (one_reading bytes).agree has.tree tree has.next next has.cost cost has.reading reading has.within within in
+pub answer_length : (full : Bool) (bytes : List ℕ) (answer : Option (List ℕ)) → IsAnswerOf full bytes answer → HasLengthOf full bytes answer
+answer_length full bytes None none = tt
+answer_length full bytes (Some answer) has = λ tree next cost reading within.
+    let same = (one_reading full bytes).agree has.tree tree has.next next has.cost cost has.reading reading has.within within in
     let left : suffix has.next.rest ≡ suffix next.rest = ap (λ (q : Position). suffix q.rest) same.1 in
-    omega (arith, answer_wide bytes answer has, ap length left)
+    omega (arith, answer_wide full bytes answer has, ap length left)

@@ -1,11 +1,12 @@
 -- What a symbol's answer is.
-use Rattle.std.specs.Prelude.{◌≡◌, ◌≤◌, ℕ, ◌+◌, ◌*◌, ◌++◌, List, [], map, length, Option, Some, None, drop, codes, false, if◌then◌else◌}
+use Rattle.std.specs.Prelude.{◌≡◌, ◌≤◌, ℕ, ◌+◌, ◌*◌, ◌++◌, List, [], map, length, Option, Some, None, is_some, drop, codes, Bool, true, false, if◌then◌else◌}
 use Rattle.std.specs.Str.{IsUtf8}
 use Rattle.demangle_text.specs.Shape.{Shape}
 use Rattle.itanium_syntax.specs.declared.context.Context.{Context}
 use Rattle.itanium_grammar.specs.Tree.{Tree, shape_of, printing}
 use Rattle.itanium_syntax.specs.Bytes.{begins}
-use Rattle.itanium_grammar.specs.Grammar.{Position, Cost, Symbol}
+use Rattle.itanium_syntax.specs.Context.{inside_local}
+use Rattle.itanium_grammar.specs.Grammar.{Position, Cost, Symbol, Signature}
 
 -- most counted productions that may nest
 abbrev pub max_depth : ℕ
@@ -42,75 +43,132 @@ start bytes = record { rest = bytes; saved = []; scopes = [] }
 abbrev pub suffix : List ℕ → List ℕ
 suffix rest = if begins (codes ".") rest then rest else []
 
+-- the grammar reads what follows the prefix: as a signature, where the words of qualifiers are shown, or else as a name
+abbrev pub ReadsInside : Bool → List ℕ → Tree → Position → Cost → Type 0
+ReadsInside true inside = Signature (inside_local initial) (start inside)
+ReadsInside false inside = Symbol initial (start inside)
+
+-- The definitions that follow are of a symbol's signature where their truth value is true, and else of its name. Each
+-- stands again without it, as what it is of the name.
+
 -- the grammar reads the symbol as the tree, with this position after it and at this cost
-pub record IsReading (symbol : List ℕ) (tree : Tree) (next : Position) (cost : Cost) : Type 0 where
+pub record IsReadingOf (signature : Bool) (symbol : List ℕ) (tree : Tree) (next : Position) (cost : Cost)
+    : Type 0 where
   pub inside : List ℕ
   pub prefix : after_prefix symbol ≡ Some inside
-  pub reading : Symbol initial (start inside) tree next cost
+  pub reading : ReadsInside signature inside tree next cost
+
+abbrev pub IsReading : List ℕ → Tree → Position → Cost → Type 0
+IsReading symbol tree next cost = IsReadingOf false symbol tree next cost
 
 -- a reading within the limits: its printing is UTF-8, and the answer is the printing with the suffix
-pub record HasAnswer (symbol answer : List ℕ) : Type 0 where
+pub record HasAnswerOf (signature : Bool) (symbol answer : List ℕ) : Type 0 where
   pub tree : Tree
   pub next : Position
   pub cost : Cost
-  pub reading : IsReading symbol tree next cost
+  pub reading : IsReadingOf signature symbol tree next cost
   pub within : IsWithin cost
   pub utf8 : IsUtf8 (printing tree)
   pub answer_is : answer ≡ printing tree ++ suffix next.rest
 
+abbrev pub HasAnswer : List ℕ → List ℕ → Type 0
+HasAnswer symbol answer = HasAnswerOf false symbol answer
+
 -- a fact of every reading of the symbol within the limits
-abbrev pub OfEachReading : List ℕ → (Tree → Position → Cost → Type 0) → Type 0
-OfEachReading symbol Fact =
+abbrev pub OfEachReadingOf : Bool → List ℕ → (Tree → Position → Cost → Type 0) → Type 0
+OfEachReadingOf signature symbol Fact =
     (tree : Tree) (next : Position) (cost : Cost)
-    → IsReading symbol tree next cost
+    → IsReadingOf signature symbol tree next cost
     → IsWithin cost
     → Fact tree next cost
 
+abbrev pub OfEachReading : List ℕ → (Tree → Position → Cost → Type 0) → Type 0
+OfEachReading symbol Fact = OfEachReadingOf false symbol Fact
+
 -- no reading within the limits has a printing in UTF-8
+abbrev pub HasNoAnswerOf : Bool → List ℕ → Type 0
+HasNoAnswerOf signature symbol = OfEachReadingOf signature symbol (λ tree next cost. IsUtf8 (printing tree) → ⊥)
+
 abbrev pub HasNoAnswer : List ℕ → Type 0
-HasNoAnswer symbol = OfEachReading symbol (λ tree next cost. IsUtf8 (printing tree) → ⊥)
+HasNoAnswer symbol = HasNoAnswerOf false symbol
 
 -- the answer of a symbol
+abbrev pub IsAnswerOf : Bool → List ℕ → Option (List ℕ) → Type 0
+IsAnswerOf signature symbol (Some answer) = HasAnswerOf signature symbol answer
+IsAnswerOf signature symbol None = HasNoAnswerOf signature symbol
+
 abbrev pub IsAnswer : List ℕ → Option (List ℕ) → Type 0
-IsAnswer symbol (Some answer) = HasAnswer symbol answer
-IsAnswer symbol None = HasNoAnswer symbol
+IsAnswer symbol answer = IsAnswerOf false symbol answer
+
+-- the signature of a symbol
+abbrev pub IsSignature : List ℕ → Option (List ℕ) → Type 0
+IsSignature symbol answer = IsAnswerOf true symbol answer
+
+-- what is answered where a signature is asked for: the signature where the symbol has one, else the answer of its name.
+-- The truth value says which of the two it is
+abbrev pub IsSignatureOrName : Bool → List ℕ → Option (List ℕ) → Type 0
+IsSignatureOrName true symbol answer = IsSignature symbol answer × (is_some answer ≡ true)
+IsSignatureOrName false symbol answer = IsSignature symbol None × IsAnswer symbol answer
 
 -- any two readings of the symbol within the limits have the same tree, the same rest, saved trees and scopes after it,
 -- and the same count, depth, peak and width
-pub record HasOneReading (symbol : List ℕ) : Type 0 where
+pub record HasOneReadingOf (signature : Bool) (symbol : List ℕ) : Type 0 where
   pub agree :
       (t u : Tree) (q r : Position) (c d : Cost)
-      → IsReading symbol t q c
-      → IsReading symbol u r d
+      → IsReadingOf signature symbol t q c
+      → IsReadingOf signature symbol u r d
       → IsWithin c
       → IsWithin d
       → (t ≡ u) × (q ≡ r) × (c ≡ d)
 
+abbrev pub HasOneReading : List ℕ → Type 0
+HasOneReading symbol = HasOneReadingOf false symbol
+
 -- the counts are those of every reading within the limits
+abbrev pub HasCountsOf : Bool → List ℕ → ℕ → ℕ → Type 0
+HasCountsOf signature symbol entered most_saved =
+    OfEachReadingOf signature symbol (λ tree next cost. (entered ≡ cost.count) × (most_saved ≡ cost.peak))
+
 abbrev pub HasCounts : List ℕ → ℕ → ℕ → Type 0
-HasCounts symbol entered most_saved =
-    OfEachReading symbol (λ tree next cost. (entered ≡ cost.count) × (most_saved ≡ cost.peak))
+HasCounts symbol entered most_saved = HasCountsOf false symbol entered most_saved
 
 -- where there is an answer, the list has f of each tree that every reading within the limits leaves saved; elsewhere it
 -- is empty
-abbrev pub HasEach : {A : Type 0} → (Tree → A) → List ℕ → Option (List ℕ) → List A → Type 0
-HasEach f symbol (Some answer) kept = OfEachReading symbol (λ tree next cost. kept ≡ map f next.saved)
-HasEach f symbol None kept = kept ≡ []
+abbrev pub HasEach : {A : Type 0} → (Tree → A) → Bool → List ℕ → Option (List ℕ) → List A → Type 0
+HasEach f signature symbol (Some answer) kept =
+    OfEachReadingOf signature symbol (λ tree next cost. kept ≡ map f next.saved)
+HasEach f signature symbol None kept = kept ≡ []
 
 -- where there is an answer, the printings of the trees that are left saved; else none
+abbrev pub HasComponentsOf : Bool → List ℕ → Option (List ℕ) → List (List ℕ) → Type 0
+HasComponentsOf signature symbol answer components = HasEach printing signature symbol answer components
+
 abbrev pub HasComponents : List ℕ → Option (List ℕ) → List (List ℕ) → Type 0
-HasComponents symbol answer components = HasEach printing symbol answer components
+HasComponents symbol answer components = HasComponentsOf false symbol answer components
 
 -- where there is an answer, the shapes of the trees that are left saved; else none
-abbrev pub HasSaved : List ℕ → Option (List ℕ) → List Shape → Type 0
-HasSaved symbol answer shapes = HasEach shape_of symbol answer shapes
+abbrev pub HasSavedOf : Bool → List ℕ → Option (List ℕ) → List Shape → Type 0
+HasSavedOf signature symbol answer shapes = HasEach shape_of signature symbol answer shapes
 
--- where there is an answer, it is at most so long that two types of the longest text fit in it, with the 28 bytes of
--- the words around them, and the suffix of every reading within the limits
+abbrev pub HasSaved : List ℕ → Option (List ℕ) → List Shape → Type 0
+HasSaved symbol answer shapes = HasSavedOf false symbol answer shapes
+
+-- so many bytes has a printing at most: a signature's those of the longest text, a name's those of two types of the
+-- longest text and 28 of the words around them
+abbrev pub longest_printing : Bool → ℕ
+longest_printing true = 1048576
+longest_printing false = 2097180
+
+-- where there is an answer, it is at most as long as the longest printing, and the suffix of every reading within the
+-- limits
+abbrev pub HasLengthOf : Bool → List ℕ → Option (List ℕ) → Type 0
+HasLengthOf signature symbol (Some answer) =
+    OfEachReadingOf signature symbol
+    (λ tree next cost. length answer ≤ longest_printing signature + length (suffix next.rest))
+HasLengthOf signature symbol None = Unit {0}
+
 abbrev pub HasLength : List ℕ → Option (List ℕ) → Type 0
-HasLength symbol (Some answer) =
-    OfEachReading symbol (λ tree next cost. length answer ≤ 2097180 + length (suffix next.rest))
-HasLength symbol None = Unit {0}
+HasLength symbol answer = HasLengthOf false symbol answer
 
 -- at most two counted productions are entered for each byte of the symbol, and at no moment are more components saved
 -- than it has bytes

@@ -1,6 +1,6 @@
 -- The cases of each production, as the code has them.
 pub use Rattle.itanium_syntax.specs.declared.names.SymbolCase.{SymbolCase}
-pub use Rattle.itanium_syntax.specs.declared.names.SymbolCase.TheVariants.{SpecialSymbol, NameSymbol}
+pub use Rattle.itanium_syntax.specs.declared.names.SymbolCase.TheVariants.{SpecialSymbol, NameSymbol, FullSymbol}
 pub use Rattle.itanium_syntax.specs.declared.names.NameCase.{NameCase}
 pub use Rattle.itanium_syntax.specs.declared.names.NameCase.TheVariants.{NestedName, LocalName, UnscopedName}
 pub use Rattle.itanium_syntax.specs.declared.names.UnscopedCase.{UnscopedCase}
@@ -15,6 +15,8 @@ pub use Rattle.itanium_syntax.specs.declared.names.FreeCase.{FreeCase}
 pub use Rattle.itanium_syntax.specs.declared.names.FreeCase.TheVariants.{SourceName, UnnamedTypeName, LambdaName, ConversionName, LiteralOperatorName, OperatorName, NoName}
 pub use Rattle.itanium_syntax.specs.declared.names.TagCase.{TagCase}
 pub use Rattle.itanium_syntax.specs.declared.names.TagCase.TheVariants.{NoTag, NextTag}
+pub use Rattle.itanium_syntax.specs.declared.encodings.EncodingEnd.{EncodingEnd}
+pub use Rattle.itanium_syntax.specs.declared.encodings.EncodingEnd.TheVariants.{AfterName, AtE, AtSymbolEnd}
 pub use Rattle.itanium_syntax.specs.declared.encodings.ReturnCase.{ReturnCase}
 pub use Rattle.itanium_syntax.specs.declared.encodings.ReturnCase.TheVariants.{NoReturnType, SomeReturnType}
 pub use Rattle.itanium_syntax.specs.declared.encodings.SignatureCase.{SignatureCase}

@@ -3,8 +3,8 @@
 -- x is a context. p, q, r and s are positions, one after another. t, u, v and parent are trees, ts is a list of trees,
 -- o, m and n are operands. c, d and e are costs. i, k and number are numbers. bytes, rest, value and text are bytes.
 --
--- The indices of a reading stand in this order: the case that the next bytes begin, where the family is named ..As;
--- truth values; the context; what stands in front; the position before; the tree; the position after; the cost.
+-- The indices of a reading stand in this order: the case that the next bytes begin, where the family is named ..As; how
+-- an encoding or a list of types ends; truth values; the context; what stands in front; the position before; the tree; the position after; the cost.
 use Rattle.std.specs.Prelude.{◌≡◌, ℕ, ◌+◌, ◌-◌, max, Bool, true, false, if◌then◌else◌, slice_get}
 use Rattle.std.specs.Prelude.{slice_index_or, List, [], ◌∷◌, ◌++◌, Option, Some, None, is_some, take, drop, length}
 use Rattle.std.specs.Prelude.{codes, option_map}
@@ -17,8 +17,8 @@ use Rattle.demangle_edit.specs.Expressions.{has_literal}
 use Rattle.itanium_syntax.specs.declared.abbreviations.Abbreviation.{Abbreviation}
 use Rattle.itanium_syntax.specs.declared.context.Context.{Context}
 use Rattle.itanium_syntax.specs.declared.numerals.Radix.TheVariants.{Decimal, Base36}
-use Rattle.itanium_grammar.specs.Cases.{SymbolCase, SpecialSymbol, NameSymbol, SpecialCase, TypeSpecial, NameSpecial}
-use Rattle.itanium_grammar.specs.Cases.{TemporarySpecial, ConstructionSpecial, ThunkSpecial, NameCase, NestedName}
+use Rattle.itanium_grammar.specs.Cases.{EncodingEnd, AfterName, AtE, AtSymbolEnd, SymbolCase, SpecialSymbol, NameSymbol}
+use Rattle.itanium_grammar.specs.Cases.{FullSymbol, SpecialCase, TypeSpecial, NameSpecial, TemporarySpecial, ConstructionSpecial, ThunkSpecial, NameCase, NestedName}
 use Rattle.itanium_grammar.specs.Cases.{LocalName, UnscopedName, ReturnCase, NoReturnType, SomeReturnType}
 use Rattle.itanium_grammar.specs.Cases.{SignatureCase, NoSignature, SomeSignature, EntityCase, StringLiteralEntity}
 use Rattle.itanium_grammar.specs.Cases.{DefaultArgumentEntity, NameEntity, UnscopedCase, StdName, SubstitutionName}
@@ -39,7 +39,8 @@ use Rattle.itanium_grammar.specs.Cases.{ParamsCase, NoParams, SomeParams, TypesC
 use Rattle.itanium_syntax.specs.Scalars.{source_name, index_of, ordinal, optional_number}
 use Rattle.itanium_syntax.specs.Operators.{operator_here}
 use Rattle.itanium_syntax.specs.Abbreviations.{abbreviation_of}
-use Rattle.itanium_syntax.specs.Context.{opens_scope, inside_type, inside_pack, inside_lambda, inside_local, inside_encoding}
+use Rattle.itanium_syntax.specs.Context.{opens_scope, inside_type, inside_pack, inside_lambda, inside_local}
+use Rattle.itanium_syntax.specs.Context.{inside_encoding, inside_params}
 use Rattle.itanium_syntax.specs.Names.{symbol_case, name_case, unscoped_case, first_case, segment_case}
 use Rattle.itanium_syntax.specs.Names.{unqualified_case, free_case, tag_case, past_internal, past_initializer_letter}
 use Rattle.itanium_syntax.specs.Names.{source_text, name_quals, past_name_quals, saves_first, substitution_case}
@@ -48,7 +49,7 @@ use Rattle.itanium_syntax.specs.Expressions.{is_external, literal_case, literal_
 use Rattle.itanium_syntax.specs.declared.offsets.ThunkOffsets.{ThunkOffsets}
 use Rattle.itanium_syntax.specs.Offsets.{thunk_offsets, past_base_offset}
 use Rattle.itanium_syntax.specs.Specials.{special_case, special_text, special_close}
-use Rattle.itanium_syntax.specs.Encodings.{return_case, signature_case, entity_case}
+use Rattle.itanium_syntax.specs.Encodings.{is_here, of_thunk, return_case, signature_case, entity_case}
 use Rattle.itanium_syntax.specs.Args.{attached_case, args_case, argument_case}
 use Rattle.itanium_syntax.specs.Types.{type_case, builtin_text, past_builtin, cv_quals, past_cv, with_reference, past_reference, cv_case, function_case, params_case, types_case, elaborated_text}
 use Rattle.itanium_grammar.specs.Tree.{Tree, worded, temporary_of, construction_of, thunk_of, Operand, operand}
@@ -210,7 +211,7 @@ mutual
   pub data Local : Bool → Context → Position → Tree → Position → Cost → Type 0 where
     local :
         {waits : Bool} {x : Context} {p q r : Position} {t u : Tree} {c d : Cost}
-        → EncodingAs (symbol_case p.rest) (inside_encoding x) p t q c
+        → EncodingAs (symbol_case AtE p.rest) AtE (inside_encoding x) p t q c
         → EntityAs (entity_case q.rest) waits (inside_local x) t q u r d
         → Local waits x p u r (both c d)
 
@@ -232,72 +233,66 @@ mutual
         → Name waits x (skip 1 p) u q c
         → EntityAs NameEntity waits x t p (local_in t u) q c
 
-  -- <encoding> ::= <special-name> | <name> [<return type>] [<parameter types>], by what it begins with
-  pub data EncodingAs : SymbolCase → Context → Position → Tree → Position → Cost → Type 0 where
+  -- <encoding> ::= <special-name> | <name> [<return type>] [<parameter types>], by how it ends and what it begins with
+  pub data EncodingAs : SymbolCase → EncodingEnd → Context → Position → Tree → Position → Cost → Type 0 where
     -- <special-name>
     special_encoding :
-        {x : Context} {p q : Position} {t : Tree} {c : Cost}
-        → SpecialAs (special_case p.rest) x p t q c
-        → EncodingAs SpecialSymbol x p t q c
+        {end : EncodingEnd} {x : Context} {p q : Position} {t : Tree} {c : Cost}
+        → SpecialAs (special_case p.rest) end x p t q c
+        → EncodingAs SpecialSymbol end x p t q c
+    -- a <name> that is all of it
+    name_alone :
+        {end : EncodingEnd} {x : Context} {p q : Position} {t : Tree} {c : Cost}
+        → Name false x p t q c
+        → EncodingAs NameSymbol end x p t q c
     -- a <name>, whose own qualifiers wait, then its return type and its parameters
     name_encoding :
-        {x : Context} {p q r s : Position} {t u : Tree} {c d e : Cost}
+        {end : EncodingEnd} {x : Context} {p q r s : Position} {t u : Tree} {c d e : Cost}
         → Name true x p t q c
-        → ReturnAs (return_case (shape_of t).templ (shape_of t).ctor q.rest) x q r d
-        → SignatureAs (signature_case r.rest) x t r u s e
-        → EncodingAs NameSymbol x p u s (both c (both d e))
+        → ReturnAs (return_case end (shape_of t).templ (shape_of t).ctor q.rest) x q r d
+        → SignatureAs (signature_case end r.rest) end x t r u s e
+        → EncodingAs FullSymbol end x p u s (both c (both d e))
 
   -- <special-name>, by what it begins with
-  pub data SpecialAs : SpecialCase → Context → Position → Tree → Position → Cost → Type 0 where
+  pub data SpecialAs : SpecialCase → EncodingEnd → Context → Position → Tree → Position → Cost → Type 0 where
     -- TV <type> | TT <type> | TI <type> | TS <type> | TF <type>
     type_special :
-        {x : Context} {p q : Position} {t : Tree} {c : Cost}
+        {end : EncodingEnd} {x : Context} {p q : Position} {t : Tree} {c : Cost}
         → TypeOf x (skip 2 p) t q c
-        → SpecialAs TypeSpecial x p (worded (special_text p.rest) t (special_close p.rest)) q c
+        → SpecialAs TypeSpecial end x p (worded (special_text p.rest) t (special_close p.rest)) q c
     -- TH <name> | TW <name> | GV <name>
     name_special :
-        {x : Context} {p q : Position} {t : Tree} {c : Cost}
+        {end : EncodingEnd} {x : Context} {p q : Position} {t : Tree} {c : Cost}
         → Name false x (skip 2 p) t q c
-        → SpecialAs NameSpecial x p (worded (special_text p.rest) t (special_close p.rest)) q c
+        → SpecialAs NameSpecial end x p (worded (special_text p.rest) t (special_close p.rest)) q c
     -- GR <name> [<seq-id>] _
     temporary_special :
-        {x : Context} {p q : Position} {t : Tree} {c : Cost} {number : ℕ} {rest : List ℕ}
+        {end : EncodingEnd} {x : Context} {p q : Position} {t : Tree} {c : Cost} {number : ℕ} {rest : List ℕ}
         → Name false x (skip 2 p) t q c
         → index_of Base36 q.rest ≡ Some (number, rest)
-        → SpecialAs TemporarySpecial x p (temporary_of number t) (with_rest rest q) c
+        → SpecialAs TemporarySpecial end x p (temporary_of number t) (with_rest rest q) c
     -- TC <type> <offset number> _ <base type>: the vtable of the base in the type; the number isn't printed
     construction_special :
-        {x : Context} {p q r : Position} {t u : Tree} {c d : Cost} {rest : List ℕ}
+        {end : EncodingEnd} {x : Context} {p q r : Position} {t u : Tree} {c d : Cost} {rest : List ℕ}
         → TypeOf x (skip 2 p) t q c
         → past_base_offset q.rest ≡ Some rest
         → TypeOf x (with_rest rest q) u r d
-        → SpecialAs ConstructionSpecial x p (construction_of u t) r (both c d)
+        → SpecialAs ConstructionSpecial end x p (construction_of u t) r (both c d)
     -- a thunk
     thunk_special :
-        {x : Context} {p q : Position} {t : Tree} {c : Cost}
-        → Thunk x p t q c
-        → SpecialAs ThunkSpecial x p t q c
+        {end : EncodingEnd} {x : Context} {p q : Position} {t : Tree} {c : Cost}
+        → Thunk end x p t q c
+        → SpecialAs ThunkSpecial end x p t q c
 
-  -- T <call-offset> <encoding> | T c <call-offset> <call-offset> <encoding>: counted, its encoding without parameters
-  pub data Thunk : Context → Position → Tree → Position → Cost → Type 0 where
+  -- T <call-offset> <encoding> | T c <call-offset> <call-offset> <encoding>: counted, its encoding without parameters but
+  -- in a signature
+  pub data Thunk : EncodingEnd → Context → Position → Tree → Position → Cost → Type 0 where
     thunk :
-        {x : Context} {p q : Position} {t : Tree} {c : Cost} {offsets : ThunkOffsets} {rest : List ℕ}
+        {end : EncodingEnd} {x : Context} {p q : Position} {t : Tree} {c : Cost} {offsets : ThunkOffsets}
+        {rest : List ℕ}
         → thunk_offsets (drop 1 p.rest) ≡ Some (offsets, rest)
-        → SymbolAs (symbol_case rest) x (with_rest rest p) t q c
-        → Thunk x p (thunk_of offsets t) q (counted (length (printing (thunk_of offsets t))) c)
-
-  -- what follows the prefix of a symbol, or the offsets of a thunk: a special name, or a name without its parameters
-  pub data SymbolAs : SymbolCase → Context → Position → Tree → Position → Cost → Type 0 where
-    -- <special-name>
-    special_symbol :
-        {x : Context} {p q : Position} {t : Tree} {c : Cost}
-        → SpecialAs (special_case p.rest) x p t q c
-        → SymbolAs SpecialSymbol x p t q c
-    -- <name>
-    name_symbol :
-        {x : Context} {p q : Position} {t : Tree} {c : Cost}
-        → Name false x p t q c
-        → SymbolAs NameSymbol x p t q c
+        → EncodingAs (symbol_case (of_thunk end) rest) (of_thunk end) x (with_rest rest p) t q c
+        → Thunk end x p (thunk_of offsets t) q (counted (length (printing (thunk_of offsets t))) c)
 
   -- the return type of an encoding, or none: it isn't printed, and what it saved and the scopes that it left stay
   pub data ReturnAs : ReturnCase → Context → Position → Position → Cost → Type 0 where
@@ -312,16 +307,17 @@ mutual
         → ReturnAs SomeReturnType x p q c
 
   -- the parameters of an encoding, or none
-  pub data SignatureAs : SignatureCase → Context → Tree → Position → Tree → Position → Cost → Type 0 where
-    -- the E after the name or its return type
+  pub data SignatureAs : SignatureCase → EncodingEnd → Context → Tree → Position → Tree → Position → Cost
+      → Type 0 where
+    -- the end of the encoding after the name or its return type
     no_signature :
-        {x : Context} {p : Position} {t : Tree}
-        → SignatureAs NoSignature x t p (encoding_of t) p nothing
+        {end : EncodingEnd} {x : Context} {p : Position} {t : Tree}
+        → SignatureAs NoSignature end x t p (encoding_of t) p nothing
     -- <parameter types>
     some_signature :
-        {x : Context} {p q : Position} {t : Tree} {ts : List Tree} {c : Cost}
-        → ParamsAs (params_case p.rest) false x p ts q c
-        → SignatureAs SomeSignature x t p (function_encoding t (trees ts)) q c
+        {end : EncodingEnd} {x : Context} {p q : Position} {t : Tree} {ts : List Tree} {c : Cost}
+        → ParamsAs (params_case end p.rest) end false (inside_params end x) p ts q c
+        → SignatureAs SomeSignature end x t p (function_encoding t (trees ts)) q c
 
   -- <unscoped-name> [<template-args>], or a <substitution> with <template-args>
   pub data UnscopedAs : UnscopedCase → Context → Position → Tree → Position → Cost → Type 0 where
@@ -372,7 +368,7 @@ mutual
     -- <closure-type-name> ::= Ul <lambda-sig> E [<nonnegative number>] _
     lambda_free :
         {x : Context} {p q : Position} {ts : List Tree} {c : Cost} {k : ℕ} {rest : List ℕ}
-        → ParamsAs (params_case (drop 2 p.rest)) false (inside_lambda x) (skip 2 p) ts q c
+        → ParamsAs (params_case AtE (drop 2 p.rest)) AtE false (inside_lambda x) (skip 2 p) ts q c
         → ordinal (drop 1 q.rest) ≡ Some (k, rest)
         → FreeAs LambdaName x p (lambda_of (trees ts) k) (with_rest rest q) c
     -- <operator-name> ::= cv <type>
@@ -543,7 +539,7 @@ mutual
     -- L _Z <encoding> E: an external name
     external_name :
         {x : Context} {p q : Position} {t : Tree} {c : Cost}
-        → EncodingAs (symbol_case (drop 3 p.rest)) (inside_encoding x) (skip 3 p) t q c
+        → EncodingAs (symbol_case AtE (drop 3 p.rest)) AtE (inside_encoding x) (skip 3 p) t q c
         → begins (codes "E") q.rest ≡ true
         → LiteralAs ExternalName x p t (skip 1 q) c
     -- L <type> <value> E, where the type as it is printed has such a value
@@ -717,35 +713,38 @@ mutual
         {x : Context} {p q r : Position} {t : Tree} {ts : List Tree} {c d : Cost} {quals : Quals}
         → function_case p.rest ≡ PlainFunction
         → TypeOf x (skip 1 p) t q c
-        → ParamsAs (params_case q.rest) true x q ts r d
+        → ParamsAs (params_case AtE q.rest) AtE true x q ts r d
         → is_plain (shape_of t).form ≡ true
         → Function x quals p (function_to t (trees ts) (with_reference quals r.rest))
         (skip 1 (with_rest (past_reference r.rest) r)) (both c d)
 
   -- the parameters of a <function-type>, or else of a lambda or an encoding: none, or types
-  pub data ParamsAs : ParamsCase → Bool → Context → Position → List Tree → Position → Cost → Type 0 where
-    -- v, right before the E
+  pub data ParamsAs : ParamsCase → EncodingEnd → Bool → Context → Position → List Tree → Position → Cost
+      → Type 0 where
+    -- v, right before the end
     no_params :
-        {of_function : Bool} {x : Context} {p : Position}
-        → ParamsAs NoParams of_function x p [] (skip 1 p) nothing
+        {end : EncodingEnd} {of_function : Bool} {x : Context} {p : Position}
+        → ParamsAs NoParams end of_function x p [] (skip 1 p) nothing
     -- <type>*
     some_params :
-        {of_function : Bool} {x : Context} {p q : Position} {ts : List Tree} {c : Cost}
-        → TypesAs (types_case of_function p.rest) of_function x p ts q c
-        → ParamsAs SomeParams of_function x p ts q c
+        {end : EncodingEnd} {of_function : Bool} {x : Context} {p q : Position} {ts : List Tree} {c : Cost}
+        → TypesAs (types_case end of_function p.rest) end of_function x p ts q c
+        → ParamsAs SomeParams end of_function x p ts q c
 
   -- one more type of a list of parameters, or their end
-  pub data TypesAs : TypesCase → Bool → Context → Position → List Tree → Position → Cost → Type 0 where
+  pub data TypesAs : TypesCase → EncodingEnd → Bool → Context → Position → List Tree → Position → Cost
+      → Type 0 where
     -- the end, which isn't taken
     end_of_types :
-        {of_function : Bool} {x : Context} {p : Position}
-        → TypesAs EndOfTypes of_function x p [] p nothing
+        {end : EncodingEnd} {of_function : Bool} {x : Context} {p : Position}
+        → TypesAs EndOfTypes end of_function x p [] p nothing
     -- <type>
     one_more_type :
-        {of_function : Bool} {x : Context} {p q r : Position} {t : Tree} {ts : List Tree} {c d : Cost}
+        {end : EncodingEnd} {of_function : Bool} {x : Context} {p q r : Position} {t : Tree} {ts : List Tree}
+        {c d : Cost}
         → TypeOf x p t q c
-        → TypesAs (types_case of_function q.rest) of_function x q ts r d
-        → TypesAs NextType of_function x p (t ∷ ts) r (both c d)
+        → TypesAs (types_case end of_function q.rest) end of_function x q ts r d
+        → TypesAs NextType end of_function x p (t ∷ ts) r (both c d)
 
   -- <template-args> after a type, or none
   pub data TypeAttachedAs : AttachedCase → Context → Tree → Position → Tree → Position → Cost → Type 0 where
@@ -760,6 +759,15 @@ mutual
         → TypeAttachedAs ArgsAttached x t p (with_args t (trees ts))
         (save (with_args t (trees ts)) q) (both c (saving q))
 
--- what follows the prefix of a symbol
+-- what follows the prefix of a symbol, as a name: an encoding that ends right after its name
 abbrev pub Symbol : Context → Position → Tree → Position → Cost → Type 0
-Symbol x p = SymbolAs (symbol_case p.rest) x p
+Symbol x p = EncodingAs (symbol_case AfterName p.rest) AfterName x p
+
+-- what follows the prefix of a symbol, as a signature, which has its parameters too: an encoding up to where no ASCII
+-- letter, digit or underscore is next, counted
+pub data Signature : Context → Position → Tree → Position → Cost → Type 0 where
+  signature :
+      {x : Context} {p q : Position} {t : Tree} {c : Cost}
+      → EncodingAs (symbol_case AtSymbolEnd p.rest) AtSymbolEnd x p t q c
+      → is_here AtSymbolEnd q.rest ≡ true
+      → Signature x p t q (counted (length (printing t)) c)

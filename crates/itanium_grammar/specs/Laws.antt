@@ -5,7 +5,7 @@ use Rattle.itanium_syntax.specs.Bytes.{begins}
 use Rattle.itanium_grammar.specs.Tree.{Tree, printing}
 use Rattle.itanium_grammar.specs.Grammar.{Position, Cost, Symbol}
 use Rattle.itanium_syntax.specs.declared.context.Context.{Context}
-use Rattle.itanium_grammar.specs.Answer.{IsWithin, IsReading, HasOneReading, IsAnswer}
+use Rattle.itanium_grammar.specs.Answer.{IsWithin, IsReading, HasOneReading, IsAnswer, IsSignature}
 
 -- what holds of readings
 pub record LawsOfReadings : Type 0 where
@@ -39,3 +39,15 @@ pub record LawsOfAnswers : Type 0 where
       → IsUtf8 (printing tree)
       → next.rest ≡ codes "." ++ rest
       → IsAnswer symbol (Some (printing tree ++ (codes "." ++ rest)))
+  -- a symbol has at most one signature
+  pub one_signature :
+      (symbol : List ℕ) (a b : Option (List ℕ))
+      → IsSignature symbol a
+      → IsSignature symbol b
+      → a ≡ b
+  -- an underscore in front of a symbol that begins with _Z changes nothing in its signature
+  pub underscore_of_signature :
+      (symbol : List ℕ) (a : Option (List ℕ))
+      → begins (codes "_Z") symbol ≡ true
+      → IsSignature symbol a
+      → IsSignature (codes "_" ++ symbol) a
