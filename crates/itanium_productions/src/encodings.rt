@@ -3,8 +3,9 @@ ghost use Rattle.std.specs.Prelude.{OnOk};
 ghost use Rattle.std.specs.Option.{unwrap_or};
 ghost use Rattle.demangle_quals.specs.Quals.{no_quals};
 ghost use Rattle.demangle_text.specs.State.{IsLiving, shape, IsRun, SameFrame};
-ghost use Rattle.itanium_syntax.specs.Context.{inside_encoding, inside_local};
+ghost use Rattle.itanium_syntax.specs.Context.{inside_encoding, inside_local, inside_params};
 ghost use Rattle.itanium_syntax.specs.Encodings.{return_case, entity_case};
+ghost use Rattle.itanium_grammar.specs.Cases.{AtE};
 ghost use Rattle.itanium_reader.specs.Parser as spec;
 ghost use Rattle.itanium_reader.specs.Outcome.{state, Gives, GivesBareName, Leaves, HasRoom, TakesSome, MayTakeNone, SavedBounds};
 
@@ -19,7 +20,7 @@ use demangle_text::Piece;
 use itanium_reader::{Reader, Stop};
 use itanium_syntax::context::Context;
 use itanium_syntax::encodings::{
-    EntityCase, ReturnCase, SignatureCase, entity_case, return_case, signature_case,
+    EncodingEnd, EntityCase, ReturnCase, SignatureCase, entity_case, return_case, signature_case,
 };
 use itanium_syntax::names::{SymbolCase, symbol_case};
 use itanium_syntax::numerals::ordinal;
@@ -48,17 +49,18 @@ pub(crate) fn read_return(
     reader: &mut Reader,
     depth: usize,
     context: Context,
+    end: EncodingEnd,
     templ: bool,
     ctor: bool,
 ) -> Result<(), Stop>
     requires room { HasRoom 2 (state reader.old) }
-    ensures reads { Leaves result reader.new (spec.return_as (return_case templ ctor reader.old.rest.now)
+    ensures reads { Leaves result reader.new (spec.return_as (return_case end templ ctor reader.old.rest.now)
         (spec.parse_type depth context) (state reader.old)) }
     ensures kept { OnOk result (SameFrame reader.old.buffer.value reader.new.buffer.value) }
     ensures bounds { MayTakeNone 2 result (state reader.old) (state reader.new) }
     ensures saved { SavedBounds 0 result (state reader.old) (state reader.new) }
 {
-    match return_case(templ, ctor, reader.rest) {
+    match return_case(end, templ, ctor, reader.rest) {
         ReturnCase::NoReturnType => Ok(()),
         ReturnCase::SomeReturnType => drop_type(reader, depth, context),
     }
@@ -72,12 +74,13 @@ pub(crate) fn end_encoding(
     reader: &mut Reader,
     depth: usize,
     context: Context,
+    end: EncodingEnd,
     name: Piece,
 ) -> Result<(), Stop>
     requires room { HasRoom 2 (state reader.old) }
     requires living { IsLiving reader.old.buffer.value name }
-    ensures reads { Gives result reader.new (spec.encoding_end (spec.parse_type depth context)
-        (shape reader.old.buffer.value name, unwrap_or reader.old.quals no_quals) (state reader.old)) }
+    ensures reads { Gives result reader.new (spec.encoding_end end (spec.parse_type depth context)
+        (spec.parse_type depth (inside_params end context)) (shape reader.old.buffer.value name, unwrap_or reader.old.quals no_quals) (state reader.old)) }
     ensures run { OnOk result (IsRun reader.old.buffer.value reader.new.buffer.value) }
     ensures bounds { MayTakeNone 2 result (state reader.old) (state reader.new) }
     ensures saved { SavedBounds 0 result (state reader.old) (state reader.new) }
@@ -85,36 +88,42 @@ pub(crate) fn end_encoding(
     let quals = reader.quals.unwrap_or(Quals::none());
     let templ = reader.buffer.templ(name);
     let ctor = reader.buffer.ctor(name);
-    read_return(reader, depth, context, templ, ctor)?;
-    match signature_case(reader.rest) {
+    read_return(reader, depth, context, end, templ, ctor)?;
+    match signature_case(end, reader.rest) {
         SignatureCase::NoSignature => {
             reader.found = apply_name_qualifiers(&mut reader.buffer, name, quals, true)?;
             Ok(())
         }
         SignatureCase::SomeSignature => {
             let list = open_params(&mut reader.buffer, name)?;
-            read_params(reader, depth, context, false, list)?;
+            read_params(reader, depth, context.inside_params(end), end, false, list)?;
             reader.found = close_params(&mut reader.buffer, reader.found, quals)?;
             Ok(())
         }
     }
 }
 
-/// `<encoding> ::= <special-name> | <name> [<return type>] [<parameter types>]`
+/// `<encoding> ::= <special-name> | <name> [<return type>] [<parameter types>]`: a name alone where it ends after it.
 #[tactic(auto, using(itanium_reader::proofs::Rules::encodings))]
 #[cycle(reader)]
-pub(crate) fn read_encoding(reader: &mut Reader, depth: usize, context: Context) -> Result<(), Stop>
+pub(crate) fn read_encoding(
+    reader: &mut Reader,
+    depth: usize,
+    context: Context,
+    end: EncodingEnd,
+) -> Result<(), Stop>
     requires room { HasRoom 1 (state reader.old) }
-    ensures reads { Gives result reader.new (spec.parse_encoding depth context (state reader.old)) }
+    ensures reads { Gives result reader.new (spec.parse_encoding depth end context (state reader.old)) }
     ensures run { OnOk result (IsRun reader.old.buffer.value reader.new.buffer.value) }
     ensures bounds { TakesSome 1 result (state reader.old) (state reader.new) }
     ensures saved { SavedBounds 1 result (state reader.old) (state reader.new) }
 {
-    match symbol_case(reader.rest) {
-        SymbolCase::SpecialSymbol => read_special_name(reader, depth, context),
-        SymbolCase::NameSymbol => {
+    match symbol_case(end, reader.rest) {
+        SymbolCase::SpecialSymbol => read_special_name(reader, depth, context, end),
+        SymbolCase::NameSymbol => read_name(reader, depth, context, false),
+        SymbolCase::FullSymbol => {
             read_name(reader, depth, context, true)?;
-            end_encoding(reader, depth, context, reader.found)
+            end_encoding(reader, depth, context, end, reader.found)
         }
     }
 }
@@ -178,12 +187,12 @@ pub(crate) fn read_local_name(
 ) -> Result<(), Stop>
     requires room { HasRoom 2 (state reader.old) }
     ensures reads { GivesBareName result reader.new (spec.parse_local
-        (spec.parse_encoding depth (inside_encoding context))
+        (spec.parse_encoding depth AtE (inside_encoding context))
         (spec.parse_bare_name depth (inside_local context)) (state reader.old)) }
     ensures run { OnOk result (IsRun reader.old.buffer.value reader.new.buffer.value) }
     ensures bounds { TakesSome 1 result (state reader.old) (state reader.new) }
     ensures saved { SavedBounds 1 result (state reader.old) (state reader.new) }
 {
-    read_encoding(reader, depth, context.inside_encoding())?;
+    read_encoding(reader, depth, context.inside_encoding(), EncodingEnd::AtE)?;
     read_entity(reader, depth, context.inside_local(), reader.found)
 }

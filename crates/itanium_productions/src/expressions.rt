@@ -11,6 +11,7 @@ use demangle_edit::address;
 use demangle_text::Piece;
 use itanium_reader::{Reader, Stop};
 use itanium_syntax::context::Context;
+use itanium_syntax::encodings::EncodingEnd;
 use itanium_syntax::expressions::{
     ExpressionCase, LiteralCase, expression_case, expression_text, is_external, literal_case,
 };
@@ -33,7 +34,7 @@ pub(crate) fn read_expr_primary(
     match literal_case(reader.rest) {
         LiteralCase::ExternalName => {
             reader.skip(3);
-            read_encoding(reader, depth, context.inside_encoding())?;
+            read_encoding(reader, depth, context.inside_encoding(), EncodingEnd::AtE)?;
             reader.read_end()
         }
         LiteralCase::ValueLiteral => {

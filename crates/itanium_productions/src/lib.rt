@@ -9,4 +9,4 @@ mod names;
 mod specials;
 mod types;
 
-pub use crate::specials::read_symbol;
+pub use crate::specials::{read_signature, read_symbol};

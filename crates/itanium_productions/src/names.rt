@@ -18,6 +18,7 @@ use demangle_text::Piece;
 use itanium_reader::{Reader, Stop};
 use itanium_syntax::args::{AttachedCase, attached_case};
 use itanium_syntax::context::Context;
+use itanium_syntax::encodings::EncodingEnd;
 use itanium_syntax::names::{
     FirstCase, FreeCase, NameCase, SegmentCase, UnqualifiedCase, UnscopedCase, begins_source,
     first_case, free_case, name_case, name_quals, segment_case, unqualified_case, unscoped_case,
@@ -39,7 +40,7 @@ pub(crate) fn read_closure_type_name(
     ensures saved { SavedBounds 1 result (state reader.old) (state reader.new) }
 {
     let list = reader.buffer.push(b"{lambda(")?;
-    read_params(reader, depth, context, false, list)?;
+    read_params(reader, depth, context, EncodingEnd::AtE, false, list)?;
     reader.end_lambda(reader.found)
 }
 

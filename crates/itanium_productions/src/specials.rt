@@ -1,15 +1,17 @@
-//! Special names, and what follows the prefix of a symbol (Itanium C++ ABI 5.1.4, "Other Special Functions and
-//! Entities").
+//! Special names, and signatures (Itanium C++ ABI 5.1.4, "Other Special Functions and Entities").
 ghost use Rattle.std.specs.Prelude.{◌≡◌, ◌<◌, OnOk, length};
 ghost use Rattle.demangle_text.specs.State.{IsRun};
+ghost use Rattle.itanium_grammar.specs.Cases.{AfterName};
 ghost use Rattle.itanium_reader.specs.Parser as spec;
 ghost use Rattle.itanium_reader.specs.Outcome.{state, Gives, HasRoom, TakesSome, SavedBounds};
 
+use crate::encodings::read_encoding;
 use crate::names::{framed_name, read_name};
 use crate::types::{framed_type, read_type};
 use itanium_reader::{Reader, Stop};
 use itanium_syntax::context::Context;
-use itanium_syntax::names::{SymbolCase, symbol_case};
+use itanium_syntax::encodings::EncodingEnd;
+use itanium_syntax::names::begins_special;
 use itanium_syntax::offsets::past_base_offset;
 use itanium_syntax::specials::{SpecialCase, special_case, special_close, special_text};
 
@@ -117,10 +119,15 @@ pub(crate) fn read_construction(
 /// `T <call-offset> <encoding>` and `T c <call-offset> <call-offset> <encoding>`, within `depth` open productions.
 #[tactic(auto, using(itanium_reader::proofs::Rules::thunks))]
 #[cycle(reader)]
-pub(crate) fn read_thunk(reader: &mut Reader, depth: usize, context: Context) -> Result<(), Stop>
+pub(crate) fn read_thunk(
+    reader: &mut Reader,
+    depth: usize,
+    context: Context,
+    end: EncodingEnd,
+) -> Result<(), Stop>
     requires room { HasRoom 1 (state reader.old) }
     requires some { 0 < length reader.old.rest.now }
-    ensures reads { Gives result reader.new (spec.parse_thunk depth context (state reader.old)) }
+    ensures reads { Gives result reader.new (spec.parse_thunk depth end context (state reader.old)) }
     ensures run { OnOk result (IsRun reader.old.buffer.value reader.new.buffer.value) }
     ensures refused { depth ≡ 0 → reader.new.entered ≡ reader.old.entered }
     ensures bounds { TakesSome 1 result (state reader.old) (state reader.new) }
@@ -130,7 +137,7 @@ pub(crate) fn read_thunk(reader: &mut Reader, depth: usize, context: Context) ->
     reader.open_thunk()?;
     let begun = reader.found;
     let mark = reader.buffer.open();
-    read_symbol(reader, depth, context)?;
+    read_encoding(reader, depth, context, end.of_thunk())?;
     reader.close_found(mark)?;
     reader.print_worded(begun, b")}")?;
     reader.measure()?;
@@ -145,9 +152,10 @@ pub(crate) fn read_special_name(
     reader: &mut Reader,
     depth: usize,
     context: Context,
+    end: EncodingEnd,
 ) -> Result<(), Stop>
     requires room { HasRoom 1 (state reader.old) }
-    ensures reads { Gives result reader.new (spec.parse_special depth context (state reader.old)) }
+    ensures reads { Gives result reader.new (spec.parse_special depth end context (state reader.old)) }
     ensures run { OnOk result (IsRun reader.old.buffer.value reader.new.buffer.value) }
     ensures bounds { TakesSome 1 result (state reader.old) (state reader.new) }
     ensures saved { SavedBounds 1 result (state reader.old) (state reader.new) }
@@ -157,25 +165,43 @@ pub(crate) fn read_special_name(
         SpecialCase::NameSpecial => read_name_special(reader, depth, context),
         SpecialCase::TemporarySpecial => read_temporary(reader, depth, context),
         SpecialCase::ConstructionSpecial => read_construction(reader, depth, context),
-        SpecialCase::ThunkSpecial => read_thunk(reader, depth, context),
+        SpecialCase::ThunkSpecial => read_thunk(reader, depth, context, end),
         SpecialCase::NoSpecial => Err(Stop::Unread),
     }
 }
 
-/// What follows the prefix of a symbol, within `depth` open productions: a special name, or a name without its
-/// parameters. After the offsets of a thunk stands such a one too.
+/// What follows the prefix of a symbol, as a name, within `depth` open productions: an encoding that ends right after
+/// its name. It does what `read_encoding` does.
 #[tactic(auto, using(itanium_reader::proofs::Rules::symbols))]
-#[cycle(reader)]
 #[inline(always)]
 pub fn read_symbol(reader: &mut Reader, depth: usize, context: Context) -> Result<(), Stop>
     requires room { HasRoom 1 (state reader.old) }
-    ensures reads { Gives result reader.new (spec.parse_symbol depth context (state reader.old)) }
+    ensures reads { Gives result reader.new (spec.parse_encoding depth AfterName context (state reader.old)) }
     ensures run { OnOk result (IsRun reader.old.buffer.value reader.new.buffer.value) }
     ensures bounds { TakesSome 1 result (state reader.old) (state reader.new) }
     ensures saved { SavedBounds 1 result (state reader.old) (state reader.new) }
 {
-    match symbol_case(reader.rest) {
-        SymbolCase::SpecialSymbol => read_special_name(reader, depth, context),
-        SymbolCase::NameSymbol => read_name(reader, depth, context, false),
+    if begins_special(reader.rest) {
+        read_special_name(reader, depth, context, EncodingEnd::AfterName)
+    } else {
+        read_name(reader, depth, context, false)
     }
+}
+
+/// A symbol with its parameters, up to where no ASCII letter, digit or underscore is next, within `depth` open
+/// productions.
+#[tactic(auto, using(itanium_reader::proofs::Rules::signatures))]
+pub fn read_signature(reader: &mut Reader, depth: usize, context: Context) -> Result<(), Stop>
+    requires room { HasRoom 2 (state reader.old) }
+    ensures reads { Gives result reader.new (spec.parse_signature depth context (state reader.old)) }
+    ensures run { OnOk result (IsRun reader.old.buffer.value reader.new.buffer.value) }
+    ensures bounds { TakesSome 2 result (state reader.old) (state reader.new) }
+    ensures saved { SavedBounds 1 result (state reader.old) (state reader.new) }
+{
+    let depth = reader.enter(depth)?;
+    read_encoding(reader, depth, context, EncodingEnd::AtSymbolEnd)?;
+    if !EncodingEnd::AtSymbolEnd.is_here(reader.rest) {
+        return Err(Stop::Unread);
+    }
+    reader.measure()
 }

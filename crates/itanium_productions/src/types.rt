@@ -14,6 +14,7 @@ use demangle_text::Piece;
 use itanium_reader::{Reader, Stop};
 use itanium_syntax::args::{AttachedCase, attached_case};
 use itanium_syntax::context::Context;
+use itanium_syntax::encodings::EncodingEnd;
 use itanium_syntax::numerals::optional_number;
 use itanium_syntax::types::{
     CvCase, FunctionCase, ParamsCase, TypeCase, TypesCase, cv_case, cv_quals, elaborated_text,
@@ -278,32 +279,33 @@ pub(crate) fn read_function_type(
             let Some(list) = open_function(&mut reader.buffer, reader.found)? else {
                 return Err(Stop::Unread);
             };
-            read_params(reader, depth, context, true, list)?;
+            read_params(reader, depth, context, EncodingEnd::AtE, true, list)?;
             reader.end_function(front, quals)
         }
     }
 }
 
-/// Types up to `E`, or of a function type to a `<ref-qualifier>` in front of it, put onto a list as they are read: `v`
-/// right in front of their end stands for none.
+/// Types up to this end, or of a function type to a `<ref-qualifier>` in front of its `E`, put onto a list as they are
+/// read: `v` right in front of their end stands for none.
 #[tactic(auto, using(itanium_reader::proofs::Rules::typed_lists))]
 #[cycle(reader)]
 pub(crate) fn read_params(
     reader: &mut Reader,
     depth: usize,
     context: Context,
+    end: EncodingEnd,
     of_function: bool,
     list: Piece,
 ) -> Result<(), Stop>
     requires room { HasRoom 2 (state reader.old) }
     requires living { IsLiving reader.old.buffer.value list }
-    ensures reads { Gives result reader.new (spec.typed_params_as (params_case reader.old.rest.now) of_function
+    ensures reads { Gives result reader.new (spec.typed_params_as (params_case end reader.old.rest.now) end of_function
         (spec.parse_type depth context) (shape reader.old.buffer.value list) (state reader.old)) }
     ensures run { OnOk result (IsRun reader.old.buffer.value reader.new.buffer.value) }
     ensures bounds { MayTakeNone 2 result (state reader.old) (state reader.new) }
     ensures saved { SavedBounds 0 result (state reader.old) (state reader.new) }
 {
-    if let ParamsCase::NoParams = params_case(reader.rest) {
+    if let ParamsCase::NoParams = params_case(end, reader.rest) {
         reader.skip(1);
         reader.found = list;
         return Ok(());
@@ -311,7 +313,7 @@ pub(crate) fn read_params(
     let mut list = list;
     let mut first = true;
     loop {
-        match types_case(of_function, reader.rest) {
+        match types_case(end, of_function, reader.rest) {
             TypesCase::EndOfTypes => {
                 reader.found = list;
                 return Ok(());

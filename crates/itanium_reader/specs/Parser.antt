@@ -20,7 +20,8 @@ use Rattle.itanium_syntax.specs.declared.offsets.ThunkOffsets.TheVariants.{Singl
 use Rattle.itanium_syntax.specs.Scalars.{source_name, index_of, ordinal, optional_number}
 use Rattle.itanium_syntax.specs.Operators.{operator_here}
 use Rattle.itanium_syntax.specs.Abbreviations.{abbreviation_of}
-use Rattle.itanium_syntax.specs.Context.{opens_scope, inside_type, inside_pack, inside_lambda, inside_local, inside_encoding}
+use Rattle.itanium_syntax.specs.Context.{opens_scope, inside_type, inside_pack, inside_lambda, inside_local}
+use Rattle.itanium_syntax.specs.Context.{inside_encoding, inside_params}
 use Rattle.itanium_syntax.specs.Names.{symbol_case, name_case, unscoped_case, first_case, segment_case}
 use Rattle.itanium_syntax.specs.Names.{unqualified_case, free_case, tag_case, past_internal, past_initializer_letter}
 use Rattle.itanium_syntax.specs.Names.{source_text, name_quals, past_name_quals, saves_first, substitution_case}
@@ -28,14 +29,15 @@ use Rattle.itanium_syntax.specs.Bytes.{begins}
 use Rattle.itanium_syntax.specs.Expressions.{is_external, literal_case, literal_value, expression_text, expression_case}
 use Rattle.itanium_syntax.specs.Offsets.{thunk_offsets, past_base_offset}
 use Rattle.itanium_syntax.specs.Specials.{special_case, special_text, special_close}
-use Rattle.itanium_syntax.specs.Encodings.{return_case, signature_case, entity_case}
+use Rattle.itanium_syntax.specs.Encodings.{is_here, of_thunk, return_case, signature_case, entity_case}
 use Rattle.itanium_syntax.specs.Args.{attached_case, args_case, argument_case}
 use Rattle.itanium_syntax.specs.Types.{type_case, builtin_text, past_builtin, cv_quals, past_cv, with_reference, past_reference, cv_case, function_case, params_case, types_case, elaborated_text}
 use Rattle.itanium_grammar.specs.Answer.{max_text}
 use Rattle.itanium_grammar.specs.Tree.{offset_text, worded_shape, temporary_shape, construction_shape, thunk_shape, pre_shape}
 use Rattle.itanium_grammar.specs.Tree.{post_shape, binary_shape, greater_shape, conditional_shape, abbreviation_shape}
 use Rattle.itanium_grammar.specs.Tree.{conversion_shape, elaborated_shape, unnamed_text, literal_operator_text}
-use Rattle.itanium_grammar.specs.Cases.{SymbolCase, SpecialSymbol, NameSymbol, SpecialCase, TypeSpecial, NameSpecial}
+use Rattle.itanium_grammar.specs.Cases.{EncodingEnd, AtE, AtSymbolEnd, SymbolCase, SpecialSymbol, NameSymbol}
+use Rattle.itanium_grammar.specs.Cases.{FullSymbol, SpecialCase, TypeSpecial, NameSpecial}
 use Rattle.itanium_grammar.specs.Cases.{TemporarySpecial, ConstructionSpecial, ThunkSpecial, NoSpecial, NameCase}
 use Rattle.itanium_grammar.specs.Cases.{NestedName, LocalName, UnscopedName, ReturnCase, NoReturnType, SomeReturnType}
 use Rattle.itanium_grammar.specs.Cases.{SignatureCase, NoSignature, SomeSignature, EntityCase, StringLiteralEntity}
@@ -237,17 +239,18 @@ typed_as NextType type so_far s =
     type s >>= λ next. fitting (listed_more so_far.0 so_far.1 next.0, next.1) >>= next_item
 
 -- its parser, by what comes next
-unfoldable pub typed_turn : Bool → Parses Shape → Bool × Shape → Parses (Turn (Bool × Shape) Shape)
-typed_turn of_function type so_far s = typed_as (types_case of_function s.rest) type so_far s
+unfoldable pub typed_turn : EncodingEnd → Bool → Parses Shape → Bool × Shape
+    → Parses (Turn (Bool × Shape) Shape)
+typed_turn end of_function type so_far s = typed_as (types_case end of_function s.rest) type so_far s
 
--- types up to E, or of a function type to a <ref-qualifier> in front of it, put onto a list
-abbrev pub parse_typed : Bool → Parses Shape → Shape → Parses Shape
-parse_typed of_function type list s = parse_loop (typed_turn of_function type) (true, list) s
+-- types up to this end, or of a function type to a <ref-qualifier> in front of its E, put onto a list
+abbrev pub parse_typed : EncodingEnd → Bool → Parses Shape → Shape → Parses Shape
+parse_typed end of_function type list s = parse_loop (typed_turn end of_function type) (true, list) s
 
 -- such parameters, put onto a list: v right before the end stands for none
-abbrev pub typed_params_as : ParamsCase → Bool → Parses Shape → Shape → Parses Shape
-typed_params_as NoParams of_function type list s = Some (list, skip 1 s)
-typed_params_as SomeParams of_function type list s = parse_typed of_function type list s
+abbrev pub typed_params_as : ParamsCase → EncodingEnd → Bool → Parses Shape → Shape → Parses Shape
+typed_params_as NoParams end of_function type list s = Some (list, skip 1 s)
+typed_params_as SomeParams end of_function type list s = parse_typed end of_function type list s
 
 -- what is after the parameters of a lambda
 abbrev pub lambda_end : Shape → Parses Shape
@@ -256,7 +259,7 @@ lambda_end list s = ordinal (drop 1 s.rest) >>= λ found. Some (lambda_closed fo
 -- <closure-type-name> after its Ul
 abbrev pub parse_lambda : Parses Shape → Parses Shape
 parse_lambda type s =
-    typed_params_as (params_case s.rest) false type (plain_shape (codes "{lambda(")) s >>= λ list.
+    typed_params_as (params_case AtE s.rest) AtE false type (plain_shape (codes "{lambda(")) s >>= λ list.
     lambda_end list.0 list.1
 
 -- <unnamed-type-name> after its Ut
@@ -423,17 +426,17 @@ return_as NoReturnType type s = Some s
 return_as SomeReturnType type s = dropped (type s)
 
 -- the parameters of an encoding after its name, or none: and then the qualifiers that waited
-abbrev pub signature_as : SignatureCase → Parses Shape → Shape × Quals → Parses Shape
-signature_as NoSignature type name s = Some (with_name_qualifiers name.0 name.1 true, s)
-signature_as SomeSignature type name s =
-    typed_params_as (params_case s.rest) false type (params_opened name.0) s >>= λ list.
+abbrev pub signature_as : SignatureCase → EncodingEnd → Parses Shape → Shape × Quals → Parses Shape
+signature_as NoSignature end param name s = Some (with_name_qualifiers name.0 name.1 true, s)
+signature_as SomeSignature end param name s =
+    typed_params_as (params_case end s.rest) end false param (params_opened name.0) s >>= λ list.
     Some (params_closed name.1 list.0, list.1)
 
--- what is after the name of an encoding
-abbrev pub encoding_end : Parses Shape → Shape × Quals → Parses Shape
-encoding_end type name s =
-    return_as (return_case name.0.templ name.0.ctor s.rest) type s >>= λ after.
-    signature_as (signature_case after.rest) type name after
+-- what is after the name of an encoding: its return type by the first parser, its parameters by the second
+abbrev pub encoding_end : EncodingEnd → Parses Shape → Parses Shape → Shape × Quals → Parses Shape
+encoding_end end type param name s =
+    return_as (return_case end name.0.templ name.0.ctor s.rest) type s >>= λ after.
+    signature_as (signature_case end after.rest) end param name after
 
 -- the words of a name's own qualifiers are shown inside a local name, so also of its entity
 abbrev pub shows_words : NameCase → Bool → Bool
@@ -480,16 +483,6 @@ special_as NoSpecial type name thunk s = None
 abbrev pub special_by : Parses Shape → Parses Shape → Parses Shape → Parses Shape
 special_by type name thunk s = special_as (special_case s.rest) type name thunk s
 
--- what follows the prefix of a symbol, by what it begins with
-abbrev pub symbol_as : SymbolCase → Parses Shape → Parses Shape → Parses Shape
-symbol_as SpecialSymbol special name s = special s
-symbol_as NameSymbol special name s = name s
-
--- what follows the prefix of a symbol, by what it is made of
-abbrev pub symbol_by : Parses Shape → ParsesBareName → Parses Shape → Context → Parses Shape
-symbol_by type bare thunk x s =
-    symbol_as (symbol_case s.rest) (special_by type (qualified_by bare x) thunk) (qualified_by bare x) s
-
 -- the words in front of the encoding of a thunk
 abbrev pub thunk_words : ThunkOffsets → List ℕ
 thunk_words (Single o) = codes "{virtual override thunk(" ++ (offset_text o ++ codes ", ")
@@ -501,20 +494,30 @@ unfoldable pub thunk_front : Parses Shape
 thunk_front s =
     thunk_offsets (drop 1 s.rest) >>= λ found. Some (plain_shape (thunk_words found.0), with_rest found.1 s)
 
--- the offsets of a thunk, and its encoding without parameters
+-- the offsets of a thunk, and its encoding
 abbrev pub thunk_by : Parses Shape → Parses Shape
-thunk_by symbol s =
-    thunk_offsets (drop 1 s.rest) >>= λ found. symbol (with_rest found.1 s) >>= λ t. Some (thunk_shape found.0 t.0, t.1)
+thunk_by encoding s =
+    thunk_offsets (drop 1 s.rest) >>= λ found. encoding (with_rest found.1 s) >>= λ t.
+    Some (thunk_shape found.0 t.0, t.1)
 
 -- <encoding>, by what it begins with
-abbrev pub encoding_as : SymbolCase → Parses Shape → ParsesBareName → Parses Shape → Parses Shape
-encoding_as SpecialSymbol special bare type s = special s
-encoding_as NameSymbol special bare type s = bare s >>= λ name. encoding_end type name.0 name.1
+abbrev pub encoding_as : SymbolCase → EncodingEnd → Parses Shape → Parses Shape → ParsesBareName → Parses Shape
+    → Parses Shape → Parses Shape
+encoding_as SpecialSymbol end special name bare type param s = special s
+encoding_as NameSymbol end special name bare type param s = name s
+encoding_as FullSymbol end special name bare type param s =
+    bare s >>= λ found. encoding_end end type param found.0 found.1
 
 -- <encoding>, by what it is made of
-abbrev pub encoding_by : Parses Shape → ParsesBareName → Parses Shape → Context → Parses Shape
-encoding_by type bare thunk x s =
-    encoding_as (symbol_case s.rest) (special_by type (qualified_by bare x) thunk) bare type s
+abbrev pub encoding_by : EncodingEnd → Parses Shape → Parses Shape → ParsesBareName → Parses Shape → Context
+    → Parses Shape
+encoding_by end type param bare thunk x s =
+    encoding_as (symbol_case end s.rest) end (special_by type (qualified_by bare x) thunk) (qualified_by bare x) bare type
+    param s
+
+-- the <encoding> of a local or an external name, by what it is made of
+abbrev pub encoding_in : Parses Shape → ParsesBareName → Parses Shape → Context → Parses Shape
+encoding_in type bare thunk x s = encoding_by AtE type type bare thunk x s
 
 -- what follows the encoding of a <local-name>
 abbrev pub entity_as : EntityCase → ParsesBareName → Shape → ParsesBareName
@@ -664,7 +667,7 @@ function_end front quals list s =
 -- what is after what a function returns, where that is plain
 abbrev pub function_params : Parses Shape → Quals → Shape → Parses Shape
 function_params type quals ret s =
-    opening_step ret >>= λ opened. typed_params_as (params_case s.rest) true type opened s >>= λ list.
+    opening_step ret >>= λ opened. typed_params_as (params_case AtE s.rest) AtE true type opened s >>= λ list.
     function_end (text_len ret) quals list.0 list.1
 
 -- <function-type>, by what it begins with
@@ -772,8 +775,8 @@ unfoldable mutual
       name_as (name_case s.rest) (parse_unqualified (parse_type d x) (parse_type d (inside_lambda x)))
       (parse_args d x true)
       (parse_local
-      (encoding_by (parse_type d (inside_encoding x)) (parse_bare_name d (inside_encoding x))
-      (parse_thunk d (inside_encoding x)) (inside_encoding x))
+      (encoding_in (parse_type d (inside_encoding x)) (parse_bare_name d (inside_encoding x))
+      (parse_thunk d AtE (inside_encoding x)) (inside_encoding x))
       (parse_bare_name d (inside_local x)))
       x (enter s) >>= fitting_bare
 
@@ -783,8 +786,8 @@ unfoldable mutual
   parse_args (suc d) x of_name s =
       parse_list (argument_by (parse_pack d x) (parse_type d x) (parse_expression d x)
       (primary_by (parse_type d x)
-      (encoding_by (parse_type d (inside_encoding x)) (parse_bare_name d (inside_encoding x))
-      (parse_thunk d (inside_encoding x)) (inside_encoding x))))
+      (encoding_in (parse_type d (inside_encoding x)) (parse_bare_name d (inside_encoding x))
+      (parse_thunk d AtE (inside_encoding x)) (inside_encoding x))))
       (opens_scope of_name x) (enter s) >>= fitting
 
   -- J <template-arg>* E
@@ -794,8 +797,8 @@ unfoldable mutual
       parse_packed (argument_by (parse_pack d (inside_pack x)) (parse_type d (inside_pack x))
       (parse_expression d (inside_pack x))
       (primary_by (parse_type d (inside_pack x))
-      (encoding_by (parse_type d (inside_encoding (inside_pack x)))
-      (parse_bare_name d (inside_encoding (inside_pack x))) (parse_thunk d (inside_encoding (inside_pack x)))
+      (encoding_in (parse_type d (inside_encoding (inside_pack x)))
+      (parse_bare_name d (inside_encoding (inside_pack x))) (parse_thunk d AtE (inside_encoding (inside_pack x)))
       (inside_encoding (inside_pack x)))))
       (enter s) >>= fitting
 
@@ -812,15 +815,16 @@ unfoldable mutual
   parse_expression zero x s = None
   parse_expression (suc d) x s =
       expression_as (expression_case s.rest) (parse_expression d x) (primary_by (parse_type d x)
-      (encoding_by (parse_type d (inside_encoding x)) (parse_bare_name d (inside_encoding x))
-      (parse_thunk d (inside_encoding x)) (inside_encoding x)))
+      (encoding_in (parse_type d (inside_encoding x)) (parse_bare_name d (inside_encoding x))
+      (parse_thunk d AtE (inside_encoding x)) (inside_encoding x)))
       x (enter s) >>= fitting
 
   -- T <call-offset> <encoding> and T c <call-offset> <call-offset> <encoding>
-  pub parse_thunk : ℕ → Context → Parses Shape
-  parse_thunk zero x s = None
-  parse_thunk (suc d) x s =
-      thunk_by (symbol_by (parse_type d x) (parse_bare_name d x) (parse_thunk d x) x) (enter s) >>= fitting
+  pub parse_thunk : ℕ → EncodingEnd → Context → Parses Shape
+  parse_thunk zero end x s = None
+  parse_thunk (suc d) end x s =
+      thunk_by (encoding_by (of_thunk end) (parse_type d x) (parse_type d (inside_params (of_thunk end) x))
+      (parse_bare_name d x) (parse_thunk d (of_thunk end) x) x) (enter s) >>= fitting
 
 -- <unqualified-name>, whose types nest at most d productions
 abbrev pub unqualified_name : ℕ → Context → ParsesName
@@ -831,21 +835,28 @@ unfoldable pub parse_name : ℕ → Context → Parses Shape
 parse_name d x = qualified_by (parse_bare_name d x) x
 
 -- <special-name>
-unfoldable pub parse_special : ℕ → Context → Parses Shape
-parse_special d x = special_by (parse_type d x) (parse_name d x) (parse_thunk d x)
+unfoldable pub parse_special : ℕ → EncodingEnd → Context → Parses Shape
+parse_special d end x = special_by (parse_type d x) (parse_name d x) (parse_thunk d end x)
 
 -- <encoding>
-unfoldable pub parse_encoding : ℕ → Context → Parses Shape
-parse_encoding d x s = encoding_as (symbol_case s.rest) (parse_special d x) (parse_bare_name d x) (parse_type d x) s
+unfoldable pub parse_encoding : ℕ → EncodingEnd → Context → Parses Shape
+parse_encoding d end x s =
+    encoding_as (symbol_case end s.rest) end (parse_special d end x) (parse_name d x) (parse_bare_name d x)
+    (parse_type d x) (parse_type d (inside_params end x)) s
 
 -- <expr-primary>
 unfoldable pub parse_primary : ℕ → Context → Parses Shape
-parse_primary d x = primary_by (parse_type d x) (parse_encoding d (inside_encoding x))
+parse_primary d x = primary_by (parse_type d x) (parse_encoding d AtE (inside_encoding x))
 
 -- <template-arg>
 unfoldable pub parse_argument : ℕ → Context → Parses Shape
 parse_argument d x = argument_by (parse_pack d x) (parse_type d x) (parse_expression d x) (parse_primary d x)
 
--- what follows the prefix of a symbol
-unfoldable pub parse_symbol : ℕ → Context → Parses Shape
-parse_symbol d x s = symbol_as (symbol_case s.rest) (parse_special d x) (parse_name d x) s
+-- what was parsed, where a symbol ends after it
+abbrev pub at_symbol_end : Shape × ParserState → Option (Shape × ParserState)
+at_symbol_end found = if is_here AtSymbolEnd found.1.rest then Some found else None
+
+-- what follows the prefix of a symbol, as a signature
+unfoldable pub parse_signature : ℕ → Context → Parses Shape
+parse_signature zero x s = None
+parse_signature (suc d) x s = parse_encoding d AtSymbolEnd x (enter s) >>= at_symbol_end >>= fitting

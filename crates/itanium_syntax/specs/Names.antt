@@ -15,6 +15,10 @@ use Rattle.itanium_syntax.specs.Cases.{ConversionName, LiteralOperatorName, Oper
 use Rattle.itanium_syntax.specs.Cases.{NextTag, SubstitutionCase, AbbreviationSubstitution, ComponentSubstitution}
 use Rattle.itanium_syntax.specs.Types.{cv_quals, past_cv, with_reference, past_reference}
 
+-- a <special-name> is next
+abbrev pub begins_special : List ℕ → Bool
+begins_special bytes = begins (codes "T") bytes || begins (codes "G") bytes
+
 -- an <encoding> of a name: the name alone, where it ends right after it
 abbrev pub named_case : EncodingEnd → SymbolCase
 named_case AfterName = NameSymbol
@@ -22,7 +26,7 @@ named_case end = FullSymbol
 
 -- <encoding>: a special name, or one of a name
 abbrev pub symbol_case : EncodingEnd → List ℕ → SymbolCase
-symbol_case end bytes = if begins (codes "T") bytes || begins (codes "G") bytes then SpecialSymbol else named_case end
+symbol_case end bytes = if begins_special bytes then SpecialSymbol else named_case end
 
 -- <name>
 abbrev pub name_case : List ℕ → NameCase

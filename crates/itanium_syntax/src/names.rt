@@ -88,13 +88,23 @@ pub enum SubstitutionCase {
     ComponentSubstitution,
 }
 
+/// Whether a `<special-name>` stands there: it begins with `T` or `G`, and no other name does.
+#[inline(always)]
+pub fn begins_special(bytes: &[u8]) -> bool
+    ensures value { result ≡ spec.begins_special bytes.now }
+{
+    matches!(bytes, [b'T' | b'G', ..])
+}
+
 /// Which `<encoding>` that ends so stands there.
 pub fn symbol_case(end: EncodingEnd, bytes: &[u8]) -> SymbolCase
     ensures case { result ≡ spec.symbol_case end bytes.now }
 {
-    match (bytes, end) {
-        ([b'T' | b'G', ..], _) => SymbolCase::SpecialSymbol,
-        (_, EncodingEnd::AfterName) => SymbolCase::NameSymbol,
+    if begins_special(bytes) {
+        return SymbolCase::SpecialSymbol;
+    }
+    match end {
+        EncodingEnd::AfterName => SymbolCase::NameSymbol,
         _ => SymbolCase::FullSymbol,
     }
 }
