@@ -8,7 +8,7 @@ use Rattle.itanium_syntax.specs.Bytes.{begins}
 use Rattle.itanium_syntax.proofs.Fronts.{Takes}
 use Rattle.itanium_grammar.specs.Tree.{Tree, printing}
 use Rattle.itanium_grammar.specs.Grammar.{Position, Cost, Signature, signature}
-use Rattle.itanium_grammar.specs.Answer.{after_prefix, suffix, ReadsInside, IsWithin, IsReadingOf, HasAnswerOf, IsAnswerOf, HasOneReadingOf}
+use Rattle.itanium_grammar.specs.Answer.{after_prefix, start, suffix, Mangled, IsWithin, IsReadingOf, HasAnswerOf, IsAnswerOf, HasOneReadingOf}
 use Rattle.itanium_grammar.specs.Laws.{LawsOfReadings, LawsOfAnswers}
 use Rattle.itanium_grammar.proofs.Unambiguous.{Same, same_counted, one_encoding_as}
 use Rattle.itanium_grammar.proofs.Progress.{encoding_as_takes}
@@ -16,7 +16,7 @@ use Rattle.itanium_grammar.proofs.Progress.{encoding_as_takes}
 pub one_signature : {x : Context} {p q r : Position} {t u : Tree} {c d : Cost} → Signature x p t q c → Signature x p u r d → Same t u q r c d
 one_signature (signature a end) (signature b other) = same_counted printing (one_encoding_as a b)
 
-one_inside : (full : Bool) (inside : List ℕ) {q r : Position} {t u : Tree} {c d : Cost} → ReadsInside full inside t q c → ReadsInside full inside u r d → Same t u q r c d
+one_inside : (full : Bool) (inside : List ℕ) {q r : Position} {t u : Tree} {c d : Cost} → Mangled full (start inside) t q c → Mangled full (start inside) u r d → Same t u q r c d
 one_inside true inside a b = one_signature a b
 one_inside false inside a b = one_encoding_as a b
 
@@ -24,7 +24,7 @@ pub one_reading : (full : Bool) (symbol : List ℕ) → HasOneReadingOf full sym
 one_reading full symbol = record {
   agree = λ t u q r c d a b within other.
       let here : b.inside ≡ a.inside = cc in
-      let same = one_inside full a.inside a.reading (subst (λ v. ReadsInside full v u r d) here b.reading) in
+      let same = one_inside full a.inside a.reading (subst (λ v. Mangled full (start v) u r d) here b.reading) in
       (same.tree, same.next, same.cost);
 }
 
@@ -92,7 +92,7 @@ laws_of_answers = record {
 signature_takes : {x : Context} {p q : Position} {t : Tree} {c : Cost} → Signature x p t q c → Takes q.rest p.rest
 signature_takes (signature a end) = encoding_as_takes a
 
-pub inside_takes : (full : Bool) (inside : List ℕ) (t : Tree) (q : Position) (c : Cost) → ReadsInside full inside t q c → Takes q.rest inside
+pub inside_takes : (full : Bool) (inside : List ℕ) (t : Tree) (q : Position) (c : Cost) → Mangled full (start inside) t q c → Takes q.rest inside
 inside_takes true inside t q c a = signature_takes a
 inside_takes false inside t q c a = encoding_as_takes a
 

@@ -1,5 +1,5 @@
 -- How long the printing of a symbol can be: not counted itself, it holds two counted productions at most, and few words.
-use Rattle.std.proofs.Common.{◌≡◌, ◌<◌, ◌≤◌, ℕ, ◌+◌, ◌*◌, ◌^◌, Bool, true, false, List, [], ◌∷◌, ◌++◌, length, drop, refl, ap, arith, Option, Some, None, codes, decimal, if◌then◌else◌, nat_lt, ◌||◌}
+use Rattle.std.proofs.Common.{◌≡◌, ◌<◌, ◌≤◌, ℕ, ◌+◌, ◌*◌, ◌^◌, Bool, true, false, List, [], ◌∷◌, ◌++◌, length, drop, refl, ap, arith, Option, Some, None, codes, decimal, if◌then◌else◌, nat_lt}
 use Rattle.std.specs.List.{concat}
 use Rattle.std.proofs.lemmas.Bool.Decides.{nat_tests}
 use Rattle.std.proofs.lemmas.Fmt.{length-decimal-le}
@@ -10,13 +10,14 @@ use Rattle.itanium_syntax.specs.declared.numerals.Radix.{Radix}
 use Rattle.itanium_syntax.specs.Bytes.{begins}
 use Rattle.itanium_syntax.specs.Scalars.{numeral, following, ended, index_of}
 use Rattle.itanium_syntax.specs.Specials.{begins_t_and, special_text, special_close}
-use Rattle.itanium_grammar.specs.Answer.{max_text, longest_printing, after_prefix, suffix, ReadsInside, HasAnswerOf, IsAnswerOf, HasLengthOf}
+use Rattle.itanium_grammar.specs.Answer.{max_text, longest_printing, after_prefix, start, suffix, Mangled, HasAnswerOf, IsAnswerOf, HasLengthOf}
 use Rattle.itanium_syntax.specs.Names.{symbol_case}
+use Rattle.itanium_syntax.proofs.Fronts.{alone_after_name}
 use Rattle.itanium_grammar.specs.Tree.{Tree, shape_of, printing, worded, temporary_of, construction_of}
 use Rattle.itanium_grammar.specs.Grammar.{Position, Cost, Name, TypeOf, Thunk, SpecialAs, EncodingAs, Signature, signature, special_encoding, name_encoding, name, type}
 use Rattle.itanium_grammar.specs.Grammar.{thunk, type_special, name_special, temporary_special, construction_special}
 use Rattle.itanium_grammar.specs.Grammar.{thunk_special, name_alone}
-use Rattle.itanium_grammar.specs.Cases.{EncodingEnd, AfterName, SpecialCase, SymbolCase, SpecialSymbol, NameSymbol, FullSymbol}
+use Rattle.itanium_grammar.specs.Cases.{EncodingEnd, AfterName, SpecialCase, SymbolCase}
 use Rattle.itanium_grammar.proofs.Agreement.{one_reading, inside_takes}
 
 -- what special names print
@@ -126,16 +127,12 @@ special_wide (thunk_special a) narrow = omega (arith, thunk_narrow a)
 symbol_as_wide : {case : SymbolCase} {x : Context} {p q : Position} {t : Tree} {c : Cost} → symbol_case AfterName p.rest ≡ case → EncodingAs case AfterName x p t q c → c.width ≤ max_text → length (printing t) ≤ 2 * max_text + 28
 symbol_as_wide is (special_encoding a) narrow = special_wide a narrow
 symbol_as_wide is (name_alone a) narrow = omega (arith, name_narrow a)
-symbol_as_wide {p = p} is (name_encoding a b d) narrow = absurd (go (begins (codes "T") p.rest || begins (codes "G") p.rest) is)
-  where
-    go : (special : Bool) → (if special then SpecialSymbol else NameSymbol) ≡ FullSymbol → ⊥
-    go true e = cc
-    go false e = cc
+symbol_as_wide {p = p} is (name_encoding a b d) narrow = absurd (alone_after_name p.rest is)
 
 signature_narrow : {x : Context} {p q : Position} {t : Tree} {c : Cost} → Signature x p t q c → length (printing t) ≤ c.width
 signature_narrow (signature a end) = omega arith
 
-inside_wide : (full : Bool) (inside : List ℕ) (t : Tree) (q : Position) (c : Cost) → ReadsInside full inside t q c → c.width ≤ max_text → length (printing t) ≤ longest_printing full
+inside_wide : (full : Bool) (inside : List ℕ) (t : Tree) (q : Position) (c : Cost) → Mangled full (start inside) t q c → c.width ≤ max_text → length (printing t) ≤ longest_printing full
 unfolding max_text
 inside_wide true inside t q c a narrow = omega (arith, signature_narrow a)
 inside_wide false inside t q c a narrow = omega (arith, symbol_as_wide refl a narrow)

@@ -43,10 +43,10 @@ start bytes = record { rest = bytes; saved = []; scopes = [] }
 abbrev pub suffix : List ℕ → List ℕ
 suffix rest = if begins (codes ".") rest then rest else []
 
--- the grammar reads what follows the prefix: as a signature, where the words of qualifiers are shown, or else as a name
-abbrev pub ReadsInside : Bool → List ℕ → Tree → Position → Cost → Type 0
-ReadsInside true inside = Signature (inside_local initial) (start inside)
-ReadsInside false inside = Symbol initial (start inside)
+-- what follows the prefix of a symbol: as a signature, where the words of qualifiers are shown, or else as a name
+abbrev pub Mangled : Bool → Position → Tree → Position → Cost → Type 0
+Mangled true p = Signature (inside_local initial) p
+Mangled false p = Symbol initial p
 
 -- The definitions that follow are of a symbol's signature where their truth value is true, and else of its name. Each
 -- stands again without it, as what it is of the name.
@@ -56,7 +56,7 @@ pub record IsReadingOf (signature : Bool) (symbol : List ℕ) (tree : Tree) (nex
     : Type 0 where
   pub inside : List ℕ
   pub prefix : after_prefix symbol ≡ Some inside
-  pub reading : ReadsInside signature inside tree next cost
+  pub reading : Mangled signature (start inside) tree next cost
 
 abbrev pub IsReading : List ℕ → Tree → Position → Cost → Type 0
 IsReading symbol tree next cost = IsReadingOf false symbol tree next cost

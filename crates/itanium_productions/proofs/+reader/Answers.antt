@@ -186,24 +186,24 @@ args::read_argument_pack-loop-reader-preserved t c = record {
 
 pub types::read_params-returns-in-EndOfTypes-clause-reads : goal.types::read_params-returns-in-EndOfTypes-clause-reads
 types::read_params-returns-in-EndOfTypes-clause-reads t c =
-    (c.loop-list.invariant.living, typed_end _ _ c.loop-list.invariant.reads (sym c.in-EndOfTypes.ensures.case))
+    (c.loop-list.invariant.living, typed_end _ _ _ c.loop-list.invariant.reads (sym c.in-EndOfTypes.ensures.case))
 
 pub types::read_params-returns-in_err-framed_type-in-NextType-clause-reads : goal.types::read_params-returns-in_err-framed_type-in-NextType-clause-reads
 types::read_params-returns-in_err-framed_type-in-NextType-clause-reads t c =
     let r = c.from_residual-in_err-framed_type-in-NextType in
     let e = err_from_is_err_and r.result r.ensures.1 in
     rw (e.1, e.2) (stops _ _ (c.in_err-framed_type-in-NextType.ensures {u = tt}).reads
-    (λ none. typed_fail _ _ c.loop-list.invariant.reads (sym c.in-NextType.ensures.case) (search rules)))
+    (λ none. typed_fail _ _ _ c.loop-list.invariant.reads (sym c.in-NextType.ensures.case) (search rules)))
 
 pub types::read_params-returns-then-is_wide-clause-reads : goal.types::read_params-returns-then-is_wide-clause-reads
 types::read_params-returns-then-is_wide-clause-reads t c =
-    typed_wide _ _ c.loop-list.invariant.reads {next = shape c.framed_type.new.reader.buffer.value c.framed_type.new.reader.found}
+    typed_wide _ _ _ c.loop-list.invariant.reads {next = shape c.framed_type.new.reader.buffer.value c.framed_type.new.reader.found}
     {found = shape c.append_piece.new.buf c.in_ok-list-in-NextType-2.list} {after = state c.framed_type.new.reader}
     (sym c.in-NextType.ensures.case) (search rules) (search rules) (search rules)
 
 pub types::read_params-loop-list-preserved : goal.types::read_params-loop-list-preserved
 types::read_params-loop-list-preserved t c = record {
-  reads = typed_more _ _ c.loop-list.invariant.reads
+  reads = typed_more _ _ _ c.loop-list.invariant.reads
       {next = shape c.framed_type.new.reader.buffer.value c.framed_type.new.reader.found}
       (sym c.in-NextType.ensures.case) (search rules) (search rules) (search rules) (search rules);
   living = search rules;
@@ -448,7 +448,7 @@ specials::read_thunk-returns-in_err-measure-clause-reads t c =
     let built = c.in_ok-print_worded.ensures.shape.shape_is
     ∙ ap (λ (s : Shape). worded_shape (text s) (shape symbol.buffer.value symbol.found) (codes ")}")) words.shape_is in
     rw (e.1, e.2) (too_long _ found _ (c.in_err-measure.ensures {u = tt}).fits (λ wide.
-    thunk_wide c.args.depth c.args.context (state c.args.reader.now) {front = shape opened.buffer.value opened.found} {t = shape symbol.buffer.value symbol.found}
+    thunk_wide c.args.depth c.args.end c.args.context (state c.args.reader.now) {front = shape opened.buffer.value opened.found} {t = shape symbol.buffer.value symbol.found}
     {mid = state opened} {after = state symbol}
     (search rules) (search rules) (search (rules, buffers)) built wide))
 
@@ -461,7 +461,7 @@ specials::read_thunk-returns-clause-reads t c =
     let built = c.in_ok-print_worded.ensures.shape.shape_is
     ∙ ap (λ (s : Shape). worded_shape (text s) (shape symbol.buffer.value symbol.found) (codes ")}")) words.shape_is in (
       search rules,
-      thunk_read c.args.depth c.args.context (state c.args.reader.now) {front = shape opened.buffer.value opened.found} {t = shape symbol.buffer.value symbol.found}
+      thunk_read c.args.depth c.args.end c.args.context (state c.args.reader.now) {front = shape opened.buffer.value opened.found} {t = shape symbol.buffer.value symbol.found}
           {mid = state opened} {after = state c.print_worded.new.self}
           (search rules) (search rules) (search (rules, buffers)) built (c.in_ok-measure.ensures {u = tt}).fits,
     )
@@ -762,8 +762,8 @@ args::read_template_args-add_argument-requires-clause-living t c = grind (arith,
 pub args::read_template_args-up_to_end-requires-clause-inner : goal.args::read_template_args-up_to_end-requires-clause-inner
 args::read_template_args-up_to_end-requires-clause-inner t c = grind (arith, argument_lists)
 
-pub encodings::read_encoding-returns-in_err-read_name-in-NameSymbol-clause-reads : goal.encodings::read_encoding-returns-in_err-read_name-in-NameSymbol-clause-reads
-encodings::read_encoding-returns-in_err-read_name-in-NameSymbol-clause-reads t c = grind (arith, encodings)
+pub encodings::read_encoding-returns-in_err-read_name-in-FullSymbol-clause-reads : goal.encodings::read_encoding-returns-in_err-read_name-in-FullSymbol-clause-reads
+encodings::read_encoding-returns-in_err-read_name-in-FullSymbol-clause-reads t c = grind (arith, encodings)
 
 pub encodings::read_entity-returns-in_ok-print_string_literal-in-StringLiteralEntity-clause-reads : goal.encodings::read_entity-returns-in_ok-print_string_literal-in-StringLiteralEntity-clause-reads
 encodings::read_entity-returns-in_ok-print_string_literal-in-StringLiteralEntity-clause-reads t c = grind (arith, common_steps)
@@ -810,8 +810,8 @@ specials::read_thunk-returns-in_err-depth-clause-reads t c = grind (arith, thunk
 pub specials::read_thunk-returns-in_err-open_thunk-clause-reads : goal.specials::read_thunk-returns-in_err-open_thunk-clause-reads
 specials::read_thunk-returns-in_err-open_thunk-clause-reads t c = grind (arith, thunks)
 
-pub specials::read_thunk-returns-in_err-read_symbol-clause-reads : goal.specials::read_thunk-returns-in_err-read_symbol-clause-reads
-specials::read_thunk-returns-in_err-read_symbol-clause-reads t c = grind (arith, thunks)
+pub specials::read_thunk-returns-in_err-read_encoding-clause-reads : goal.specials::read_thunk-returns-in_err-read_encoding-clause-reads
+specials::read_thunk-returns-in_err-read_encoding-clause-reads t c = grind (arith, thunks)
 
 pub specials::read_type_special-print_worded-requires-clause-after : goal.specials::read_type_special-print_worded-requires-clause-after
 specials::read_type_special-print_worded-requires-clause-after t c = grind (arith, words)

@@ -216,9 +216,9 @@ decreases-args::read_argument_pack-loop-reader l = length l.reader.rest.now
 
 abbrev pub invariant-types::read_params-loop-list : goal.invariant-types::read_params-loop-list
 invariant-types::read_params-loop-list l = record {
-  reads : LoopSoFar (spec.typed_params_as (params_case l.fn.reader.rest.now) l.of_function (spec.parse_type l.depth l.context)
+  reads : LoopSoFar (spec.typed_params_as (params_case l.end l.fn.reader.rest.now) l.end l.of_function (spec.parse_type l.depth l.context)
       (shape l.fn.reader.buffer.value l.fn.list) (state l.fn.reader))
-      (spec.typed_turn l.of_function (spec.parse_type l.depth l.context)) (l.first, shape l.reader.buffer.value l.list) (state l.reader);
+      (spec.typed_turn l.end l.of_function (spec.parse_type l.depth l.context)) (l.first, shape l.reader.buffer.value l.list) (state l.reader);
   living : IsLiving l.reader.buffer.value l.list;
   run : IsRun l.fn.reader.buffer.value l.reader.buffer.value;
   cost : Cost 0 0 (state l.fn.reader) (state l.reader);
@@ -287,6 +287,3 @@ decreases-specials::read_thunk l = production l.depth
 
 abbrev pub decreases-specials::read_special_name : goal.decreases-specials::read_special_name
 decreases-specials::read_special_name l = free_name l.depth
-
-abbrev pub decreases-specials::read_symbol : goal.decreases-specials::read_symbol
-decreases-specials::read_symbol l = segment l.depth
