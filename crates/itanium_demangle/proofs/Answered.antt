@@ -4,30 +4,31 @@ use Rattle.std.specs.Str.{is_utf8}
 use Rattle.std.proofs.lemmas.Str.{IsUtf8-from_is_utf8, is_utf8-from_IsUtf8}
 use Rattle.std.proofs.lemmas.Bool.{false≢true}
 use Rattle.demangle_text.specs.Shape.{Shape, text}
-use Rattle.itanium_grammar.specs.Answer.{after_prefix, start, initial, suffix, max_depth, IsAnswer}
-use Rattle.itanium_reader.specs.Parser.{ParserState, begun, parse_symbol}
-use Rattle.itanium_demangle.proofs.Readers.{symbols}
+use Rattle.itanium_grammar.specs.Answer.{after_prefix, start, suffix, max_depth, IsAnswer}
+use Rattle.itanium_reader.specs.Parser.{ParserState, begun}
+use Rattle.itanium_demangle.specs.Meaning.{parse_mangled}
+use Rattle.itanium_demangle.proofs.Readers.{mangled}
 use Rattle.itanium_demangle.proofs.Symbols.{no_prefix, not_read, printed}
 
 -- a reading that was found is printed where it is UTF-8
-at_reading : (symbol inside : List ℕ) (found : Shape) (after : ParserState) → after_prefix symbol ≡ Some inside → parse_symbol max_depth initial (begun inside) ≡ Some (found, after)
+at_reading : (symbol inside : List ℕ) (found : Shape) (after : ParserState) → after_prefix symbol ≡ Some inside → parse_mangled max_depth false (begun inside) ≡ Some (found, after)
     → (b : Bool) → is_utf8 (text found) ≡ b → (answer : Option (List ℕ)) × IsAnswer symbol answer
 at_reading symbol inside found after prefix is true utf8 =
-    let has = (symbols max_depth initial).reads (start inside) 0 0 found after is in
-    (Some (text found ++ suffix after.rest), printed symbol inside 0 0 found after (Some (text found ++ suffix after.rest)) prefix has (IsUtf8-from_is_utf8 (text found) utf8, refl))
+    let has = (mangled false max_depth).reads (start inside) 0 0 found after is in
+    (Some (text found ++ suffix after.rest), printed false symbol inside 0 0 found after (Some (text found ++ suffix after.rest)) prefix has (IsUtf8-from_is_utf8 (text found) utf8, refl))
 at_reading symbol inside found after prefix is false utf8 =
-    let has = (symbols max_depth initial).reads (start inside) 0 0 found after is in
-    (None, printed symbol inside 0 0 found after None prefix has (λ good. false≢true (sym utf8 ∙ is_utf8-from_IsUtf8 (text found) good)))
+    let has = (mangled false max_depth).reads (start inside) 0 0 found after is in
+    (None, printed false symbol inside 0 0 found after None prefix has (λ good. false≢true (sym utf8 ∙ is_utf8-from_IsUtf8 (text found) good)))
 
 -- after a prefix a reading is found or not
-at_prefix : (symbol inside : List ℕ) → after_prefix symbol ≡ Some inside → (parsed : Option (Shape × ParserState)) → parse_symbol max_depth initial (begun inside) ≡ parsed
+at_prefix : (symbol inside : List ℕ) → after_prefix symbol ≡ Some inside → (parsed : Option (Shape × ParserState)) → parse_mangled max_depth false (begun inside) ≡ parsed
     → (answer : Option (List ℕ)) × IsAnswer symbol answer
-at_prefix symbol inside prefix None is = (None, not_read symbol inside prefix ((symbols max_depth initial).none (start inside) 0 0 is))
+at_prefix symbol inside prefix None is = (None, not_read false symbol inside prefix ((mangled false max_depth).none (start inside) 0 0 is))
 at_prefix symbol inside prefix (Some (found, after)) is = at_reading symbol inside found after prefix is (is_utf8 (text found)) refl
 
 at_symbol : (symbol : List ℕ) (inside : Option (List ℕ)) → after_prefix symbol ≡ inside → (answer : Option (List ℕ)) × IsAnswer symbol answer
-at_symbol symbol None prefix = (None, no_prefix symbol prefix)
-at_symbol symbol (Some inside) prefix = at_prefix symbol inside prefix (parse_symbol max_depth initial (begun inside)) refl
+at_symbol symbol None prefix = (None, no_prefix false symbol prefix)
+at_symbol symbol (Some inside) prefix = at_prefix symbol inside prefix (parse_mangled max_depth false (begun inside)) refl
 
 -- each symbol has an answer
 pub each_answered : (symbol : List ℕ) → (answer : Option (List ℕ)) × IsAnswer symbol answer

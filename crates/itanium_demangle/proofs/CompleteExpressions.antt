@@ -10,7 +10,7 @@ use Rattle.itanium_grammar.specs.Grammar.{value_literal, expression, operand_of,
 use Rattle.itanium_grammar.specs.Grammar.{unary_expression, post_expression, binary_expression, greater_expression}
 use Rattle.itanium_grammar.specs.Grammar.{conditional_expression, parameter_expression, literal_expression}
 use Rattle.itanium_grammar.specs.Grammar.{expression_argument, pack_argument, literal_argument, type_argument}
-use Rattle.itanium_grammar.specs.Cases.{LiteralCase, ExpressionCase, ArgumentCase}
+use Rattle.itanium_grammar.specs.Cases.{AtE, LiteralCase, ExpressionCase, ArgumentCase}
 use Rattle.itanium_reader.specs.Parser.{parse_type, parse_name, parse_special, parse_pack, parse_encoding, literal_as}
 use Rattle.itanium_reader.specs.Parser.{parse_primary, operand_by, expression_as, parse_expression, argument_as}
 use Rattle.itanium_reader.specs.Parser.{parse_argument}
@@ -24,7 +24,7 @@ use Rattle.itanium_demangle.proofs.CompleteNames.{parameter_complete, encoding_m
 
 module _ (d : ℕ) (kinds : TypesComplete d) (bares : BareNamesComplete d) (thunks : ThunksComplete d) where
   literal_met : {case : LiteralCase} {x : Context} {p q : Position} {t : Tree} {c : Cost} → LiteralAs case x p t q c → Small d c → (e m : ℕ)
-      → Met text_len (literal_as case (parse_type d x) (parse_encoding d (inside_encoding x)) (state_at p e m)) (reached shape_of t q c e m)
+      → Met text_len (literal_as case (parse_type d x) (parse_encoding d AtE (inside_encoding x)) (state_at p e m)) (reached shape_of t q c e m)
   literal_met (external_name a end) deep e m = met_then _ (encoding_met d kinds bares thunks a deep e m) (omega arith) (met (rw end refl))
   literal_met (value_literal {t = t} {value = v} a found has) deep e m =
       met (rw (kinds _ _ _ _ _ a deep e m, found, has) (same_read (sym (shape-literal_of t v)) refl refl refl refl))

@@ -14,12 +14,13 @@ use Rattle.itanium_syntax.specs.Specials.{special_case, special_text, special_cl
 use Rattle.itanium_syntax.specs.Names.{segment_case}
 use Rattle.itanium_syntax.specs.Names.{source_text, symbol_case, name_case, name_quals, tag_case}
 use Rattle.itanium_reader.specs.Parser.{shows_words}
-use Rattle.itanium_syntax.specs.Context.{inside_lambda, inside_local, inside_encoding}
-use Rattle.itanium_syntax.proofs.Fronts.{initializer_after, after_drop, source_takes, after-le}
+use Rattle.itanium_syntax.specs.Context.{inside_lambda, inside_local, inside_encoding, inside_params}
+use Rattle.itanium_syntax.specs.Encodings.{is_here}
+use Rattle.itanium_syntax.proofs.Fronts.{alone_after_name, initializer_after, after_drop, source_takes, after-le}
 use Rattle.itanium_grammar.specs.Tree.{Tree, bare_shape, own_quals, thunk_of, with_args, trees, unnamed_text, literal_operator_text, shape_of, name_printing}
-use Rattle.itanium_grammar.specs.Grammar.{Position, Cost, with_rest, SpecialAs, SymbolAs, special_encoding}
+use Rattle.itanium_grammar.specs.Grammar.{Position, Cost, with_rest, SpecialAs, special_encoding}
 use Rattle.itanium_grammar.specs.Grammar.{type_special, name_special, temporary_special, construction_special}
-use Rattle.itanium_grammar.specs.Grammar.{thunk_special, thunk, special_symbol, name_symbol, past_initializer, last_of}
+use Rattle.itanium_grammar.specs.Grammar.{thunk_special, thunk, name_alone, past_initializer, last_of}
 use Rattle.itanium_grammar.specs.Grammar.{SubstitutionAs, Substitution, ArgumentNamed, Parameter, TaggedAs, UnqualifiedAs}
 use Rattle.itanium_grammar.specs.Grammar.{Unqualified, FirstAs, Name, NameAs, Local, EntityAs, EncodingAs}
 use Rattle.itanium_grammar.specs.Grammar.{ReturnAs, SignatureAs, UnscopedAs, AttachedAs, Nested, SegmentsAs}
@@ -34,14 +35,14 @@ use Rattle.itanium_grammar.specs.Grammar.{name_encoding, no_return_type, some_re
 use Rattle.itanium_grammar.specs.Grammar.{unscoped_name, std_name, substitution_name, global_name, none_attached}
 use Rattle.itanium_grammar.specs.Grammar.{args_attached, nested, end_of_segments, args_segment, name_segment}
 use Rattle.itanium_grammar.proofs.Progress.{unqualified_takes, args_takes}
-use Rattle.itanium_grammar.specs.Cases.{SymbolCase, SpecialCase, ReturnCase, SignatureCase, EntityCase}
+use Rattle.itanium_grammar.specs.Cases.{EncodingEnd, AfterName, AtE, AtSymbolEnd, SymbolCase, SpecialCase, ReturnCase, SignatureCase, EntityCase}
 use Rattle.itanium_grammar.specs.Cases.{SubstitutionCase, TagCase, UnqualifiedCase, FreeCase, FirstCase, NameCase}
 use Rattle.itanium_grammar.specs.Cases.{UnscopedCase, AttachedCase, SegmentCase}
 use Rattle.itanium_reader.specs.Parser.{ParserState, after_turn, loop, ◌>>=◌, tag_as, tag_turn, parse_tags, free_as}
 use Rattle.itanium_reader.specs.Parser.{parse_free, parse_type, substitution_as, parse_substitution, parameter_as}
 use Rattle.itanium_reader.specs.Parser.{parse_parameter, unqualified_as, parse_unqualified, first_as, attached_by}
 use Rattle.itanium_reader.specs.Parser.{attached_as, unscoped_as, segment_as, segment_turn, parse_nested, return_as}
-use Rattle.itanium_reader.specs.Parser.{signature_as, special_as, parse_special, symbol_as, symbol_by, thunk_by}
+use Rattle.itanium_reader.specs.Parser.{signature_as, special_as, parse_special, encoding_by, thunk_by, at_symbol_end}
 use Rattle.itanium_reader.specs.Parser.{parse_thunk, encoding_as, parse_encoding, entity_as, parse_local, name_as}
 use Rattle.itanium_reader.specs.Parser.{parse_bare_name, parse_name, parse_args}
 use Rattle.itanium_demangle.specs.Meaning.{state_at}
@@ -54,7 +55,7 @@ use Rattle.itanium_demangle.proofs.Shapes.{shape-encoding_of, shape-function_enc
 use Rattle.itanium_demangle.proofs.CompleteLists.{typed_params_met}
 use Rattle.itanium_demangle.proofs.Fitting.{bare_len, Met, met, met_then, met_as, met_step, met_fits, met_fits_bare, fits}
 use Rattle.itanium_demangle.proofs.Grows.{lambda_longer, params_longer}
-use Rattle.itanium_demangle.proofs.Longer.{in_parent_longer, tags_longer, attached_as_longer, segment_longer, entity_longer}
+use Rattle.itanium_demangle.proofs.Longer.{in_parent_longer, thunk_longer, tags_longer, attached_as_longer, segment_longer, entity_longer}
 use Rattle.itanium_demangle.proofs.Whole.{without_quals}
 use Rattle.itanium_demangle.proofs.Readings.{Small, reached, given, ArgsComplete, TypesComplete, BareNamesComplete, NamesComplete, ThunksComplete}
 use Rattle.itanium_demangle.proofs.Waiting.{unscoped_none, bare-nested_of, bare-string_literal_of, bare-default_argument_of, bare-local_in, same_return, whole_name}
@@ -108,7 +109,7 @@ module _ (d : ℕ) (lists : ArgsComplete d) (kinds : TypesComplete d) where
       let begun = plain_shape (codes "{lambda(") in
       let list = listed_each true begun (map shape_of ts) in
       let whole = lambda_built (map shape_of ts) k ∙ sym (shape-lambda_of ts k) in
-      met_then _ (typed_params_met false d kinds params deep e m begun)
+      met_then _ (typed_params_met AtE false d kinds params deep e m begun)
       (subst (λ (s : Shape). text_len list ≤ text_len s) whole (lambda_longer k list))
       (met (rw found (same_read whole refl refl refl refl)))
   free_met (conversion_free {t = t} a) deep e m = met (rw (kinds _ _ _ _ _ a deep e m, ← shape-conversion_to t) refl)
@@ -213,13 +214,13 @@ return_complete d kinds no_return_type deep e m = same_state refl refl (omega ar
 return_complete d kinds (some_return_type a) deep e m = rw (kinds _ _ _ _ _ a deep e m) refl
 
 -- the parameters of an encoding
-signature_met : (d : ℕ) → TypesComplete d → {case : SignatureCase} {x : Context} {t u : Tree} {p q : Position} {c : Cost} → SignatureAs case x t p u q c → Small d c → (e m : ℕ)
-    → Met text_len (signature_as case (parse_type d x) (bare_of t) (state_at p e m)) (reached shape_of u q c e m)
+signature_met : (d : ℕ) → TypesComplete d → {case : SignatureCase} {end : EncodingEnd} {x : Context} {t u : Tree} {p q : Position} {c : Cost} → SignatureAs case end x t p u q c → Small d c → (e m : ℕ)
+    → Met text_len (signature_as case end (parse_type d (inside_params end x)) (bare_of t) (state_at p e m)) (reached shape_of u q c e m)
 signature_met d kinds (no_signature {t = t}) deep e m = met (same_read (sym (shape-encoding_of t)) refl refl (omega arith) (omega arith))
-signature_met d kinds (some_signature {t = t} {ts = ts} params) deep e m =
+signature_met d kinds (some_signature {end = end} {t = t} {ts = ts} params) deep e m =
     let list = listed_each true (params_opened (bare_shape t)) (map shape_of ts) in
     let whole = params_built (bare_shape t) (map shape_of ts) (own_quals t) ∙ sym (shape-function_encoding t ts) in
-    met_then _ (typed_params_met false d kinds params deep e m (params_opened (bare_shape t)))
+    met_then _ (typed_params_met end false d kinds params deep e m (params_opened (bare_shape t)))
     (subst (λ (s : Shape). text_len list ≤ text_len s) whole (params_longer (own_quals t) list))
     (met (same_read whole refl refl refl refl))
 
@@ -240,8 +241,8 @@ names_complete d bares x p q t c a deep e m =
     rw read (fits g (omega arith) ∙ same_read whole refl refl (omega (arith, bare.count_is)) (omega (arith, bare.peak_is)))
 
 module _ (d : ℕ) (kinds : TypesComplete d) (bares : BareNamesComplete d) (thunks : ThunksComplete d) where
-  special_as_complete : {case : SpecialCase} {x : Context} {p q : Position} {t : Tree} {c : Cost} → SpecialAs case x p t q c → Small d c → (e m : ℕ)
-      → special_as case (parse_type d x) (parse_name d x) (parse_thunk d x) (state_at p e m) ≡ given shape_of t q c e m
+  special_as_complete : {case : SpecialCase} {end : EncodingEnd} {x : Context} {p q : Position} {t : Tree} {c : Cost} → SpecialAs case end x p t q c → Small d c → (e m : ℕ)
+      → special_as case (parse_type d x) (parse_name d x) (parse_thunk d end x) (state_at p e m) ≡ given shape_of t q c e m
   special_as_complete (type_special {p = p} {t = t} a) deep e m =
       rw (kinds _ _ _ _ _ a deep e m) (same_read (sym (shape-worded (special_text p.rest) t (special_close p.rest))) refl refl refl refl)
   special_as_complete (name_special {p = p} {t = t} a) deep e m =
@@ -251,45 +252,59 @@ module _ (d : ℕ) (kinds : TypesComplete d) (bares : BareNamesComplete d) (thun
   special_as_complete (construction_special {t = t} {u = u} {c = c} a found b) deep e m =
       rw (kinds _ _ _ _ _ a (omega arith) e m, found, kinds _ _ _ _ _ b (omega arith) (e + c.count) (max m c.peak))
       (same_read (sym (shape-construction_of u t)) refl refl (omega arith) (omega arith))
-  special_as_complete (thunk_special a) deep e m = thunks _ _ _ _ _ a deep e m
+  special_as_complete (thunk_special a) deep e m = thunks _ _ _ _ _ _ a deep e m
 
-  pub special_complete : {x : Context} {p q : Position} {t : Tree} {c : Cost} → SpecialAs (special_case p.rest) x p t q c → Small d c → (e m : ℕ)
-      → parse_special d x (state_at p e m) ≡ given shape_of t q c e m
+  pub special_complete : {end : EncodingEnd} {x : Context} {p q : Position} {t : Tree} {c : Cost} → SpecialAs (special_case p.rest) end x p t q c → Small d c → (e m : ℕ)
+      → parse_special d end x (state_at p e m) ≡ given shape_of t q c e m
   unfolding parse_special
   special_complete a deep e m = special_as_complete a deep e m
 
-  pub symbol_as_complete : {case : SymbolCase} {x : Context} {p q : Position} {t : Tree} {c : Cost} → SymbolAs case x p t q c → Small d c → (e m : ℕ)
-      → symbol_as case (parse_special d x) (parse_name d x) (state_at p e m) ≡ given shape_of t q c e m
-  symbol_as_complete (special_symbol a) deep e m = special_complete a deep e m
-  symbol_as_complete (name_symbol a) deep e m = names_complete d bares _ _ _ _ _ a deep e m
-
-  -- the offsets of a thunk, and what it stands for
-  pub thunk_by_complete : {x : Context} (p : Position) {q : Position} {t : Tree} {c : Cost} {offsets : ThunkOffsets} {rest : List ℕ} → thunk_offsets (drop 1 p.rest) ≡ Some (offsets, rest)
-      → SymbolAs (symbol_case rest) x (with_rest rest p) t q c → Small d c → (e m : ℕ)
-      → thunk_by (symbol_by (parse_type d x) (parse_bare_name d x) (parse_thunk d x) x) (state_at p e m) ≡ given shape_of (thunk_of offsets t) q c e m
-  unfolding parse_special parse_name
-  thunk_by_complete p {t = t} {offsets = o} found a deep e m = rw (found, symbol_as_complete a deep e m) (same_read (sym (shape-thunk_of o t)) refl refl refl refl)
-
-  pub thunks_complete : ThunksComplete (suc d)
-  unfolding parse_thunk
-  thunks_complete x p q t c (thunk found a) deep e m =
-      met_fits (met (thunk_by_complete p found a (omega arith) (e + 1) m ∙ same_read refl refl refl (omega arith) refl)) (omega arith)
-
-  encoding_as_met : {case : SymbolCase} {x : Context} {p q : Position} {t : Tree} {c : Cost} → EncodingAs case x p t q c → Small d c → (e m : ℕ)
-      → Met text_len (encoding_as case (parse_special d x) (parse_bare_name d x) (parse_type d x) (state_at p e m)) (reached shape_of t q c e m)
+  encoding_as_met : {case : SymbolCase} {end : EncodingEnd} {x : Context} {p q : Position} {t : Tree} {c : Cost} → EncodingAs case end x p t q c → Small d c → (e m : ℕ)
+      → Met text_len (encoding_as case end (parse_special d end x) (parse_name d x) (parse_bare_name d x) (parse_type d x) (parse_type d (inside_params end x)) (state_at p e m)) (reached shape_of t q c e m)
   encoding_as_met (special_encoding a) deep e m = met (special_complete a deep e m)
-  encoding_as_met (name_encoding {q = q} {r = r} {c = c} {d = f} a b g) deep e m =
+  encoding_as_met (name_alone a) deep e m = met (names_complete d bares _ _ _ _ _ a deep e m)
+  encoding_as_met (name_encoding {end = end} {q = q} {r = r} {c = c} {d = f} a b g) deep e m =
       rw (
         bares _ _ _ _ _ a (omega arith) e m,
-        same_return a q.rest,
+        same_return end a q.rest,
         return_complete d kinds b (omega arith) (e + c.count) (max m c.peak),
       )
       (met_as (signature_met d kinds g (omega arith) (e + c.count + f.count) (max (max m c.peak) f.peak)) (same_read refl refl refl (omega arith) (omega arith)))
 
-  pub encoding_met : {x : Context} {p q : Position} {t : Tree} {c : Cost} → EncodingAs (symbol_case p.rest) x p t q c → Small d c → (e m : ℕ)
-      → Met text_len (parse_encoding d x (state_at p e m)) (reached shape_of t q c e m)
+  pub encoding_met : {end : EncodingEnd} {x : Context} {p q : Position} {t : Tree} {c : Cost} → EncodingAs (symbol_case end p.rest) end x p t q c → Small d c → (e m : ℕ)
+      → Met text_len (parse_encoding d end x (state_at p e m)) (reached shape_of t q c e m)
   unfolding parse_encoding
   encoding_met a deep e m = encoding_as_met a deep e m
+
+  -- where it ends after its name it isn't measured, and nothing in it is too long
+  alone_as_complete : {case : SymbolCase} {x : Context} {p q : Position} {t : Tree} {c : Cost} → symbol_case AfterName p.rest ≡ case → EncodingAs case AfterName x p t q c → Small d c → (e m : ℕ)
+      → encoding_as case AfterName (parse_special d AfterName x) (parse_name d x) (parse_bare_name d x) (parse_type d x) (parse_type d x) (state_at p e m) ≡ given shape_of t q c e m
+  alone_as_complete is (special_encoding a) deep e m = special_complete a deep e m
+  alone_as_complete is (name_alone a) deep e m = names_complete d bares _ _ _ _ _ a deep e m
+  alone_as_complete {p = p} is (name_encoding a b g) deep e m = absurd (alone_after_name p.rest is)
+
+  pub alone_complete : {x : Context} {p q : Position} {t : Tree} {c : Cost} → EncodingAs (symbol_case AfterName p.rest) AfterName x p t q c → Small d c → (e m : ℕ)
+      → parse_encoding d AfterName x (state_at p e m) ≡ given shape_of t q c e m
+  unfolding parse_encoding
+  alone_complete a deep e m = alone_as_complete refl a deep e m
+
+  -- the offsets of a thunk, and its encoding
+  pub thunk_by_met : {end : EncodingEnd} {x : Context} (p : Position) {q : Position} {t : Tree} {c : Cost} {offsets : ThunkOffsets} {rest : List ℕ} → thunk_offsets (drop 1 p.rest) ≡ Some (offsets, rest)
+      → EncodingAs (symbol_case end rest) end x (with_rest rest p) t q c → Small d c → (e m : ℕ)
+      → Met text_len (thunk_by (encoding_by end (parse_type d x) (parse_type d (inside_params end x)) (parse_bare_name d x) (parse_thunk d end x) x) (state_at p e m)) (reached shape_of (thunk_of offsets t) q c e m)
+  unfolding parse_special parse_name
+  thunk_by_met p {t = t} {offsets = o} found a deep e m =
+      rw found (met_then _ (encoding_as_met a deep e m) (thunk_longer o t) (met (same_read (sym (shape-thunk_of o t)) refl refl refl refl)))
+
+  pub thunks_complete : ThunksComplete (suc d)
+  unfolding parse_thunk
+  thunks_complete end x p q t c (thunk found a) deep e m =
+      met_fits (met_as (thunk_by_met p found a (omega arith) (e + 1) m) (same_read refl refl refl (omega arith) refl)) (omega arith)
+
+  -- a signature
+  pub signature_by_met : {x : Context} {p q : Position} {t : Tree} {c : Cost} → EncodingAs (symbol_case AtSymbolEnd p.rest) AtSymbolEnd x p t q c → is_here AtSymbolEnd q.rest ≡ true → Small d c → (e m : ℕ)
+      → Met text_len (parse_encoding d AtSymbolEnd x (state_at p e m) >>= at_symbol_end) (reached shape_of t q c e m)
+  signature_by_met a here deep e m = met_then _ (encoding_met a deep e m) (omega arith) (met (rw here refl))
 
   entity_complete : {case : EntityCase} {x : Context} {t u : Tree} {p q : Position} {c : Cost} → EntityAs case true x t p u q c → Small d c → (e m : ℕ)
       → entity_as case (parse_bare_name d x) (shape_of t) (state_at p e m) ≡ given bare_of u q c e m
@@ -300,7 +315,7 @@ module _ (d : ℕ) (kinds : TypesComplete d) (bares : BareNamesComplete d) (thun
       rw (bares _ _ _ _ _ a deep e m) (same_read (ap (λ s. (s, own_quals u)) (sym (bare-local_in t u))) refl refl refl refl)
 
   pub local_met : {x : Context} {p q : Position} {t : Tree} {c : Cost} → Local true x p t q c → Small d c → (e m : ℕ)
-      → Met bare_len (parse_local (parse_encoding d (inside_encoding x)) (parse_bare_name d (inside_local x)) (state_at p e m)) (reached bare_of t q c e m)
+      → Met bare_len (parse_local (parse_encoding d AtE (inside_encoding x)) (parse_bare_name d (inside_local x)) (state_at p e m)) (reached bare_of t q c e m)
   unfolding parse_local
   local_met (local {c = c} a b) deep e m =
       met_then _ (encoding_met a (omega arith) e m) (entity_longer b)
@@ -309,7 +324,7 @@ module _ (d : ℕ) (kinds : TypesComplete d) (bares : BareNamesComplete d) (thun
 module _ (d : ℕ) (lists : ArgsComplete d) (kinds : TypesComplete d) (bares : BareNamesComplete d) (thunks : ThunksComplete d) where
   pub name_as_met : {case : NameCase} {x : Context} {p q : Position} {t : Tree} {c : Cost} → NameAs case true x p t q c → Small d c → (e m : ℕ)
       → Met bare_len (name_as case (parse_unqualified (parse_type d x) (parse_type d (inside_lambda x))) (parse_args d x true)
-      (parse_local (parse_encoding d (inside_encoding x)) (parse_bare_name d (inside_local x))) x (state_at p e m))
+      (parse_local (parse_encoding d AtE (inside_encoding x)) (parse_bare_name d (inside_local x))) x (state_at p e m))
       (reached bare_of t q c e m)
   name_as_met (nested_name a) deep e m = nested_met d lists kinds a deep e m
   name_as_met (local_name a) deep e m = local_met d kinds bares thunks a deep e m

@@ -1,12 +1,15 @@
 -- What is read after a text gives no shorter one.
-use Rattle.std.proofs.Common.{◌≤◌, ℕ, Bool, true, false, List, arith, Option, Some, None}
-use Rattle.demangle_text.specs.Shape.{text_len}
+use Rattle.std.proofs.Common.{◌≤◌, ℕ, Bool, true, false, List, [], ◌++◌, arith, Option, Some, None}
+use Rattle.std.proofs.lemmas.List.{length-append}
+use Rattle.demangle_text.specs.Shape.{text, text_len}
+use Rattle.itanium_syntax.specs.declared.offsets.ThunkOffsets.{ThunkOffsets}
+use Rattle.itanium_syntax.specs.declared.offsets.ThunkOffsets.TheVariants.{Single, Covariant}
 use Rattle.itanium_syntax.specs.declared.context.Context.{Context}
 use Rattle.std.specs.Prelude.{codes}
 use Rattle.itanium_syntax.specs.Names.{source_text}
 use Rattle.itanium_grammar.specs.Tree.{Tree, shape_of, shape_each, bare_shape, name_in, ctor_dtor_of}
 use Rattle.itanium_grammar.specs.Tree.{tagged_with, with_args, local_in, string_literal_of, default_argument_of, trees}
-use Rattle.itanium_grammar.specs.Tree.{in_parent}
+use Rattle.itanium_grammar.specs.Tree.{in_parent, thunk_of, offset_text}
 use Rattle.itanium_grammar.specs.Grammar.{Position, Cost, TaggedAs, UnqualifiedAs, Unqualified, AttachedAs}
 use Rattle.itanium_grammar.specs.Grammar.{SegmentsAs, EntityAs, no_tag, next_tag, constructor_unqualified}
 use Rattle.itanium_grammar.specs.Grammar.{destructor_unqualified, free_unqualified, unqualified, none_attached}
@@ -49,6 +52,33 @@ default_of_longer t u number = default_parent_longer (shape_of t) (bare_shape u)
 local_longer : (t u : Tree) → text_len (shape_of t) ≤ text_len (bare_shape (local_in t u))
 unfolding shape_of
 local_longer t u = parent_longer (shape_of t) (bare_shape u)
+
+-- an encoding is no longer than its thunk
+pub thunk_longer : (offsets : ThunkOffsets) (t : Tree) → text_len (shape_of t) ≤ text_len (shape_of (thunk_of offsets t))
+unfolding shape_of
+thunk_longer (Single o) t =
+    let front = codes "{virtual override thunk(" in
+    let after = text (shape_of t) ++ (codes ")}" ++ []) in
+    omega (
+      arith,
+      length-append front (offset_text o ++ (codes ", " ++ after)),
+      length-append (offset_text o) (codes ", " ++ after),
+      length-append (codes ", ") after,
+      length-append (text (shape_of t)) (codes ")}" ++ []),
+    )
+thunk_longer (Covariant o p) t =
+    let front = codes "{virtual override thunk(" in
+    let after = text (shape_of t) ++ (codes ")}" ++ []) in
+    let second = offset_text p ++ (codes ", " ++ after) in
+    omega (
+      arith,
+      length-append front (offset_text o ++ (codes ", " ++ second)),
+      length-append (offset_text o) (codes ", " ++ second),
+      length-append (codes ", ") second,
+      length-append (offset_text p) (codes ", " ++ after),
+      length-append (codes ", ") after,
+      length-append (text (shape_of t)) (codes ")}" ++ []),
+    )
 
 -- an entity is no longer than it is in its encoding
 pub default_holds : (t u : Tree) (number : ℕ) → text_len (shape_of u) ≤ text_len (shape_of (default_argument_of t number u))

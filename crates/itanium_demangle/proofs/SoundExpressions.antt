@@ -16,7 +16,7 @@ use Rattle.itanium_grammar.specs.Grammar.{address_expression, unary_expression, 
 use Rattle.itanium_grammar.specs.Grammar.{greater_expression, conditional_expression, parameter_expression}
 use Rattle.itanium_grammar.specs.Grammar.{literal_expression, expression_argument, pack_argument, literal_argument}
 use Rattle.itanium_grammar.specs.Grammar.{type_argument}
-use Rattle.itanium_grammar.specs.Cases.{LiteralCase, ExternalName, ValueLiteral, NoLiteral, ExpressionCase}
+use Rattle.itanium_grammar.specs.Cases.{AtE, LiteralCase, ExternalName, ValueLiteral, NoLiteral, ExpressionCase}
 use Rattle.itanium_grammar.specs.Cases.{PreExpression, AddressExpression, UnaryExpression, PostExpression}
 use Rattle.itanium_grammar.specs.Cases.{BinaryExpression, GreaterExpression, ConditionalExpression}
 use Rattle.itanium_grammar.specs.Cases.{ParameterExpression, LiteralExpression, NoExpression, ArgumentCase}
@@ -43,10 +43,10 @@ value_sound kind value v is = (cond_some (has_literal (text kind) value) _ v is)
 
 module _ (d : ℕ) (complete : TypesComplete d) (bares_are : BareNamesComplete d) (thunks_are : ThunksComplete d) (kinds : TypesSound d) (bares : BareNamesSound d) (thunks : ThunksSound d) where
   literal_sound : (case : LiteralCase) (x : Context) (p : Position) (e m : ℕ) (y : Shape × ParserState)
-      → literal_as case (parse_type d x) (parse_encoding d (inside_encoding x)) (state_at p e m) ≡ Some y → Within (LiteralAs case x p) d
+      → literal_as case (parse_type d x) (parse_encoding d AtE (inside_encoding x)) (state_at p e m) ≡ Some y → Within (LiteralAs case x p) d
   literal_sound ExternalName x p e m y is =
-      option_and_then_some _ (parse_encoding d (inside_encoding x) (state_at (skip 3 p) e m)) y is (λ z read more.
-      let found = encoding_sound d complete bares_are thunks_are kinds bares thunks (inside_encoding x) (skip 3 p) e m z read in
+      option_and_then_some _ (parse_encoding d AtE (inside_encoding x) (state_at (skip 3 p) e m)) y is (λ z read more.
+      let found = encoding_sound d complete bares_are thunks_are kinds bares thunks AtE (inside_encoding x) (skip 3 p) e m z read in
       let i = found.within in
       let there = rw found.is at more in
       option_and_then_some _ (past_end (state_at i.next (e + i.cost.count) (max m i.cost.peak))) y there (λ after end _.

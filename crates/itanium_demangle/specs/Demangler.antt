@@ -1,5 +1,5 @@
 -- What a demangler keeps between calls.
-use Rattle.std.specs.Prelude.{◌≡◌, ℕ, ◌++◌, Bool, true, List, [], map, Option, Some, None}
+use Rattle.std.specs.Prelude.{◌≡◌, ℕ, ◌++◌, Bool, true, false, List, [], map, Option, Some, None}
 use Rattle.std.specs.Str.{IsUtf8}
 use Rattle.std.specs.Prelude.{Box}
 use Rattle.std.specs.Global.{Global}
@@ -7,6 +7,7 @@ use Rattle.demangle_text.specs.declared.buffer.Buffer.{Buffer}
 use Rattle.demangle_text.specs.Shape.{Shape, text}
 use Rattle.demangle_text.specs.State.{saved, scopes, frame, outermost, main_bytes}
 use Rattle.itanium_grammar.specs.Answer.{after_prefix, HasCounts, HasComponents, HasSaved, HasBounds, HasLength}
+use Rattle.itanium_grammar.specs.Answer.{IsSignatureOrName, HasCountsOf, HasComponentsOf, HasSavedOf, HasLengthOf}
 use Rattle.itanium_demangle.specs.declared.demangler.Demangler.TheInside.{Inside}
 use Rattle.itanium_demangle.specs.LastRun.{LastRun, no_run}
 
@@ -29,6 +30,7 @@ component_shapes answered buffer = []
 abbrev pub last_run : Inside → LastRun
 last_run d = record {
   text = answer_text d.answered d.buffer;
+  signature = d.signature;
   entered = d.entered;
   most_saved = d.most_saved;
   components = component_texts d.answered d.buffer;
@@ -55,12 +57,23 @@ abbrev pub IsPrinted : List ℕ → List ℕ → Option (List ℕ) → Type 0
 IsPrinted printing after (Some text) = IsUtf8 printing × (text ≡ printing ++ after)
 IsPrinted printing after None = ¬ (IsUtf8 printing)
 
--- after a symbol the counts, the components, their shapes and the length of the text are those of its readings, and
--- without a prefix nothing is left
+-- after a symbol the counts, the components, their shapes and the length of the text are those of its readings as a
+-- name, and without a prefix nothing is left
 pub record IsPrepared (symbol : List ℕ) (run : LastRun) : Type 0 where
+  pub kind : run.signature ≡ false
   pub counts : HasCounts symbol run.entered run.most_saved
   pub components : HasComponents symbol run.text run.components
   pub saved : HasSaved symbol run.text run.saved
   pub bounds : HasBounds symbol run.entered run.most_saved
   pub longest : HasLength symbol run.text
+  pub no_prefix : after_prefix symbol ≡ None → run ≡ no_run
+
+-- the same where its signature was asked for: of its signature, or of its name where it has none
+pub record IsPreparedSignature (symbol : List ℕ) (run : LastRun) : Type 0 where
+  pub answer : IsSignatureOrName run.signature symbol run.text
+  pub counts : HasCountsOf run.signature symbol run.entered run.most_saved
+  pub components : HasComponentsOf run.signature symbol run.text run.components
+  pub saved : HasSavedOf run.signature symbol run.text run.saved
+  pub bounds : HasBounds symbol run.entered run.most_saved
+  pub longest : HasLengthOf run.signature symbol run.text
   pub no_prefix : after_prefix symbol ≡ None → run ≡ no_run

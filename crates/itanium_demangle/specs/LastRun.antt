@@ -1,11 +1,13 @@
 -- What a demangler keeps of the last symbol.
-use Rattle.std.specs.Prelude.{ℕ, List, [], Option, None}
+use Rattle.std.specs.Prelude.{ℕ, Bool, false, List, [], Option, None}
 use Rattle.demangle_text.specs.Shape.{Shape}
 
 -- what is left of the last symbol that was prepared
 pub record LastRun : Type 0 where
   -- its answer
   pub text : Option (List ℕ)
+  -- whether the answer is its signature, and not that of its name
+  pub signature : Bool
   -- the counted productions that were entered
   pub entered : ℕ
   -- the most components that were saved at one moment
@@ -17,4 +19,4 @@ pub record LastRun : Type 0 where
 
 -- nothing is left, as on a new value
 abbrev pub no_run : LastRun
-no_run = record { text = None; entered = 0; most_saved = 0; components = []; saved = [] }
+no_run = record { text = None; signature = false; entered = 0; most_saved = 0; components = []; saved = [] }

@@ -1,11 +1,13 @@
 -- What a reader says of trees.
-use Rattle.std.specs.Prelude.{◌≡◌, ℕ, ◌+◌, max, map, Result, Ok, Err}
+use Rattle.std.specs.Prelude.{◌≡◌, ℕ, ◌+◌, max, map, Bool, true, false, Result, Ok, Err}
 use Rattle.demangle_text.specs.State.{IsLiving, shape}
-use Rattle.itanium_syntax.specs.declared.context.Context.{Context}
+use Rattle.itanium_syntax.specs.Context.{inside_local}
 use Rattle.itanium_grammar.specs.Tree.{shape_of}
-use Rattle.itanium_grammar.specs.Grammar.{Position, Cost, Symbol}
-use Rattle.itanium_grammar.specs.Answer.{Fits}
-use Rattle.itanium_reader.specs.Parser.{ParserState}
+use Rattle.itanium_grammar.specs.Cases.{AfterName}
+use Rattle.itanium_grammar.specs.Grammar.{Position, Cost}
+use Rattle.itanium_grammar.specs.Answer.{Fits, Mangled, initial}
+use Rattle.itanium_reader.specs.Parser.{ParserState, Parses, parse_encoding, parse_signature}
+use Rattle.demangle_text.specs.Shape.{Shape}
 use Rattle.itanium_reader.specs.Outcome.{state}
 use Rattle.itanium_reader.specs.declared.reader.Reader.{Reader}
 use Rattle.itanium_reader.specs.declared.stop.Stop.{Stop}
@@ -50,12 +52,18 @@ HasNoReading {T} R depth =
 abbrev pub StandsFor : Reader → Position → Type 0
 StandsFor r p = state r ≡ state_at p r.entered (state r).most_saved
 
+-- what follows the prefix of a symbol, as the readers read it: as a signature, or else as a name
+abbrev pub parse_mangled : ℕ → Bool → Parses Shape
+parse_mangled depth true = parse_signature depth (inside_local initial)
+parse_mangled depth false = parse_encoding depth AfterName initial
+
 -- what a reader of symbols says of trees
-abbrev pub ReadsAs : Result (Unit {0}) Stop → Context → ℕ → Reader → Reader → Type 0
-ReadsAs (Ok u) x depth before after =
+abbrev pub ReadsAs : Result (Unit {0}) Stop → Bool → ℕ → Reader → Reader → Type 0
+ReadsAs (Ok u) signature depth before after =
     IsLiving after.buffer.value after.found
     × ((p : Position) → StandsFor before p
-    → HasReading (Symbol x p) shape_of depth before.entered (state before).most_saved
+    → HasReading (Mangled signature p) shape_of depth before.entered (state before).most_saved
     (shape after.buffer.value after.found) (state after))
-ReadsAs (Err Unread) x depth before after = (p : Position) → StandsFor before p → HasNoReading (Symbol x p) depth
-ReadsAs (Err Memory) x depth before after = Unit {0}
+ReadsAs (Err Unread) signature depth before after =
+    (p : Position) → StandsFor before p → HasNoReading (Mangled signature p) depth
+ReadsAs (Err Memory) signature depth before after = Unit {0}

@@ -10,11 +10,12 @@ use Rattle.itanium_syntax.specs.Expressions.{literal_case}
 use Rattle.itanium_syntax.specs.Names.{symbol_case}
 use Rattle.itanium_syntax.specs.Specials.{special_case}
 use Rattle.itanium_grammar.specs.Tree.{Tree, shape_of, bare_shape, own_quals, printing}
-use Rattle.itanium_grammar.specs.Grammar.{Position, Cost, Name, EncodingAs, SpecialAs, Thunk, Symbol, Args, ArgumentAs}
+use Rattle.itanium_grammar.specs.Grammar.{Position, Cost, Name, EncodingAs, SpecialAs, Thunk, Symbol, Signature, Args, ArgumentAs}
+use Rattle.itanium_grammar.specs.Cases.{EncodingEnd, AfterName}
 use Rattle.itanium_grammar.specs.Grammar.{Pack, LiteralAs, Expression, TypeOf}
 use Rattle.itanium_grammar.specs.Answer.{max_text}
 use Rattle.itanium_reader.specs.Parser.{ParserState, Parses, parse_bare_name, parse_name, parse_encoding, parse_special}
-use Rattle.itanium_reader.specs.Parser.{parse_thunk, parse_symbol, parse_args, parse_argument, parse_pack}
+use Rattle.itanium_reader.specs.Parser.{parse_thunk, parse_signature, parse_args, parse_argument, parse_pack}
 use Rattle.itanium_reader.specs.Parser.{parse_primary, parse_expression, parse_type}
 use Rattle.itanium_demangle.specs.Meaning.{state_at, HasReading, HasNoReading}
 
@@ -46,13 +47,13 @@ bare_of t = (bare_shape t, own_quals t)
 abbrev pub shape_of_args : List Tree → Shape
 shape_of_args ts = arguments_shape (map shape_of ts)
 
--- <encoding>, by what it begins with
-abbrev pub Encoding : Context → Position → Tree → Position → Cost → Type 0
-Encoding x p = EncodingAs (symbol_case p.rest) x p
+-- <encoding>, by how it ends and what it begins with
+abbrev pub Encoding : EncodingEnd → Context → Position → Tree → Position → Cost → Type 0
+Encoding end x p = EncodingAs (symbol_case end p.rest) end x p
 
 -- <special-name>, by what it begins with
-abbrev pub SpecialName : Context → Position → Tree → Position → Cost → Type 0
-SpecialName x p = SpecialAs (special_case p.rest) x p
+abbrev pub SpecialName : EncodingEnd → Context → Position → Tree → Position → Cost → Type 0
+SpecialName end x p = SpecialAs (special_case p.rest) end x p
 
 -- <template-arg>, by what it begins with
 abbrev pub Argument : Context → Position → Tree → Position → Cost → Type 0
@@ -74,20 +75,24 @@ pub record LawsOfReaders : Type 0 where
       → IsParserOf (Name false x) (Name false x) shape_of depth (parse_name depth x)
   -- <encoding>
   pub encodings :
-      (depth : ℕ) (x : Context)
-      → IsParserOf (Encoding x) (Narrow (Encoding x)) shape_of depth (parse_encoding depth x)
+      (depth : ℕ) (end : EncodingEnd) (x : Context)
+      → IsParserOf (Encoding end x) (Narrow (Encoding end x)) shape_of depth (parse_encoding depth end x)
   -- <special-name>
   pub special_names :
-      (depth : ℕ) (x : Context)
-      → IsParserOf (SpecialName x) (SpecialName x) shape_of depth (parse_special depth x)
+      (depth : ℕ) (end : EncodingEnd) (x : Context)
+      → IsParserOf (SpecialName end x) (SpecialName end x) shape_of depth (parse_special depth end x)
   -- T <call-offset> <encoding> | T c <call-offset> <call-offset> <encoding>
   pub thunks :
-      (depth : ℕ) (x : Context)
-      → IsParserOf (Thunk x) (Thunk x) shape_of depth (parse_thunk depth x)
-  -- what follows the prefix of a symbol
+      (depth : ℕ) (end : EncodingEnd) (x : Context)
+      → IsParserOf (Thunk end x) (Thunk end x) shape_of depth (parse_thunk depth end x)
+  -- what follows the prefix of a symbol, as a name
   pub symbols :
       (depth : ℕ) (x : Context)
-      → IsParserOf (Symbol x) (Symbol x) shape_of depth (parse_symbol depth x)
+      → IsParserOf (Symbol x) (Symbol x) shape_of depth (parse_encoding depth AfterName x)
+  -- and as a signature
+  pub signatures :
+      (depth : ℕ) (x : Context)
+      → IsParserOf (Signature x) (Signature x) shape_of depth (parse_signature depth x)
   -- <template-args>, those of a name or others
   pub lists :
       (depth : ℕ) (x : Context) (of_name : Bool)

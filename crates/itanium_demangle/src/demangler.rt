@@ -1,14 +1,16 @@
 //! One value that answers symbol after symbol.
-ghost use Rattle.std.specs.Prelude.{◌≡◌, IfOk, OnOk, OnErr, IfSome, MatchResult, ⊤, option_map, is_some, slice_get, map, [], length, false, Some, None};
+ghost use Rattle.std.specs.Prelude.{◌≡◌, IfOk, OnOk, OnErr, IfSome, MatchResult, ⊤, option_map, is_some, slice_get, map, [], length, Bool, true, false, Some, None};
 ghost use Rattle.std.specs.Borrow.{sem};
 ghost use Rattle.std.specs.String.{string_bytes};
 ghost use Rattle.std.specs.Str.{IsUtf8};
 ghost use Rattle.demangle_text.specs.State.{IsLiving, shape, saved, scopes, main_bytes, frame, inside, outside, outermost, frame_start};
 ghost use Rattle.demangle_text.specs.Shape.{text};
 ghost use Rattle.itanium_grammar.specs.Answer.{IsAnswer, HasOneReading, HasCounts, HasComponents, HasSaved, HasBounds, HasLength};
+ghost use Rattle.itanium_grammar.specs.Answer.{IsAnswerOf, IsSignatureOrName, HasOneReadingOf, HasCountsOf, HasComponentsOf};
+ghost use Rattle.itanium_grammar.specs.Answer.{HasSavedOf, HasLengthOf};
 ghost use Rattle.itanium_grammar.specs.Answer as spec;
 ghost use Rattle.itanium_reader.specs.Outcome.{state};
-ghost use Rattle.itanium_demangle.specs.Demangler.{IsPrinted, IsPrepared, IsText, IsEnded, answer_text, component_texts, component_shapes};
+ghost use Rattle.itanium_demangle.specs.Demangler.{IsPrinted, IsPrepared, IsPreparedSignature, IsText, IsEnded, answer_text, component_texts, component_shapes};
 ghost use Rattle.itanium_demangle.specs.LastRun.{no_run};
 
 use crate::mangled_name::read_mangled_name;
@@ -16,7 +18,6 @@ use crate::utf8::is_utf8;
 use demangle_text::{Buffer, Mark};
 use itanium_grammar::symbol::{after_prefix, suffix};
 use itanium_reader::{Reader, Stop};
-use itanium_syntax::context::INITIAL;
 use std::alloc::{AllocError, Global};
 use std::fmt::{self, Debug, Formatter, Write};
 use std::marker::Model;
@@ -30,6 +31,8 @@ pub const MAX_DEPTH: usize = 128;
 pub struct Demangler {
     // Where there is an answer, it is all of the buffer's output.
     answered: bool,
+    // Whether that is a signature.
+    signature: bool,
     entered: usize,
     most_saved: usize,
     buffer: Option<Box<Buffer>>,
@@ -99,6 +102,7 @@ impl Demangler {
     {
         Demangler {
             answered: false,
+            signature: false,
             entered: 0,
             most_saved: 0,
             buffer: None,
@@ -111,6 +115,7 @@ impl Demangler {
         requires text { IsText (answer_text answered (Some reader.buffer)) }
         requires ended { IsEnded answered (Some reader.buffer) }
         ensures text { self.new.text ≡ answer_text answered (Some reader.entry.buffer) }
+        ensures signature { self.new.signature ≡ self.old.signature }
         ensures entered { self.new.entered ≡ reader.entry.entered }
         ensures most_saved { self.new.most_saved ≡ (state reader.entry).most_saved }
         ensures components { self.new.components ≡ component_texts answered (Some reader.entry.buffer) }
@@ -122,32 +127,25 @@ impl Demangler {
         self.buffer = Some(reader.buffer);
     }
 
-    /// Reads a symbol and keeps its answer for `text`: true where there is one.
-    ///
-    /// Any text may be asked. After `_Z` or `__Z` a special name is read where `T` or `G` is next, else a name; the
-    /// parameters of a function aren't (Itanium C++ ABI 5.1.2). The answer is the printing, and after it all that
-    /// follows from a dot right after what was read. There is none exactly where no reading nests at most `MAX_DEPTH`
-    /// counted productions within `MAX_TEXT` or the printing isn't UTF-8. Within it is a reading none of whose counted
-    /// productions, also of those that are dropped, prints more bytes. What follows from the dot isn't measured, nor
-    /// are the words of a special name that is no thunk: so a text has at most 2,097,180 bytes, which are two types of
-    /// `MAX_TEXT` and the 28 of `construction vtable for ` and `-in-`, and all that follows from the dot. Without such
-    /// a prefix there is none either, no memory is taken, and both counts are 0. An error comes only where memory is
-    /// refused; then nothing is kept, and the value serves on.
+    /// Reads a symbol, as a signature or else as a name, and keeps its answer: true where there is one.
     #[tactic(auto, using(crate::proofs::Rules::answers))]
     #[inline(always)]
-    pub fn prepare(&mut self, alloc: Global, symbol: &str) -> Result<bool, AllocError>
-        ensures answer { IfOk result (λ _. IsAnswer symbol.now self.new.text) }
+    fn read(&mut self, alloc: Global, symbol: &str, signature: bool) -> Result<bool, AllocError>
+        ensures answer { IfOk result (λ _. IsAnswerOf signature symbol.now self.new.text) }
         ensures found { IfOk result (λ found. found ≡ is_some self.new.text) }
-        ensures counts { IfOk result (λ _. HasCounts symbol.now self.new.entered self.new.most_saved) }
-        ensures components { IfOk result (λ _. HasComponents symbol.now self.new.text self.new.components) }
-        ensures saved { IfOk result (λ _. HasSaved symbol.now self.new.text self.new.saved) }
+        ensures kind { self.new.signature ≡ false }
+        ensures counts { IfOk result (λ _. HasCountsOf signature symbol.now self.new.entered self.new.most_saved) }
+        ensures components { IfOk result (λ _. HasComponentsOf signature symbol.now self.new.text
+            self.new.components) }
+        ensures saved { IfOk result (λ _. HasSavedOf signature symbol.now self.new.text self.new.saved) }
         ensures bounds { IfOk result (λ _. HasBounds symbol.now self.new.entered self.new.most_saved) }
-        ensures longest { IfOk result (λ _. HasLength symbol.now self.new.text) }
-        ensures one { HasOneReading symbol.now }
+        ensures longest { IfOk result (λ _. HasLengthOf signature symbol.now self.new.text) }
+        ensures one { HasOneReadingOf signature symbol.now }
         ensures no_prefix { spec.after_prefix symbol.now ≡ None → (result ≡ Ok false) × (self.new ≡ no_run) }
         ensures err { OnErr result (self.new ≡ no_run) }
     {
         self.answered = false;
+        self.signature = false;
         self.entered = 0;
         self.most_saved = 0;
         let Some(inside) = after_prefix(symbol.as_bytes()) else {
@@ -166,7 +164,7 @@ impl Demangler {
             entered: 0,
             most_noted: 0,
         };
-        match read_mangled_name(&mut reader, MAX_DEPTH, INITIAL) {
+        match read_mangled_name(&mut reader, MAX_DEPTH, signature) {
             Ok(()) => {}
             Err(Stop::Unread) => {
                 self.keep(reader, false);
@@ -179,7 +177,66 @@ impl Demangler {
         Ok(answered)
     }
 
-    /// The answer of the last symbol that `prepare` or `demangle` was asked, lent until the next call. `None` where it
+    /// Reads a symbol and keeps its answer for `text`: true where there is one.
+    ///
+    /// Any text may be asked. After `_Z` or `__Z` a special name is read where `T` or `G` is next, else a name; the
+    /// parameters of a function aren't (Itanium C++ ABI 5.1.2). The answer is the printing, and after it all that
+    /// follows from a dot right after what was read. There is none exactly where no reading nests at most `MAX_DEPTH`
+    /// counted productions within `MAX_TEXT` or the printing isn't UTF-8. Within it is a reading none of whose counted
+    /// productions, also of those that are dropped, prints more bytes. What follows from the dot isn't measured, nor
+    /// are the words of a special name that is no thunk: so a text has at most 2,097,180 bytes, which are two types of
+    /// `MAX_TEXT` and the 28 of `construction vtable for ` and `-in-`, and all that follows from the dot. Without such
+    /// a prefix there is none either, no memory is taken, and both counts are 0. An error comes only where memory is
+    /// refused; then nothing is kept, and the value serves on.
+    #[inline(always)]
+    pub fn prepare(&mut self, alloc: Global, symbol: &str) -> Result<bool, AllocError>
+        ensures answer { IfOk result (λ _. IsAnswer symbol.now self.new.text) }
+        ensures found { IfOk result (λ found. found ≡ is_some self.new.text) }
+        ensures counts { IfOk result (λ _. HasCounts symbol.now self.new.entered self.new.most_saved) }
+        ensures components { IfOk result (λ _. HasComponents symbol.now self.new.text self.new.components) }
+        ensures saved { IfOk result (λ _. HasSaved symbol.now self.new.text self.new.saved) }
+        ensures bounds { IfOk result (λ _. HasBounds symbol.now self.new.entered self.new.most_saved) }
+        ensures longest { IfOk result (λ _. HasLength symbol.now self.new.text) }
+        ensures one { HasOneReading symbol.now }
+        ensures no_prefix { spec.after_prefix symbol.now ≡ None → (result ≡ Ok false) × (self.new ≡ no_run) }
+        ensures err { OnErr result (self.new ≡ no_run) }
+        ensures kind { self.new.signature ≡ false }
+    {
+        self.read(alloc, symbol, false)
+    }
+
+    /// Reads a symbol with its parameters, and keeps that for `text`: true where there is an answer. It is the symbol's
+    /// signature, and where it has none the answer of `prepare`; `is_signature` tells which.
+    ///
+    /// A signature is read up to where no ASCII letter, digit or underscore is next: as a special name where `T` or `G`
+    /// is next, else as a name with its parameters, after which the qualifiers of a member function stand. A return
+    /// type is read and not printed, and a thunk stands for a function with its parameters. The answer is the
+    /// printing, and after it all that follows from a dot right after what was read. It nests at most `MAX_DEPTH`
+    /// counted productions, itself one of them, within `MAX_TEXT`: so it has at most `MAX_TEXT` bytes, and all that
+    /// follows from the dot. Counts and components are those of the reading that is answered, and of the name's where
+    /// neither is.
+    pub fn prepare_signature(&mut self, alloc: Global, symbol: &str) -> Result<bool, AllocError>
+        ensures answer { IfOk result (λ _. IsSignatureOrName self.new.signature symbol.now self.new.text) }
+        ensures found { IfOk result (λ found. found ≡ is_some self.new.text) }
+        ensures counts { IfOk result (λ _. HasCountsOf self.new.signature symbol.now self.new.entered
+            self.new.most_saved) }
+        ensures components { IfOk result (λ _. HasComponentsOf self.new.signature symbol.now self.new.text
+            self.new.components) }
+        ensures saved { IfOk result (λ _. HasSavedOf self.new.signature symbol.now self.new.text self.new.saved) }
+        ensures bounds { IfOk result (λ _. HasBounds symbol.now self.new.entered self.new.most_saved) }
+        ensures longest { IfOk result (λ _. HasLengthOf self.new.signature symbol.now self.new.text) }
+        ensures one { HasOneReadingOf true symbol.now }
+        ensures no_prefix { spec.after_prefix symbol.now ≡ None → (result ≡ Ok false) × (self.new ≡ no_run) }
+        ensures err { OnErr result (self.new ≡ no_run) }
+    {
+        if self.read(alloc, symbol, true)? {
+            self.signature = true;
+            return Ok(true);
+        }
+        self.read(alloc, symbol, false)
+    }
+
+    /// The answer of the last symbol that was asked, lent until the next call. `None` where it
     /// had none, after an error, and before the first.
     pub fn text(&self) -> Option<&str>
         ensures value { option_map (λ text. text.now) result ≡ self.now.text }
@@ -190,7 +247,7 @@ impl Demangler {
         }
     }
 
-    /// Where the last `prepare` or `demangle` had an answer, the buffer that it stands in, lent until the next call:
+    /// Where the last symbol had an answer, the buffer that it stands in, lent until the next call:
     /// the answer is its output, and nothing else is in that; its saved shapes are those of the trees that the
     /// symbol leaves saved, and their texts are the components; no scope and no mark is open. Elsewhere `None`.
     pub fn buffer(&self) -> Option<&Buffer>
@@ -227,7 +284,7 @@ impl Demangler {
         self.most_saved
     }
 
-    /// Where the last `prepare` or `demangle` had an answer, the text of the component with this index, from 0 on, of
+    /// Where the last symbol had an answer, the text of the component with this index, from 0 on, of
     /// those that the symbol leaves saved (Itanium C++ ABI 5.1.10): bytes, since a component needn't be UTF-8. Past
     /// the last one, and where there is no answer, `None`.
     pub fn component(&self, i: usize) -> Option<&[u8]>
@@ -240,6 +297,14 @@ impl Demangler {
             Some(component) => Some(buffer.bytes(component)),
             None => None,
         }
+    }
+
+    /// Whether the answer of the last symbol is its signature, which `prepare_signature` or `demangle_signature` found.
+    /// False where it is that of its name, where there is none, and before the first.
+    pub fn is_signature(&self) -> bool
+        ensures value { result ≡ self.now.signature }
+    {
+        self.signature
     }
 
     /// The answer of a symbol, as `prepare` says, lent until the next call. It is kept for `text`; after an error
@@ -259,6 +324,26 @@ impl Demangler {
             (λ _. last ≡ no_run))) }
     {
         self.prepare(alloc, symbol)?;
+        Ok(self.text())
+    }
+
+    /// The signature of a symbol, or the answer of its name where it has none, as `prepare_signature` says, lent until
+    /// the next call. It is kept for `text`; after an error nothing is.
+    pub fn demangle_signature<'a>(
+        &'a mut self,
+        alloc: Global,
+        symbol: &'a str,
+    ) -> Result<Option<&'a str>, AllocError>
+        ensures answer { IfOk result (λ found. (signature : Bool) × IsSignatureOrName signature symbol.now
+            (option_map (λ text. text.now) found)) }
+        ensures no_prefix { spec.after_prefix symbol.now ≡ None → result ≡ Ok None }
+        // As of `demangle`: after the loan the value keeps what was answered, and which of the two it is.
+        ensures* kept { sem 𝓛 (follows_so the_row the_row self.entry.ghost_name none (λ _ _. ⊤)
+            (λ last. MatchResult result
+            (λ found. (last.text ≡ option_map (λ text. text.now) found) × IsPreparedSignature symbol.now last)
+            (λ _. last ≡ no_run))) }
+    {
+        self.prepare_signature(alloc, symbol)?;
         Ok(self.text())
     }
 }
