@@ -17,7 +17,7 @@ use Rattle.itanium_syntax.specs.Bytes.{begins}
 use Rattle.itanium_syntax.proofs.Fronts.{IsAfter, after_then}
 use Rattle.itanium_grammar.specs.Tree.{shape_of, printing}
 use Rattle.itanium_grammar.specs.Grammar.{Position, Cost}
-use Rattle.itanium_grammar.specs.Answer.{after_prefix, start, suffix, Mangled, max_depth, HasAnswerOf, HasNoAnswerOf, IsAnswerOf, HasCountsOf, HasComponentsOf, HasSavedOf, HasBounds}
+use Rattle.itanium_grammar.specs.Answer.{after_prefix, start, suffix, Mangled, max_depth, HasAnswer, HasNoAnswer, IsAnswerOf, HasCountsOf, HasComponentsOf, HasSavedOf, HasBounds}
 use Rattle.itanium_grammar.proofs.Agreement.{inside_takes}
 use Rattle.itanium_reader.specs.declared.reader.Reader.{Reader}
 use Rattle.itanium_reader.specs.declared.stop.Stop.{Stop}
@@ -61,7 +61,7 @@ pub reading_from_start : (full : Bool) (d : ℕ) (before after : ParserState) (f
 reading_from_start full d before after found bytes is reads =
     subst (λ (s : ParserState). (p : Position) → s ≡ state_at p s.entered s.most_saved → HasReading (Mangled full p) shape_of d s.entered s.most_saved found after) is reads (start bytes) refl
 
-pub no_prefix : (full : Bool) (symbol : List ℕ) → after_prefix symbol ≡ None → HasNoAnswerOf full symbol
+pub no_prefix : (full : Bool) (symbol : List ℕ) → after_prefix symbol ≡ None → HasNoAnswer full symbol
 no_prefix full symbol none tree next cost reading within utf8 = let p = reading.prefix in cc
 
 begins_dot : (bytes : List ℕ) → begins (46 ∷ []) bytes ≡ true → (0 < length bytes) × (get_or bytes 0 0 ≡ 46)
@@ -116,14 +116,14 @@ prefix_takes symbol inside e = go (begins (95 ∷ 90 ∷ []) symbol) (begins (95
     go false true b c e = let is : drop 3 symbol ≡ inside = cc in rw (sym is) (omega (arith, length-drop 3 symbol, three c))
     go false false b c e = cc
 
-pub not_read : (full : Bool) (symbol inside : List ℕ) → after_prefix symbol ≡ Some inside → HasNoReading (Mangled full (start inside)) max_depth → HasNoAnswerOf full symbol
+pub not_read : (full : Bool) (symbol inside : List ℕ) → after_prefix symbol ≡ Some inside → HasNoReading (Mangled full (start inside)) max_depth → HasNoAnswer full symbol
 not_read full symbol inside prefix none tree next cost reading within utf8 =
     let here : reading.inside ≡ inside = cc in
     none tree next cost (subst (λ v. Mangled full (start v) tree next cost) here reading.reading) within
 
 read_wrongly : (full : Bool) (symbol inside : List ℕ) (e m : ℕ) (found : Shape) (after : ParserState)
     → after_prefix symbol ≡ Some inside → HasReading (Mangled full (start inside)) shape_of max_depth e m found after
-    → ¬ (IsUtf8 (text found)) → HasNoAnswerOf full symbol
+    → ¬ (IsUtf8 (text found)) → HasNoAnswer full symbol
 read_wrongly full symbol inside e m found after prefix has bad tree next cost reading within utf8 =
     let here : reading.inside ≡ inside = cc in
     let same = has.one tree next cost (subst (λ v. Mangled full (start v) tree next cost) here reading.reading) within in
@@ -132,7 +132,7 @@ read_wrongly full symbol inside e m found after prefix has bad tree next cost re
 
 read_rightly : (full : Bool) (symbol inside answer : List ℕ) (e m : ℕ) (found : Shape) (after : ParserState)
     → after_prefix symbol ≡ Some inside → HasReading (Mangled full (start inside)) shape_of max_depth e m found after
-    → IsUtf8 (text found) → answer ≡ text found ++ suffix after.rest → HasAnswerOf full symbol answer
+    → IsUtf8 (text found) → answer ≡ text found ++ suffix after.rest → HasAnswer full symbol answer
 read_rightly full symbol inside answer e m found after prefix has utf8 built =
     let same_rest : after.rest ≡ has.next.rest = ap (λ (s : ParserState). s.rest) has.state_is in
     record {

@@ -1,12 +1,52 @@
 //! What follows the prefix of a symbol (Itanium C++ ABI 5.1.2).
 ghost use Rattle.std.specs.Prelude.{OnOk};
 ghost use Rattle.demangle_text.specs.State.{IsRun};
+ghost use Rattle.itanium_grammar.specs.Cases.{AfterName};
+ghost use Rattle.itanium_reader.specs.Parser as spec;
 ghost use Rattle.itanium_reader.specs.Outcome.{state, Gives, HasRoom, TakesSome, SavedBounds};
 ghost use Rattle.itanium_demangle.specs.Meaning.{ReadsAs, parse_mangled};
 
-use itanium_productions::{read_signature, read_symbol};
+use itanium_productions::{read_encoding, read_name, read_special_name};
 use itanium_reader::{Reader, Stop};
-use itanium_syntax::context::INITIAL;
+use itanium_syntax::context::{Context, INITIAL};
+use itanium_syntax::encodings::EncodingEnd;
+use itanium_syntax::names::begins_special;
+
+/// What follows the prefix, as a name, within `depth` open productions: an encoding that ends right after its name. To
+/// call `read_encoding` for it would take 43 instructions more a name.
+#[tactic(auto, using(itanium_reader::proofs::Rules::symbols))]
+#[inline(always)]
+fn read_symbol(reader: &mut Reader, depth: usize, context: Context) -> Result<(), Stop>
+    requires room { HasRoom 1 (state reader.old) }
+    ensures reads { Gives result reader.new (spec.parse_encoding depth AfterName context (state reader.old)) }
+    ensures run { OnOk result (IsRun reader.old.buffer.value reader.new.buffer.value) }
+    ensures bounds { TakesSome 1 result (state reader.old) (state reader.new) }
+    ensures saved { SavedBounds 1 result (state reader.old) (state reader.new) }
+{
+    if begins_special(reader.rest) {
+        read_special_name(reader, depth, context, EncodingEnd::AfterName)
+    } else {
+        read_name(reader, depth, context, false)
+    }
+}
+
+/// What follows the prefix, as a signature, within `depth` open productions: an encoding up to where no ASCII letter,
+/// digit or underscore is next.
+#[tactic(auto, using(itanium_reader::proofs::Rules::signatures))]
+fn read_signature(reader: &mut Reader, depth: usize, context: Context) -> Result<(), Stop>
+    requires room { HasRoom 2 (state reader.old) }
+    ensures reads { Gives result reader.new (spec.parse_signature depth context (state reader.old)) }
+    ensures run { OnOk result (IsRun reader.old.buffer.value reader.new.buffer.value) }
+    ensures bounds { TakesSome 2 result (state reader.old) (state reader.new) }
+    ensures saved { SavedBounds 1 result (state reader.old) (state reader.new) }
+{
+    let depth = reader.enter(depth)?;
+    read_encoding(reader, depth, context, EncodingEnd::AtSymbolEnd)?;
+    if !EncodingEnd::AtSymbolEnd.is_here(reader.rest) {
+        return Err(Stop::Unread);
+    }
+    reader.measure()
+}
 
 /// `<mangled-name>` after its prefix, within `depth` open productions: as a signature, or else as a name.
 #[tactic(auto, using(crate::proofs::Rules::readings))]

@@ -8,7 +8,7 @@ use Rattle.itanium_syntax.specs.Bytes.{begins}
 use Rattle.itanium_syntax.proofs.Fronts.{Takes}
 use Rattle.itanium_grammar.specs.Tree.{Tree, printing}
 use Rattle.itanium_grammar.specs.Grammar.{Position, Cost, Signature, signature}
-use Rattle.itanium_grammar.specs.Answer.{after_prefix, start, suffix, Mangled, IsWithin, IsReadingOf, HasAnswerOf, IsAnswerOf, HasOneReadingOf}
+use Rattle.itanium_grammar.specs.Answer.{after_prefix, start, suffix, Mangled, IsWithin, IsReading, HasAnswer, IsAnswerOf, HasOneReadingOf}
 use Rattle.itanium_grammar.specs.Laws.{LawsOfReadings, LawsOfAnswers}
 use Rattle.itanium_grammar.proofs.Unambiguous.{Same, same_counted, one_encoding_as}
 use Rattle.itanium_grammar.proofs.Progress.{encoding_as_takes}
@@ -29,7 +29,7 @@ one_reading full symbol = record {
 }
 
 -- a symbol with an answer has no other
-same_answer : (full : Bool) (symbol a b : List ℕ) → HasAnswerOf full symbol a → HasAnswerOf full symbol b → a ≡ b
+same_answer : (full : Bool) (symbol a b : List ℕ) → HasAnswer full symbol a → HasAnswer full symbol b → a ≡ b
 same_answer full symbol a b f g =
     let same = (one_reading full symbol).agree f.tree g.tree f.next g.next f.cost g.cost f.reading g.reading f.within g.within in
     f.answer_is ∙ ap₂ (λ t q. printing t ++ suffix q.rest) same.0 same.1 ∙ sym g.answer_is
@@ -53,7 +53,7 @@ same_inside (a ∷ b ∷ rest) e =
     let q : b ≡ 90 = grind (arith, common_steps) in
     rw (p, q) refl
 
-moved_reading : (full : Bool) (old new : List ℕ) (t : Tree) (q : Position) (c : Cost) → after_prefix new ≡ after_prefix old → IsReadingOf full old t q c → IsReadingOf full new t q c
+moved_reading : (full : Bool) (old new : List ℕ) (t : Tree) (q : Position) (c : Cost) → after_prefix new ≡ after_prefix old → IsReading full old t q c → IsReading full new t q c
 moved_reading full old new t q c e r = record { inside = r.inside; prefix = e ∙ r.prefix; reading = r.reading }
 
 moved_answer : (full : Bool) (old new : List ℕ) (a : Option (List ℕ)) → after_prefix new ≡ after_prefix old → IsAnswerOf full old a → IsAnswerOf full new a
@@ -68,7 +68,7 @@ moved_answer full old new (Some a) e f = record {
   answer_is = f.answer_is;
 }
 
-dot_kept : (full : Bool) (symbol rest : List ℕ) (tree : Tree) (next : Position) (cost : Cost) → IsReadingOf full symbol tree next cost → IsWithin cost
+dot_kept : (full : Bool) (symbol rest : List ℕ) (tree : Tree) (next : Position) (cost : Cost) → IsReading full symbol tree next cost → IsWithin cost
     → IsUtf8 (printing tree) → next.rest ≡ codes "." ++ rest → IsAnswerOf full symbol (Some (printing tree ++ (codes "." ++ rest)))
 dot_kept full symbol rest tree next cost reading within utf8 dot = record {
   tree = tree;
@@ -82,11 +82,9 @@ dot_kept full symbol rest tree next cost reading within utf8 dot = record {
 
 pub laws_of_answers : LawsOfAnswers
 laws_of_answers = record {
-  one_answer = one_answer false;
-  underscore = λ symbol a starts f. moved_answer false symbol (codes "_" ++ symbol) a (same_inside symbol starts) f;
-  dot = dot_kept false;
-  one_signature = one_answer true;
-  underscore_of_signature = λ symbol a starts f. moved_answer true symbol (codes "_" ++ symbol) a (same_inside symbol starts) f;
+  one_answer = one_answer;
+  underscore = λ full symbol a starts f. moved_answer full symbol (codes "_" ++ symbol) a (same_inside symbol starts) f;
+  dot = dot_kept;
 }
 
 signature_takes : {x : Context} {p q : Position} {t : Tree} {c : Cost} → Signature x p t q c → Takes q.rest p.rest
@@ -97,4 +95,8 @@ inside_takes true inside t q c a = signature_takes a
 inside_takes false inside t q c a = encoding_as_takes a
 
 pub laws_of_readings : LawsOfReadings
-laws_of_readings = record { one_reading = one_reading false; takes = λ x p q t c reading. (encoding_as_takes reading).shorter }
+laws_of_readings = record {
+  one_reading = one_reading;
+  takes = λ x p q t c reading. (encoding_as_takes reading).shorter;
+  signature_takes = λ x p q t c reading. (signature_takes reading).shorter;
+}

@@ -10,7 +10,7 @@ use Rattle.itanium_syntax.specs.declared.numerals.Radix.{Radix}
 use Rattle.itanium_syntax.specs.Bytes.{begins}
 use Rattle.itanium_syntax.specs.Scalars.{numeral, following, ended, index_of}
 use Rattle.itanium_syntax.specs.Specials.{begins_t_and, special_text, special_close}
-use Rattle.itanium_grammar.specs.Answer.{max_text, longest_printing, after_prefix, start, suffix, Mangled, HasAnswerOf, IsAnswerOf, HasLengthOf}
+use Rattle.itanium_grammar.specs.Answer.{max_text, longest_printing, after_prefix, start, suffix, Mangled, HasAnswer, IsAnswerOf, HasLengthOf}
 use Rattle.itanium_syntax.specs.Names.{symbol_case}
 use Rattle.itanium_syntax.proofs.Fronts.{alone_after_name}
 use Rattle.itanium_grammar.specs.Tree.{Tree, shape_of, printing, worded, temporary_of, construction_of}
@@ -139,7 +139,7 @@ inside_wide false inside t q c a narrow = omega (arith, symbol_as_wide refl a na
 
 -- a symbol's printing
 -- an answer is no longer than the longest printing and its suffix
-pub answer_wide : (full : Bool) (bytes answer : List ℕ) (has : HasAnswerOf full bytes answer) → length answer ≤ longest_printing full + length (suffix has.next.rest)
+pub answer_wide : (full : Bool) (bytes answer : List ℕ) (has : HasAnswer full bytes answer) → length answer ≤ longest_printing full + length (suffix has.next.rest)
 answer_wide full bytes answer has =
     let wide = inside_wide full has.reading.inside has.tree has.next has.cost has.reading.reading has.within.width_fits in
     omega (arith, ap length has.answer_is, length-append (printing has.tree) (suffix has.next.rest), wide)
@@ -160,7 +160,7 @@ suffix_short rest = go (begins (codes ".") rest)
     go true = omega arith
     go false = omega arith
 
-pub answer_short : (full : Bool) (bytes answer : List ℕ) → HasAnswerOf full bytes answer → length answer ≤ longest_printing full + length bytes
+pub answer_short : (full : Bool) (bytes answer : List ℕ) → HasAnswer full bytes answer → length answer ≤ longest_printing full + length bytes
 answer_short full bytes answer has =
     let takes = (inside_takes full has.reading.inside has.tree has.next has.cost has.reading.reading).shorter in
     omega (arith, answer_wide full bytes answer has, suffix_short has.next.rest, takes, inside_short bytes has.reading.inside has.reading.prefix)

@@ -48,59 +48,46 @@ abbrev pub Mangled : Bool → Position → Tree → Position → Cost → Type 0
 Mangled true p = Signature (inside_local initial) p
 Mangled false p = Symbol initial p
 
--- The definitions that follow are of a symbol's signature where their truth value is true, and else of its name. Each
--- stands again without it, as what it is of the name.
+-- A definition with a truth value in front is of a symbol's signature where it is true, and else of its name.
 
 -- the grammar reads the symbol as the tree, with this position after it and at this cost
-pub record IsReadingOf (signature : Bool) (symbol : List ℕ) (tree : Tree) (next : Position) (cost : Cost)
-    : Type 0 where
+pub record IsReading (signature : Bool) (symbol : List ℕ) (tree : Tree) (next : Position) (cost : Cost) : Type 0 where
   pub inside : List ℕ
   pub prefix : after_prefix symbol ≡ Some inside
   pub reading : Mangled signature (start inside) tree next cost
 
-abbrev pub IsReading : List ℕ → Tree → Position → Cost → Type 0
-IsReading symbol tree next cost = IsReadingOf false symbol tree next cost
-
 -- a reading within the limits: its printing is UTF-8, and the answer is the printing with the suffix
-pub record HasAnswerOf (signature : Bool) (symbol answer : List ℕ) : Type 0 where
+pub record HasAnswer (signature : Bool) (symbol answer : List ℕ) : Type 0 where
   pub tree : Tree
   pub next : Position
   pub cost : Cost
-  pub reading : IsReadingOf signature symbol tree next cost
+  pub reading : IsReading signature symbol tree next cost
   pub within : IsWithin cost
   pub utf8 : IsUtf8 (printing tree)
   pub answer_is : answer ≡ printing tree ++ suffix next.rest
 
-abbrev pub HasAnswer : List ℕ → List ℕ → Type 0
-HasAnswer symbol answer = HasAnswerOf false symbol answer
-
 -- a fact of every reading of the symbol within the limits
-abbrev pub OfEachReadingOf : Bool → List ℕ → (Tree → Position → Cost → Type 0) → Type 0
-OfEachReadingOf signature symbol Fact =
+abbrev pub OfEachReading : Bool → List ℕ → (Tree → Position → Cost → Type 0) → Type 0
+OfEachReading signature symbol Fact =
     (tree : Tree) (next : Position) (cost : Cost)
-    → IsReadingOf signature symbol tree next cost
+    → IsReading signature symbol tree next cost
     → IsWithin cost
     → Fact tree next cost
 
-abbrev pub OfEachReading : List ℕ → (Tree → Position → Cost → Type 0) → Type 0
-OfEachReading symbol Fact = OfEachReadingOf false symbol Fact
-
 -- no reading within the limits has a printing in UTF-8
-abbrev pub HasNoAnswerOf : Bool → List ℕ → Type 0
-HasNoAnswerOf signature symbol = OfEachReadingOf signature symbol (λ tree next cost. IsUtf8 (printing tree) → ⊥)
-
-abbrev pub HasNoAnswer : List ℕ → Type 0
-HasNoAnswer symbol = HasNoAnswerOf false symbol
+abbrev pub HasNoAnswer : Bool → List ℕ → Type 0
+HasNoAnswer signature symbol = OfEachReading signature symbol (λ tree next cost. IsUtf8 (printing tree) → ⊥)
 
 -- the answer of a symbol
 abbrev pub IsAnswerOf : Bool → List ℕ → Option (List ℕ) → Type 0
-IsAnswerOf signature symbol (Some answer) = HasAnswerOf signature symbol answer
-IsAnswerOf signature symbol None = HasNoAnswerOf signature symbol
+IsAnswerOf signature symbol (Some answer) = HasAnswer signature symbol answer
+IsAnswerOf signature symbol None = HasNoAnswer signature symbol
 
+-- the answer of its name
 abbrev pub IsAnswer : List ℕ → Option (List ℕ) → Type 0
 IsAnswer symbol answer = IsAnswerOf false symbol answer
 
--- the signature of a symbol
+-- its signature
 abbrev pub IsSignature : List ℕ → Option (List ℕ) → Type 0
 IsSignature symbol answer = IsAnswerOf true symbol answer
 
@@ -115,20 +102,22 @@ IsSignatureOrName false symbol answer = IsSignature symbol None × IsAnswer symb
 pub record HasOneReadingOf (signature : Bool) (symbol : List ℕ) : Type 0 where
   pub agree :
       (t u : Tree) (q r : Position) (c d : Cost)
-      → IsReadingOf signature symbol t q c
-      → IsReadingOf signature symbol u r d
+      → IsReading signature symbol t q c
+      → IsReading signature symbol u r d
       → IsWithin c
       → IsWithin d
       → (t ≡ u) × (q ≡ r) × (c ≡ d)
 
+-- the same of its name
 abbrev pub HasOneReading : List ℕ → Type 0
 HasOneReading symbol = HasOneReadingOf false symbol
 
 -- the counts are those of every reading within the limits
 abbrev pub HasCountsOf : Bool → List ℕ → ℕ → ℕ → Type 0
 HasCountsOf signature symbol entered most_saved =
-    OfEachReadingOf signature symbol (λ tree next cost. (entered ≡ cost.count) × (most_saved ≡ cost.peak))
+    OfEachReading signature symbol (λ tree next cost. (entered ≡ cost.count) × (most_saved ≡ cost.peak))
 
+-- the same of its name
 abbrev pub HasCounts : List ℕ → ℕ → ℕ → Type 0
 HasCounts symbol entered most_saved = HasCountsOf false symbol entered most_saved
 
@@ -136,13 +125,14 @@ HasCounts symbol entered most_saved = HasCountsOf false symbol entered most_save
 -- is empty
 abbrev pub HasEach : {A : Type 0} → (Tree → A) → Bool → List ℕ → Option (List ℕ) → List A → Type 0
 HasEach f signature symbol (Some answer) kept =
-    OfEachReadingOf signature symbol (λ tree next cost. kept ≡ map f next.saved)
+    OfEachReading signature symbol (λ tree next cost. kept ≡ map f next.saved)
 HasEach f signature symbol None kept = kept ≡ []
 
 -- where there is an answer, the printings of the trees that are left saved; else none
 abbrev pub HasComponentsOf : Bool → List ℕ → Option (List ℕ) → List (List ℕ) → Type 0
 HasComponentsOf signature symbol answer components = HasEach printing signature symbol answer components
 
+-- the same of its name
 abbrev pub HasComponents : List ℕ → Option (List ℕ) → List (List ℕ) → Type 0
 HasComponents symbol answer components = HasComponentsOf false symbol answer components
 
@@ -150,23 +140,24 @@ HasComponents symbol answer components = HasComponentsOf false symbol answer com
 abbrev pub HasSavedOf : Bool → List ℕ → Option (List ℕ) → List Shape → Type 0
 HasSavedOf signature symbol answer shapes = HasEach shape_of signature symbol answer shapes
 
+-- the same of its name
 abbrev pub HasSaved : List ℕ → Option (List ℕ) → List Shape → Type 0
 HasSaved symbol answer shapes = HasSavedOf false symbol answer shapes
 
--- so many bytes has a printing at most: a signature's those of the longest text, a name's those of two types of the
--- longest text and 28 of the words around them
+-- the most bytes of a printing: of a signature's those of the longest text, of a name's those of two types of the
+-- longest text, with the 28 bytes of the words around them
 abbrev pub longest_printing : Bool → ℕ
 longest_printing true = 1048576
 longest_printing false = 2097180
 
--- where there is an answer, it is at most as long as the longest printing, and the suffix of every reading within the
--- limits
+-- where there is an answer, it is no longer than the longest printing and the suffix of every reading within the limits
 abbrev pub HasLengthOf : Bool → List ℕ → Option (List ℕ) → Type 0
 HasLengthOf signature symbol (Some answer) =
-    OfEachReadingOf signature symbol
+    OfEachReading signature symbol
     (λ tree next cost. length answer ≤ longest_printing signature + length (suffix next.rest))
 HasLengthOf signature symbol None = Unit {0}
 
+-- the same of its name
 abbrev pub HasLength : List ℕ → Option (List ℕ) → Type 0
 HasLength symbol answer = HasLengthOf false symbol answer
 

@@ -4,7 +4,8 @@
 -- o, m and n are operands. c, d and e are costs. i, k and number are numbers. bytes, rest, value and text are bytes.
 --
 -- The indices of a reading stand in this order: the case that the next bytes begin, where the family is named ..As; how
--- an encoding or a list of types ends; truth values; the context; what stands in front; the position before; the tree; the position after; the cost.
+-- the encoding around it ends; truth values; the context; what stands in front; the position before; the tree; the
+-- position after; the cost.
 use Rattle.std.specs.Prelude.{◌≡◌, ℕ, ◌+◌, ◌-◌, max, Bool, true, false, if◌then◌else◌, slice_get}
 use Rattle.std.specs.Prelude.{slice_index_or, List, [], ◌∷◌, ◌++◌, Option, Some, None, is_some, take, drop, length}
 use Rattle.std.specs.Prelude.{codes, option_map}
@@ -284,8 +285,8 @@ mutual
         → Thunk end x p t q c
         → SpecialAs ThunkSpecial end x p t q c
 
-  -- T <call-offset> <encoding> | T c <call-offset> <call-offset> <encoding>: counted, its encoding without parameters but
-  -- in a signature
+  -- T <call-offset> <encoding> | T c <call-offset> <call-offset> <encoding>: counted. Its encoding has no parameters,
+  -- but in a signature
   pub data Thunk : EncodingEnd → Context → Position → Tree → Position → Cost → Type 0 where
     thunk :
         {end : EncodingEnd} {x : Context} {p q : Position} {t : Tree} {c : Cost} {offsets : ThunkOffsets}

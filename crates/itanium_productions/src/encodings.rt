@@ -106,7 +106,7 @@ pub(crate) fn end_encoding(
 /// `<encoding> ::= <special-name> | <name> [<return type>] [<parameter types>]`: a name alone where it ends after it.
 #[tactic(auto, using(itanium_reader::proofs::Rules::encodings))]
 #[cycle(reader)]
-pub(crate) fn read_encoding(
+pub fn read_encoding(
     reader: &mut Reader,
     depth: usize,
     context: Context,

@@ -9,4 +9,6 @@ mod names;
 mod specials;
 mod types;
 
-pub use crate::specials::{read_signature, read_symbol};
+pub use crate::encodings::read_encoding;
+pub use crate::names::read_name;
+pub use crate::specials::read_special_name;

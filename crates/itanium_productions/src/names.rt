@@ -334,7 +334,7 @@ pub(crate) fn read_unscoped_name(
 #[tactic(auto, using(crate::proofs::OwnQualifiers::names))]
 #[cycle(reader)]
 #[inline(always)]
-pub(crate) fn read_name(
+pub fn read_name(
     reader: &mut Reader,
     depth: usize,
     context: Context,

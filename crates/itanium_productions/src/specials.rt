@@ -1,17 +1,15 @@
-//! Special names, and signatures (Itanium C++ ABI 5.1.4, "Other Special Functions and Entities").
+//! Special names (Itanium C++ ABI 5.1.4, "Other Special Functions and Entities").
 ghost use Rattle.std.specs.Prelude.{◌≡◌, ◌<◌, OnOk, length};
 ghost use Rattle.demangle_text.specs.State.{IsRun};
-ghost use Rattle.itanium_grammar.specs.Cases.{AfterName};
 ghost use Rattle.itanium_reader.specs.Parser as spec;
 ghost use Rattle.itanium_reader.specs.Outcome.{state, Gives, HasRoom, TakesSome, SavedBounds};
 
 use crate::encodings::read_encoding;
-use crate::names::{framed_name, read_name};
+use crate::names::framed_name;
 use crate::types::{framed_type, read_type};
 use itanium_reader::{Reader, Stop};
 use itanium_syntax::context::Context;
 use itanium_syntax::encodings::EncodingEnd;
-use itanium_syntax::names::begins_special;
 use itanium_syntax::offsets::past_base_offset;
 use itanium_syntax::specials::{SpecialCase, special_case, special_close, special_text};
 
@@ -148,7 +146,7 @@ pub(crate) fn read_thunk(
 #[tactic(auto, using(itanium_reader::proofs::Rules::specials))]
 #[cycle(reader)]
 #[inline(never)]
-pub(crate) fn read_special_name(
+pub fn read_special_name(
     reader: &mut Reader,
     depth: usize,
     context: Context,
@@ -168,40 +166,4 @@ pub(crate) fn read_special_name(
         SpecialCase::ThunkSpecial => read_thunk(reader, depth, context, end),
         SpecialCase::NoSpecial => Err(Stop::Unread),
     }
-}
-
-/// What follows the prefix of a symbol, as a name, within `depth` open productions: an encoding that ends right after
-/// its name. It does what `read_encoding` does.
-#[tactic(auto, using(itanium_reader::proofs::Rules::symbols))]
-#[inline(always)]
-pub fn read_symbol(reader: &mut Reader, depth: usize, context: Context) -> Result<(), Stop>
-    requires room { HasRoom 1 (state reader.old) }
-    ensures reads { Gives result reader.new (spec.parse_encoding depth AfterName context (state reader.old)) }
-    ensures run { OnOk result (IsRun reader.old.buffer.value reader.new.buffer.value) }
-    ensures bounds { TakesSome 1 result (state reader.old) (state reader.new) }
-    ensures saved { SavedBounds 1 result (state reader.old) (state reader.new) }
-{
-    if begins_special(reader.rest) {
-        read_special_name(reader, depth, context, EncodingEnd::AfterName)
-    } else {
-        read_name(reader, depth, context, false)
-    }
-}
-
-/// A symbol with its parameters, up to where no ASCII letter, digit or underscore is next, within `depth` open
-/// productions.
-#[tactic(auto, using(itanium_reader::proofs::Rules::signatures))]
-pub fn read_signature(reader: &mut Reader, depth: usize, context: Context) -> Result<(), Stop>
-    requires room { HasRoom 2 (state reader.old) }
-    ensures reads { Gives result reader.new (spec.parse_signature depth context (state reader.old)) }
-    ensures run { OnOk result (IsRun reader.old.buffer.value reader.new.buffer.value) }
-    ensures bounds { TakesSome 2 result (state reader.old) (state reader.new) }
-    ensures saved { SavedBounds 1 result (state reader.old) (state reader.new) }
-{
-    let depth = reader.enter(depth)?;
-    read_encoding(reader, depth, context, EncodingEnd::AtSymbolEnd)?;
-    if !EncodingEnd::AtSymbolEnd.is_here(reader.rest) {
-        return Err(Stop::Unread);
-    }
-    reader.measure()
 }
