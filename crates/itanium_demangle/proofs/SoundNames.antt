@@ -60,7 +60,7 @@ use Rattle.itanium_demangle.proofs.Readings.{TypesComplete, BareNamesComplete, B
 use Rattle.itanium_demangle.proofs.Readings.{ThunksComplete, ThunksSound}
 use Rattle.itanium_demangle.proofs.Waiting.{same_return, whole_name}
 use Rattle.itanium_demangle.proofs.Whole.{with_own_quals}
-use Rattle.itanium_demangle.proofs.Fitting.{Met, met, met_is, met_passed, met_passed_bare, passed}
+use Rattle.itanium_demangle.proofs.Fitting.{Met, met_is, met_passed, met_passed_bare, passed}
 use Rattle.itanium_demangle.proofs.CompleteNames.{substitution_complete, parameter_complete, free_met, unqualified_met}
 use Rattle.itanium_demangle.proofs.CompleteNames.{first_met, segments_met, encoding_met, thunk_by_met, signature_by_met, name_as_met}
 use Rattle.itanium_demangle.proofs.CompleteNames.{bare_names_complete, names_complete, thunks_complete}

@@ -12,7 +12,6 @@ use Rattle.std.specs.Global.{Global}
 use Rattle.demangle_text.specs.Shape.{Shape, text}
 use Rattle.demangle_text.specs.declared.buffer.Buffer.{Buffer}
 use Rattle.demangle_text.specs.State.{shape, saved, scopes, main_bytes}
-use Rattle.itanium_syntax.specs.declared.context.Context.{Context}
 use Rattle.itanium_syntax.specs.Bytes.{begins}
 use Rattle.itanium_syntax.proofs.Fronts.{IsAfter, after_then}
 use Rattle.itanium_grammar.specs.Tree.{shape_of, printing}

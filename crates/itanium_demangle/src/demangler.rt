@@ -229,11 +229,12 @@ impl Demangler {
         ensures no_prefix { spec.after_prefix symbol.now ≡ None → (result ≡ Ok false) × (self.new ≡ no_run) }
         ensures err { OnErr result (self.new ≡ no_run) }
     {
-        if self.read(alloc, symbol, true)? {
-            self.signature = true;
-            return Ok(true);
+        let found = self.read(alloc, symbol, true)?;
+        if !found {
+            return self.read(alloc, symbol, false);
         }
-        self.read(alloc, symbol, false)
+        self.signature = true;
+        Ok(true)
     }
 
     /// The answer of the last symbol that was asked, lent until the next call. `None` where it
