@@ -1,8 +1,8 @@
-// What cosvigle.hpp promises at the edges, with exceptions and without: kinds of symbols, moves, bytes that aren't UTF-8,
-// out of memory, and statuses. Prints each promise that doesn't hold, then 'N passed, M failed'. If the environment names
-// an allocation that fails (refuse.c), a call may fail once, and is made again. The status is then 2 if one has failed, 0
-// if none has, and 1 if a promise doesn't hold. Without exceptions a std::string ends the program there, so only what
-// makes none is then called.
+// What cosvigle.hpp promises at the edges, with exceptions and without: kinds of symbols, moves, bytes that aren't
+// UTF-8, out of memory, and statuses. Prints each promise that doesn't hold, then 'N passed, M failed'. If the
+// environment names an allocation that fails (refuse.c), a call may fail once, and is made again. The status is then
+// 2 if one has failed, 0 if none has, and 1 if a promise doesn't hold. Without exceptions a std::string ends the
+// program there, so only what makes none is then called.
 #include <cosvigle.hpp>
 
 #include <cstdio>
@@ -18,8 +18,8 @@ static void holds(bool is, const char *what) {
     else failed++, std::printf("edges: not so: %s\n", what);
 }
 
-// A call that may be refused memory, and the same call again if it was. The value tells whether it was where there are no
-// exceptions.
+// A call that may be refused memory, and the same call again if it was. The value tells whether it was where there
+// are no exceptions.
 template <class Call> static auto again(const cosvigle::demangler *value, Call call) -> decltype(call()) {
 #if COSVIGLE_HAS_EXCEPTIONS
     (void)value;
@@ -56,7 +56,8 @@ static void try_views() {
     answers(first, cosvigle::string_view(), nullptr);
     answers(first, cosvigle::string_view("_Z3foo\0bar", 10), "foo");
 
-    // A moved value answers on, the one that it was moved from too, and one that is assigned keeps nothing of its own.
+    // A moved value answers on, the one that it was moved from too, and one that is assigned keeps nothing of its
+    // own.
     cosvigle::demangler second(std::move(first));
     answers(second, "_Z3bar", "bar");
     answers(first, "_Z4quux", "quux");

@@ -1,23 +1,23 @@
 /* Cosvigle: a demangler for C++ symbols of the Itanium C++ ABI.
  *
- * What is proved: the calls that the library exports. Their contracts are in crates/cosvigle_c of the sources. Two things
- * in this header are C that nothing proves: the functions at its end that take NULL in place of a pointer, and
+ * What is proved: the calls that the library exports. Their contracts are in crates/cosvigle_c of the sources. Two
+ * things in this header are C that nothing proves: the functions at its end that take NULL in place of a pointer, and
  * cosvigle_string.
  *
  * What a caller must keep to, and nothing checks:
  * - Each pointer is valid for as many bytes as its length says, and aligned for its type.
- * - The memory that a call writes to (a text, *needed, a handle) overlaps nothing else that the call is given. No other
- *   thread touches what a call is given until it returns.
+ * - The memory that a call writes to (a text, *needed, a handle) overlaps nothing else that the call is given. No
+ *   other thread touches what a call is given until it returns.
  * - malloc, realloc and free are of one allocator, which aligns a block to each power of two up to 16 that divides its
  *   size.
  * - No call is made from a signal handler, or in the forked child of a process with threads.
- * - A handle begins as COSVIGLE_NONE, and only the calls change it. It is used by one thread, in one call at a time, and
- *   with one copy of the library. After it is copied, only one of the two is used and freed.
- * The calls share nothing but a handle: threads with handles of their own may call at the same time.
+ * - A handle begins as COSVIGLE_NONE, and only the calls change it. It is used by one thread, in one call at a time,
+ *   and with one copy of the library. After it is copied, only one of the two is used and freed.
+ * Calls share nothing but a handle: threads with handles of their own may call at the same time.
  *
- * NULL: a text or symbol of length 0 and room of 0 bytes may be NULL, and so may needed, and the handle of cosvigle_free.
- * Any other NULL gives COSVIGLE_BAD_CALL. This holds for callers that include this header. The exported calls themselves,
- * as a program reaches them by dlsym or from another language, take no NULL.
+ * NULL: a text or symbol of length 0 and room of 0 bytes may be NULL, and so may needed, and the handle of
+ * cosvigle_free. Any other NULL gives COSVIGLE_BAD_CALL. This holds for callers that include this header. The exported
+ * calls themselves, as a program reaches them by dlsym or from another language, take no NULL.
  *
  * The library has no unwind tables: a backtrace that is taken inside a call ends there. */
 #ifndef COSVIGLE_H
@@ -48,8 +48,8 @@ enum {
     COSVIGLE_NOT_UTF8 = 4,  /* the symbol isn't UTF-8 */
     COSVIGLE_BAD_CALL = 5   /* a pointer is NULL that must not be */
 };
-/* A call that returns COSVIGLE_WRITTEN writes the text at the front of the room, without a NUL at its end, and leaves the
- * bytes after it. With any other status nothing is written there, and *needed is 0 unless the status is
+/* A call that returns COSVIGLE_WRITTEN writes the text at the front of the room, without a NUL at its end, and leaves
+ * the bytes after it. With any other status nothing is written there, and *needed is 0 unless the status is
  * COSVIGLE_NO_ROOM. */
 
 /* The version of the library: the major version times 1,000,000, the minor times 1,000, and the patch, added up. */
@@ -63,39 +63,40 @@ typedef struct {
 /* A handle without a demangler: cosvigle_handle handle = COSVIGLE_NONE; */
 #define COSVIGLE_NONE {NULL}
 
-/* Writes the demangled name of a symbol of len bytes to answer, which has room bytes. A symbol begins with _Z or __Z. The
- * parameters of a function aren't read, and all that follows from a dot right after what was read ends the name. The name
- * is UTF-8. The handle keeps its memory, so that a next symbol that needs no more makes no call of malloc. A handle
- * without a demangler gets one. After COSVIGLE_NO_MEMORY the handle can be used again. */
+/* Writes the demangled name of a symbol of len bytes to answer, which has room bytes. A symbol begins with _Z or __Z.
+ * The parameters of a function aren't read, and all that follows from a dot right after what was read ends the name.
+ * The name is UTF-8. The handle keeps its memory, so that a next symbol that needs no more makes no call of malloc. A
+ * handle without a demangler gets one. After COSVIGLE_NO_MEMORY the handle can be used again. */
 int cosvigle_ask(cosvigle_handle *handle, const char *symbol, size_t len, char *answer, size_t room, size_t *needed);
 
 /* The same for one symbol, without a handle. */
 int cosvigle_demangle(const char *symbol, size_t len, char *answer, size_t room, size_t *needed);
 
-/* Writes a text with its symbols replaced by their demangled names, as the program cosvigle does. A word is a longest run
- * of ASCII letters, digits, _, $ and dots. Its symbol stands at its front, after at most one dot or $, which stays, as do
- * the dots at its end. With strip, one more underscore may stand in front of a symbol, and is dropped. All other bytes
- * stay. WRITTEN, NO_MEMORY or NO_ROOM.
+/* Writes a text with its symbols replaced by their demangled names, as the program cosvigle does. A word is a longest
+ * run of ASCII letters, digits, _, $ and dots. Its symbol stands at its front, after at most one dot or $, which
+ * stays, as do the dots at its end. With strip, one more underscore may stand in front of a symbol, and is dropped.
+ * All other bytes stay. WRITTEN, NO_MEMORY or NO_ROOM.
  *
- * With COSVIGLE_NO_ROOM the handle keeps the text that was made: give *needed bytes of room to cosvigle_take. The next call
- * with this handle of cosvigle_replace, cosvigle_filter_with, cosvigle_new or cosvigle_free drops it. */
+ * With COSVIGLE_NO_ROOM the handle keeps the text that was made: give *needed bytes of room to cosvigle_take. The next
+ * call with this handle of cosvigle_replace, cosvigle_filter_with, cosvigle_new or cosvigle_free drops it. */
 int cosvigle_replace(cosvigle_handle *handle, bool strip, const char *text, size_t len, char *into, size_t room,
                      size_t *needed);
 
-/* Writes lines with each line that is a symbol replaced by its demangled name, as the program symfilter does. Any other
- * line stays. A line goes up to the next line feed, which is written too, or to the end. The statuses, and what the handle
- * keeps, are those of cosvigle_replace. */
-int cosvigle_filter_with(cosvigle_handle *handle, const char *lines, size_t len, char *into, size_t room, size_t *needed);
+/* Writes lines with each line that is a symbol replaced by its demangled name, as the program symfilter does. Any
+ * other line stays. A line goes up to the next line feed, which is written too, or to the end. The statuses, and what
+ * the handle keeps, are those of cosvigle_replace. */
+int cosvigle_filter_with(cosvigle_handle *handle, const char *lines, size_t len, char *into, size_t room,
+                         size_t *needed);
 
-/* Writes the text that the handle keeps, and drops it. WRITTEN; NO_ANSWER if the handle keeps none; with NO_ROOM the handle
- * still keeps it. */
+/* Writes the text that the handle keeps, and drops it. WRITTEN; NO_ANSWER if the handle keeps none; with NO_ROOM the
+ * handle still keeps it. */
 int cosvigle_take(cosvigle_handle *handle, char *into, size_t room, size_t *needed);
 
 /* The same as cosvigle_filter_with, without a handle: after COSVIGLE_NO_ROOM the text has to be made again. */
 int cosvigle_filter(const char *lines, size_t len, char *into, size_t room, size_t *needed);
 
-/* Gives the handle a new demangler, and frees what it had. WRITTEN, or NO_MEMORY, and then it has none. The other calls do
- * this for a handle without a demangler. */
+/* Gives the handle a new demangler, and frees what it had. WRITTEN, or NO_MEMORY, and then it has none. The other
+ * calls do this for a handle without a demangler. */
 int cosvigle_new(cosvigle_handle *handle);
 
 /* Frees what the handle has. It is without a demangler then, and can be used again. Without one nothing is done. */
@@ -106,7 +107,8 @@ void cosvigle_free(cosvigle_handle *handle);
 #endif
 
 /* What follows is C, and is not proved. Each function cosvigle_..._or_null stands in front of a call, under the call's
- * name: it returns COSVIGLE_BAD_CALL for a NULL that must not be, and puts a valid pointer in the place of any other. */
+ * name: it returns COSVIGLE_BAD_CALL for a NULL that must not be, and puts a valid pointer in the place of any other.
+ */
 #ifdef __cplusplus
 #define COSVIGLE_INLINE inline
 #else
@@ -121,16 +123,19 @@ COSVIGLE_INLINE int cosvigle_bad_call(size_t *needed) {
     return COSVIGLE_BAD_CALL;
 }
 
-COSVIGLE_INLINE int cosvigle_ask_or_null(cosvigle_handle *handle, const char *symbol, size_t len, char *answer, size_t room,
-                                         size_t *needed) {
+COSVIGLE_INLINE int cosvigle_ask_or_null(cosvigle_handle *handle, const char *symbol, size_t len, char *answer,
+                                         size_t room, size_t *needed) {
     char none = 0;
     size_t unused;
-    if (handle == NULL || cosvigle_is_bad(symbol, len) || cosvigle_is_bad(answer, room)) return cosvigle_bad_call(needed);
+    if (handle == NULL || cosvigle_is_bad(symbol, len) || cosvigle_is_bad(answer, room)) {
+        return cosvigle_bad_call(needed);
+    }
     return cosvigle_ask(handle, symbol == NULL ? "" : symbol, len, answer == NULL ? &none : answer, room,
                         needed == NULL ? &unused : needed);
 }
 
-COSVIGLE_INLINE int cosvigle_demangle_or_null(const char *symbol, size_t len, char *answer, size_t room, size_t *needed) {
+COSVIGLE_INLINE int cosvigle_demangle_or_null(const char *symbol, size_t len, char *answer, size_t room,
+                                              size_t *needed) {
     char none = 0;
     size_t unused;
     if (cosvigle_is_bad(symbol, len) || cosvigle_is_bad(answer, room)) return cosvigle_bad_call(needed);
@@ -138,8 +143,8 @@ COSVIGLE_INLINE int cosvigle_demangle_or_null(const char *symbol, size_t len, ch
                              needed == NULL ? &unused : needed);
 }
 
-COSVIGLE_INLINE int cosvigle_replace_or_null(cosvigle_handle *handle, bool strip, const char *text, size_t len, char *into,
-                                             size_t room, size_t *needed) {
+COSVIGLE_INLINE int cosvigle_replace_or_null(cosvigle_handle *handle, bool strip, const char *text, size_t len,
+                                             char *into, size_t room, size_t *needed) {
     char none = 0;
     size_t unused;
     if (handle == NULL || cosvigle_is_bad(text, len) || cosvigle_is_bad(into, room)) return cosvigle_bad_call(needed);
@@ -188,8 +193,8 @@ COSVIGLE_INLINE void cosvigle_free_or_null(cosvigle_handle *handle) {
 #define cosvigle_new cosvigle_new_or_null
 #define cosvigle_free cosvigle_free_or_null
 
-/* The demangled name of a symbol as a text to keep: it ends in a NUL, and the caller frees it by free. NULL if the symbol
- * is NULL or has no demangled name, or if an allocation fails. */
+/* The demangled name of a symbol as a text to keep: it ends in a NUL, and the caller frees it by free. NULL if the
+ * symbol is NULL or has no demangled name, or if an allocation fails. */
 COSVIGLE_INLINE char *cosvigle_string(const char *symbol) {
     cosvigle_handle handle = COSVIGLE_NONE;
     const size_t len = symbol == NULL ? 0 : strlen(symbol);

@@ -1,11 +1,12 @@
-// Cosvigle for C++, from C++11 on: a class and functions over cosvigle.h, which says what a caller must keep to. Nothing
-// here is proved.
+// Cosvigle for C++, from C++11 on: a class and functions over cosvigle.h, which says what a caller must keep to.
+// Nothing here is proved.
 //
-// From C++17 on the names optional and string_view below are those of std. Before, they are small classes with the same
-// names of members, and a symbol may be a const char * or a std::string as well.
+// From C++17 on the names optional and string_view below are those of std. Before, they are small classes with the
+// same names of members, and a symbol may be a const char * or a std::string as well.
 //
-// With exceptions, out of memory is std::bad_alloc, and any other fault a cosvigle::error. Without them (-fno-exceptions) a
-// call returns no value, and demangler::status() says why: COSVIGLE_NO_ANSWER and COSVIGLE_NOT_UTF8 are no faults.
+// With exceptions, out of memory is std::bad_alloc, and any other fault a cosvigle::error. Without them (-fno-
+// exceptions) a call returns no value, and demangler::status() says why: COSVIGLE_NO_ANSWER and COSVIGLE_NOT_UTF8 are
+// no faults.
 #ifndef COSVIGLE_HPP
 #define COSVIGLE_HPP
 
@@ -108,7 +109,8 @@ template <class T> class optional {
 // A status that isn't known, or a NULL that must not be.
 class error : public std::runtime_error {
   public:
-    explicit error(int status) : std::runtime_error("cosvigle: unexpected status " + std::to_string(status)), number(status) {}
+    explicit error(int status)
+        : std::runtime_error("cosvigle: unexpected status " + std::to_string(status)), number(status) {}
     int status() const noexcept { return number; }
 
   private:
@@ -131,8 +133,8 @@ class demangler {
         std::free(text);
     }
 
-    // The demangled name of a symbol, lent until the next call, or none if it has none or isn't UTF-8. The symbol may not
-    // be a name that this value lends. After a fault the value can be used again.
+    // The demangled name of a symbol, lent until the next call, or none if it has none or isn't UTF-8. The symbol may
+    // not be a name that this value lends. After a fault the value can be used again.
     optional<string_view> demangle(string_view symbol) {
         std::size_t needed = 0;
         if (text == nullptr && !grow(256)) return fault(), nullopt;
@@ -146,9 +148,9 @@ class demangler {
         return nullopt;
     }
 
-    // The text with the symbols in its words replaced, as the program cosvigle does. With strip one more underscore may
-    // stand in front of a symbol. No value after a fault. Here and in filter a std::string that gets no memory throws
-    // std::bad_alloc, and without exceptions ends the program.
+    // The text with the symbols in its words replaced, as the program cosvigle does. With strip one more underscore
+    // may stand in front of a symbol. No value after a fault. Here and in filter a std::string that gets no memory
+    // throws std::bad_alloc, and without exceptions ends the program.
     optional<std::string> replace(string_view given, bool strip = false) {
         std::string made(given.size() + given.size() / 2, '\0');
         std::size_t needed = 0;
