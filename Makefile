@@ -103,4 +103,7 @@ clean:
 
 FORCE:
 
+# Two builds at once would build the crates below twice, in one folder.
+.NOTPARALLEL:
+
 .PHONY: all install uninstall clean FORCE
