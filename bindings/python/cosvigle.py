@@ -1,5 +1,5 @@
-"""Demangles C++ symbols of the Itanium C++ ABI, by the shared library libcosvigle.so.0, whose calls are proved. This module
-is not proved.
+"""Demangles C++ symbols of the Itanium C++ ABI, by the shared library libcosvigle.so.0, whose calls are proved. This
+module is not proved.
 
     >>> import cosvigle
     >>> cosvigle.demangle("_ZN3Foo3barEv")
@@ -9,8 +9,7 @@ is not proved.
     >>> cosvigle.replace("at _Z3foov+0x1")
     'at foo+0x1'
 
-The library is looked for where the loader looks, or is the file that the variable COSVIGLE_LIBRARY names. Python 3.7 or
-later is needed, and nothing else.
+The library is looked for where the loader looks, or is the file that the variable COSVIGLE_LIBRARY names.
 """
 import ctypes
 import os
@@ -56,7 +55,7 @@ _library = _load()
 
 
 def _bytes_of(text):
-    """The bytes of a str, or of what is like bytes. A str may hold bytes that aren't UTF-8, as os.fsdecode makes them."""
+    """The bytes of a str, or of what is like bytes. A str may hold bytes that aren't UTF-8, as os.fsdecode has them."""
     if isinstance(text, str):
         return text.encode("utf-8", "surrogateescape")
     if isinstance(text, (bytes, bytearray, memoryview)):

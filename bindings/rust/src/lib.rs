@@ -241,3 +241,8 @@ pub fn version() -> u32 {
     // It reads nothing that a caller gives.
     unsafe { cosvigle_version() }
 }
+
+// The program of the page is run with the tests.
+#[cfg(doctest)]
+#[doc = include_str!("../README.md")]
+struct Page;
