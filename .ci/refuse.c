@@ -19,6 +19,14 @@ __attribute__((constructor)) static void begin(void) {
     left = number ? atol(number) : 0;
 }
 
+/* From now on the request with this number, counted from 1, is refused, or none where it is 0. Answers how many were left
+   up to the refused one, or 0. */
+long refuse_at(long number) {
+    long old = left;
+    left = number;
+    return old;
+}
+
 /* How many requests were made. */
 static long requests;
 

@@ -16,10 +16,10 @@ static char symbol[1 << 16];
 static size_t length;
 
 static void *ask(void *unused) {
-    static uint8_t answer[1 << 20];
+    static char answer[1 << 20];
     cosvigle_handle handle = COSVIGLE_NONE;
     size_t needed;
-    const int status = cosvigle_ask(&handle, (const uint8_t *)symbol, length, answer, sizeof answer, &needed);
+    const int status = cosvigle_ask(&handle, symbol, length, answer, sizeof answer, &needed);
     cosvigle_free(&handle);
     (void)unused;
     return status == COSVIGLE_WRITTEN ? symbol : NULL;

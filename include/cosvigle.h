@@ -1,69 +1,219 @@
-/* Cosvigle: mangled C++ symbols (Itanium C++ ABI) and their answers. Each answer is proved: see README.md.
+/* Cosvigle: a demangler for C++ symbols of the Itanium C++ ABI.
  *
- * What a caller owes, and nothing checks:
- * - Each pointer is valid, aligned for its type, and not NULL: one with a length for so many bytes, also where that is 0.
- * - What a call writes to (answer or text, needed, a handle) doesn't overlap anything else that it is given. Nothing
- *   else touches what it is given until it returns.
+ * What is proved: the calls that the library exports. Their contracts are in crates/cosvigle_c of the sources. Two
+ * things in this header are C that nothing proves: the functions at its end that take NULL in place of a pointer, and
+ * cosvigle_string.
+ *
+ * What a caller must keep to, and nothing checks:
+ * - Each pointer is valid for as many bytes as its length says, and aligned for its type.
+ * - The memory that a call writes to (a text, *needed, a handle) overlaps nothing else that the call is given. No
+ *   other thread touches what a call is given until it returns.
  * - malloc, realloc and free are of one allocator, which aligns a block to each power of two up to 16 that divides its
  *   size.
- * - No call is made from a signal handler, nor from the forked child of a process with threads.
- * - A handle begins as COSVIGLE_NONE, and only the calls change it. It is given to one call at a time, by one thread,
- *   and to one copy of the library. Where it is copied only one of the two is used from then on, and freed.
- * Calls share nothing but a handle: threads may make them at the same time. */
+ * - No call is made from a signal handler, or in the forked child of a process with threads.
+ * - A handle begins as COSVIGLE_NONE, and only the calls change it. It is used by one thread, in one call at a time,
+ *   and with one copy of the library. After it is copied, only one of the two is used and freed.
+ * Calls share nothing but a handle: threads with handles of their own may call at the same time.
+ *
+ * NULL: a text or symbol of length 0 and room of 0 bytes may be NULL, and so may needed, and the handle of
+ * cosvigle_free. Any other NULL gives COSVIGLE_BAD_CALL. This holds for callers that include this header. The exported
+ * calls themselves, as a program reaches them by dlsym or from another language, take no NULL.
+ *
+ * The library has no unwind tables: a backtrace that is taken inside a call ends there. */
 #ifndef COSVIGLE_H
 #define COSVIGLE_H
 
+#include <stdbool.h>
 #include <stddef.h>
 #include <stdint.h>
+#include <stdlib.h>
+#include <string.h>
+
+/* The version of this header. That of the library is cosvigle_version(). */
+#define COSVIGLE_VERSION_MAJOR 0
+#define COSVIGLE_VERSION_MINOR 1
+#define COSVIGLE_VERSION_PATCH 0
+#define COSVIGLE_VERSION (COSVIGLE_VERSION_MAJOR * 1000000 + COSVIGLE_VERSION_MINOR * 1000 + COSVIGLE_VERSION_PATCH)
 
 #ifdef __cplusplus
 extern "C" {
 #endif
 
-/* What a call answers. */
+/* What a call returns. Later versions may have more: treat a status that you don't know as an error. */
 enum {
-    COSVIGLE_WRITTEN = 0,   /* done: the text is written, and its length in bytes told in *needed */
-    COSVIGLE_NO_ANSWER = 1, /* the symbol has no answer */
-    COSVIGLE_NO_MEMORY = 2, /* memory was refused */
-    COSVIGLE_NO_ROOM = 3,   /* there is too little room: *needed says how many bytes it takes */
-    COSVIGLE_NOT_UTF8 = 4   /* the symbol isn't UTF-8 */
+    COSVIGLE_WRITTEN = 0,   /* the text is written, and *needed is its length in bytes */
+    COSVIGLE_NO_ANSWER = 1, /* the symbol has no demangled name; the handle keeps no text */
+    COSVIGLE_NO_MEMORY = 2, /* an allocation failed */
+    COSVIGLE_NO_ROOM = 3,   /* there is too little room: *needed is the length of the text in bytes */
+    COSVIGLE_NOT_UTF8 = 4,  /* the symbol isn't UTF-8 */
+    COSVIGLE_BAD_CALL = 5   /* a pointer is NULL that must not be */
 };
+/* A call that returns COSVIGLE_WRITTEN writes the text at the front of the room, without a NUL at its end, and leaves
+ * the bytes after it. With any other status nothing is written there, and *needed is 0 unless the status is
+ * COSVIGLE_NO_ROOM. */
 
-/* Writes the answer of a symbol of len bytes to answer, which has room bytes. It is written without a NUL at its end,
- * and the bytes after it stay. With another status than COSVIGLE_WRITTEN nothing is written to answer; *needed is 0,
- * but with COSVIGLE_NO_ROOM. A symbol begins with _Z or __Z; the parameters of a function aren't read, and all that
- * follows from a dot right after what was read ends the answer. An answer is UTF-8. */
-int cosvigle_demangle(const uint8_t *symbol, size_t len, uint8_t *answer, size_t room, size_t *needed);
-
-/* Writes the filtered text of a block of lines, of len bytes, to text, which has room bytes: each line that has an answer
- * as that, each other line as it is. A line goes up to the next line feed, which is written too, or the end. The
- * bytes after it stay. COSVIGLE_WRITTEN, or COSVIGLE_NO_MEMORY or COSVIGLE_NO_ROOM, with which nothing is written; with
- * COSVIGLE_NO_MEMORY *needed is 0. */
-int cosvigle_filter(const uint8_t *lines, size_t len, uint8_t *text, size_t room, size_t *needed);
+/* The version of the library: the major version times 1,000,000, the minor times 1,000, and the patch, added up. */
+uint32_t cosvigle_version(void);
 
 /* A demangler that keeps its memory from one symbol to the next, or none. */
 typedef struct {
-    void *at; /* of no concern to a caller */
+    void *at; /* private */
 } cosvigle_handle;
 
 /* A handle without a demangler: cosvigle_handle handle = COSVIGLE_NONE; */
 #define COSVIGLE_NONE {NULL}
 
-/* Gives the handle a new demangler. COSVIGLE_WRITTEN, or COSVIGLE_NO_MEMORY, and then it has none. What it had is
- * freed. It needn't be called: cosvigle_ask does the same for a handle without a demangler. */
+/* Writes the demangled name of a symbol of len bytes to answer, which has room bytes. A symbol begins with _Z or __Z.
+ * The parameters of a function aren't read, and all that follows from a dot right after what was read ends the name.
+ * The name is UTF-8. The handle keeps its memory, so that a next symbol that needs no more makes no call of malloc. A
+ * handle without a demangler gets one. After COSVIGLE_NO_MEMORY the handle can be used again. */
+int cosvigle_ask(cosvigle_handle *handle, const char *symbol, size_t len, char *answer, size_t room, size_t *needed);
+
+/* The same for one symbol, without a handle. */
+int cosvigle_demangle(const char *symbol, size_t len, char *answer, size_t room, size_t *needed);
+
+/* Writes a text with its symbols replaced by their demangled names, as the program cosvigle does. A word is a longest
+ * run of ASCII letters, digits, _, $ and dots. Its symbol stands at its front, after at most one dot or $, which
+ * stays, as do the dots at its end. With strip, one more underscore may stand in front of a symbol, and is dropped.
+ * All other bytes stay. WRITTEN, NO_MEMORY or NO_ROOM.
+ *
+ * With COSVIGLE_NO_ROOM the handle keeps the text that was made: give *needed bytes of room to cosvigle_take. The next
+ * call with this handle of cosvigle_replace, cosvigle_filter_with, cosvigle_new or cosvigle_free drops it. */
+int cosvigle_replace(cosvigle_handle *handle, bool strip, const char *text, size_t len, char *into, size_t room,
+                     size_t *needed);
+
+/* Writes lines with each line that is a symbol replaced by its demangled name, as the program symfilter does. Any
+ * other line stays. A line goes up to the next line feed, which is written too, or to the end. The statuses, and what
+ * the handle keeps, are those of cosvigle_replace. */
+int cosvigle_filter_with(cosvigle_handle *handle, const char *lines, size_t len, char *into, size_t room,
+                         size_t *needed);
+
+/* Writes the text that the handle keeps, and drops it. WRITTEN; NO_ANSWER if the handle keeps none; with NO_ROOM the
+ * handle still keeps it. */
+int cosvigle_take(cosvigle_handle *handle, char *into, size_t room, size_t *needed);
+
+/* The same as cosvigle_filter_with, without a handle: after COSVIGLE_NO_ROOM the text has to be made again. */
+int cosvigle_filter(const char *lines, size_t len, char *into, size_t room, size_t *needed);
+
+/* Gives the handle a new demangler, and frees what it had. WRITTEN, or NO_MEMORY, and then it has none. The other
+ * calls do this for a handle without a demangler. */
 int cosvigle_new(cosvigle_handle *handle);
 
-/* Writes the answer of a symbol as cosvigle_demangle does, with the same statuses. The memory that it took stays with
- * the handle: so a next symbol that needs no more costs no call of malloc. After COSVIGLE_NO_MEMORY too the handle
- * serves on. */
-int cosvigle_ask(cosvigle_handle *handle, const uint8_t *symbol, size_t len, uint8_t *answer, size_t room,
-                 size_t *needed);
-
-/* Frees what the handle has: it is without a demangler then, and may be asked again. Without one nothing is done. */
+/* Frees what the handle has. It is without a demangler then, and can be used again. Without one nothing is done. */
 void cosvigle_free(cosvigle_handle *handle);
 
 #ifdef __cplusplus
 }
 #endif
+
+/* What follows is C, and is not proved. Each function cosvigle_..._or_null stands in front of a call, under the call's
+ * name: it returns COSVIGLE_BAD_CALL for a NULL that must not be, and puts a valid pointer in the place of any other.
+ */
+#ifdef __cplusplus
+#define COSVIGLE_INLINE inline
+#else
+#define COSVIGLE_INLINE static inline
+#endif
+
+/* Whether a pointer and a length can't be a text or room. */
+COSVIGLE_INLINE bool cosvigle_is_bad(const void *at, size_t len) { return at == NULL && len != 0; }
+
+COSVIGLE_INLINE int cosvigle_bad_call(size_t *needed) {
+    if (needed != NULL) *needed = 0;
+    return COSVIGLE_BAD_CALL;
+}
+
+COSVIGLE_INLINE int cosvigle_ask_or_null(cosvigle_handle *handle, const char *symbol, size_t len, char *answer,
+                                         size_t room, size_t *needed) {
+    char none = 0;
+    size_t unused;
+    if (handle == NULL || cosvigle_is_bad(symbol, len) || cosvigle_is_bad(answer, room)) {
+        return cosvigle_bad_call(needed);
+    }
+    return cosvigle_ask(handle, symbol == NULL ? "" : symbol, len, answer == NULL ? &none : answer, room,
+                        needed == NULL ? &unused : needed);
+}
+
+COSVIGLE_INLINE int cosvigle_demangle_or_null(const char *symbol, size_t len, char *answer, size_t room,
+                                              size_t *needed) {
+    char none = 0;
+    size_t unused;
+    if (cosvigle_is_bad(symbol, len) || cosvigle_is_bad(answer, room)) return cosvigle_bad_call(needed);
+    return cosvigle_demangle(symbol == NULL ? "" : symbol, len, answer == NULL ? &none : answer, room,
+                             needed == NULL ? &unused : needed);
+}
+
+COSVIGLE_INLINE int cosvigle_replace_or_null(cosvigle_handle *handle, bool strip, const char *text, size_t len,
+                                             char *into, size_t room, size_t *needed) {
+    char none = 0;
+    size_t unused;
+    if (handle == NULL || cosvigle_is_bad(text, len) || cosvigle_is_bad(into, room)) return cosvigle_bad_call(needed);
+    return cosvigle_replace(handle, strip, text == NULL ? "" : text, len, into == NULL ? &none : into, room,
+                            needed == NULL ? &unused : needed);
+}
+
+COSVIGLE_INLINE int cosvigle_filter_with_or_null(cosvigle_handle *handle, const char *lines, size_t len, char *into,
+                                                 size_t room, size_t *needed) {
+    char none = 0;
+    size_t unused;
+    if (handle == NULL || cosvigle_is_bad(lines, len) || cosvigle_is_bad(into, room)) return cosvigle_bad_call(needed);
+    return cosvigle_filter_with(handle, lines == NULL ? "" : lines, len, into == NULL ? &none : into, room,
+                                needed == NULL ? &unused : needed);
+}
+
+COSVIGLE_INLINE int cosvigle_take_or_null(cosvigle_handle *handle, char *into, size_t room, size_t *needed) {
+    char none = 0;
+    size_t unused;
+    if (handle == NULL || cosvigle_is_bad(into, room)) return cosvigle_bad_call(needed);
+    return cosvigle_take(handle, into == NULL ? &none : into, room, needed == NULL ? &unused : needed);
+}
+
+COSVIGLE_INLINE int cosvigle_filter_or_null(const char *lines, size_t len, char *into, size_t room, size_t *needed) {
+    char none = 0;
+    size_t unused;
+    if (cosvigle_is_bad(lines, len) || cosvigle_is_bad(into, room)) return cosvigle_bad_call(needed);
+    return cosvigle_filter(lines == NULL ? "" : lines, len, into == NULL ? &none : into, room,
+                           needed == NULL ? &unused : needed);
+}
+
+COSVIGLE_INLINE int cosvigle_new_or_null(cosvigle_handle *handle) {
+    return handle == NULL ? COSVIGLE_BAD_CALL : cosvigle_new(handle);
+}
+
+COSVIGLE_INLINE void cosvigle_free_or_null(cosvigle_handle *handle) {
+    if (handle != NULL) cosvigle_free(handle);
+}
+
+#define cosvigle_ask cosvigle_ask_or_null
+#define cosvigle_demangle cosvigle_demangle_or_null
+#define cosvigle_replace cosvigle_replace_or_null
+#define cosvigle_filter_with cosvigle_filter_with_or_null
+#define cosvigle_take cosvigle_take_or_null
+#define cosvigle_filter cosvigle_filter_or_null
+#define cosvigle_new cosvigle_new_or_null
+#define cosvigle_free cosvigle_free_or_null
+
+/* The demangled name of a symbol as a text to keep: it ends in a NUL, and the caller frees it by free. NULL if the
+ * symbol is NULL or has no demangled name, or if an allocation fails. */
+COSVIGLE_INLINE char *cosvigle_string(const char *symbol) {
+    cosvigle_handle handle = COSVIGLE_NONE;
+    const size_t len = symbol == NULL ? 0 : strlen(symbol);
+    size_t needed = 0, room = 2 * len + 1;
+    char *text = (char *)malloc(room), *larger;
+    int status = text == NULL ? COSVIGLE_NO_MEMORY : cosvigle_ask(&handle, symbol, len, text, room - 1, &needed);
+    if (status == COSVIGLE_NO_ROOM) {
+        room = needed + 1;
+        larger = (char *)realloc(text, room);
+        if (larger != NULL) text = larger;
+        status = larger == NULL ? COSVIGLE_NO_MEMORY : cosvigle_ask(&handle, symbol, len, text, room - 1, &needed);
+    }
+    cosvigle_free(&handle);
+    if (status == COSVIGLE_WRITTEN) {
+        text[needed] = 0;
+        return text;
+    }
+    free(text);
+    return NULL;
+}
 
 #endif

@@ -1,63 +1,240 @@
-// Cosvigle for C++17: a class and a function over cosvigle.h, which says what a caller owes.
+// Cosvigle for C++, from C++11 on: a class and functions over cosvigle.h, which says what a caller must keep to.
+// Nothing here is proved.
+//
+// From C++17 on the names optional and string_view below are those of std. Before, they are small classes with the
+// same names of members, and a symbol may be a const char * or a std::string as well.
+//
+// With exceptions, out of memory is std::bad_alloc, and any other fault a cosvigle::error. Without them (-fno-
+// exceptions) a call returns no value, and demangler::status() says why: COSVIGLE_NO_ANSWER and COSVIGLE_NOT_UTF8 are
+// no faults.
 #ifndef COSVIGLE_HPP
 #define COSVIGLE_HPP
 
 #include "cosvigle.h"
 
-#include <cstdint>
+#include <cstddef>
+#include <cstdlib>
+#include <cstring>
 #include <new>
-#include <optional>
+#include <stdexcept>
 #include <string>
-#include <string_view>
 #include <utility>
-#include <vector>
+
+#if defined(_MSVC_LANG) ? _MSVC_LANG >= 201703L : __cplusplus >= 201703L
+#define COSVIGLE_HAS_VIEWS 1
+#include <optional>
+#include <string_view>
+#else
+#define COSVIGLE_HAS_VIEWS 0
+#include <ostream>
+#endif
+
+#if defined(__cpp_exceptions) || defined(__EXCEPTIONS)
+#define COSVIGLE_HAS_EXCEPTIONS 1
+#else
+#define COSVIGLE_HAS_EXCEPTIONS 0
+#endif
 
 namespace cosvigle {
 
-// Answers symbol after symbol, and keeps its memory. It can be moved, but stays on one thread.
+// What differs by the standard and by the compiler's flags has names of its own, so that files that are compiled in
+// different ways can be linked.
+#if COSVIGLE_HAS_VIEWS && COSVIGLE_HAS_EXCEPTIONS
+inline namespace views_and_exceptions {
+#elif COSVIGLE_HAS_VIEWS
+inline namespace views {
+#elif COSVIGLE_HAS_EXCEPTIONS
+inline namespace exceptions {
+#else
+inline namespace neither {
+#endif
+
+#if COSVIGLE_HAS_VIEWS
+using std::nullopt;
+using std::nullopt_t;
+using std::optional;
+using std::string_view;
+#else
+// Bytes that are lent.
+class string_view {
+  public:
+    string_view() noexcept : at(""), len(0) {}
+    string_view(const char *text) : at(text), len(std::strlen(text)) {}
+    string_view(const char *text, std::size_t length) noexcept : at(text), len(length) {}
+    string_view(const std::string &text) noexcept : at(text.data()), len(text.size()) {}
+
+    const char *data() const noexcept { return at; }
+    std::size_t size() const noexcept { return len; }
+    bool empty() const noexcept { return len == 0; }
+    const char *begin() const noexcept { return at; }
+    const char *end() const noexcept { return at + len; }
+    explicit operator std::string() const { return std::string(at, len); }
+
+    friend bool operator==(string_view left, string_view right) noexcept {
+        return left.len == right.len && (left.len == 0 || std::memcmp(left.at, right.at, left.len) == 0);
+    }
+    friend bool operator!=(string_view left, string_view right) noexcept { return !(left == right); }
+    friend std::ostream &operator<<(std::ostream &out, string_view text) {
+        return out.write(text.at, static_cast<std::streamsize>(text.len));
+    }
+
+  private:
+    const char *at;
+    std::size_t len;
+};
+
+struct nullopt_t {};
+static const nullopt_t nullopt = nullopt_t();
+
+// A value, or none.
+template <class T> class optional {
+  public:
+    optional() : is_there(false), it() {}
+    optional(nullopt_t) : is_there(false), it() {}
+    optional(T value) : is_there(true), it(std::move(value)) {}
+
+    bool has_value() const noexcept { return is_there; }
+    explicit operator bool() const noexcept { return is_there; }
+    const T &operator*() const & { return it; }
+    T &operator*() & { return it; }
+    const T *operator->() const { return &it; }
+    T value_or(T other) const { return is_there ? it : other; }
+
+  private:
+    bool is_there;
+    T it;
+};
+#endif
+
+// A status that isn't known, or a NULL that must not be.
+class error : public std::runtime_error {
+  public:
+    explicit error(int status)
+        : std::runtime_error("cosvigle: unexpected status " + std::to_string(status)), number(status) {}
+    int status() const noexcept { return number; }
+
+  private:
+    int number;
+};
+
+// Demangles symbol after symbol, and keeps its memory. It can be moved, but is used by one thread.
 class demangler {
   public:
-    demangler() = default;
+    demangler() noexcept = default;
     demangler(demangler &&other) noexcept { swap(other); }
     demangler &operator=(demangler &&other) noexcept {
         swap(other);
         return *this;
     }
-    ~demangler() { cosvigle_free(&handle); }
-
-    // The answer of a symbol, lent until the next call, or none where it has none or isn't UTF-8. The symbol may not be
-    // an answer that this value lends. Throws std::bad_alloc where memory is refused, and serves on.
-    std::optional<std::string_view> demangle(std::string_view symbol) {
-        const auto *bytes = reinterpret_cast<const std::uint8_t *>(symbol.empty() ? "" : symbol.data());
-        if (answer.empty()) answer.resize(256);
-        for (;;) {
-            std::size_t needed = 0;
-            const int status = cosvigle_ask(&handle, bytes, symbol.size(), answer.data(), answer.size(), &needed);
-            if (status == COSVIGLE_NO_MEMORY) throw std::bad_alloc();
-            if (status == COSVIGLE_NO_ANSWER || status == COSVIGLE_NOT_UTF8) return std::nullopt;
-            if (status == COSVIGLE_WRITTEN) return std::string_view(reinterpret_cast<char *>(answer.data()), needed);
-            answer.resize(needed);
-        }
+    demangler(const demangler &) = delete;
+    demangler &operator=(const demangler &) = delete;
+    ~demangler() {
+        cosvigle_free(&handle);
+        std::free(text);
     }
+
+    // The demangled name of a symbol, lent until the next call, or none if it has none or isn't UTF-8. The symbol may
+    // not be a name that this value lends. After a fault the value can be used again.
+    optional<string_view> demangle(string_view symbol) {
+        std::size_t needed = 0;
+        if (text == nullptr && !grow(256)) return fault(), nullopt;
+        last = cosvigle_ask(&handle, symbol.data(), symbol.size(), text, room, &needed);
+        if (last == COSVIGLE_NO_ROOM && needed > room) {
+            if (!grow(needed)) return fault(), nullopt;
+            last = cosvigle_ask(&handle, symbol.data(), symbol.size(), text, room, &needed);
+        }
+        if (last == COSVIGLE_WRITTEN) return string_view(text, needed);
+        if (last != COSVIGLE_NO_ANSWER && last != COSVIGLE_NOT_UTF8) fault();
+        return nullopt;
+    }
+
+    // The text with the symbols in its words replaced, as the program cosvigle does. With strip one more underscore
+    // may stand in front of a symbol. No value after a fault. Here and in filter a std::string that gets no memory
+    // throws std::bad_alloc, and without exceptions ends the program.
+    optional<std::string> replace(string_view given, bool strip = false) {
+        std::string made(given.size() + given.size() / 2, '\0');
+        std::size_t needed = 0;
+        last = cosvigle_replace(&handle, strip, given.data(), given.size(), &made[0], made.size(), &needed);
+        return finish(made, needed);
+    }
+
+    // The lines with each that is a symbol replaced, as the program symfilter does. No value after a fault.
+    optional<std::string> filter(string_view lines) {
+        std::string made(lines.size() + lines.size() / 2, '\0');
+        std::size_t needed = 0;
+        last = cosvigle_filter_with(&handle, lines.data(), lines.size(), &made[0], made.size(), &needed);
+        return finish(made, needed);
+    }
+
+    // The status of the last call, as cosvigle.h has them. COSVIGLE_WRITTEN before the first.
+    int status() const noexcept { return last; }
 
   private:
     cosvigle_handle handle = COSVIGLE_NONE;
-    std::vector<std::uint8_t> answer;
+    char *text = nullptr;
+    std::size_t room = 0;
+    int last = COSVIGLE_WRITTEN;
 
     void swap(demangler &other) noexcept {
         std::swap(handle, other.handle);
-        answer.swap(other.answer);
+        std::swap(text, other.text);
+        std::swap(room, other.room);
+        std::swap(last, other.last);
+    }
+
+    bool grow(std::size_t wanted) noexcept {
+        char *larger = static_cast<char *>(std::realloc(text, wanted));
+        if (larger == nullptr) {
+            last = COSVIGLE_NO_MEMORY;
+            return false;
+        }
+        text = larger;
+        room = wanted;
+        return true;
+    }
+
+    // What a call over a text made, which the handle keeps if there was too little room.
+    optional<std::string> finish(std::string &made, std::size_t needed) {
+        if (last == COSVIGLE_NO_ROOM && needed > made.size()) {
+            made.resize(needed);
+            last = cosvigle_take(&handle, &made[0], made.size(), &needed);
+        }
+        if (last != COSVIGLE_WRITTEN) return fault(), nullopt;
+        made.resize(needed);
+        return optional<std::string>(std::move(made));
+    }
+
+    // Throws what the status says, where there are exceptions.
+    void fault() const {
+#if COSVIGLE_HAS_EXCEPTIONS
+        if (last == COSVIGLE_NO_MEMORY) throw std::bad_alloc();
+        throw error(last);
+#endif
     }
 };
 
-// The same for one symbol, as a string of its own.
-inline std::optional<std::string> demangle(std::string_view symbol) {
+// The same for one symbol or text, as a string of its own.
+inline optional<std::string> demangle(string_view symbol) {
     demangler once;
-    const auto answer = once.demangle(symbol);
-    if (!answer) return std::nullopt;
-    return std::string(*answer);
+    const auto name = once.demangle(symbol);
+    if (!name) return nullopt;
+    return optional<std::string>(std::string(*name));
 }
 
+inline optional<std::string> replace(string_view text, bool strip = false) {
+    demangler once;
+    return once.replace(text, strip);
+}
+
+inline optional<std::string> filter(string_view lines) {
+    demangler once;
+    return once.filter(lines);
+}
+
+// The version of the library: the major version times 1,000,000, the minor times 1,000, and the patch, added up.
+inline std::uint32_t version() noexcept { return cosvigle_version(); }
+
+} // inline namespace
 } // namespace cosvigle
 
 #endif

@@ -1,11 +1,11 @@
-/* Reads names, one a line, and prints the answer of each, or the name itself. */
+/* Reads names, one a line, and prints the demangled name of each, or the name itself. */
 #include <cosvigle.h>
 #include <stdio.h>
 #include <stdlib.h>
 #include <string.h>
 
 /* Reads a line without its line feed into *line, which has *room bytes and grows. 0 at the end of the input. */
-static int read_line(unsigned char **line, size_t *room, size_t *len) {
+static int read_line(char **line, size_t *room, size_t *len) {
     int byte = getchar();
     *len = 0;
     if (byte == EOF) return 0;
@@ -15,14 +15,14 @@ static int read_line(unsigned char **line, size_t *room, size_t *len) {
             *line = realloc(*line, *room);
             if (*line == NULL) exit(2);
         }
-        (*line)[(*len)++] = (unsigned char)byte;
+        (*line)[(*len)++] = (char)byte;
     }
     return 1;
 }
 
 int main(void) {
     size_t line_room = 256, room = 256, len, needed;
-    unsigned char *line = malloc(line_room), *answer = malloc(room);
+    char *line = malloc(line_room), *answer = malloc(room);
     cosvigle_handle handle = COSVIGLE_NONE;
     if (line == NULL || answer == NULL) return 2;
     while (read_line(&line, &line_room, &len)) {

@@ -1,4 +1,4 @@
-// Reads names, one a line, and prints the answer of each, or the name itself.
+// Reads names, one a line, and prints the demangled name of each, or the name itself.
 #include <cosvigle.hpp>
 #include <iostream>
 

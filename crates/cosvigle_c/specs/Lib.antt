@@ -1,3 +1,4 @@
 pub mod Room
 pub mod Handle
+pub mod Kept
 pub mod Calls

@@ -1,24 +1,24 @@
-//! A demangler that C holds, between calls.
+//! What C holds between calls.
 ghost use Rattle.std.specs.Prelude.{◌≡◌, Option, Some, None, option_map};
 ghost use Rattle.std.specs.contracts.impls.GlobalAllocator.TheImpl.{ghosts};
-ghost use Rattle.itanium_demangle.specs.LastRun.{LastRun};
-ghost use Rattle.itanium_demangle.specs.contracts.demangler.Demangler.{the_row};
+ghost use Rattle.cosvigle_c.specs.declared.kept.Kept.{Kept};
+ghost use Rattle.cosvigle_c.specs.contracts.kept.Kept.{the_row};
 ghost use Rattle.cosvigle_c.specs.Handle.{holds};
 
+use crate::kept::Kept;
 use crate::loose::Loose;
-use itanium_demangle::Demangler;
 use std::alloc::Global;
 use std::marker::Model;
 use std::ptr::null_mut;
 
-/// A demangler in a box, or none. To C it is a struct of one pointer, which is null where there is none: a `Global`
+/// What is kept in a box, or nothing. To C it is a struct of one pointer, which is null where there is none: a `Global`
 /// takes no bytes. The pointer is one to bytes, since no export takes one to a type that holds a `Vec`.
 #[repr(C)]
 pub struct Handle {
     at: *mut u8,
     alloc: Global,
-    /// What the demangler keeps of the last symbol.
-    pub ghost kept: { Option LastRun },
+    /// What is kept.
+    pub ghost kept: { Option Kept },
 }
 
 impl Model for Handle {
@@ -26,7 +26,7 @@ impl Model for Handle {
 }
 
 impl Handle {
-    /// No demangler.
+    /// Nothing is kept.
     pub fn none(alloc: Global) -> Handle
         ensures kept { result.kept ≡ None }
     {
@@ -36,7 +36,7 @@ impl Handle {
         }
     }
 
-    fn of_loose(loose: Loose<Demangler, Global>) -> Handle
+    fn of_loose(loose: Loose<Kept, Global>) -> Handle
         ensures kept { result.kept ≡ Some loose.value }
     {
         let Loose { at, alloc } = loose;
@@ -46,7 +46,7 @@ impl Handle {
         }
     }
 
-    fn into_loose(self) -> Option<Loose<Demangler, Global>>
+    fn into_loose(self) -> Option<Loose<Kept, Global>>
         ensures kept { option_map (λ loose. loose.value) result ≡ self.kept }
     {
         let Handle { at, alloc } = self;
@@ -54,20 +54,20 @@ impl Handle {
             return None;
         }
         Some(Loose {
-            at: at as *mut Demangler,
+            at: at as *mut Kept,
             alloc,
         })
     }
 
-    /// Holds the demangler of a box.
-    pub fn of(boxed: Box<Demangler>) -> Handle
+    /// Holds what a box has.
+    pub fn of(boxed: Box<Kept>) -> Handle
         ensures kept { result.kept ≡ Some boxed.value }
     {
         Handle::of_loose(Loose::of(boxed))
     }
 
-    /// The box of the demangler, where there is one.
-    pub fn into_box(self) -> Option<Box<Demangler>>
+    /// The box of what is kept, if anything is.
+    pub fn into_box(self) -> Option<Box<Kept>>
         ensures kept { option_map (λ boxed. boxed.value) result ≡ self.kept }
     {
         match self.into_loose() {

@@ -20,14 +20,14 @@ use Rattle.std.specs.Prelude.{Option, None}
 use Rattle.std.proofs.alloc.Calls.{handle_tells}
 use Rattle.std.proofs.raw_atomic.Walks.{proved_at, leaves}
 use Rattle.std.specs.contracts.alloc.Global as heap
-use Rattle.itanium_demangle.specs.LastRun.{LastRun}
+use Rattle.cosvigle_c.specs.declared.kept.Kept.{Kept as Value}
 use Rattle.cosvigle_c.proofs.Pairs.{global, word, word_good, pair_in}
 use Rattle.cosvigle_c.specs.contracts.handle.Handle.none.{ended, clauses}
 use Rattle.cosvigle_c.specs.contracts.handle.Handle.none.Key.{name as #self}
 use Rattle.cosvigle_c.proofs.handle.Handle.none.Statement.{statement}
 use Rattle.cosvigle_c.proofs.handle.Handle.none.Code as code
 
-abbrev none_of : Option LastRun
+abbrev none_of : Option Value
 none_of = None
 
 pub none_spec : {M : Type 1} → statement M

@@ -19,17 +19,17 @@ use Rattle.std.specs.Prelude.{Option, Some}
 use Rattle.std.proofs.alloc.Calls.{Goes-blank}
 use Rattle.std.proofs.raw_atomic.Walks.{proved_at, leaves}
 use Rattle.std.specs.contracts.alloc.Global as heap
-use Rattle.itanium_demangle.specs.LastRun.{LastRun}
+use Rattle.cosvigle_c.specs.declared.kept.Kept.{Kept as Value}
 use Rattle.cosvigle_c.proofs.Pairs.{global, word, ptr_good, word_good, pair_out, pair_in}
 use Rattle.cosvigle_c.specs.contracts.loose.Loose as loose
-use Rattle.itanium_demangle.specs.contracts.demangler.Demangler.{the_row as D}
+use Rattle.cosvigle_c.specs.contracts.kept.Kept.{the_row as D}
 use Rattle.std.specs.contracts.impls.GlobalAllocator.TheImpl.{ghosts}
 use Rattle.cosvigle_c.specs.contracts.handle.Handle.of_loose.{ended, clauses}
 use Rattle.cosvigle_c.specs.contracts.handle.Handle.of_loose.Key.{name as #self}
 use Rattle.cosvigle_c.proofs.handle.Handle.of_loose.Statement.{statement}
 use Rattle.cosvigle_c.proofs.handle.Handle.of_loose.Code as code
 
-abbrev some_of : LastRun → Option LastRun
+abbrev some_of : Value → Option Value
 some_of x = Some x
 
 abbrev From : RattleType

@@ -1,0 +1,18 @@
+//! Reads names, one a line, and prints the demangled name of each, or the name itself.
+
+use std::io::{self, BufRead, Write};
+
+fn main() -> Result<(), Box<dyn std::error::Error>> {
+    let mut demangler = cosvigle::Demangler::new();
+    let mut output = io::BufWriter::new(io::stdout().lock());
+    for line in io::stdin().lock().split(b'\n') {
+        let line = line?;
+        match demangler.demangle_bytes(&line)? {
+            Some(name) => output.write_all(name.as_bytes())?,
+            None => output.write_all(&line)?,
+        }
+        output.write_all(b"\n")?;
+    }
+    output.flush()?;
+    Ok(())
+}

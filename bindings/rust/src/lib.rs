@@ -1,0 +1,248 @@
+//! Demangles C++ symbols of the Itanium C++ ABI, by the library `libcosvigle`, whose calls are proved. This crate is not
+//! proved.
+//!
+//! ```
+//! let mut demangler = cosvigle::Demangler::new();
+//! assert_eq!(demangler.demangle("_ZN3Foo3barEv")?, Some("Foo::bar"));
+//! assert_eq!(demangler.demangle("malloc")?, None);
+//! # Ok::<(), cosvigle::Error>(())
+//! ```
+//!
+//! What the library's header says of the allocator, signal handlers and forked children a program still has to keep to.
+
+use std::ffi::c_void;
+use std::fmt;
+use std::os::raw::c_int;
+use std::ptr::null_mut;
+
+/// What the library keeps for a handle, or nothing.
+#[repr(C)]
+struct Handle {
+    at: *mut c_void,
+}
+
+extern "C" {
+    fn cosvigle_ask(
+        handle: *mut Handle,
+        symbol: *const u8,
+        len: usize,
+        answer: *mut u8,
+        room: usize,
+        needed: *mut usize,
+    ) -> c_int;
+    fn cosvigle_replace(
+        handle: *mut Handle,
+        strip: bool,
+        text: *const u8,
+        len: usize,
+        into: *mut u8,
+        room: usize,
+        needed: *mut usize,
+    ) -> c_int;
+    fn cosvigle_filter_with(
+        handle: *mut Handle,
+        lines: *const u8,
+        len: usize,
+        into: *mut u8,
+        room: usize,
+        needed: *mut usize,
+    ) -> c_int;
+    fn cosvigle_take(handle: *mut Handle, into: *mut u8, room: usize, needed: *mut usize) -> c_int;
+    fn cosvigle_free(handle: *mut Handle);
+    fn cosvigle_version() -> u32;
+}
+
+const WRITTEN: c_int = 0;
+const NO_ANSWER: c_int = 1;
+const NO_MEMORY: c_int = 2;
+const NO_ROOM: c_int = 3;
+const NOT_UTF8: c_int = 4;
+
+/// Why a call failed.
+#[derive(Clone, Copy, Debug, PartialEq, Eq)]
+#[non_exhaustive]
+pub enum Error {
+    /// An allocation failed.
+    NoMemory,
+    /// The library returned a status that this crate doesn't know.
+    Status(i32),
+}
+
+impl fmt::Display for Error {
+    fn fmt(&self, f: &mut fmt::Formatter<'_>) -> fmt::Result {
+        match self {
+            Error::NoMemory => f.write_str("out of memory"),
+            Error::Status(status) => write!(f, "unexpected status {status}"),
+        }
+    }
+}
+
+impl std::error::Error for Error {}
+
+/// Demangles symbol after symbol, and keeps its memory. After an error it can be used again.
+pub struct Demangler {
+    handle: Handle,
+    room: Vec<u8>,
+}
+
+impl Demangler {
+    /// An empty value. It takes no memory.
+    pub fn new() -> Self {
+        Demangler { handle: Handle { at: null_mut() }, room: Vec::new() }
+    }
+
+    /// The demangled name of a symbol, lent until the next call, or `None` if it has none.
+    pub fn demangle(&mut self, symbol: &str) -> Result<Option<&str>, Error> {
+        self.demangle_bytes(symbol.as_bytes())
+    }
+
+    /// The same for bytes. Bytes that aren't UTF-8 have no demangled name.
+    pub fn demangle_bytes(&mut self, symbol: &[u8]) -> Result<Option<&str>, Error> {
+        if self.room.is_empty() {
+            enlarge(&mut self.room, 256)?;
+        }
+        let mut needed = 0;
+        let mut status = self.ask(symbol, &mut needed);
+        if status == NO_ROOM && needed > self.room.len() {
+            enlarge(&mut self.room, needed)?;
+            status = self.ask(symbol, &mut needed);
+        }
+        match status {
+            WRITTEN => {
+                let name = self.room.get(..needed).and_then(|name| std::str::from_utf8(name).ok());
+                name.map(Some).ok_or(Error::Status(status))
+            }
+            NO_ANSWER | NOT_UTF8 => Ok(None),
+            status => Err(failure(status)),
+        }
+    }
+
+    fn ask(&mut self, symbol: &[u8], needed: &mut usize) -> c_int {
+        // A slice's pointer is valid for its length and never null. The four don't overlap: one is shared, three are
+        // borrowed mutably.
+        unsafe {
+            cosvigle_ask(
+                &mut self.handle,
+                symbol.as_ptr(),
+                symbol.len(),
+                self.room.as_mut_ptr(),
+                self.room.len(),
+                needed,
+            )
+        }
+    }
+
+    /// The text with the symbols in its words replaced by their demangled names, as the program `cosvigle` does. With
+    /// `strip` one more underscore may stand in front of a symbol. The text may be any bytes.
+    pub fn replace(&mut self, text: &[u8], strip: bool) -> Result<Vec<u8>, Error> {
+        let mut made = Vec::new();
+        enlarge(&mut made, text.len() + text.len() / 2)?;
+        let mut needed = 0;
+        // As in `ask`.
+        let status = unsafe {
+            cosvigle_replace(
+                &mut self.handle,
+                strip,
+                text.as_ptr(),
+                text.len(),
+                made.as_mut_ptr(),
+                made.len(),
+                &mut needed,
+            )
+        };
+        self.finish(made, status, needed)
+    }
+
+    /// The lines with each that is a symbol replaced by its demangled name, as the program `symfilter` does. The lines
+    /// may be any bytes.
+    pub fn filter(&mut self, lines: &[u8]) -> Result<Vec<u8>, Error> {
+        let mut made = Vec::new();
+        enlarge(&mut made, lines.len() + lines.len() / 2)?;
+        let mut needed = 0;
+        // As in `ask`.
+        let status = unsafe {
+            cosvigle_filter_with(
+                &mut self.handle,
+                lines.as_ptr(),
+                lines.len(),
+                made.as_mut_ptr(),
+                made.len(),
+                &mut needed,
+            )
+        };
+        self.finish(made, status, needed)
+    }
+
+    /// What a call over a text made. The handle keeps it if there was too little room.
+    fn finish(&mut self, mut made: Vec<u8>, status: c_int, needed: usize) -> Result<Vec<u8>, Error> {
+        let (mut status, mut needed) = (status, needed);
+        if status == NO_ROOM && needed > made.len() {
+            enlarge(&mut made, needed)?;
+            // As in `ask`.
+            status = unsafe { cosvigle_take(&mut self.handle, made.as_mut_ptr(), made.len(), &mut needed) };
+        }
+        if status != WRITTEN || needed > made.len() {
+            return Err(failure(status));
+        }
+        made.truncate(needed);
+        Ok(made)
+    }
+}
+
+/// Makes the bytes so long.
+fn enlarge(bytes: &mut Vec<u8>, len: usize) -> Result<(), Error> {
+    bytes.try_reserve_exact(len.saturating_sub(bytes.len())).map_err(|_| Error::NoMemory)?;
+    bytes.resize(len, 0);
+    Ok(())
+}
+
+fn failure(status: c_int) -> Error {
+    match status {
+        NO_MEMORY => Error::NoMemory,
+        status => Error::Status(status),
+    }
+}
+
+impl Default for Demangler {
+    fn default() -> Self {
+        Self::new()
+    }
+}
+
+impl fmt::Debug for Demangler {
+    fn fmt(&self, f: &mut fmt::Formatter<'_>) -> fmt::Result {
+        f.debug_struct("Demangler").finish_non_exhaustive()
+    }
+}
+
+impl Drop for Demangler {
+    fn drop(&mut self) {
+        // The handle began as one without a demangler, and only the calls wrote to it.
+        unsafe { cosvigle_free(&mut self.handle) }
+    }
+}
+
+/// The demangled name of one symbol, as a text of its own, or `None` if it has none.
+pub fn demangle(symbol: &str) -> Result<Option<String>, Error> {
+    let mut once = Demangler::new();
+    match once.demangle(symbol)? {
+        Some(name) => {
+            let mut text = String::new();
+            text.try_reserve_exact(name.len()).map_err(|_| Error::NoMemory)?;
+            text.push_str(name);
+            Ok(Some(text))
+        }
+        None => Ok(None),
+    }
+}
+
+/// The version of the library: the major version times 1,000,000, the minor times 1,000, and the patch, added up.
+pub fn version() -> u32 {
+    // It reads nothing that a caller gives.
+    unsafe { cosvigle_version() }
+}
+
+// The program of the page is run with the tests.
+#[cfg(doctest)]
+#[doc = include_str!("../README.md")]
+struct Page;

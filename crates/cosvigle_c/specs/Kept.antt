@@ -1,0 +1,21 @@
+-- What a handle keeps from one call to the next.
+use Rattle.std.specs.Prelude.{ℕ, List, [], Option, Some, None}
+use Rattle.itanium_grammar.specs.Answer.{IsAnswer}
+use Rattle.itanium_demangle.specs.Demangler.{IsPrepared}
+use Rattle.itanium_demangle.specs.LastRun.{LastRun}
+use Rattle.cosvigle_c.specs.declared.kept.Kept.{Kept}
+
+-- the text that is still to be taken, which is empty where there is none
+abbrev pub text_of : Option Kept → List ℕ
+text_of (Some kept) = kept.text.items
+text_of None = []
+
+-- what the demangler keeps of its last symbol, where there is a demangler
+abbrev pub run_of : Option Kept → Option LastRun
+run_of (Some kept) = Some kept.demangler
+run_of None = None
+
+-- there is a demangler, which keeps what a symbol leaves: its answer, counts and components
+abbrev pub KeepsSymbol : List ℕ → Option Kept → Type 0
+KeepsSymbol symbol (Some kept) = IsAnswer symbol kept.demangler.text × IsPrepared symbol kept.demangler
+KeepsSymbol symbol None = ⊥

@@ -1,0 +1,30 @@
+//! What a call returns, and how it writes a text.
+//!
+//! The statuses are numbers, as C has them.
+ghost use Rattle.std.specs.Prelude.{◌≡◌, ◌≢◌, pos};
+ghost use Rattle.cosvigle_c.specs.Room.{Fills, IsShort};
+
+/// The text is written.
+pub(crate) const WRITTEN: i32 = 0;
+/// The symbol has no demangled name, or no text is kept.
+pub(crate) const NO_ANSWER: i32 = 1;
+/// An allocation failed.
+pub(crate) const NO_MEMORY: i32 = 2;
+/// There is too little room, and nothing is written.
+pub(crate) const NO_ROOM: i32 = 3;
+/// The symbol isn't UTF-8.
+pub(crate) const NOT_UTF8: i32 = 4;
+
+/// Writes the text at the front of the room, where it fits, and tells its length in bytes. `WRITTEN`, or `NO_ROOM`.
+pub(crate) fn hand_out(text: &[u8], room: &mut [u8], needed: &mut usize) -> i32
+    ensures status { result ≢ pos 0 → result ≡ pos 3 }
+    ensures fills { result ≡ pos 0 → Fills text.now room.old room.new needed.new }
+    ensures short { result ≡ pos 3 → IsShort text.now room.old room.new needed.new }
+{
+    *needed = text.len();
+    if room.len() < text.len() {
+        return NO_ROOM;
+    }
+    room[..text.len()].copy_from_slice(text);
+    WRITTEN
+}

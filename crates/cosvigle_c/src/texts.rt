@@ -1,0 +1,234 @@
+//! The calls over whole texts: the filter, the replacement, and the text that a handle keeps where there was too little
+//! room for it.
+ghost use Rattle.std.specs.Prelude.{◌≡◌, ◌≢◌, ◌↔◌, [], pos, Some, None, IfOk, OnErr};
+ghost use Rattle.symfilter_engine.specs.Filtered.{IsAnswered};
+ghost use Rattle.symfilter_engine.specs.Replaced.{IsReplaced};
+ghost use Rattle.cosvigle_c.specs.Room.{Fills, IsShort};
+ghost use Rattle.cosvigle_c.specs.Kept.{run_of, text_of};
+ghost use Rattle.cosvigle_c.specs.Calls.{WritesLines, LacksLines, KeepsLines, WritesWords, KeepsWords};
+
+use crate::handle::Handle;
+use crate::kept::Kept;
+use crate::status::{NO_ANSWER, NO_MEMORY, NO_ROOM, WRITTEN, hand_out};
+use std::alloc::{AllocError, Global};
+use std::mem;
+use symfilter_engine::{Failed, FilterFault, Sink, Tally, filter, replace};
+
+/// A sink in memory, which fails where an allocation fails.
+#[derive(Drop)]
+struct Gathered {
+    text: Vec<u8>,
+    failed: bool,
+}
+
+impl Sink for Gathered {
+    ghost taken = { λ sink. Some sink.text.items };
+
+    ghost failed = { λ sink. sink.failed };
+
+    fn failed(&self) -> bool {
+        self.failed
+    }
+
+    fn put(&mut self, bytes: &[u8]) -> Result<usize, Failed> {
+        match self.text.extend_from_slice(bytes) {
+            Ok(()) => Ok(bytes.len()),
+            Err(_) => {
+                self.failed = true;
+                Err(Failed)
+            }
+        }
+    }
+}
+
+/// The filtered text of a block of lines. A fault where an allocation fails: the source is memory, and the sink has no
+/// other.
+fn filtered(alloc: Global, lines: &[u8]) -> Result<Vec<u8>, FilterFault>
+    ensures text { IfOk result (λ text. IsAnswered lines.now text.items) }
+{
+    let mut source = Tally::new(lines);
+    let mut sink = Gathered {
+        text: Vec::new(alloc),
+        failed: false,
+    };
+    filter(alloc, &mut source, &mut sink)?;
+    Ok(sink.text)
+}
+
+/// The replaced text of a text. A fault where an allocation fails.
+fn replaced(alloc: Global, strip: bool, bytes: &[u8]) -> Result<Vec<u8>, FilterFault>
+    ensures text { IfOk result (λ text. IsReplaced strip bytes.now text.items) }
+{
+    let mut source = Tally::new(bytes);
+    let mut sink = Gathered {
+        text: Vec::new(alloc),
+        failed: false,
+    };
+    replace(alloc, strip, &mut source, &mut sink)?;
+    Ok(sink.text)
+}
+
+/// Writes the filtered text of a block of lines at the front of `into`: each line that is a symbol as its demangled
+/// name, and each other line as it is. Returns 0, with its length in bytes in `needed`; the bytes after it stay. 2 if an
+/// allocation fails, 3 if it is longer than the room, with its length in `needed`. With these nothing is written, and
+/// with 2 `needed` is 0. A line goes up to the next line feed or the end.
+#[unsafe(no_mangle)]
+pub extern "C" fn cosvigle_filter(
+    alloc: Global,
+    lines: &[u8],
+    into: &mut [u8],
+    needed: &mut usize,
+) -> i32
+    ensures status { result ≢ pos 0 → result ≢ pos 3 → result ≡ pos 2 }
+    ensures written { result ≡ pos 0 → WritesLines lines.now into.old into.new needed.new }
+    ensures no_room { result ≡ pos 3 → LacksLines lines.now into.old into.new needed.new }
+    ensures stays { result ≢ pos 0 → into.new ≡ into.old }
+    ensures nothing { result ≡ pos 2 → needed.new ≡ 0 }
+{
+    *needed = 0;
+    match filtered(alloc, lines) {
+        Ok(made) => hand_out(&made, into, needed),
+        Err(_) => NO_MEMORY,
+    }
+}
+
+/// Takes what a handle keeps, without its text. Where it keeps nothing a new demangler is made.
+fn take_kept(alloc: Global, handle: &mut Handle) -> Result<Box<Kept>, AllocError>
+    ensures kept { IfOk result (λ kept. run_of handle.old.kept ≢ None →
+        Some kept.value.demangler ≡ run_of handle.old.kept) }
+    ensures no_text { IfOk result (λ kept. kept.value.text.items ≡ []) }
+    ensures failed { OnErr result (run_of handle.old.kept ≡ None) }
+    ensures none { handle.new.kept ≡ None }
+{
+    match mem::replace(handle, Handle::none(alloc)).into_box() {
+        Some(mut kept) => {
+            kept.text = Vec::new(alloc);
+            Ok(kept)
+        }
+        None => match Box::new(alloc, Kept::new(alloc)) {
+            Ok(made) => Ok(made),
+            Err(_) => Err(AllocError),
+        },
+    }
+}
+
+/// Writes a text that was made at the front of the room, or keeps it where there is too little: `WRITTEN`, or `NO_ROOM`.
+fn hand_out_or_keep(kept: &mut Kept, made: Vec<u8>, room: &mut [u8], needed: &mut usize) -> i32
+    requires no_text { kept.old.text.items ≡ [] }
+    ensures status { result ≢ pos 0 → result ≡ pos 3 }
+    ensures fills { result ≡ pos 0 → Fills made.items room.old room.new needed.new }
+    ensures short { result ≡ pos 3 → IsShort made.items room.old room.new needed.new }
+    ensures text { result ≡ pos 3 → kept.new.text.items ≡ made.items }
+    ensures no_text { result ≡ pos 0 → kept.new.text.items ≡ [] }
+    ensures demangler { kept.new.demangler ≡ kept.old.demangler }
+{
+    let status = hand_out(&made, room, needed);
+    if status == NO_ROOM {
+        kept.text = made;
+    }
+    status
+}
+
+/// Writes the filtered text of a block of lines, as `cosvigle_filter` does, with the same statuses and its length in
+/// bytes in `needed`. With 3 the handle keeps the text for `cosvigle_take`, else it keeps none. Its demangler stays; a
+/// handle without one may get one.
+#[unsafe(no_mangle)]
+pub extern "C" fn cosvigle_filter_with(
+    alloc: Global,
+    handle: &mut Handle,
+    lines: &[u8],
+    into: &mut [u8],
+    needed: &mut usize,
+) -> i32
+    ensures status { result ≢ pos 0 → result ≢ pos 3 → result ≡ pos 2 }
+    ensures written { result ≡ pos 0 → WritesLines lines.now into.old into.new needed.new }
+    ensures no_room { result ≡ pos 3 →
+        KeepsLines lines.now into.old into.new needed.new (text_of handle.new.kept) }
+    ensures stays { result ≢ pos 0 → into.new ≡ into.old }
+    ensures nothing { result ≡ pos 2 → needed.new ≡ 0 }
+    ensures no_text { result ≢ pos 3 → text_of handle.new.kept ≡ [] }
+    ensures keeps { run_of handle.old.kept ≢ None → run_of handle.new.kept ≡ run_of handle.old.kept }
+{
+    *needed = 0;
+    let Ok(mut kept) = take_kept(alloc, handle) else {
+        return NO_MEMORY;
+    };
+    let status = match filtered(alloc, lines) {
+        Ok(made) => hand_out_or_keep(&mut kept, made, into, needed),
+        Err(_) => NO_MEMORY,
+    };
+    *handle = Handle::of(kept);
+    status
+}
+
+/// Writes the replaced text of a text at the front of `into`: each symbol that stands in a word as its demangled name,
+/// and all other bytes as they are. With `strip` one more underscore may stand in front of a symbol, and is dropped.
+/// Returns 0, with its length in bytes in `needed`; the bytes after it stay. 2 if an allocation fails, 3 if it is longer
+/// than the room, with its length in `needed`. With these nothing is written, and with 2 `needed` is 0.
+///
+/// With 3 the handle keeps the text for `cosvigle_take`, else it keeps none. Its demangler stays; a handle without one may
+/// get one.
+#[unsafe(no_mangle)]
+pub extern "C" fn cosvigle_replace(
+    alloc: Global,
+    handle: &mut Handle,
+    strip: bool,
+    text: &[u8],
+    into: &mut [u8],
+    needed: &mut usize,
+) -> i32
+    ensures status { result ≢ pos 0 → result ≢ pos 3 → result ≡ pos 2 }
+    ensures written { result ≡ pos 0 → WritesWords strip text.now into.old into.new needed.new }
+    ensures no_room { result ≡ pos 3 →
+        KeepsWords strip text.now into.old into.new needed.new (text_of handle.new.kept) }
+    ensures stays { result ≢ pos 0 → into.new ≡ into.old }
+    ensures nothing { result ≡ pos 2 → needed.new ≡ 0 }
+    ensures no_text { result ≢ pos 3 → text_of handle.new.kept ≡ [] }
+    ensures keeps { run_of handle.old.kept ≢ None → run_of handle.new.kept ≡ run_of handle.old.kept }
+{
+    *needed = 0;
+    let Ok(mut kept) = take_kept(alloc, handle) else {
+        return NO_MEMORY;
+    };
+    let status = match replaced(alloc, strip, text) {
+        Ok(made) => hand_out_or_keep(&mut kept, made, into, needed),
+        Err(_) => NO_MEMORY,
+    };
+    *handle = Handle::of(kept);
+    status
+}
+
+/// Writes the text that the handle keeps at the front of `into`, and keeps it no longer. Returns 0, with its length in
+/// bytes in `needed`; the bytes after it stay. 1 if the handle keeps no text, 3 if it is longer than the room, with its
+/// length in `needed`. With these nothing is written, the handle keeps what it kept, and with 1 `needed` is 0.
+#[unsafe(no_mangle)]
+pub extern "C" fn cosvigle_take(
+    alloc: Global,
+    handle: &mut Handle,
+    into: &mut [u8],
+    needed: &mut usize,
+) -> i32
+    ensures status { result ≢ pos 0 → result ≢ pos 3 → result ≡ pos 1 }
+    ensures written { result ≡ pos 0 → Fills (text_of handle.old.kept) into.old into.new needed.new }
+    ensures no_room { result ≡ pos 3 → IsShort (text_of handle.old.kept) into.old into.new needed.new }
+    ensures no_text { result ≡ pos 1 ↔ (text_of handle.old.kept ≡ []) }
+    ensures stays { result ≢ pos 0 → into.new ≡ into.old }
+    ensures nothing { result ≡ pos 1 → needed.new ≡ 0 }
+    ensures taken { result ≡ pos 0 → text_of handle.new.kept ≡ [] }
+    ensures kept { result ≢ pos 0 → handle.new.kept ≡ handle.old.kept }
+    ensures keeps { run_of handle.new.kept ≡ run_of handle.old.kept }
+{
+    *needed = 0;
+    let Some(mut kept) = mem::replace(handle, Handle::none(alloc)).into_box() else {
+        return NO_ANSWER;
+    };
+    let mut status = NO_ANSWER;
+    if !kept.text.is_empty() {
+        status = hand_out(&kept.text, into, needed);
+    }
+    if status == WRITTEN {
+        kept.text = Vec::new(alloc);
+    }
+    *handle = Handle::of(kept);
+    status
+}
