@@ -1,22 +1,36 @@
--- What is printed for a symbol that is an argument.
-use Rattle.std.specs.Prelude.{ℕ, List, Bool, ◌&&◌, Some, None, codes, drop, if◌then◌else◌}
+-- What is printed for an argument that is a symbol.
+use Rattle.std.specs.Prelude.{ℕ, List, ◌++◌, Bool, ◌&&◌, IsUtf8, Some, None, codes, take, drop, if◌then◌else◌}
 use Rattle.itanium_syntax.specs.Bytes.{begins}
 use Rattle.itanium_grammar.specs.Answer.{IsAnswer}
 
+-- the byte that ends a line
+abbrev pub line_feed : ℕ
+line_feed = 10
+
+-- how many bytes stand in front of the symbol and stay: those of `__imp_`, or none
+abbrev pub import_len : List ℕ → ℕ
+import_len argument = if begins (codes "__imp_") argument then 6 else 0
+
 -- an underscore is stripped, and stands in front of `__Z`
 abbrev pub drops_underscore : Bool → List ℕ → Bool
-drops_underscore strip argument = strip && begins (codes "___Z") argument
+drops_underscore strip bytes = strip && begins (codes "___Z") bytes
+
+-- what an underscore may be stripped from
+abbrev pub stripped : Bool → List ℕ → List ℕ
+stripped strip bytes = if drops_underscore strip bytes then drop 1 bytes else bytes
 
 -- the symbol that an argument is
 abbrev pub symbol_of : Bool → List ℕ → List ℕ
-symbol_of strip argument = if drops_underscore strip argument then drop 1 argument else argument
+symbol_of strip argument = stripped strip (drop (import_len argument) argument)
 
 -- an argument, and what is printed for it
 pub data IsArgumentAnswer (strip : Bool) (argument : List ℕ) : List ℕ → Type 0 where
-  -- the answer of its symbol
-  answered : {text : List ℕ}
+  -- what stands in front of its symbol, and the demangled name of that
+  answered : {text : List ℕ} → IsUtf8 (symbol_of strip argument)
       → IsAnswer (symbol_of strip argument) (Some text)
-      → IsArgumentAnswer strip argument text
-  -- the argument itself, where that has none
-  unanswered : IsAnswer (symbol_of strip argument) None
+      → IsArgumentAnswer strip argument (take (import_len argument) argument ++ text)
+  -- the argument itself, where its symbol has no demangled name
+  unanswered : IsUtf8 (symbol_of strip argument) → IsAnswer (symbol_of strip argument) None
       → IsArgumentAnswer strip argument argument
+  -- or isn't UTF-8
+  not_utf8 : ¬ (IsUtf8 (symbol_of strip argument)) → IsArgumentAnswer strip argument argument

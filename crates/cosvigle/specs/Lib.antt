@@ -1,2 +1,4 @@
 pub mod Arguments
+pub mod Files
 pub mod Options
+pub mod Output

@@ -1,11 +1,18 @@
--- What arguments ask.
-use Rattle.std.specs.Prelude.{◌≡◌, ℕ, List, [], ◌∷◌, ◌++◌, Bool, true, false, ◌&&◌, ◌||◌, ◌==◌, codes, map, if◌then◌else◌}
+-- What arguments ask. Options stand as those of `c++filt` do: letters in a group, and names that may be shortened.
+use Rattle.std.specs.Prelude.{◌≡◌, ℕ, ◌+◌, List, [], ◌∷◌, ◌++◌, Bool, true, false, ◌&&◌, ◌||◌, ◌==◌, codes, map, length, take, drop, if◌then◌else◌}
 use Rattle.std.specs.Borrow.{Bor}
-use Rattle.itanium_syntax.specs.Bytes.{is}
-use Rattle.cosvigle.specs.declared.options.Meaning.{Meaning}
-use Rattle.cosvigle.specs.declared.options.Meaning.TheVariants.{Help, Version, Strip, Lines, NoParams, End, Unknown, Symbol}
+use Rattle.itanium_syntax.specs.Bytes.{is, one_of, begins}
+use Rattle.cosvigle.specs.declared.options.Flags.{Flags}
+use Rattle.cosvigle.specs.declared.options.Stop.{Stop}
+use Rattle.cosvigle.specs.declared.options.Stop.TheVariants as stop
+use Rattle.cosvigle.specs.declared.options.Step.{Step}
+use Rattle.cosvigle.specs.declared.options.Step.TheVariants.{Go, Value, Stop as Stopping}
+use Rattle.cosvigle.specs.declared.options.Kind.{Kind}
+use Rattle.cosvigle.specs.declared.options.Kind.TheVariants.{End, Name, Letters, Symbol}
 use Rattle.cosvigle.specs.declared.options.Asked.{Asked}
-use Rattle.cosvigle.specs.declared.options.Asked.TheVariants as asked
+use Rattle.cosvigle.specs.declared.options.Asked.TheVariants.{Answers, Stopped}
+use Rattle.cosvigle.specs.declared.names.Found.{Found}
+use Rattle.cosvigle.specs.declared.names.Found.TheVariants.{Nothing, Front, Several, Whole}
 
 -- the texts are the same
 abbrev pub same : List ℕ → List ℕ → Bool
@@ -14,96 +21,165 @@ same [] (b ∷ bytes) = false
 same (c ∷ word) [] = false
 same (c ∷ word) (b ∷ bytes) = (b == c) && same word bytes
 
+-- flags with another one
+abbrev pub with_strip : Bool → Flags → Flags
+with_strip on flags = record { strip = on; lines = flags.lines; plain = flags.plain }
+
+abbrev pub with_lines : Bool → Flags → Flags
+with_lines on flags = record { strip = flags.strip; lines = on; plain = flags.plain }
+
+abbrev pub with_plain : Bool → Flags → Flags
+with_plain on flags = record { strip = flags.strip; lines = flags.lines; plain = on }
+
+-- what a format asks for
+abbrev pub format_step : Flags → List ℕ → Step
+format_step flags format =
+    if same (codes "auto") format || same (codes "gnu-v3") format then Go (with_plain false flags) else
+    if same (codes "none") format then Go (with_plain true flags) else
+    Stopping stop.Format
+
+-- what the option with a letter asks for
+abbrev pub letter_step : Flags → ℕ → Step
+letter_step flags letter =
+    if is "_" letter then Go (with_strip true flags) else
+    if is "n" letter then Go (with_strip false flags) else
+    if is "l" letter then Go (with_lines true flags) else
+    if one_of (codes "pirR") letter then Go flags else
+    if is "s" letter then Value flags else
+    if is "t" letter then Stopping stop.Types else
+    if is "h" letter then Stopping stop.Help else
+    if is "v" letter then Stopping stop.Version else
+    Stopping stop.Unknown
+
+-- what letters ask for, after what has been read: what follows one that takes a value is that value
+abbrev pub letters : Step → List ℕ → Step
+letters (Go flags) [] = Go flags
+letters (Go flags) (b ∷ bytes) = letters (letter_step flags b) bytes
+letters (Value flags) [] = Value flags
+letters (Value flags) (b ∷ bytes) = format_step flags (b ∷ bytes)
+letters (Stopping stop) bytes = Stopping stop
+
+-- an argument with `-`, and letters after it
+abbrev pub letters_step : Flags → List ℕ → Step
+letters_step flags argument = letters (Go flags) (drop 1 argument)
+
+-- one more option whose name begins with the bytes
+abbrev pub one_more : Found → ℕ → Found
+one_more Nothing letter = Front letter
+one_more (Front first) letter = if first == letter then Front first else Several
+one_more Several letter = Several
+one_more (Whole first) letter = Whole first
+
+-- an option's name, and its letter
+abbrev pub look_at : Found → List ℕ → List ℕ → ℕ → Found
+look_at found bytes name letter =
+    if begins bytes name then (if length name == length bytes then Whole letter else one_more found letter) else found
+
+-- the options whose names begin with the bytes: a whole name counts alone
+abbrev pub find_name : List ℕ → Found
+find_name bytes =
+    look_at (look_at (look_at (look_at (look_at (look_at (look_at (look_at (look_at (look_at (look_at (look_at (look_at Nothing
+    bytes (codes "strip-underscore") 95)
+    bytes (codes "no-strip-underscores") 110)
+    bytes (codes "no-params") 112)
+    bytes (codes "no-verbose") 105)
+    bytes (codes "no-recurse-limit") 114)
+    bytes (codes "no-recursion-limit") 114)
+    bytes (codes "recurse-limit") 82)
+    bytes (codes "recursion-limit") 82)
+    bytes (codes "types") 116)
+    bytes (codes "format") 115)
+    bytes (codes "lines") 108)
+    bytes (codes "help") 104)
+    bytes (codes "version") 118
+
+-- how many bytes stand before the first `=`
+abbrev pub name_len : List ℕ → ℕ
+name_len [] = 0
+name_len (b ∷ bytes) = if is "=" b then 0 else 1 + name_len bytes
+
+-- what an option asks for that is given a value
+abbrev pub with_value : Step → List ℕ → Step
+with_value (Value flags) value = format_step flags value
+with_value (Go flags) value = Stopping stop.Valued
+with_value (Stopping stop) value = Stopping stop.Valued
+
+-- what the option found asks for, where so many bytes are its name
+abbrev pub found_step : Flags → Found → ℕ → List ℕ → Step
+found_step flags Nothing len bytes = Stopping stop.Unknown
+found_step flags Several len bytes = Stopping stop.Several
+found_step flags (Front letter) len bytes =
+    if len == length bytes then letter_step flags letter else with_value (letter_step flags letter) (drop (len + 1) bytes)
+found_step flags (Whole letter) len bytes =
+    if len == length bytes then letter_step flags letter else with_value (letter_step flags letter) (drop (len + 1) bytes)
+
+-- what follows `--`: a name, and a value after `=`
+abbrev pub name_step : Flags → List ℕ → Step
+name_step flags bytes = found_step flags (find_name (take (name_len bytes) bytes)) (name_len bytes) bytes
+
 -- the argument begins with `-`, and isn't that alone
 abbrev pub begins_option : List ℕ → Bool
 begins_option [] = false
 begins_option (byte ∷ []) = false
 begins_option (byte ∷ next ∷ bytes) = is "-" byte
 
--- what an argument says that has no option's name
-abbrev pub unnamed : List ℕ → Meaning
-unnamed argument = if begins_option argument then Unknown else Symbol
-
--- what an argument says that stands before `--`
-abbrev pub meaning_of : List ℕ → Meaning
-meaning_of argument =
-    if same (codes "-h") argument || same (codes "--help") argument then Help else
-    if same (codes "-v") argument || same (codes "--version") argument then Version else
-    if same (codes "-_") argument || same (codes "--strip-underscore") argument then Strip true else
-    if same (codes "-n") argument || same (codes "--no-strip-underscore") argument then Strip false else
-    if same (codes "-l") argument || same (codes "--lines") argument then Lines else
-    if same (codes "-p") argument || same (codes "--no-params") argument then NoParams else
+-- what an argument is that is no option's value
+abbrev pub kind_of : List ℕ → Kind
+kind_of argument =
     if same (codes "--") argument then End else
-    unnamed argument
+    if begins (codes "--") argument then Name else
+    if begins_option argument then Letters else Symbol
 
--- no argument chooses that follows one that says this
-abbrev pub ends : Meaning → Bool
-ends Help = true
-ends Version = true
-ends End = true
-ends Unknown = true
-ends (Strip on) = false
-ends Lines = false
-ends NoParams = false
-ends Symbol = false
+-- what has been read of arguments
+pub data State : Type 0 where
+  -- options and symbols: what the former choose, the latter, and the argument that was read last, if it was an option's
+  reading : Step → List (List ℕ) → List ℕ → State
+  -- `--`, and all that follows is a symbol
+  ended : Flags → List (List ℕ) → State
+  -- what stops the reading, and the argument that does
+  stopped : Stop → List ℕ → State
+
+-- one argument more, of this kind, after these flags
+abbrev pub of_kind : Kind → Flags → List (List ℕ) → List ℕ → List ℕ → State
+of_kind End flags symbols word argument = ended flags symbols
+of_kind Name flags symbols word argument = reading (name_step flags (drop 2 argument)) symbols argument
+of_kind Letters flags symbols word argument = reading (letters_step flags argument) symbols argument
+of_kind Symbol flags symbols word argument = reading (Go flags) (symbols ++ argument ∷ []) word
+
+-- one argument more
+abbrev pub next : State → List ℕ → State
+next (reading (Go flags) symbols word) argument = of_kind (kind_of argument) flags symbols word argument
+next (reading (Value flags) symbols word) argument = reading (format_step flags argument) symbols argument
+next (reading (Stopping stop) symbols word) argument = stopped stop word
+next (ended flags symbols) argument = ended flags (symbols ++ argument ∷ [])
+next (stopped stop word) argument = stopped stop word
+
+-- all arguments
+abbrev pub read : State → List (List ℕ) → State
+read state [] = state
+read state (argument ∷ arguments) = read (next state argument) arguments
+
+-- no option
+abbrev pub no_flags : Flags
+no_flags = record { strip = false; lines = false; plain = false }
 
 -- the bytes of texts
 abbrev pub texts : List (Bor (List ℕ)) → List (List ℕ)
 texts arguments = map (λ argument. argument.now) arguments
 
--- arguments before `--`, and what they choose: whether an underscore is stripped, whether lines are symbols, and which
--- of them are symbols
-pub data Chooses : List (List ℕ) → Bool → Bool → List (List ℕ) → Type 0 where
-  -- there is none
-  no_argument : Chooses [] false false []
-  -- the last that says so decides whether an underscore is stripped
-  one_strip : {arguments symbols : List (List ℕ)} {strip lines on : Bool} (argument : List ℕ)
-      → Chooses arguments strip lines symbols
-      → meaning_of argument ≡ Strip on
-      → Chooses (arguments ++ argument ∷ []) on lines symbols
-  -- lines are symbols
-  one_lines : {arguments symbols : List (List ℕ)} {strip lines : Bool} (argument : List ℕ)
-      → Chooses arguments strip lines symbols
-      → meaning_of argument ≡ Lines
-      → Chooses (arguments ++ argument ∷ []) strip true symbols
-  -- no parameters are printed, as without it
-  one_no_params : {arguments symbols : List (List ℕ)} {strip lines : Bool} (argument : List ℕ)
-      → Chooses arguments strip lines symbols
-      → meaning_of argument ≡ NoParams
-      → Chooses (arguments ++ argument ∷ []) strip lines symbols
-  -- one more symbol
-  one_symbol : {arguments symbols : List (List ℕ)} {strip lines : Bool} (argument : List ℕ)
-      → Chooses arguments strip lines symbols
-      → meaning_of argument ≡ Symbol
-      → Chooses (arguments ++ argument ∷ []) strip lines (symbols ++ argument ∷ [])
-
--- all arguments, and what they choose
-pub data AllChoose : List (List ℕ) → Bool → Bool → List (List ℕ) → Type 0 where
-  -- none of them is `--`
-  unended : {arguments symbols : List (List ℕ)} {strip lines : Bool}
-      → Chooses arguments strip lines symbols
-      → AllChoose arguments strip lines symbols
-  -- what follows `--` are symbols
-  ended : {arguments symbols : List (List ℕ)} {strip lines : Bool} (argument : List ℕ) (more : List (List ℕ))
-      → Chooses arguments strip lines symbols
-      → meaning_of argument ≡ End
-      → AllChoose (arguments ++ argument ∷ more) strip lines (symbols ++ more)
-
--- one argument, and all among which it is the first after which none chooses
-pub data IsStop (argument : List ℕ) : List (List ℕ) → Type 0 where
-  -- those before it choose
-  stop : {arguments symbols : List (List ℕ)} {strip lines : Bool} (more : List (List ℕ))
-      → Chooses arguments strip lines symbols
-      → IsStop argument (arguments ++ argument ∷ more)
-
--- the first of the arguments after which none chooses says this
-abbrev pub StopsBy : Meaning → List (List ℕ) → Type 0
-StopsBy meaning arguments = (argument : List ℕ) × IsStop argument arguments × (meaning_of argument ≡ meaning)
+-- what is asked after these were read
+abbrev pub Asks : State → Asked → Type 0
+Asks (reading (Go flags) symbols word) (Answers chosen given) = (chosen ≡ flags) × (texts given.items ≡ symbols)
+Asks (reading (Value flags) symbols word) (Stopped by argument) = (by ≡ stop.Unvalued) × (argument.now ≡ word)
+Asks (reading (Stopping stop) symbols word) (Stopped by argument) = (by ≡ stop) × (argument.now ≡ word)
+Asks (ended flags symbols) (Answers chosen given) = (chosen ≡ flags) × (texts given.items ≡ symbols)
+Asks (stopped stop word) (Stopped by argument) = (by ≡ stop) × (argument.now ≡ word)
+Asks (reading (Go flags) symbols word) (Stopped by argument) = ⊥
+Asks (reading (Value flags) symbols word) (Answers chosen given) = ⊥
+Asks (reading (Stopping stop) symbols word) (Answers chosen given) = ⊥
+Asks (ended flags symbols) (Stopped by argument) = ⊥
+Asks (stopped stop word) (Answers chosen given) = ⊥
 
 -- all arguments, and what they ask
 abbrev pub IsAsked : List (List ℕ) → Asked → Type 0
-IsAsked arguments asked.Help = StopsBy Help arguments
-IsAsked arguments asked.Version = StopsBy Version arguments
-IsAsked arguments (asked.Unknown argument) = IsStop argument.now arguments × (meaning_of argument.now ≡ Unknown)
-IsAsked arguments (asked.Answers choices) =
-    AllChoose arguments choices.strip choices.lines (texts choices.symbols.items)
+IsAsked arguments asked = Asks (read (reading (Go no_flags) [] []) arguments) asked

@@ -4,17 +4,20 @@
 pub const HELP: &str = "\
 usage: cosvigle [OPTION].. [SYMBOL]..
 
-Prints the answer of each symbol, or the symbol itself, one a line. Without any
-it copies standard input to standard output, and replaces each symbol that
-stands in a word by its answer.
+Prints the name of each symbol, or the symbol itself, one a line. Without any it
+copies standard input to standard output, with names in place of symbols.
 
   -_, --strip-underscore     a symbol may begin with ___Z
-  -n, --no-strip-underscore  it may not: so it is without an option
+  -n, --no-strip-underscores it may not: so it is without an option
   -l, --lines                of standard input each line is a symbol; no -_
-  -p, --no-params            no effect: parameters are never printed
+  -s, --format=FORMAT        auto or gnu-v3; or none: no symbol is read
   -h, --help                 print this, and end
   -v, --version              print the version, and end
+  @FILE                      the words of this file stand in its place
   --                         all that follows is a symbol
+  no effect: -p, --no-params; -i, --no-verbose; -r, --no-recurse-limit;
+             -R, --recurse-limit
+Letters may stand in a group, and names may be shortened.
 
 examples:
   cosvigle _ZN3Foo3barEv     prints Foo::bar
@@ -22,5 +25,5 @@ examples:
   cosvigle < trace.txt       prints a stack trace with names
 ";
 
-/// What `--version` prints, without its line feed.
-pub const VERSION: &str = "cosvigle 0.1.0";
+/// What `--version` prints.
+pub const VERSION: &str = "cosvigle 0.1.0\n";

@@ -1,110 +1,250 @@
-//! Replaces mangled C++ symbols in a text by their answers. With symbols as arguments it prints the answer of each, or
-//! the argument itself, one a line. Without any it replaces from standard input to standard output. After a fault it
-//! ends with status 1, and with status 2 where an option isn't known or an argument isn't UTF-8: then nothing is
-//! written to standard output. Standard error says which.
+//! Replaces mangled C++ symbols in a text by their demangled names. With symbols as arguments it prints the name of each,
+//! or the argument itself, one a line. Without any it replaces from standard input to standard output. After a fault it
+//! ends with status 1, and with status 2 where the options can't be read: then nothing is written to standard output.
+//! Standard error says which. Where the reader of standard output has gone, it ends with status 0 and says nothing.
 #![tactic(auto)]
 
 mod arguments;
+mod files;
 mod help;
+mod names;
 mod options;
+mod output;
 
-use arguments::answer_of;
+use arguments::{Printed, answer_of, set_line};
+use files::{file_name, is_text, words_in};
 use help::{HELP, VERSION};
 use itanium_demangle::Demangler;
-use options::{Asked, Choices, read_arguments};
-use std::alloc::{AllocError, Global};
-use std::env;
-use std::io::ErrorKind;
+use options::{Asked, Flags, Stop, read_arguments};
+use output::{Output, told};
+use std::alloc::AllocError;
+use std::env::{Env, FillError};
+use std::fs;
+use std::io::{ErrorKind, Read, Stdout, Write};
 use std::process::ExitCode;
+use std::str;
 use symfilter_engine::{FilterFault, Tally, filter, replace};
 
 /// Nothing is done, since what is asked isn't understood.
 const NOT_ASKED: u8 = 2;
 
-/// The status after this was written.
-fn written<E: Drop>(outcome: Result<(), E>) -> Result<u8, FilterFault> {
-    match outcome {
-        Ok(()) => Ok(0),
+/// So many files may stand as `@FILE`.
+const MOST_FILES: u32 = 2000;
+
+/// So many bytes of an argument are asked for at first.
+const ARGUMENT_LEN: usize = 1024;
+
+/// So many bytes are copied at once.
+const COPIED_LEN: usize = 65536;
+
+/// Writes the bytes to standard output.
+fn put(output: &mut Output<Stdout>, bytes: &[u8]) -> Result<(), FilterFault> {
+    match output.write_all(bytes) {
+        Ok(()) => Ok(()),
         Err(_) => Err(FilterFault::Write),
     }
 }
 
-/// Prints the answer of each symbol, or the symbol itself, one a line.
-fn print_answers(rt: &HostRuntime, choices: &Choices) -> Result<u8, FilterFault> {
-    let mut demangler = Demangler::new();
-    for symbol in &choices.symbols {
-        let text = answer_of(rt.alloc(), &mut demangler, choices.strip, symbol)?;
-        written(println!(rt; "{text}"))?;
+/// What is printed for an argument. With `plain` no symbol is read.
+fn printed<'a>(
+    rt: &HostRuntime,
+    demangler: &'a mut Demangler,
+    flags: Flags,
+    argument: &'a [u8],
+) -> Result<Printed<'a>, AllocError> {
+    if flags.plain {
+        return Ok(Printed {
+            front: b"",
+            text: argument,
+        });
     }
-    Ok(0)
+    answer_of(rt.alloc(), demangler, flags.strip, argument)
 }
 
-/// Copies standard input to standard output, with answers in the place of symbols.
-fn copy(rt: &HostRuntime, choices: &Choices) -> Result<u8, FilterFault> {
+/// Prints the name of each symbol, or the symbol itself, one a line.
+fn print_answers(
+    rt: &HostRuntime,
+    output: &mut Output<Stdout>,
+    flags: Flags,
+    symbols: &[&[u8]],
+) -> Result<(), FilterFault> {
+    let mut demangler = Demangler::new();
+    let mut line = Vec::new(rt.alloc());
+    for symbol in symbols {
+        let answer = printed(rt, &mut demangler, flags, symbol)?;
+        set_line(&mut line, answer)?;
+        put(output, &line)?;
+    }
+    Ok(())
+}
+
+/// Copies standard input to standard output as it is.
+fn copy_plain(rt: &HostRuntime, output: &mut Output<Stdout>) -> Result<(), FilterFault> {
+    let mut chunk = vec![in rt.alloc(); 0u8; COPIED_LEN]?;
+    let mut input = rt.stdin();
+    for _ in 0..u64::MAX {
+        match input.read(&mut chunk) {
+            Ok(0) => return Ok(()),
+            Ok(count) => put(output, &chunk[..count])?,
+            Err(_) => return Err(FilterFault::Read),
+        }
+    }
+    Err(FilterFault::Read)
+}
+
+/// Copies standard input to standard output, with names in the place of symbols.
+fn copy(rt: &HostRuntime, output: &mut Output<Stdout>, flags: Flags) -> Result<(), FilterFault> {
+    if flags.plain {
+        return copy_plain(rt, output);
+    }
     // Neither end has a buffer of its own: the engine reads and writes whole chunks.
     let mut source = Tally::new(rt.stdin());
-    let mut sink = Tally::new(rt.stdout());
-    if choices.lines {
-        filter(rt.alloc(), &mut source, &mut sink)?;
-    } else {
-        replace(rt.alloc(), choices.strip, &mut source, &mut sink)?;
+    let mut sink = Tally::new(output);
+    if flags.lines {
+        return filter(rt.alloc(), &mut source, &mut sink);
+    }
+    replace(rt.alloc(), flags.strip, &mut source, &mut sink)
+}
+
+/// Says on standard error why nothing is done.
+fn refuse(rt: &HostRuntime, before: &str, argument: &[u8], after: &str) -> u8 {
+    let mut errors = rt.stderr();
+    for part in [b"cosvigle: ", before.as_bytes(), argument, after.as_bytes(), b"\n", HELP.as_bytes()] {
+        let _ = errors.write_all(part);
+    }
+    NOT_ASKED
+}
+
+/// Does what is asked in place of reading symbols, and returns the status.
+fn stop(rt: &HostRuntime, output: &mut Output<Stdout>, stop: Stop, argument: &[u8]) -> Result<u8, FilterFault> {
+    let status = match stop {
+        Stop::Help => {
+            put(output, HELP.as_bytes())?;
+            0
+        }
+        Stop::Version => {
+            put(output, VERSION.as_bytes())?;
+            0
+        }
+        Stop::Unknown => refuse(rt, "no option ", argument, ""),
+        Stop::Several => refuse(rt, "more than one option begins with ", argument, ""),
+        Stop::Valued => refuse(rt, "no value is taken: ", argument, ""),
+        Stop::Unvalued => refuse(rt, "a value is missing: ", argument, ""),
+        Stop::Types => refuse(rt, "types alone aren't read: ", argument, ""),
+        Stop::Format => refuse(rt, "no such format: ", argument, ""),
+    };
+    Ok(status)
+}
+
+/// Does what is asked, and returns the status.
+fn answer(rt: &HostRuntime, output: &mut Output<Stdout>, asked: &Asked) -> Result<u8, FilterFault> {
+    match asked {
+        Asked::Stopped(by, argument) => return stop(rt, output, *by, argument),
+        Asked::Answers(flags, symbols) if symbols.is_empty() => copy(rt, output, *flags)?,
+        Asked::Answers(flags, symbols) => print_answers(rt, output, *flags, symbols)?,
     }
     Ok(0)
 }
 
-/// Does what is asked, and answers the status.
-fn answer(rt: &HostRuntime, asked: &Asked) -> Result<u8, FilterFault> {
-    match asked {
-        Asked::Help => written(print!(rt; "{HELP}")),
-        Asked::Version => written(println!(rt; "{VERSION}")),
-        Asked::Unknown(option) => {
-            let _ = eprint!(rt; "cosvigle: no option {option}\n{HELP}");
-            Ok(NOT_ASKED)
+/// The argument at this place, or `None` past the last one.
+fn argument_at(rt: &HostRuntime, at: usize) -> Result<Option<Vec<u8>>, AllocError> {
+    let mut len = ARGUMENT_LEN;
+    while len <= usize::MAX / 2 {
+        let mut bytes = vec![in rt.alloc(); 0u8; len]?;
+        match rt.arg(at, &mut bytes) {
+            Ok(count) => {
+                bytes.truncate(count);
+                return Ok(Some(bytes));
+            }
+            Err(FillError::NotPresent) => return Ok(None),
+            Err(FillError::TooLong) => len *= 2,
         }
-        Asked::Answers(choices) if choices.symbols.is_empty() => copy(rt, choices),
-        Asked::Answers(choices) => print_answers(rt, choices),
     }
+    Err(AllocError)
 }
 
-/// The words without the first, which is the program's name.
-fn arguments_in(alloc: Global, words: &[String]) -> Result<Vec<&str>, AllocError> {
-    let mut arguments = Vec::new(alloc);
-    for at in 1..words.len() {
-        arguments.push(words[at].as_str())?;
+/// The arguments, without the program's name.
+fn given_arguments(rt: &HostRuntime) -> Result<Vec<Vec<u8>>, AllocError> {
+    let mut all = Vec::new(rt.alloc());
+    for at in 1..usize::MAX {
+        match argument_at(rt, at)? {
+            Some(argument) => all.push(argument)?,
+            None => break,
+        }
     }
-    Ok(arguments)
+    Ok(all)
 }
 
-/// Does what is asked by the words that the program was called with, and answers the status.
-fn run(rt: &HostRuntime, words: &[String]) -> Result<u8, FilterFault> {
-    let arguments = arguments_in(rt.alloc(), words)?;
-    let asked = read_arguments(rt.alloc(), &arguments)?;
-    answer(rt, &asked)
-}
-
-/// The words that the program was called with, or `None` where one isn't UTF-8.
-fn called_with(rt: &HostRuntime) -> Result<Option<Vec<String>>, AllocError> {
-    match env::args(rt) {
-        Ok(words) => Ok(Some(words.collect(rt.alloc())?)),
+/// The words of the file that an argument names as `@FILE`. `None` where it names none, or one that can't be read or
+/// isn't text.
+fn file_words(rt: &HostRuntime, argument: &[u8]) -> Result<Option<Vec<Vec<u8>>>, AllocError> {
+    let Some(name) = file_name(argument) else {
+        return Ok(None);
+    };
+    let Ok(name) = str::from_utf8(name) else {
+        return Ok(None);
+    };
+    match fs::read(rt, name) {
+        Ok(text) if is_text(&text) => Ok(Some(words_in(rt.alloc(), &text)?)),
         Err(error) if error.kind() == ErrorKind::OutOfMemory => Err(AllocError),
-        Err(_) => Ok(None),
+        _ => Ok(None),
     }
+}
+
+/// The arguments, with the words of a file in place of each that names one, also among those words. `None` where these
+/// are too many files, as where one names itself.
+fn expanded(rt: &HostRuntime, arguments: Vec<Vec<u8>>) -> Result<Option<Vec<Vec<u8>>>, AllocError> {
+    let mut left = arguments;
+    left.reverse();
+    let mut all = Vec::new(rt.alloc());
+    let mut files = 0;
+    for _ in 0..u64::MAX {
+        let Some(argument) = left.pop() else {
+            break;
+        };
+        match file_words(rt, &argument)? {
+            None => all.push(argument)?,
+            Some(_) if files == MOST_FILES => return Ok(None),
+            Some(words) => {
+                files += 1;
+                let mut words = words;
+                words.reverse();
+                left.append(&mut words)?;
+            }
+        }
+    }
+    Ok(Some(all))
+}
+
+/// The arguments as slices.
+fn slices_of<'a>(rt: &HostRuntime, words: &'a [Vec<u8>]) -> Result<Vec<&'a [u8]>, AllocError> {
+    let mut slices = Vec::new(rt.alloc());
+    for word in words {
+        slices.push(word.as_slice())?;
+    }
+    Ok(slices)
+}
+
+/// Does what the arguments ask, and returns the status.
+fn run(rt: &HostRuntime, output: &mut Output<Stdout>) -> Result<u8, FilterFault> {
+    let Some(words) = expanded(rt, given_arguments(rt)?)? else {
+        return Ok(refuse(rt, "too many files stand as @FILE", b"", ""));
+    };
+    let arguments = slices_of(rt, &words)?;
+    let asked = read_arguments(rt.alloc(), &arguments)?;
+    answer(rt, output, &asked)
 }
 
 fn main(rt: HostRuntime) -> ExitCode {
-    let status = match called_with(&rt) {
-        Ok(Some(words)) => run(&rt, &words),
-        Ok(None) => {
-            let _ = eprint!(rt; "cosvigle: an argument isn't UTF-8\n{HELP}");
-            Ok(NOT_ASKED)
-        }
-        Err(error) => Err(FilterFault::from(error)),
-    };
-    match status {
+    let mut output = Output::new(rt.stdout());
+    match run(&rt, &mut output) {
         Ok(status) => ExitCode::from(status),
-        Err(fault) => {
-            let _ = eprintln!(rt; "cosvigle: {}", fault.reason());
-            ExitCode::FAILURE
-        }
+        Err(fault) => match told(fault, output.is_closed()) {
+            None => ExitCode::SUCCESS,
+            Some(fault) => {
+                let _ = eprintln!(rt; "cosvigle: {}", fault.reason());
+                ExitCode::FAILURE
+            }
+        },
     }
 }

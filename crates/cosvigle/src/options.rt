@@ -1,125 +1,237 @@
 //! What the arguments ask.
-ghost use Rattle.std.specs.Prelude.{◌≡◌, ◌<◌, ◌≤◌, [], length, take, get_or, IsTrue, IfOk};
+ghost use Rattle.std.specs.Prelude.{◌≡◌, ◌≤◌, length, IfOk};
 ghost use Rattle.cosvigle.specs.Options as spec;
-ghost use Rattle.cosvigle.specs.Options.{texts, ends, Chooses, IsAsked};
+ghost use Rattle.cosvigle.specs.Options.{reading, texts, Asks, IsAsked};
 
+use super::names::{Found, find_name};
 use std::alloc::{AllocError, Global};
 
-/// What one argument says.
+/// What options choose.
 #[derive(Clone, Copy, Debug, PartialEq, Eq)]
-pub enum Meaning {
-    /// Print the help, and nothing else.
-    Help,
-    /// Print the version, and nothing else.
-    Version,
-    /// Whether one more underscore may stand in front of a symbol.
-    Strip(bool),
-    /// Whole lines are symbols.
-    Lines,
-    /// Print no parameters: none are printed.
-    NoParams,
-    /// All arguments after it are symbols.
-    End,
-    /// No option has this name.
-    Unknown,
-    /// It is a symbol.
-    Symbol,
-}
-
-/// What an argument says that has no option's name.
-fn unnamed(argument: &str) -> Meaning
-    ensures value { result ≡ spec.unnamed argument.now }
-{
-    match argument.as_bytes() {
-        [b'-', _, ..] => Meaning::Unknown,
-        _ => Meaning::Symbol,
-    }
-}
-
-/// What an argument says that stands before `--`.
-fn meaning_of(argument: &str) -> Meaning
-    ensures value { result ≡ spec.meaning_of argument.now }
-{
-    match argument {
-        "-h" | "--help" => Meaning::Help,
-        "-v" | "--version" => Meaning::Version,
-        "-_" | "--strip-underscore" => Meaning::Strip(true),
-        "-n" | "--no-strip-underscore" => Meaning::Strip(false),
-        "-l" | "--lines" => Meaning::Lines,
-        "-p" | "--no-params" => Meaning::NoParams,
-        "--" => Meaning::End,
-        _ => unnamed(argument),
-    }
-}
-
-/// What arguments choose.
-#[derive(Drop)]
-pub struct Choices<'a> {
-    /// Whether one more underscore may stand in front of a symbol.
+pub struct Flags {
+    /// One more underscore may stand in front of a symbol.
     pub strip: bool,
-    /// Whether lines are symbols.
+    /// Of standard input each line is a symbol.
     pub lines: bool,
-    /// The arguments that are symbols.
-    pub symbols: Vec<&'a str>,
+    /// No symbol is read: all stays as it is.
+    pub plain: bool,
+}
+
+/// What is done in place of reading symbols.
+#[derive(Clone, Copy, Debug, PartialEq, Eq)]
+pub enum Stop {
+    /// The help is printed.
+    Help,
+    /// The version is printed.
+    Version,
+    /// No option has this letter or name.
+    Unknown,
+    /// More than one option has a name that begins so.
+    Several,
+    /// The option takes no value, and is given one.
+    Valued,
+    /// The option takes a value, and is given none.
+    Unvalued,
+    /// Types alone aren't read.
+    Types,
+    /// The format isn't known.
+    Format,
+}
+
+/// What has been read of the options.
+#[derive(Clone, Copy, Debug, PartialEq, Eq)]
+pub enum Step {
+    /// They choose this.
+    Go(Flags),
+    /// They choose this, and what follows is the format.
+    Value(Flags),
+    /// No further option is read.
+    Stop(Stop),
 }
 
 /// What is asked.
 #[derive(Drop)]
 pub enum Asked<'a> {
-    /// The help.
-    Help,
-    /// The version.
-    Version,
-    /// Nothing: no option has this name.
-    Unknown(&'a str),
-    /// The answers of these symbols, or standard input's replaced text where there are none.
-    Answers(Choices<'a>),
+    /// The demangled names of these arguments, or the replaced text of standard input where there are none.
+    Answers(Flags, Vec<&'a [u8]>),
+    /// Something else, by this argument.
+    Stopped(Stop, &'a [u8]),
 }
 
-/// Takes what the first arguments choose, and answers how many these are: all, or those before one after which none
-/// chooses. An error comes only where memory is refused.
-fn take_choices<'a>(arguments: &[&'a str], choices: &mut Choices<'a>) -> Result<usize, AllocError>
-    requires { Chooses [] choices.old.strip choices.old.lines (texts choices.old.symbols.items) }
-    ensures bound { IfOk result (λ count. count ≤ length arguments.now) }
-    ensures chosen { IfOk result (λ count. Chooses (take count (texts arguments.now))
-        choices.new.strip choices.new.lines (texts choices.new.symbols.items)) }
-    ensures ends { IfOk result (λ count. count < length arguments.now
-        → IsTrue (ends (spec.meaning_of (get_or (texts arguments.now) count [])))) }
+/// The format that the bytes name.
+fn format_step(flags: Flags, format: &[u8]) -> Step
+    ensures value { result ≡ spec.format_step flags format.now }
 {
-    for at in 0..arguments.len() {
-        let argument = arguments[at];
-        match meaning_of(argument) {
-            Meaning::Strip(on) => choices.strip = on,
-            Meaning::Lines => choices.lines = true,
-            Meaning::NoParams => {}
-            Meaning::Symbol => choices.symbols.push(argument)?,
-            Meaning::Help | Meaning::Version | Meaning::End | Meaning::Unknown => return Ok(at),
+    match format {
+        [b'a', b'u', b't', b'o'] | [b'g', b'n', b'u', b'-', b'v', b'3'] => Step::Go(Flags {
+            strip: flags.strip,
+            lines: flags.lines,
+            plain: false,
+        }),
+        [b'n', b'o', b'n', b'e'] => Step::Go(Flags {
+            strip: flags.strip,
+            lines: flags.lines,
+            plain: true,
+        }),
+        _ => Step::Stop(Stop::Format),
+    }
+}
+
+/// The option with this letter.
+fn letter_step(flags: Flags, letter: u8) -> Step
+    ensures value { result ≡ spec.letter_step flags letter }
+{
+    match letter {
+        b'_' => Step::Go(Flags {
+            strip: true,
+            lines: flags.lines,
+            plain: flags.plain,
+        }),
+        b'n' => Step::Go(Flags {
+            strip: false,
+            lines: flags.lines,
+            plain: flags.plain,
+        }),
+        b'l' => Step::Go(Flags {
+            strip: flags.strip,
+            lines: true,
+            plain: flags.plain,
+        }),
+        b'p' | b'i' | b'r' | b'R' => Step::Go(flags),
+        b's' => Step::Value(flags),
+        b't' => Step::Stop(Stop::Types),
+        b'h' => Step::Stop(Stop::Help),
+        b'v' => Step::Stop(Stop::Version),
+        _ => Step::Stop(Stop::Unknown),
+    }
+}
+
+/// The options whose letters follow the `-` that an argument begins with. What follows the letter of an option that takes
+/// a value is that value.
+fn letters_step(flags: Flags, argument: &[u8]) -> Step
+    ensures value { result ≡ spec.letters_step flags argument.now }
+{
+    let mut flags = flags;
+    for at in 1..argument.len() {
+        match letter_step(flags, argument[at]) {
+            Step::Go(next) => flags = next,
+            Step::Value(next) if at + 1 < argument.len() => {
+                return format_step(next, &argument[at + 1..]);
+            }
+            step => return step,
         }
     }
-    Ok(arguments.len())
+    Step::Go(flags)
+}
+
+/// How many bytes stand before the first `=`, or how many there are.
+fn name_len(bytes: &[u8]) -> usize
+    ensures bound { result ≤ length bytes.now }
+    ensures value { result ≡ spec.name_len bytes.now }
+{
+    for at in 0..bytes.len() {
+        if bytes[at] == b'=' {
+            return at;
+        }
+    }
+    bytes.len()
+}
+
+/// The option whose name stands after `--`, or a beginning of its name that no other has. What follows a `=` is its
+/// value.
+fn name_step(flags: Flags, bytes: &[u8]) -> Step
+    ensures value { result ≡ spec.name_step flags bytes.now }
+{
+    let len = name_len(bytes);
+    let letter = match find_name(&bytes[..len]) {
+        Found::Whole(letter) | Found::Front(letter) => letter,
+        Found::Several => return Step::Stop(Stop::Several),
+        Found::Nothing => return Step::Stop(Stop::Unknown),
+    };
+    let step = letter_step(flags, letter);
+    if len == bytes.len() {
+        return step;
+    }
+    match step {
+        Step::Value(next) => format_step(next, &bytes[len + 1..]),
+        _ => Step::Stop(Stop::Valued),
+    }
+}
+
+/// What an argument is.
+#[derive(Clone, Copy, Debug, PartialEq, Eq)]
+pub enum Kind {
+    /// All arguments after it are symbols.
+    End,
+    /// It has the name of an option.
+    Name,
+    /// It has letters of options.
+    Letters,
+    /// It is a symbol.
+    Symbol,
+}
+
+/// What an argument is that is no value of an option.
+fn kind_of(argument: &[u8]) -> Kind
+    ensures value { result ≡ spec.kind_of argument.now }
+{
+    match argument {
+        [b'-', b'-'] => Kind::End,
+        [b'-', b'-', ..] => Kind::Name,
+        [b'-', _, ..] => Kind::Letters,
+        _ => Kind::Symbol,
+    }
+}
+
+/// What is asked where so much has been read, and no argument is left.
+fn asked_at_end<'a>(step: Step, symbols: Vec<&'a [u8]>, word: &'a [u8]) -> Asked<'a>
+    ensures asked { Asks (reading step (texts symbols.items) word.now) result }
+{
+    match step {
+        Step::Go(flags) => Asked::Answers(flags, symbols),
+        Step::Value(_) => Asked::Stopped(Stop::Unvalued, word),
+        Step::Stop(stop) => Asked::Stopped(stop, word),
+    }
 }
 
 /// What the arguments ask. An error comes only where memory is refused.
-pub fn read_arguments<'a>(alloc: Global, arguments: &[&'a str]) -> Result<Asked<'a>, AllocError>
+pub fn read_arguments<'a>(alloc: Global, arguments: &[&'a [u8]]) -> Result<Asked<'a>, AllocError>
     ensures asked { IfOk result (IsAsked (texts arguments.now)) }
 {
-    let mut choices = Choices {
+    let mut step = Step::Go(Flags {
         strip: false,
         lines: false,
-        symbols: Vec::new(alloc),
-    };
-    let count = take_choices(arguments, &mut choices)?;
-    if count == arguments.len() {
-        return Ok(Asked::Answers(choices));
-    }
-    let argument = arguments[count];
-    match meaning_of(argument) {
-        Meaning::Help => Ok(Asked::Help),
-        Meaning::Version => Ok(Asked::Version),
-        Meaning::End => {
-            choices.symbols.extend_from_slice(&arguments[count + 1..])?;
-            Ok(Asked::Answers(choices))
+        plain: false,
+    });
+    let mut symbols = Vec::new(alloc);
+    // The argument that was read last, if it was an option or its value.
+    let mut word: &'a [u8] = b"";
+    for at in 0..arguments.len() {
+        let argument = arguments[at];
+        let flags = match step {
+            Step::Go(flags) => flags,
+            Step::Value(flags) => {
+                step = format_step(flags, argument);
+                word = argument;
+                continue;
+            }
+            Step::Stop(stop) => return Ok(Asked::Stopped(stop, word)),
+        };
+        match kind_of(argument) {
+            Kind::End => {
+                symbols.extend_from_slice(&arguments[at + 1..])?;
+                return Ok(Asked::Answers(flags, symbols));
+            }
+            Kind::Name => {
+                step = name_step(flags, &argument[2..]);
+                word = argument;
+            }
+            Kind::Letters => {
+                step = letters_step(flags, argument);
+                word = argument;
+            }
+            Kind::Symbol => symbols.push(argument)?,
         }
-        _ => Ok(Asked::Unknown(argument)),
     }
+    Ok(asked_at_end(step, symbols, word))
 }

@@ -130,7 +130,7 @@ at_end (Some given) None read consumes ends = absurd consumes
 at_end (Some given) (Some rest) read consumes ends = ap (λ l. Some l) ends
 
 -- and all its bytes were read
-all_read : (symbols : Symbols) (s s' t t' : Option (List ℕ)) (read : List ℕ) → Consumes s s' read → IsAtEnd s' → WritesFiltered symbols read t t'
+pub all_read : (symbols : Symbols) (s s' t t' : Option (List ℕ)) (read : List ℕ) → Consumes s s' read → IsAtEnd s' → WritesFiltered symbols read t t'
     → IfSome s (λ given. WritesFiltered symbols given t t')
 all_read symbols None s' t t' read consumes ends writes = tt
 all_read symbols (Some given) None t t' read consumes ends writes = absurd consumes

@@ -1,12 +1,12 @@
 -- Filtered text, line by line and piece by piece.
-use Rattle.std.proofs.Common.{◌≡◌, ◌≢◌, ℕ, ◌+◌, ◌-◌, length, get_or, arith, Result, Ok, Err, OnErr, List, [], ◌∷◌, ◌++◌}
+use Rattle.std.proofs.Common.{◌≡◌, ◌≢◌, ℕ, Result, Ok, Err, OnErr, List, [], ◌∷◌, ◌++◌}
 use Rattle.std.proofs.Common.{Option, take, drop, refl, sym, ap, subst, ◌∙◌, append_assoc, append-nil, Bool, true}
 use Rattle.std.proofs.Common.{false, inl, inr, ◌⊎◌, Some, None}
-use Rattle.std.proofs.lemmas.List.{take-append-drop, length-append, get_or-append_right, get_or_append_left}
+use Rattle.std.proofs.lemmas.List.{take-append-drop}
 use Rattle.std.proofs.lemmas.List.Elements.{All-nil, All-push}
 use Rattle.std.specs.Str.{is_utf8}
 use Rattle.std.proofs.lemmas.Str.{IsUtf8-from_is_utf8, is_utf8-from_IsUtf8}
-use Rattle.std.proofs.lemmas.Bool.{false≢true, cases_eq, cases_lt}
+use Rattle.std.proofs.lemmas.Bool.{false≢true, cases_eq}
 use Rattle.itanium_grammar.specs.Answer.{IsAnswer}
 use Rattle.itanium_demangle.proofs.Answered.{each_answered}
 use Rattle.std.proofs.KnownBytes.{Appends-nil, Appends-trans, Appends-kept}
@@ -14,12 +14,12 @@ use Rattle.std.specs.Io.KnownBytes.{Appends, Keeps}
 use Rattle.symfilter_engine.specs.declared.symbols.Symbols.{Symbols}
 use Rattle.symfilter_engine.specs.declared.symbols.Symbols.TheVariants.{Lines, Words}
 use Rattle.symfilter_engine.specs.Replaced.{no_byte}
-use Rattle.symfilter_engine.specs.Filtered.{line_feed, HasNoLineFeed, EndsInLineFeed, AreLinesAnswered, no_line}
+use Rattle.symfilter_engine.specs.Filtered.{line_feed, HasNoLineFeed, AreLinesAnswered, no_line}
 use Rattle.symfilter_engine.specs.Filtered.{one_more, IsAnswered, ended, unended, AreLinesFiltered, IsFiltered, IsFront}
 use Rattle.symfilter_engine.specs.Filtered.{IsBeginning, IsLineAnswer, answered, unanswered, not_utf8, WritesFiltered}
 use Rattle.symfilter_engine.specs.Filtered.{WritesBeginning}
 use Rattle.symfilter_engine.specs.Progress.{AppendsReplaced, WritesFront, WritesLines, WritesLinesFront, HasFiltered}
-use Rattle.symfilter_engine.proofs.ReplacedText.{IsReplaced-append, ended_parted, replaced_of}
+use Rattle.symfilter_engine.proofs.ReplacedText.{IsReplaced-append, whole_parted, whole-append, replaced_of}
 
 -- lines after lines, where each is a symbol
 pub AreLinesAnswered-append : {lines text lines' text' : List ℕ} → AreLinesAnswered lines text → AreLinesAnswered lines' text' → AreLinesAnswered (lines ++ lines') (text ++ text')
@@ -38,37 +38,24 @@ IsAnswered-append {lines} {text} first (unended {lines = lines'} {text = text'} 
     (subst (IsAnswered ((lines ++ lines') ++ line)) (append_assoc text text' answer)
     (unended (AreLinesAnswered-append first before) some unended_line is_answer))
 
--- what ends in a line feed after what does
-ends_after : (front bytes : List ℕ) → EndsInLineFeed front → EndsInLineFeed bytes → EndsInLineFeed (front ++ bytes)
-ends_after front bytes first second some =
-    let long : length (front ++ bytes) ≡ length front + length bytes = length-append front bytes in
-    elim (cases_lt 0 (length bytes)) [
-      | inl more ↦
-          get_or-append_right front bytes (length front) (length (front ++ bytes) - 1) 0 refl (omega (arith, long, more))
-          ∙ ap (λ k. get_or bytes k 0) (omega (arith, long, more)) ∙ second more
-      | inr none ↦
-          get_or_append_left front bytes 0 (length (front ++ bytes) - 1) (omega (arith, long, none, some))
-          ∙ ap (λ k. get_or front k 0) (omega (arith, long, none)) ∙ first (omega (arith, long, none, some))
-    ]
-
 -- no line
 pub no_lines : (symbols : Symbols) → AreLinesFiltered symbols [] []
 no_lines Lines = no_line
-no_lines (Words strip) = (λ some. absurd (omega (arith, some)), no_byte)
+no_lines (Words strip) = (refl, no_byte)
 
 -- lines after lines
 pub AreLinesFiltered-append : (symbols : Symbols) (lines text lines' text' : List ℕ) → AreLinesFiltered symbols lines text → AreLinesFiltered symbols lines' text'
     → AreLinesFiltered symbols (lines ++ lines') (text ++ text')
 AreLinesFiltered-append Lines lines text lines' text' first second = AreLinesAnswered-append first second
 AreLinesFiltered-append (Words strip) lines text lines' text' first second =
-    (ends_after lines lines' first.0 second.0, IsReplaced-append strip first.1 second.1 (ended_parted lines lines' first.0))
+    (whole-append lines lines' second.0 (λ _. first.0), IsReplaced-append strip first.1 second.1 (whole_parted lines lines' first.0))
 
 -- bytes after lines
 IsFiltered-append : (symbols : Symbols) (lines text given text' : List ℕ) → AreLinesFiltered symbols lines text → IsFiltered symbols given text'
     → IsFiltered symbols (lines ++ given) (text ++ text')
 IsFiltered-append Lines lines text given text' first second = IsAnswered-append first second
 IsFiltered-append (Words strip) lines text given text' first second =
-    IsReplaced-append strip first.1 second (ended_parted lines given first.0)
+    IsReplaced-append strip first.1 second (whole_parted lines given first.0)
 
 -- a front after a text
 pub IsFront-append : (text written more : List ℕ) → IsFront written more → IsFront (text ++ written) (text ++ more)

@@ -7,3 +7,5 @@ pub mod LineAnswers
 pub mod LineEnds
 pub mod Chunks
 pub mod Copying
+mod Signs
+mod WordTurns

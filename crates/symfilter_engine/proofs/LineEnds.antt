@@ -1,5 +1,5 @@
 -- Where lines end.
-use Rattle.std.proofs.Common.{Bool, ◌≡◌, ◌≢◌, inl, inr, ℕ, zero, suc, ◌+◌, ◌-◌, ◌<◌, ◌≤◌, List, [], ◌∷◌, ◌++◌, not, eqb, length, take, drop, get_or, sym, ap, subst, ◌∙◌, arith, append_assoc}
+use Rattle.std.proofs.Common.{Bool, false, ◌≡◌, ◌≢◌, inl, inr, ℕ, zero, suc, ◌+◌, ◌-◌, ◌<◌, ◌≤◌, List, [], ◌∷◌, ◌++◌, not, eqb, length, take, drop, get_or, sym, ap, subst, ◌∙◌, arith, append_assoc}
 use Rattle.std.proofs.lemmas.Bool.{eqb-true, eqb-false, cases_lt}
 use Rattle.std.proofs.lemmas.List.{get_or-take, get_or-drop, length-take-le, length-drop, length-append, take_more, length_push, get_or_push, get_or_append_left, drop_at, drop-drop, take-append-drop, take_rest}
 use Rattle.std.proofs.lemmas.List.Elements.{All-from_get_or, All-get_or}
@@ -11,10 +11,11 @@ use Rattle.std.specs.Simd.Lanes.{chunk}
 use Rattle.std.specs.List.{prefix_len}
 use Rattle.symfilter_engine.specs.declared.symbols.Symbols.{Symbols}
 use Rattle.symfilter_engine.specs.declared.symbols.Symbols.TheVariants.{Lines, Words}
-use Rattle.symfilter_engine.specs.Filtered.{line_feed, EndsInLineFeed, AreLinesAnswered, no_line, one_more, AreLinesFiltered, IsLineAnswer}
+use Rattle.symfilter_engine.specs.Filtered.{line_feed, EndsInLineFeed, AreWhole, AreLinesAnswered, no_line, one_more, AreLinesFiltered, IsLineAnswer}
+use Rattle.symfilter_engine.specs.Replaced.{ends_word}
 use Rattle.symfilter_engine.specs.Progress.{HasNone, IsFirst, EndsAt, HasNoPrefix, AppendsReplaced, AppendsLines}
 use Rattle.symfilter_engine.proofs.FilteredText.{AreLinesAnswered-append, AreLinesFiltered-append}
-use Rattle.symfilter_engine.proofs.ReplacedText.{unprefixed}
+use Rattle.symfilter_engine.proofs.ReplacedText.{unprefixed, whole-drop}
 use Rattle.symfilter_engine.proofs.LineAnswers.{other_line}
 
 -- a byte is no line feed
@@ -54,12 +55,25 @@ lanes_end wanted bytes at count room before counted small =
     }
 
 -- what follows lines ends in a line feed where they all do
-pub ended_after : (lines : List ℕ) (n : ℕ) → EndsInLineFeed lines → EndsInLineFeed (drop n lines)
+ended_after : (lines : List ℕ) (n : ℕ) → EndsInLineFeed lines → EndsInLineFeed (drop n lines)
 ended_after lines n ended some =
     let left : length (drop n lines) ≡ length lines - n = length-drop n lines in
     get_or-drop n lines (length (drop n lines) - 1) 0
     ∙ ap (λ k. get_or lines k 0) (omega (arith, left))
     ∙ ended (omega (arith, left))
+
+-- and what follows whole lines or words
+pub whole_after : (symbols : Symbols) (lines : List ℕ) (n : ℕ) → AreWhole symbols lines → AreWhole symbols (drop n lines)
+whole_after Lines lines n whole = ended_after lines n whole
+whole_after (Words strip) lines n whole = whole-drop lines n whole
+
+-- lines are whole
+pub whole_lines : (symbols : Symbols) (lines : List ℕ) → symbols ≡ Lines → AreWhole symbols lines → EndsInLineFeed lines
+whole_lines symbols lines is whole = subst (λ s. AreWhole s lines) is whole
+
+-- so are words
+pub whole_words : (symbols : Symbols) (strip : Bool) (text : List ℕ) → symbols ≡ Words strip → AreWhole symbols text → ends_word text ≡ false
+whole_words symbols strip text is whole = subst (λ s. AreWhole s text) is whole
 
 -- the first line with its line feed
 pub with_feed : (lines : List ℕ) (end : ℕ) → EndsAt lines end → take (end + 1) lines ≡ take end lines ++ line_feed ∷ []
@@ -95,20 +109,14 @@ more_ordinary lines len end first ends ordinary =
       subst (λ l. AreLinesAnswered l l) (sym (take-add len (end + 1) lines)) (AreLinesAnswered-append first next),
     )
 
--- whole lines without a prefix
-pub unprefixed_lines : (symbols : Symbols) (strip : Bool) (lines : List ℕ) → symbols ≡ Words strip → EndsInLineFeed lines → HasNoPrefix lines
-    → AreLinesFiltered symbols lines lines
-unprefixed_lines symbols strip lines is ended none = subst (λ s. AreLinesFiltered s lines lines) (sym is) (ended, unprefixed strip lines none)
+-- whole words without a prefix
+pub unprefixed_words : (symbols : Symbols) (strip : Bool) (text : List ℕ) → symbols ≡ Words strip → ends_word text ≡ false → HasNoPrefix text
+    → AreLinesFiltered symbols text text
+unprefixed_words symbols strip text is whole none = subst (λ s. AreLinesFiltered s text text) (sym is) (whole, unprefixed strip text none)
 
--- the first line with its line feed ends in one
-pub line_ended : (lines : List ℕ) (end : ℕ) → EndsAt lines end → EndsInLineFeed (take (end + 1) lines)
-line_ended lines end ends some =
-    let long : length (take (end + 1) lines) ≡ end + 1 = length-take-le (end + 1) lines (omega (arith, ends.inside)) in
-    ap (λ k. get_or (take (end + 1) lines) k 0) (omega (arith, long)) ∙ get_or-take (end + 1) lines end 0 (omega arith) ∙ ends.found
-
--- whole lines were appended replaced
-pub block_appended : (strip : Bool) (lines before after : List ℕ) → EndsInLineFeed lines → AppendsReplaced strip lines before after → AppendsLines (Words strip) lines before after
-block_appended strip lines before after ended (text, replaced, after_is) = (text, (ended, replaced), after_is)
+-- whole words were appended replaced
+pub block_appended : (strip : Bool) (text before after : List ℕ) → ends_word text ≡ false → AppendsReplaced strip text before after → AppendsLines (Words strip) text before after
+block_appended strip text before after whole (replaced, is_replaced, after_is) = (replaced, (whole, is_replaced), after_is)
 
 -- one line was appended
 pub line_appended : (lines answer before after : List ℕ) (end : ℕ) → EndsAt lines end → IsLineAnswer (take end lines) answer → after ≡ before ++ (answer ++ line_feed ∷ [])
@@ -151,10 +159,6 @@ answered_ended (one_more {lines = lines} {line = line} before unended_line is_an
     let whole : front ++ line_feed ∷ [] ≡ lines ++ (line ++ line_feed ∷ []) = append_assoc lines line (line_feed ∷ []) in
     subst EndsInLineFeed whole (λ _. get_or_push front line_feed 0 (length (front ++ line_feed ∷ []) - 1) (omega (arith, length_push front line_feed))) some
 
-filtered_ended : (symbols : Symbols) (lines text : List ℕ) → AreLinesFiltered symbols lines text → EndsInLineFeed lines
-filtered_ended Lines lines text filtered = answered_ended filtered
-filtered_ended (Words strip) lines text filtered = filtered.0
-
 -- what follows them
 after_lines : (lines rest : List ℕ) → EndsInLineFeed lines → IsUtf8 (lines ++ rest) → IsUtf8 rest
 after_lines [] rest ended utf8 = utf8
@@ -168,6 +172,6 @@ after_lines (byte ∷ bytes) rest ended utf8 =
     (IsUtf8-drop (lines ++ rest) (last + 1) utf8
     (IsCharBoundary-after_ascii (lines ++ rest) last utf8 (omega (arith, some, all)) (omega (arith, feed))))
 
-pub utf8_after : (symbols : Symbols) (lines text : List ℕ) (n : ℕ) → AreLinesFiltered symbols (take n lines) text → IsUtf8 lines → IsUtf8 (drop n lines)
-utf8_after symbols lines text n filtered utf8 =
-    after_lines (take n lines) (drop n lines) (filtered_ended symbols (take n lines) text filtered) (subst IsUtf8 (sym (take-append-drop n lines)) utf8)
+pub utf8_after : (symbols : Symbols) (lines text : List ℕ) (n : ℕ) → symbols ≡ Lines → AreLinesFiltered symbols (take n lines) text → IsUtf8 lines → IsUtf8 (drop n lines)
+utf8_after symbols lines text n is filtered utf8 =
+    after_lines (take n lines) (drop n lines) (answered_ended (subst (λ s. AreLinesFiltered s (take n lines) text) is filtered)) (subst IsUtf8 (sym (take-append-drop n lines)) utf8)

@@ -2,25 +2,18 @@
 use Rattle.std.proofs.Common.{◌≡◌, ◌≢◌, ℕ, zero, suc, ◌+◌, ◌-◌, ◌<◌, ◌≤◌, List, [], ◌∷◌, ◌++◌, Bool, true, false, ◌&&◌}
 use Rattle.std.proofs.Common.{◌||◌, ◌==◌, Option, Some, None, ◌⊎◌, inl, inr, if◌then◌else◌, codes, length, take, drop}
 use Rattle.std.proofs.Common.{get_or, refl, sym, ap, subst, ◌∙◌, arith, append_assoc, append-nil}
-use Rattle.std.proofs.lemmas.List.{length-take-le, get_or-take, get_or-drop, get_or_append_left, get_or_past}
+use Rattle.std.proofs.lemmas.List.{length-take-le, get_or-take, get_or-drop, get_or_append_left, get_or_past, take-append-drop}
 use Rattle.std.proofs.lemmas.List.Elements.{All-nil, All-cons, All-head, All-tail, All-push, All-same}
-use Rattle.std.proofs.lemmas.Bool.{false≢true, and_parts, eqb-true, cases_lt}
+use Rattle.std.proofs.lemmas.Bool.{false≢true, and_parts, eqb-true, cases_lt, false_from_ne_true}
 use Rattle.std.proofs.Math.Seq.{take-add}
 use Rattle.std.specs.Prelude.{All}
 use Rattle.itanium_syntax.specs.Bytes.{is, begins}
 use Rattle.itanium_grammar.specs.Answer.{IsAnswer}
 use Rattle.itanium_demangle.proofs.Answered.{each_answered}
-use Rattle.symfilter_engine.specs.Filtered.{EndsInLineFeed}
-use Rattle.symfilter_engine.specs.Replaced.{is_word_byte, IsWordByte, begins_word, IsDot, ends_in_dot, sign_of}
+use Rattle.symfilter_engine.specs.Replaced.{is_word_byte, IsWordByte, begins_word, ends_word, IsDot, ends_in_dot, sign_len, sign_of}
 use Rattle.symfilter_engine.specs.Replaced.{past_sign, symbol_at, symbol_in, IsWordAnswer, answered, unanswered}
 use Rattle.symfilter_engine.specs.Replaced.{no_symbol, IsReplaced, no_byte, other, one_word}
-use Rattle.symfilter_engine.specs.Progress.{underscore, capital_z, HasNoPrefix, IsBoundary}
-
--- the last byte is one of words
-abbrev pub ends_word : List ℕ → Bool
-ends_word [] = false
-ends_word (byte ∷ []) = is_word_byte byte
-ends_word (byte ∷ next ∷ bytes) = ends_word (next ∷ bytes)
+use Rattle.symfilter_engine.specs.Progress.{underscore, capital_z, HasNoPrefix, AreWordBytes, IsBoundary}
 
 ends_word-cons : (byte : ℕ) (bytes : List ℕ) → ends_word bytes ≡ true → ends_word (byte ∷ bytes) ≡ true
 ends_word-cons byte [] ends = absurd (false≢true ends)
@@ -74,11 +67,50 @@ IsReplaced-append strip {rest = rest} {more = more} (one_word {word = word} {byt
     (next_after (word ++ dots) bytes rest (ends_word-all (word ++ dots) some all) next parted)
     (IsReplaced-append strip first second (λ ends. parted (ends_word-append (word ++ dots) bytes ends)))))
 
--- no word goes on after a line feed
-pub ended_parted : (lines rest : List ℕ) → EndsInLineFeed lines → ends_word lines ≡ true → begins_word rest ≡ false
-ended_parted lines rest ended ends =
-    let last = ends_word-last lines ends in
-    absurd (false≢true (sym (ap is_word_byte (ended last.0)) ∙ last.1))
+-- no word goes on from whole words
+pub whole_parted : (words rest : List ℕ) → ends_word words ≡ false → ends_word words ≡ true → begins_word rest ≡ false
+whole_parted words rest whole ends = absurd (false≢true (sym whole ∙ ends))
+
+-- what ends bytes, where more follow
+ends_word-past : (front bytes : List ℕ) (byte : ℕ) → ends_word (front ++ byte ∷ bytes) ≡ ends_word (byte ∷ bytes)
+ends_word-past [] bytes byte = refl
+ends_word-past (first ∷ []) bytes byte = refl
+ends_word-past (first ∷ next ∷ front) bytes byte = ends_word-past (next ∷ front) bytes byte
+
+-- whole words after whole words, or after none
+pub whole-append : (first second : List ℕ) → ends_word second ≡ false → (second ≡ [] → ends_word first ≡ false) → ends_word (first ++ second) ≡ false
+whole-append first [] whole before = subst (λ l. ends_word l ≡ false) (sym (append-nil first)) (before refl)
+whole-append first (byte ∷ bytes) whole before = ends_word-past first bytes byte ∙ whole
+
+-- what follows in whole words
+pub whole-drop : (words : List ℕ) (n : ℕ) → ends_word words ≡ false → ends_word (drop n words) ≡ false
+whole-drop words n whole =
+    false_from_ne_true (ends_word (drop n words)) (λ ends.
+    false≢true (sym whole ∙ subst (λ l. ends_word l ≡ true) (take-append-drop n words) (ends_word-append (take n words) (drop n words) ends)))
+
+-- the last byte decides
+ends_word-at : (bytes : List ℕ) → 0 < length bytes → ends_word bytes ≡ is_word_byte (get_or bytes (length bytes - 1) 0)
+ends_word-at [] some = absurd (omega (arith, some))
+ends_word-at (byte ∷ []) some = refl
+ends_word-at (byte ∷ next ∷ bytes) some =
+    let place : suc (length (next ∷ bytes) - 1) ≡ length (byte ∷ next ∷ bytes) - 1 = omega arith in
+    ends_word-at (next ∷ bytes) (omega arith) ∙ ap (λ k. is_word_byte (get_or (byte ∷ next ∷ bytes) k 0)) place
+
+-- bytes up to one that is in no word
+pub whole_at : (bytes : List ℕ) (place : ℕ) → place < length bytes → is_word_byte (get_or bytes place 0) ≡ false → ends_word (take (place + 1) bytes) ≡ false
+whole_at bytes place inside no_word =
+    let long : length (take (place + 1) bytes) ≡ place + 1 = length-take-le (place + 1) bytes (omega (arith, inside)) in
+    ends_word-at (take (place + 1) bytes) (omega (arith, long))
+    ∙ ap is_word_byte (ap (λ k. get_or (take (place + 1) bytes) k 0) (omega (arith, long)) ∙ get_or-take (place + 1) bytes place 0 (omega arith))
+    ∙ no_word
+
+-- a word ends before whole words do
+pub word_within : (bytes : List ℕ) (end : ℕ) → 0 < length bytes → ends_word bytes ≡ false → AreWordBytes bytes 0 end → end ≤ length bytes → end < length bytes
+word_within bytes end some whole word high =
+    elim (cases_lt end (length bytes)) [
+      | inl low ↦ low
+      | inr past ↦ absurd (false≢true (sym (sym (ends_word-at bytes some) ∙ whole) ∙ word (length bytes - 1) (omega arith) (omega (arith, some, past))))
+    ]
 
 -- nor at a boundary
 boundary_parted : (bytes : List ℕ) (n m : ℕ) → n ≤ length bytes → IsBoundary bytes n → ends_word (take n bytes) ≡ true
@@ -102,12 +134,12 @@ more_replaced strip bytes text more n m inside boundary first second =
     (IsReplaced-append strip first second (boundary_parted bytes n m inside boundary))
 
 -- a word is its stem and the dots at its end
-record Split (word : List ℕ) : Type 0 where
-  stem : List ℕ
-  dots : List ℕ
-  word_is : word ≡ stem ++ dots
-  dotted : All IsDot dots
-  undotted : ends_in_dot stem ≡ false
+pub record Split (word : List ℕ) : Type 0 where
+  pub stem : List ℕ
+  pub dots : List ℕ
+  pub word_is : word ≡ stem ++ dots
+  pub dotted : All IsDot dots
+  pub undotted : ends_in_dot stem ≡ false
 
 split_more : (byte : ℕ) (stem dots : List ℕ) → All IsDot dots → ends_in_dot stem ≡ false → (t : Bool) → is "." byte ≡ t → Split (byte ∷ (stem ++ dots))
 split_more byte [] dots dotted undotted true dot =
@@ -117,7 +149,7 @@ split_more byte [] dots dotted undotted false dot =
 split_more byte (next ∷ stem) dots dotted undotted t dot =
     record { stem = byte ∷ next ∷ stem; dots = dots; word_is = refl; dotted = dotted; undotted = undotted }
 
-split_of : (word : List ℕ) → Split word
+pub split_of : (word : List ℕ) → Split word
 split_of [] = record { stem = []; dots = []; word_is = refl; dotted = All-nil IsDot; undotted = refl }
 split_of (byte ∷ bytes) =
     let more = split_of bytes in
@@ -168,13 +200,11 @@ symbol_has_prefix strip bytes symbol is none =
     ]
 
 -- past the sign
-sign_or_none : (t : Bool) (word : List ℕ) → HasNoPrefix word → HasNoPrefix (if t then drop 1 word else word)
-sign_or_none false word none = none
-sign_or_none true [] none = none
-sign_or_none true (byte ∷ word) none = λ k. none (suc k)
+no_prefix-drop : (n : ℕ) (word : List ℕ) → HasNoPrefix word → HasNoPrefix (drop n word)
+no_prefix-drop n word none = no_prefix-right (take n word) (drop n word) (subst HasNoPrefix (sym (take-append-drop n word)) none)
 
 word_has_prefix : (strip : Bool) (word symbol : List ℕ) → symbol_in strip word ≡ Some symbol → HasNoPrefix word → ⊥
-word_has_prefix strip word symbol is none = symbol_has_prefix strip (past_sign word) symbol is (sign_or_none _ word none)
+word_has_prefix strip word symbol is none = symbol_has_prefix strip (past_sign word) symbol is (no_prefix-drop (sign_len word) word none)
 
 -- what is written for a word: the word itself, where no prefix is in it
 record WordText (strip : Bool) (word : List ℕ) : Type 0 where

@@ -2,15 +2,15 @@
 use Rattle.std.proofs.Common.{◌≡◌, ◌≢◌, ℕ, suc, ◌+◌, ◌-◌, ◌<◌, ◌≤◌, List, [], ◌∷◌, ◌++◌, Bool, true, false, ◌&&◌, ◌||◌}
 use Rattle.std.proofs.Common.{◌==◌, Some, None, Result, Ok, Err, OnOk, ◌⊎◌, inl, inr, if◌then◌else◌, nat_le, codes}
 use Rattle.std.proofs.Common.{length, take, drop, get_or, refl, sym, ap, subst, ◌∙◌, arith, append_assoc, append-nil}
-use Rattle.std.proofs.lemmas.List.{length-drop, length-take-le, get_or-take, get_or-drop, get_or_past, take-append-drop, take-take, take_all, take_rest, drop-take, drop-drop}
-use Rattle.std.proofs.Math.Seq.{take-add}
-use Rattle.std.proofs.lemmas.List.Elements.{All-get_or, All-from_get_or, All-drop, All-same}
+use Rattle.std.proofs.lemmas.List.{length-drop, length-take-le, get_or-take, get_or-drop, get_or_past, take-append-drop, take-take, take_all, take_rest, take_more, drop-take, drop-drop}
+use Rattle.std.proofs.Math.Seq.{take-add, drop-cons}
+use Rattle.std.proofs.lemmas.List.Elements.{All-cons, All-get_or, All-from_get_or, All-drop, All-same}
 use Rattle.std.proofs.lemmas.Bool.{false≢true, and_parts, or_cases, eqb-true, leb-true, cases_lt, cases_Bool}
 use Rattle.std.proofs.lemmas.Str.{IsUtf8-from_ascii}
 use Rattle.std.specs.Prelude.{All, IsUtf8}
-use Rattle.itanium_syntax.specs.Bytes.{is, is_between, is_digit, one_of, begins, begins_one_of}
-use Rattle.symfilter_engine.specs.Replaced.{is_word_byte, IsWordByte, IsDot, ends_in_dot, past_sign, symbol_in, IsWordAnswer, IsReplaced, no_byte, one_word}
-use Rattle.symfilter_engine.specs.Progress.{underscore, capital_z, HasNone, IsFirst, HasNoPrefix, IsFirstPrefix, AreWordBytes, IsBoundary, Extends, AppendsReplaced}
+use Rattle.itanium_syntax.specs.Bytes.{is, is_between, is_digit, one_of, begins}
+use Rattle.symfilter_engine.specs.Replaced.{is_word_byte, IsWordByte, IsDot, ends_in_dot, sign_len, past_sign, symbol_in, IsWordAnswer, IsReplaced, no_byte, one_word}
+use Rattle.symfilter_engine.specs.Progress.{underscore, capital_z, HasNone, IsFirst, HasNoPrefix, IsFirstPrefix, AreWordBytes, IsBoundary, IsPastWord, Extends, AppendsReplaced}
 use Rattle.symfilter_engine.proofs.ReplacedText.{no_prefix-left, more_replaced, unprefixed}
 
 -- no prefix ends before the place
@@ -181,14 +181,10 @@ which false true c first second symbol is = inl (cc)
 which false false true first second symbol is = inr (cc)
 which false false false first second symbol is = absurd (cc)
 
-sign_passed : (t : Bool) (word : List ℕ) → All IsWordByte word → All IsWordByte (if t then drop 1 word else word)
-sign_passed true word all = All-drop IsWordByte 1 word all
-sign_passed false word all = all
-
 pub symbol_words : (strip : Bool) (word symbol : List ℕ) → symbol_in strip word ≡ Some symbol → All IsWordByte word → All IsWordByte symbol
 symbol_words strip word symbol is all =
     let bytes = past_sign word in
-    let rest : All IsWordByte bytes = sign_passed (begins_one_of (codes ".$") word) word all in
+    let rest : All IsWordByte bytes = All-drop IsWordByte (sign_len word) word all in
     elim (which (begins (codes "_Z") bytes) (begins (codes "__Z") bytes) (strip && begins (codes "___Z") bytes) bytes (drop 1 bytes) symbol is) [
       | inl whole ↦ All-same IsWordByte symbol bytes whole rest
       | inr less ↦ All-same IsWordByte symbol (drop 1 bytes) less (All-drop IsWordByte 1 bytes rest)
@@ -316,3 +312,21 @@ pub rest_appended : {T E : Type 0} (r : Result T E) (strip : Bool) (text old out
 rest_appended (Ok _) strip text old output after done from kept inside boundary so_far none after_is =
     rest_replaced strip text old (output ++ part text done from) after from inside boundary so_far none (after_is ∙ more_parts output text done from (length text) kept inside)
 rest_appended (Err _) strip text old output after done from kept inside boundary so_far none after_is = tt
+
+-- one byte more of a word, in front
+pub word_down : (bytes : List ℕ) (place : ℕ) → place < length bytes → is_word_byte (get_or bytes place 0) ≡ true → All IsWordByte (drop (suc place) bytes) → All IsWordByte (drop place bytes)
+word_down bytes place inside is all =
+    All-same IsWordByte (drop place bytes) (get_or bytes place 0 ∷ drop (suc place) bytes) (drop-cons bytes place 0 inside)
+    (All-cons IsWordByte (get_or bytes place 0) (drop (suc place) bytes) is all)
+
+-- a word, and the byte after it
+pub past_word : (bytes : List ℕ) (end : ℕ) → end < length bytes → AreWordBytes bytes 0 end → is_word_byte (get_or bytes end 0) ≡ false → IsPastWord bytes (end + 1)
+past_word bytes end inside word ended =
+    record {
+      within = omega (arith, inside);
+      word = take end bytes;
+      byte = get_or bytes end 0;
+      front = take_more bytes end 0 inside;
+      all = subst (λ n. All IsWordByte (take n bytes)) (omega arith) (word_slice bytes 0 end (omega arith) (omega (arith, inside)) word);
+      ended = ended;
+    }

@@ -1,10 +1,10 @@
 -- The filtered text of a list of bytes.
-use Rattle.std.specs.Prelude.{◌≡◌, ◌≢◌, ℕ, ◌-◌, ◌<◌, List, [], ◌∷◌, ◌++◌, All, IsUtf8, Option, Some, None, length, slice_index}
+use Rattle.std.specs.Prelude.{◌≡◌, ◌≢◌, ℕ, ◌-◌, ◌<◌, List, [], ◌∷◌, ◌++◌, All, Bool, true, false, IsUtf8, Option, Some, None, length, slice_index}
 use Rattle.std.specs.Io.KnownBytes.{Appends, Consumes}
 use Rattle.itanium_grammar.specs.Answer.{IsAnswer}
 use Rattle.symfilter_engine.specs.declared.symbols.Symbols.{Symbols}
 use Rattle.symfilter_engine.specs.declared.symbols.Symbols.TheVariants.{Lines, Words}
-use Rattle.symfilter_engine.specs.Replaced.{IsReplaced}
+use Rattle.symfilter_engine.specs.Replaced.{ends_word, IsHeld, IsReplaced}
 
 -- the byte that ends a line
 abbrev pub line_feed : ℕ
@@ -50,10 +50,15 @@ abbrev pub IsFiltered : Symbols → List ℕ → List ℕ → Type 0
 IsFiltered Lines bytes text = IsAnswered bytes text
 IsFiltered (Words strip) bytes text = IsReplaced strip bytes text
 
--- lines that each end in a line feed, and their filtered text
+-- whole lines; where symbols stand in words, whole words, after the last of which a byte that is in no word stands
+abbrev pub AreWhole : Symbols → List ℕ → Type 0
+AreWhole Lines bytes = EndsInLineFeed bytes
+AreWhole (Words strip) bytes = ends_word bytes ≡ false
+
+-- whole lines or words, and their filtered text
 abbrev pub AreLinesFiltered : Symbols → List ℕ → List ℕ → Type 0
 AreLinesFiltered Lines lines text = AreLinesAnswered lines text
-AreLinesFiltered (Words strip) lines text = EndsInLineFeed lines × IsReplaced strip lines text
+AreLinesFiltered (Words strip) lines text = (ends_word lines ≡ false) × IsReplaced strip lines text
 
 -- written is a front of the text
 abbrev pub IsFront : List ℕ → List ℕ → Type 0
@@ -79,8 +84,8 @@ pub record FiltersFront (symbols : Symbols) (before after written_before written
   pub consumed : Consumes before after read
   pub begins : WritesBeginning symbols read written_before written_after
 
--- the source gave whole lines and then these bytes, where its bytes are known, and the sink got the filtered text of
--- the whole lines and nothing else
+-- the source gave whole lines or words and then these bytes, where its bytes are known, and the sink got the filtered
+-- text of the former and nothing else
 pub record FiltersWholeLines (symbols : Symbols)
     (before after written_before written_after : Option (List ℕ)) : Type 0 where
   pub lines : List ℕ
@@ -99,4 +104,18 @@ pub record FiltersLines (symbols : Symbols) (before after written_before written
   pub unended : HasNoLineFeed line
   pub text : List ℕ
   pub filtered : AreLinesFiltered symbols lines text
+  pub written : Appends written_before written_after text
+
+-- the source gave these bytes and then those that are held back, where its bytes are known, and the sink got the
+-- replaced text of the former and nothing else
+pub record ReplacesAllButHeld (strip : Bool)
+    (before after written_before written_after : Option (List ℕ)) : Type 0 where
+  pub given : List ℕ
+  pub held : List ℕ
+  pub consumed : Consumes before after (given ++ held)
+  pub is_held : IsHeld strip held
+  -- what is held back begins a word
+  pub begins : ends_word given ≡ true → held ≡ []
+  pub text : List ℕ
+  pub replaced : IsReplaced strip given text
   pub written : Appends written_before written_after text

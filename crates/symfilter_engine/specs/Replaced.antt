@@ -1,5 +1,5 @@
 -- The replaced text of a list of bytes: symbols that stand in words are replaced by their demangled names.
-use Rattle.std.specs.Prelude.{◌≡◌, ◌≢◌, ℕ, List, [], ◌∷◌, ◌++◌, All, Bool, false, ◌&&◌, ◌||◌, Option, Some, None, IsTrue, codes, take, drop, if◌then◌else◌}
+use Rattle.std.specs.Prelude.{◌≡◌, ◌≢◌, ℕ, List, [], ◌∷◌, ◌++◌, All, Bool, false, ◌&&◌, ◌||◌, Option, Some, None, IsTrue, is_some, nat_lt, codes, length, take, drop, if◌then◌else◌}
 use Rattle.itanium_syntax.specs.Bytes.{is, is_between, is_digit, one_of, begins, begins_one_of}
 use Rattle.itanium_grammar.specs.Answer.{IsAnswer}
 
@@ -15,6 +15,12 @@ abbrev pub begins_word : List ℕ → Bool
 begins_word [] = false
 begins_word (byte ∷ bytes) = is_word_byte byte
 
+-- the last byte is one of words
+abbrev pub ends_word : List ℕ → Bool
+ends_word [] = false
+ends_word (byte ∷ []) = is_word_byte byte
+ends_word (byte ∷ next ∷ bytes) = ends_word (next ∷ bytes)
+
 abbrev pub IsDot : ℕ → Type 0
 IsDot byte = IsTrue (is "." byte)
 
@@ -24,13 +30,19 @@ ends_in_dot [] = false
 ends_in_dot (byte ∷ []) = is "." byte
 ends_in_dot (byte ∷ next ∷ bytes) = ends_in_dot (next ∷ bytes)
 
--- the prefix character in front of a word, a dot or `$`, if it has one
-abbrev pub sign_of : List ℕ → List ℕ
-sign_of word = if begins_one_of (codes ".$") word then take 1 word else []
+-- how many bytes may stand in front of the symbol in a word, and stay: a dot, `$` or `__imp_`
+abbrev pub sign_len : List ℕ → ℕ
+sign_len word =
+    if begins_one_of (codes ".$") word then 1 else
+    if begins (codes "__imp_") word then 6 else 0
 
--- the word without its prefix character
+-- these bytes
+abbrev pub sign_of : List ℕ → List ℕ
+sign_of word = take (sign_len word) word
+
+-- the word without them
 abbrev pub past_sign : List ℕ → List ℕ
-past_sign word = if begins_one_of (codes ".$") word then drop 1 word else word
+past_sign word = drop (sign_len word) word
 
 -- the symbol that the bytes are: they begin with `_Z` or `__Z`. Where an underscore is stripped, they may begin with
 -- `___Z`, and the first underscore is dropped.
@@ -39,13 +51,13 @@ symbol_at strip bytes =
     if begins (codes "_Z") bytes || begins (codes "__Z") bytes then Some bytes else
     if strip && begins (codes "___Z") bytes then Some (drop 1 bytes) else None
 
--- the symbol in a word without the dots at its end: what follows the prefix character, if that is a symbol
+-- the symbol in a word without the dots at its end: what follows the sign, if that is a symbol
 abbrev pub symbol_in : Bool → List ℕ → Option (List ℕ)
 symbol_in strip word = symbol_at strip (past_sign word)
 
 -- a word without the dots at its end, and what is written for it
 pub data IsWordAnswer (strip : Bool) (word : List ℕ) : List ℕ → Type 0 where
-  -- its prefix character stays, and its symbol has a demangled name
+  -- its sign stays, and its symbol has a demangled name
   answered : {symbol text : List ℕ}
       → symbol_in strip word ≡ Some symbol
       → IsAnswer symbol (Some text)
@@ -57,6 +69,15 @@ pub data IsWordAnswer (strip : Bool) (word : List ℕ) : List ℕ → Type 0 whe
       → IsWordAnswer strip word word
   -- it stays, where it has no symbol
   no_symbol : symbol_in strip word ≡ None → IsWordAnswer strip word word
+
+-- a word that begins with these bytes may hold a symbol: it begins with one, or they are too few to show that it doesn't
+abbrev pub may_hold_symbol : Bool → List ℕ → Bool
+may_hold_symbol strip bytes = nat_lt (length bytes) 10 || is_some (symbol_in strip bytes)
+
+-- bytes that may be held back: they begin a word that may hold a symbol, or there are none
+pub record IsHeld (strip : Bool) (bytes : List ℕ) : Type 0 where
+  pub word : All IsWordByte bytes
+  pub may_hold : IsTrue (may_hold_symbol strip bytes)
 
 -- bytes, and their replaced text
 pub data IsReplaced (strip : Bool) : List ℕ → List ℕ → Type 0 where

@@ -1,6 +1,7 @@
 //! Where words begin and end.
-ghost use Rattle.std.specs.Prelude.{◌≡◌, ◌+◌, ◌<◌, ◌≤◌, false, length, slice_index, IfSome, IfNone};
+ghost use Rattle.std.specs.Prelude.{◌≡◌, ◌+◌, ◌<◌, ◌≤◌, false, length, take, drop, slice_index, All, IfSome, IfNone};
 ghost use Rattle.symfilter_engine.specs.Replaced as spec;
+ghost use Rattle.symfilter_engine.specs.Replaced.{IsWordByte, ends_word};
 ghost use Rattle.symfilter_engine.specs.Progress.{AreWordBytes, IsBoundary};
 
 use std::simd::prelude::*;
@@ -100,4 +101,20 @@ pub(crate) fn word_end(text: &[u8], place: usize) -> usize
         }
     }
     word_end_from(text, at)
+}
+
+/// The length in bytes up to the last byte that is in no word, with that byte. The first `seen` bytes are all of words.
+pub(crate) fn whole_words_len(bytes: &[u8], seen: usize) -> usize
+    requires inside { seen ≤ length bytes.now }
+    requires before { All IsWordByte (take seen bytes.now) }
+    ensures bound { result ≤ length bytes.now }
+    ensures whole { ends_word (take result bytes.now) ≡ false }
+    ensures word { All IsWordByte (drop result bytes.now) }
+{
+    for place in (seen..bytes.len()).rev() {
+        if !is_word_byte(bytes[place]) {
+            return place + 1;
+        }
+    }
+    0
 }

@@ -1,7 +1,7 @@
-//! The filter and the replacement, and the loop over chunks of the input that both run.
+//! The filter, its loop over chunks of the input, and how more is read into a chunk.
 ghost use Rattle.std.specs.Prelude.{◌≡◌, ◌≤◌, ◌↔◌, ◌<◌, false, [], length, take, IsTrue, IsErrOf, IfOk, IfSome, Some, OnOk, OnErr};
 ghost use Rattle.std.specs.Io.KnownBytes.{IsAtEnd, Keeps};
-ghost use Rattle.symfilter_engine.specs.declared.symbols.Symbols.TheVariants.{Lines, Words};
+ghost use Rattle.symfilter_engine.specs.declared.symbols.Symbols.TheVariants.{Lines};
 ghost use Rattle.symfilter_engine.specs.Fault.{IsRunOutcome, IsReadOutcome};
 ghost use Rattle.symfilter_engine.specs.Filtered.{HasNoLineFeed, FiltersFront, FiltersLines, FiltersWholeLines, WritesFiltered};
 ghost use Rattle.symfilter_engine.specs.Progress.{HasCopied, ReadsMore};
@@ -15,8 +15,8 @@ use growing_text::Text;
 use itanium_demangle::Demangler;
 use std::alloc::Global;
 
-/// The length in bytes of a chunk, and of the bytes by which it grows where a line is longer.
-const CHUNK_LEN: usize = 131072;
+/// The length in bytes of a chunk, and of the bytes by which it grows where what it has to keep is longer.
+pub(crate) const CHUNK_LEN: usize = 131072;
 
 /// Reads to the end, and writes each line demangled. A line that `Demangler::demangle` has no result for, or that isn't
 /// UTF-8, is written as it is. A line goes up to the next line feed or the end of the input. Its line feed is written
@@ -60,58 +60,12 @@ pub fn filter<R: Source, W: Sink>(
         (W.taken sink.old) (W.taken sink.new) }
 {
     let mut chunk = vec![in alloc; 0u8; CHUNK_LEN]?;
-    filter_by_chunks(alloc, Symbols::Lines, source, sink, &mut chunk)
-}
-
-/// Reads to the end, and writes the replaced text: each symbol that stands in a word is replaced by its demangled name.
-/// A word is a maximal run of ASCII letters, digits, `_`, `$` and `.`. Its symbol stands at its front, after at most
-/// one prefix character `.` or `$`. The prefix character and the dots at the word's end stay. With `strip` one more
-/// underscore may stand in front of the symbol, and is dropped. Before each read all whole lines that were read are
-/// written.
-///
-/// Its faults are those of `filter`.
-pub fn replace<R: Source, W: Sink>(
-    alloc: Global,
-    strip: bool,
-    source: &mut R,
-    sink: &mut W,
-) -> Result<(), FilterFault>
-    requires source_not_failed { R.failed source.old ≡ false }
-    requires sink_not_failed { W.failed sink.old ≡ false }
-    ensures read { IsErrOf result FilterFault.Read ↔ IsTrue (R.failed source.new) }
-    ensures write { IsErrOf result FilterFault.Write ↔ IsTrue (W.failed sink.new) }
-
-    // Neither source nor sink is called after a failure, which `called_late` would record.
-    ensures source_in_time { R.called_late source.new ≡ R.called_late source.old }
-    ensures sink_in_time { W.called_late sink.new ≡ W.called_late sink.old }
-
-    // These clauses hold where the bytes of the source and of the sink are known.
-    ensures used_up { OnOk result (IfSome (R.remaining source.old) (λ _.
-        R.remaining source.new ≡ Some [])) }
-    ensures ok { OnOk result (IfSome (R.remaining source.old) (λ given.
-        WritesFiltered (Words strip) given (W.taken sink.old) (W.taken sink.new))) }
-    ensures err { OnErr result (FiltersFront (Words strip)
-        (R.remaining source.old) (R.remaining source.new)
-        (W.taken sink.old) (W.taken sink.new)) }
-
-    // Any call of the source may fail. So all whole lines that it gave are written before each call.
-    ensures put { IsErrOf result FilterFault.Read → FiltersLines (Words strip)
-        (R.remaining source.old) (R.remaining source.new)
-        (W.taken sink.old) (W.taken sink.new) }
-
-    // After a failed allocation whole lines have been written, and nothing of the next line.
-    ensures memory { IsErrOf result FilterFault.Memory → FiltersWholeLines (Words strip)
-        (R.remaining source.old) (R.remaining source.new)
-        (W.taken sink.old) (W.taken sink.new) }
-{
-    let mut chunk = vec![in alloc; 0u8; CHUNK_LEN]?;
-    filter_by_chunks(alloc, Symbols::Words(strip), source, sink, &mut chunk)
+    filter_by_chunks(alloc, source, sink, &mut chunk)
 }
 
 /// Reads to the end through the chunk, and writes each line. The chunk keeps the beginning of a line that isn't whole.
 fn filter_by_chunks<R: Source, W: Sink>(
     alloc: Global,
-    symbols: Symbols,
     source: &mut R,
     sink: &mut W,
     chunk: &mut Vec<u8>,
@@ -124,20 +78,20 @@ fn filter_by_chunks<R: Source, W: Sink>(
     ensures used_up { OnOk result (IfSome (R.remaining source.old) (λ _.
         R.remaining source.new ≡ Some [])) }
     ensures ok { OnOk result (IfSome (R.remaining source.old) (λ given.
-        WritesFiltered symbols given (W.taken sink.old) (W.taken sink.new))) }
-    ensures err { OnErr result (FiltersFront symbols
+        WritesFiltered Lines given (W.taken sink.old) (W.taken sink.new))) }
+    ensures err { OnErr result (FiltersFront Lines
         (R.remaining source.old) (R.remaining source.new)
         (W.taken sink.old) (W.taken sink.new)) }
-    ensures put { IsErrOf result FilterFault.Read → FiltersLines symbols
+    ensures put { IsErrOf result FilterFault.Read → FiltersLines Lines
         (R.remaining source.old) (R.remaining source.new)
         (W.taken sink.old) (W.taken sink.new) }
-    ensures memory { IsErrOf result FilterFault.Memory → FiltersWholeLines symbols
+    ensures memory { IsErrOf result FilterFault.Memory → FiltersWholeLines Lines
         (R.remaining source.old) (R.remaining source.new)
         (W.taken sink.old) (W.taken sink.new) }
 {
     let mut demangler = Demangler::new();
-    let kept = copy_lines(alloc, &mut demangler, symbols, chunk, source, sink)?;
-    write_last(alloc, &mut demangler, symbols, &chunk[..kept], sink)
+    let kept = copy_lines(alloc, &mut demangler, chunk, source, sink)?;
+    write_last(alloc, &mut demangler, Symbols::Lines, &chunk[..kept], sink)
 }
 
 /// Reads to the end, and writes each line that ends in a line feed. It returns the length in bytes of a last line
@@ -145,7 +99,6 @@ fn filter_by_chunks<R: Source, W: Sink>(
 fn copy_lines<R: Source, W: Sink>(
     alloc: Global,
     demangler: &mut Demangler,
-    symbols: Symbols,
     chunk: &mut Vec<u8>,
     source: &mut R,
     sink: &mut W,
@@ -158,16 +111,16 @@ fn copy_lines<R: Source, W: Sink>(
     ensures bound { IfOk result (λ kept. kept ≤ length chunk.new.items) }
     ensures at_end { OnOk result (IsAtEnd (R.remaining source.new)) }
     ensures unended { IfOk result (λ kept. HasNoLineFeed (take kept chunk.new.items)) }
-    ensures ok { IfOk result (λ kept. HasCopied symbols (take kept chunk.new.items)
+    ensures ok { IfOk result (λ kept. HasCopied Lines (take kept chunk.new.items)
         (R.remaining source.old) (R.remaining source.new)
         (W.taken sink.old) (W.taken sink.new)) }
-    ensures err { OnErr result (FiltersFront symbols
+    ensures err { OnErr result (FiltersFront Lines
         (R.remaining source.old) (R.remaining source.new)
         (W.taken sink.old) (W.taken sink.new)) }
-    ensures put { IsErrOf result FilterFault.Read → FiltersLines symbols
+    ensures put { IsErrOf result FilterFault.Read → FiltersLines Lines
         (R.remaining source.old) (R.remaining source.new)
         (W.taken sink.old) (W.taken sink.new) }
-    ensures memory { IsErrOf result FilterFault.Memory → FiltersWholeLines symbols
+    ensures memory { IsErrOf result FilterFault.Memory → FiltersWholeLines Lines
         (R.remaining source.old) (R.remaining source.new)
         (W.taken sink.old) (W.taken sink.new) }
 {
@@ -182,7 +135,7 @@ fn copy_lines<R: Source, W: Sink>(
         write_lines(
             alloc,
             demangler,
-            symbols,
+            Symbols::Lines,
             &chunk[..ended],
             &mut output,
             sink,
@@ -197,7 +150,7 @@ fn copy_lines<R: Source, W: Sink>(
 
 /// Reads more bytes after the first `kept` bytes of the chunk, and returns the number of both. The chunk grows if it is
 /// full. The number is `kept` only at the end of the input.
-fn read_more<R: Source>(
+pub(crate) fn read_more<R: Source>(
     source: &mut R,
     chunk: &mut Vec<u8>,
     kept: usize,
@@ -211,6 +164,7 @@ fn read_more<R: Source>(
     ensures fewer { IfOk result (λ end.
         kept < end → R.calls_left source.new < R.calls_left source.old) }
     ensures err { OnErr result (Keeps (R.remaining source.old) (R.remaining source.new)) }
+    ensures full { IsErrOf result FilterFault.Memory → kept ≡ length chunk.old.items }
 {
     if kept == chunk.len() {
         chunk.resize(kept + CHUNK_LEN, 0)?;

@@ -1,5 +1,6 @@
-//! The engine of the filter and the replacement, which copy lines from a source to a sink. `filter` demangles each line
-//! that is a symbol, and `replace` each symbol that stands in a word. Whole lines are written before each read.
+//! The engine of the filter and the replacement, which copy text from a source to a sink. `filter` demangles each line
+//! that is a symbol, and `replace` each symbol that stands in a word. Before each read `filter` writes all whole lines,
+//! and `replace` all but a word that may hold a symbol.
 #![tactic(auto)]
 
 mod bounds;
@@ -11,11 +12,13 @@ mod lines;
 mod output;
 mod places;
 mod prefixes;
+mod replacing;
 mod symbols;
 mod tally;
 mod words;
 
 pub use ends::{Failed, Sink, Source};
 pub use fault::FilterFault;
-pub use filtering::{filter, replace};
+pub use filtering::filter;
+pub use replacing::replace;
 pub use tally::Tally;

@@ -1,17 +1,20 @@
-//! Writing whole lines, and a last line.
+//! Writing whole lines or words, and a last line or word.
 //!
-//! An ordinary line is written as it is. Where lines are symbols, a line is ordinary if it doesn't begin with an
-//! underscore. Where words hold symbols, a line is ordinary if it has no `_Z`.
+//! Where lines are symbols, what is written at once are whole lines. Where words hold symbols, it is text that ends in a
+//! byte that is in no word, which is called lines here too. What is ordinary is written as it is: a line that doesn't
+//! begin with an underscore, or text that has no `_Z`.
 ghost use Rattle.std.specs.Prelude.{◌≡◌, ◌<◌, ◌≤◌, [], false, length, take, IsTrue, IsErrOf, IsUtf8, IfOk, OnOk, OnErr};
 ghost use Rattle.std.specs.Io.KnownBytes.{Keeps};
 ghost use Rattle.symfilter_engine.specs.Fault.{IsWriteOutcome};
+ghost use Rattle.symfilter_engine.specs.Replaced.{ends_word};
 ghost use Rattle.symfilter_engine.specs.declared.symbols.Symbols.TheVariants.{Lines, Words};
-ghost use Rattle.symfilter_engine.specs.Filtered.{HasNoLineFeed, EndsInLineFeed, IsLineAnswer, AreLinesAnswered, AreLinesFiltered, WritesFiltered, WritesBeginning};
+ghost use Rattle.symfilter_engine.specs.Filtered.{HasNoLineFeed, EndsInLineFeed, AreWhole, IsLineAnswer, AreLinesAnswered, AreLinesFiltered, WritesFiltered, WritesBeginning};
 ghost use Rattle.symfilter_engine.specs.Progress.{AppendsLines, HasFiltered, WritesLines, WritesLinesFront, WritesWholeLines};
 
+use super::bounds::{whole_words_len, word_end};
 use super::ends::Sink;
 use super::fault::FilterFault;
-use super::line_feeds::{ended_len, line_end};
+use super::line_feeds::line_end;
 use super::output::write_all;
 use super::prefixes::unprefixed_len;
 use super::symbols::Symbols;
@@ -30,13 +33,13 @@ const OUTPUT_CAPACITY: usize = 36864;
 /// So many bytes of ordinary lines are written without a copy.
 const LONG_LEN: usize = 16384;
 
-/// The words of at most so many bytes of lines are replaced at once.
+/// The words of at most so many bytes are replaced at once.
 const BLOCK_LEN: usize = 4096;
 
 /// The first byte of each symbol.
 const UNDERSCORE: u8 = b'_';
 
-/// The length in bytes of the first whole lines, up to one that is not ordinary.
+/// The length in bytes of the first whole lines or words, up to one that is not ordinary.
 #[inline(always)]
 fn ordinary_len(symbols: Symbols, lines: &[u8]) -> usize
     ensures bound { result ≤ length lines.now }
@@ -112,50 +115,46 @@ fn append_line(
     Ok(end + 1)
 }
 
-/// The length in bytes of the first block of lines: as many lines as fit in `most` bytes, and at least one.
-fn block_len(lines: &[u8], most: usize) -> usize
-    requires some { 0 < length lines.now }
-    requires ended { EndsInLineFeed lines.now }
+/// The length in bytes of the first block of whole words: as many as fit in `most` bytes, and at least one.
+fn block_len(text: &[u8], most: usize) -> usize
+    requires some { 0 < length text.now }
+    requires whole { ends_word text.now ≡ false }
     ensures some { 0 < result }
-    ensures bound { result ≤ length lines.now }
-    ensures ended { EndsInLineFeed (take result lines.now) }
+    ensures bound { result ≤ length text.now }
+    ensures whole { ends_word (take result text.now) ≡ false }
 {
-    if lines.len() <= most {
-        return lines.len();
+    if text.len() <= most {
+        return text.len();
     }
-    let len = ended_len(&lines[..most], 0);
+    let len = whole_words_len(&text[..most], 0);
     if len > 0 {
         return len;
     }
-    let Some(end) = line_end(lines) else {
-        unreachable!()
-    };
-    end + 1
+    word_end(text, 0) + 1
 }
 
-/// Appends the replaced text of a block of lines, or of one line if there is no memory for a block, and returns their
+/// Appends the replaced text of a block of words, or of one word if there is no memory for a block, and returns their
 /// length in bytes. After an error nothing is appended.
 fn append_block(
     alloc: Global,
     demangler: &mut Demangler,
     strip: bool,
-    lines: &[u8],
+    text: &[u8],
     output: &mut Text,
 ) -> Result<usize, AllocError>
-    requires some { 0 < length lines.now }
-    requires ended { EndsInLineFeed lines.now }
+    requires some { 0 < length text.now }
+    requires whole { ends_word text.now ≡ false }
     ensures some { IfOk result (λ len. 0 < len) }
-    ensures bound { IfOk result (λ len. len ≤ length lines.now) }
-    ensures ok { IfOk result (λ len. AppendsLines (Words strip) (take len lines.now) output.old output.new) }
+    ensures bound { IfOk result (λ len. len ≤ length text.now) }
+    ensures ok { IfOk result (λ len. AppendsLines (Words strip) (take len text.now) output.old output.new) }
     ensures err { OnErr result (output.new ≡ output.old) }
 {
-    // No word has a line feed, so that the words of a block are those of its lines.
-    let len = block_len(lines, BLOCK_LEN);
-    if append_words(alloc, demangler, strip, &lines[..len], output).is_ok() {
+    let len = block_len(text, BLOCK_LEN);
+    if append_words(alloc, demangler, strip, &text[..len], output).is_ok() {
         return Ok(len);
     }
-    let first = block_len(lines, 1);
-    append_words(alloc, demangler, strip, &lines[..first], output)?;
+    let first = block_len(text, 1);
+    append_words(alloc, demangler, strip, &text[..first], output)?;
     Ok(first)
 }
 
@@ -171,8 +170,8 @@ fn append_next(
     output: &mut Text,
 ) -> Result<usize, AllocError>
     requires some { 0 < length lines.now }
-    requires ended { EndsInLineFeed lines.now }
-    requires known { IsTrue known_utf8 → IsUtf8 lines.now }
+    requires whole { AreWhole symbols lines.now }
+    requires known { symbols ≡ Lines → IsTrue known_utf8 → IsUtf8 lines.now }
     ensures some { IfOk result (λ len. 0 < len) }
     ensures bound { IfOk result (λ len. len ≤ length lines.now) }
     ensures ok { IfOk result (λ len. AppendsLines symbols (take len lines.now) output.old output.new) }
@@ -201,8 +200,8 @@ fn gather_lines(
     output: &mut Text,
 ) -> Result<usize, AllocError>
     requires some { 0 < length lines.now }
-    requires ended { EndsInLineFeed lines.now }
-    requires known { IsTrue known_utf8 → IsUtf8 lines.now }
+    requires whole { AreWhole symbols lines.now }
+    requires known { symbols ≡ Lines → IsTrue known_utf8 → IsUtf8 lines.now }
     requires empty { output.old ≡ [] }
     ensures some { IfOk result (λ len. 0 < len) }
     ensures bound { IfOk result (λ len. len ≤ length lines.now) }
@@ -232,8 +231,8 @@ fn write_next<W: Sink>(
 ) -> Result<usize, FilterFault>
     requires not_failed { W.failed sink.old ≡ false }
     requires some { 0 < length lines.now }
-    requires ended { EndsInLineFeed lines.now }
-    requires known { IsTrue known_utf8 → IsUtf8 lines.now }
+    requires whole { AreWhole symbols lines.now }
+    requires known { symbols ≡ Lines → IsTrue known_utf8 → IsUtf8 lines.now }
     ensures outcome { IsWriteOutcome result (W.failed sink.new) }
     ensures in_time { W.called_late sink.new ≡ W.called_late sink.old }
     ensures some { IfOk result (λ len. 0 < len) }
@@ -256,7 +255,7 @@ fn write_next<W: Sink>(
     Ok(len)
 }
 
-/// Writes what is written for these lines, each with its line feed.
+/// Writes what is written for these whole lines or words.
 pub(crate) fn write_lines<W: Sink>(
     alloc: Global,
     demangler: &mut Demangler,
@@ -266,7 +265,7 @@ pub(crate) fn write_lines<W: Sink>(
     sink: &mut W,
 ) -> Result<(), FilterFault>
     requires not_failed { W.failed sink.old ≡ false }
-    requires ended { EndsInLineFeed lines.now }
+    requires whole { AreWhole symbols lines.now }
     ensures outcome { IsWriteOutcome result (W.failed sink.new) }
     ensures in_time { W.called_late sink.new ≡ W.called_late sink.old }
     ensures ok { OnOk result (HasFiltered symbols lines.now [] (W.taken sink.old) (W.taken sink.new)) }
@@ -283,7 +282,7 @@ pub(crate) fn write_lines<W: Sink>(
     Ok(())
 }
 
-/// Writes what is written for a last line, which has no line feed. It may be empty.
+/// Writes what is written for a last line, which has no line feed, or a last word. It may be empty.
 pub(crate) fn write_last<W: Sink>(
     alloc: Global,
     demangler: &mut Demangler,
@@ -292,13 +291,14 @@ pub(crate) fn write_last<W: Sink>(
     sink: &mut W,
 ) -> Result<(), FilterFault>
     requires not_failed { W.failed sink.old ≡ false }
-    requires unended { HasNoLineFeed line.now }
+    requires unended { symbols ≡ Lines → HasNoLineFeed line.now }
     ensures outcome { IsWriteOutcome result (W.failed sink.new) }
     ensures in_time { W.called_late sink.new ≡ W.called_late sink.old }
     ensures ok { OnOk result (WritesFiltered symbols line.now (W.taken sink.old) (W.taken sink.new)) }
     ensures err { OnErr result (WritesBeginning symbols line.now (W.taken sink.old) (W.taken sink.new)) }
     ensures memory { IsErrOf result FilterFault.Memory →
         Keeps (W.taken sink.old) (W.taken sink.new) }
+    ensures some { IsErrOf result FilterFault.Memory → 0 < length line.now }
 {
     if line.is_empty() {
         return Ok(());

@@ -1,9 +1,9 @@
 //! Where the prefix of a symbol, `_Z`, stands in bytes.
-ghost use Rattle.std.specs.Prelude.{◌≡◌, ◌+◌, ◌≤◌, length, take, IfSome, IfNone};
-ghost use Rattle.symfilter_engine.specs.Filtered.{EndsInLineFeed};
+ghost use Rattle.std.specs.Prelude.{◌≡◌, ◌+◌, ◌≤◌, false, length, take, IfSome, IfNone};
+ghost use Rattle.symfilter_engine.specs.Replaced.{ends_word};
 ghost use Rattle.symfilter_engine.specs.Progress.{HasNoPrefix, IsFirstPrefix};
 
-use super::line_feeds::ended_len;
+use super::bounds::whole_words_len;
 use super::places::first_place;
 
 const UNDERSCORE: u8 = b'_';
@@ -27,14 +27,14 @@ pub(crate) fn first_prefix(bytes: &[u8]) -> Option<usize>
     None
 }
 
-/// The length in bytes of the first whole lines, up to one that has a `_Z`.
-pub(crate) fn unprefixed_len(lines: &[u8]) -> usize
-    ensures bound { result ≤ length lines.now }
-    ensures ended { EndsInLineFeed (take result lines.now) }
-    ensures unprefixed { HasNoPrefix (take result lines.now) }
+/// The length in bytes of the first whole words, up to one that has a `_Z`.
+pub(crate) fn unprefixed_len(text: &[u8]) -> usize
+    ensures bound { result ≤ length text.now }
+    ensures whole { ends_word (take result text.now) ≡ false }
+    ensures unprefixed { HasNoPrefix (take result text.now) }
 {
-    match first_prefix(lines) {
-        Some(place) => ended_len(&lines[..place], 0),
-        None => ended_len(lines, 0),
+    match first_prefix(text) {
+        Some(place) => whole_words_len(&text[..place], 0),
+        None => whole_words_len(text, 0),
     }
 }

@@ -1,7 +1,7 @@
 //! Replacing the symbols in words.
 ghost use Rattle.std.specs.Prelude.{◌≡◌, ◌≤◌, ◌++◌, false, length, take, drop, All, IfOk, IfSome, IfNone, OnOk, OnErr, option_map};
 ghost use Rattle.symfilter_engine.specs.Replaced as spec;
-ghost use Rattle.symfilter_engine.specs.Replaced.{IsWordByte, IsDot, sign_of, past_sign, ends_in_dot, IsWordAnswer};
+ghost use Rattle.symfilter_engine.specs.Replaced.{IsWordByte, IsDot, ends_in_dot, IsWordAnswer};
 ghost use Rattle.symfilter_engine.specs.Progress.{AppendsReplaced, Extends};
 
 use super::bounds::{word_end, word_start};
@@ -25,15 +25,15 @@ fn stem_len(word: &[u8]) -> usize
     len
 }
 
-/// The length of the prefix character of a word: 1 where a `.` or `$` stands in front, else 0.
+/// The length of the sign of a word, which stands in front of its symbol: a `.`, a `$` or `__imp_`, or nothing.
 #[inline(always)]
-fn prefix_character_len(word: &[u8]) -> usize
+fn sign_len(word: &[u8]) -> usize
     ensures bound { result ≤ length word.now }
-    ensures front { take result word.now ≡ sign_of word.now }
-    ensures rest { drop result word.now ≡ past_sign word.now }
+    ensures value { result ≡ spec.sign_len word.now }
 {
     match word {
         [b'.' | b'$', ..] => 1,
+        [b'_', b'_', b'i', b'm', b'p', b'_', ..] => 6,
         _ => 0,
     }
 }
@@ -48,6 +48,16 @@ fn symbol_at(strip: bool, bytes: &[u8]) -> Option<&[u8]>
         [b'_', b'_', b'_', b'Z', ..] if strip => Some(&bytes[1..]),
         _ => None,
     }
+}
+
+/// So many bytes of a word show whether it holds a symbol: six of its sign, and `___Z`.
+const SHOWN_LEN: usize = 10;
+
+/// Whether a word that begins with these bytes may hold a symbol.
+pub(crate) fn may_hold_symbol(strip: bool, bytes: &[u8]) -> bool
+    ensures value { result ≡ spec.may_hold_symbol strip bytes.now }
+{
+    bytes.len() < SHOWN_LEN || symbol_at(strip, &bytes[sign_len(bytes)..]).is_some()
 }
 
 /// The demangled name of the symbol in a word without the dots at its end, and the length of what stays before it.
@@ -65,7 +75,7 @@ fn word_answer<'a>(
         IsWordAnswer strip word.now (take answer.0 word.now ++ answer.1.now))) }
     ensures none { IfOk result (λ found. IfNone found (IsWordAnswer strip word.now word.now)) }
 {
-    let front = prefix_character_len(word);
+    let front = sign_len(word);
     let Some(symbol) = symbol_at(strip, &word[front..]) else {
         return Ok(None);
     };

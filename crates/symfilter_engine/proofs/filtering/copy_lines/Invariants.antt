@@ -1,4 +1,5 @@
 use Rattle.std.proofs.Common.{◌≡◌, ◌≤◌, false, length, take}
+use Rattle.symfilter_engine.specs.declared.symbols.Symbols.TheVariants.{Lines}
 use Rattle.symfilter_engine.specs.Filtered.{HasNoLineFeed}
 use Rattle.symfilter_engine.specs.Progress.{HasCopied}
 use Rattle.symfilter_engine.proofs.filtering.copy_lines.Given as goal
@@ -12,7 +13,7 @@ invariant-turns g l =
       sink_in_time : g.W.Sink.called_late l.sink ≡ g.W.Sink.called_late l.fn.sink;
       inside : l.kept ≤ length l.chunk.items;
       unended : HasNoLineFeed (take l.kept l.chunk.items);
-      so_far : HasCopied l.symbols (take l.kept l.chunk.items) (g.R.Source.remaining l.fn.source) (g.R.Source.remaining l.source) (g.W.Sink.taken l.fn.sink) (g.W.Sink.taken l.sink);
+      so_far : HasCopied Lines (take l.kept l.chunk.items) (g.R.Source.remaining l.fn.source) (g.R.Source.remaining l.source) (g.W.Sink.taken l.fn.sink) (g.W.Sink.taken l.sink);
     }
 
 abbrev pub decreases-turns : goal.decreases-turns

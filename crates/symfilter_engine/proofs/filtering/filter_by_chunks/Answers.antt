@@ -1,5 +1,6 @@
 use Rattle.std.proofs.Common.{take, subst}
 use Rattle.std.proofs.lemmas.Result.{on_ok_weaker, on_err_weaker}
+use Rattle.symfilter_engine.specs.declared.symbols.Symbols.TheVariants.{Lines}
 use Rattle.symfilter_engine.specs.Filtered.{WritesFiltered, WritesBeginning}
 use Rattle.symfilter_engine.proofs.Copying.{last_copied, last_fault, last_refused}
 use Rattle.symfilter_engine.proofs.filtering.filter_by_chunks.Goals as goal
@@ -12,8 +13,8 @@ returns-clause-ok g c =
     let t' = g.W.Sink.taken c.copy_lines.new.sink in
     let t'' = g.W.Sink.taken c.write_last.new.sink in
     let kept = c.in_ok-kept.kept in
-    on_ok_weaker _ (λ writes. last_copied c.args.symbols (take kept c.copy_lines.new.chunk.items) s s' t t' t'' c.in_ok-kept.ensures.ok c.in_ok-kept.ensures.at_end
-    (subst (λ l. WritesFiltered c.args.symbols (take kept l) t' t'') c.deref.ensures.value writes)) c.write_last.ensures.ok
+    on_ok_weaker _ (λ writes. last_copied Lines (take kept c.copy_lines.new.chunk.items) s s' t t' t'' c.in_ok-kept.ensures.ok c.in_ok-kept.ensures.at_end
+    (subst (λ l. WritesFiltered Lines (take kept l) t' t'') c.deref.ensures.value writes)) c.write_last.ensures.ok
 
 pub returns-clause-err : goal.returns-clause-err
 returns-clause-err g c =
@@ -23,9 +24,9 @@ returns-clause-err g c =
     let t' = g.W.Sink.taken c.copy_lines.new.sink in
     let t'' = g.W.Sink.taken c.write_last.new.sink in
     let kept = c.in_ok-kept.kept in
-    on_err_weaker _ (λ begins. last_fault c.args.symbols (take kept c.copy_lines.new.chunk.items) s s' t t' t'' c.in_ok-kept.ensures.ok
-    (subst (λ l. WritesBeginning c.args.symbols (take kept l) t' t'') c.deref.ensures.value begins)) c.write_last.ensures.err
+    on_err_weaker _ (λ begins. last_fault Lines (take kept c.copy_lines.new.chunk.items) s s' t t' t'' c.in_ok-kept.ensures.ok
+    (subst (λ l. WritesBeginning Lines (take kept l) t' t'') c.deref.ensures.value begins)) c.write_last.ensures.err
 
 pub returns-clause-memory : goal.returns-clause-memory
 returns-clause-memory g c = λ refused.
-    last_refused c.args.symbols _ _ _ _ _ _ c.in_ok-kept.ensures.ok (c.write_last.ensures.memory refused)
+    last_refused Lines _ _ _ _ _ _ c.in_ok-kept.ensures.ok (c.write_last.ensures.memory refused)

@@ -1,26 +1,34 @@
-use Rattle.std.proofs.Common.{◌≤◌, length, subst, sym, arith}
+use Rattle.std.proofs.Common.{◌≡◌, ◌≤◌, false, length, subst, sym, arith}
 use Rattle.std.proofs.lemmas.List.{take-take, take_all, length-take, length-take-le}
-use Rattle.symfilter_engine.specs.Filtered.{EndsInLineFeed}
-use Rattle.symfilter_engine.proofs.LineEnds.{line_ended}
+use Rattle.symfilter_engine.specs.Replaced.{ends_word}
+use Rattle.symfilter_engine.proofs.ReplacedText.{whole_at, word_within}
 use Rattle.symfilter_engine.proofs.lines.block_len.Goals as goal
 
-pub returns-then-lines-most-clause-ended : goal.returns-then-lines-most-clause-ended
-returns-then-lines-most-clause-ended c =
-    let lines = c.args.lines.now in
-    subst EndsInLineFeed (sym (take_all (length lines) lines (omega arith))) c.requires.ended
+pub returns-then-text-most-clause-whole : goal.returns-then-text-most-clause-whole
+returns-then-text-most-clause-whole c =
+    let text = c.args.text.now in
+    subst (λ l. ends_word l ≡ false) (sym (take_all (length text) text (omega arith))) c.requires.whole
 
-pub slice_bounds-ended_len-end : goal.slice_bounds-ended_len-end
-slice_bounds-ended_len-end c = sym (length-take-le c.args.most c.args.lines.now (omega arith))
+pub slice_bounds-whole_words_len-end : goal.slice_bounds-whole_words_len-end
+slice_bounds-whole_words_len-end c = sym (length-take-le c.args.most c.args.text.now (omega arith))
 
 pub returns-then-len-gt0-clause-bound : goal.returns-then-len-gt0-clause-bound
-returns-then-len-gt0-clause-bound c = omega (arith, c.ended_len-len.ensures.bound, length-take c.args.most c.args.lines.now)
+returns-then-len-gt0-clause-bound c = omega (arith, c.whole_words_len-len.ensures.bound, length-take c.args.most c.args.text.now)
 
-pub returns-then-len-gt0-clause-ended : goal.returns-then-len-gt0-clause-ended
-returns-then-len-gt0-clause-ended c =
-    let lines = c.args.lines.now in
-    let n = c.ended_len-len.result in
-    let within : n ≤ c.args.most = omega (arith, c.ended_len-len.ensures.bound, length-take c.args.most lines) in
-    subst EndsInLineFeed (take-take n c.args.most lines within) c.ended_len-len.ensures.ended
+pub returns-then-len-gt0-clause-whole : goal.returns-then-len-gt0-clause-whole
+returns-then-len-gt0-clause-whole c =
+    let text = c.args.text.now in
+    let n = c.whole_words_len-len.result in
+    let within : n ≤ c.args.most = omega (arith, c.whole_words_len-len.ensures.bound, length-take c.args.most text) in
+    subst (λ l. ends_word l ≡ false) (take-take n c.args.most text within) c.whole_words_len-len.ensures.whole
 
-pub returns-clause-ended : goal.returns-clause-ended
-returns-clause-ended c = line_ended c.args.lines.now c.in-Some.end c.in-Some.ensures.found
+pub returns-clause-bound : goal.returns-clause-bound
+returns-clause-bound c =
+    let text = c.args.text.now in
+    let within = word_within text c.word_end.result c.requires.some c.requires.whole c.word_end.ensures.word c.word_end.ensures.high in
+    omega (arith, within)
+
+pub returns-clause-whole : goal.returns-clause-whole
+returns-clause-whole c =
+    let text = c.args.text.now in
+    whole_at text c.word_end.result (word_within text c.word_end.result c.requires.some c.requires.whole c.word_end.ensures.word c.word_end.ensures.high) c.word_end.ensures.ended

@@ -1,9 +1,9 @@
 use Rattle.std.proofs.Common.{◌≡◌, ℕ, ◌-◌, List, [], length, take, drop, sym, subst, ap, arith, rules}
 use Rattle.std.specs.Prelude.{IsUtf8}
 use Rattle.std.proofs.lemmas.List.{take_rest}
-use Rattle.symfilter_engine.specs.Filtered.{AreLinesFiltered}
+use Rattle.symfilter_engine.specs.Filtered.{AreWhole, AreLinesFiltered}
 use Rattle.symfilter_engine.proofs.FilteredText.{no_lines}
-use Rattle.symfilter_engine.proofs.LineEnds.{utf8_after, rest_appended}
+use Rattle.symfilter_engine.proofs.LineEnds.{whole_after, utf8_after, rest_appended}
 use Rattle.symfilter_engine.proofs.lines.gather_lines.Goals as goal
 
 pub loop-output-init : goal.loop-output-init
@@ -22,8 +22,8 @@ pub append_next-requires-clause-known : goal.append_next-requires-clause-known
 append_next-requires-clause-known c =
     let lines = c.args.lines.now in
     let taken = length lines - length c.loop-output.rest.now in
-    λ known. subst IsUtf8 (sym c.loop-output.invariant.left)
-    (utf8_after c.args.symbols lines _ taken c.loop-output.invariant.so_far (c.requires.known known))
+    λ is known. subst IsUtf8 (sym c.loop-output.invariant.left)
+    (utf8_after c.args.symbols lines _ taken is c.loop-output.invariant.so_far (c.requires.known is known))
 
 pub loop-output-preserved : goal.loop-output-preserved
 loop-output-preserved c =
@@ -34,3 +34,9 @@ loop-output-preserved c =
     c.loop-output.invariant.inside c.loop-output.invariant.left c.loop-output.invariant.so_far
     c.in-Ok.ensures.bound c.in-Ok.ensures.ok (take_rest rest more) in
     record { inside = step.0; left = step.1; so_far = step.2; empty = search rules }
+
+pub append_next-requires-clause-whole : goal.append_next-requires-clause-whole
+append_next-requires-clause-whole c =
+    let lines = c.args.lines.now in
+    let taken = length lines - length c.loop-output.rest.now in
+    subst (AreWhole c.args.symbols) (sym c.loop-output.invariant.left) (whole_after c.args.symbols lines taken c.requires.whole)

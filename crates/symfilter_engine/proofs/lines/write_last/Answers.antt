@@ -15,14 +15,14 @@ pub returns-in_ok-answer-in-Lines-clause-ok : goal.returns-in_ok-answer-in-Lines
 returns-in_ok-answer-in-Lines-clause-ok g c =
     let some : c.args.line.now ≢ [] = λ e. let n = ap length e in grind (arith, nat_tests) in
     on_ok_weaker _ (λ writes. last_written c.args.symbols c.args.line.now c.in_ok-answer-in-Lines.answer.now (g.W.Sink.taken c.args.sink.now)
-    (g.W.Sink.taken c.write_all.new.sink) c.in-Lines.is some c.requires.unended c.in_ok-answer-in-Lines.ensures writes)
+    (g.W.Sink.taken c.write_all.new.sink) c.in-Lines.is some (c.requires.unended c.in-Lines.is) c.in_ok-answer-in-Lines.ensures writes)
     c.write_all.ensures.ok
 
 pub returns-in_ok-answer-in-Lines-clause-err : goal.returns-in_ok-answer-in-Lines-clause-err
 returns-in_ok-answer-in-Lines-clause-err g c =
     let some : c.args.line.now ≢ [] = λ e. let n = ap length e in grind (arith, nat_tests) in
     on_err_weaker _ (λ writes. last_begins c.args.symbols c.args.line.now c.in_ok-answer-in-Lines.answer.now (g.W.Sink.taken c.args.sink.now)
-    (g.W.Sink.taken c.write_all.new.sink) c.in-Lines.is some c.requires.unended c.in_ok-answer-in-Lines.ensures writes)
+    (g.W.Sink.taken c.write_all.new.sink) c.in-Lines.is some (c.requires.unended c.in-Lines.is) c.in_ok-answer-in-Lines.ensures writes)
     c.write_all.ensures.err
 
 pub returns-in_err-append_words-in-Words-clause-err : goal.returns-in_err-append_words-in-Words-clause-err

@@ -3,10 +3,10 @@ use Rattle.std.proofs.lemmas.Grind.{common_steps}
 use Rattle.std.proofs.Common.{rules, refl, sym, subst, ◌∙◌}
 use Rattle.std.specs.Prelude.{IsUtf8}
 use Rattle.std.proofs.lemmas.List.{take_rest}
-use Rattle.symfilter_engine.specs.Filtered.{EndsInLineFeed}
+use Rattle.symfilter_engine.specs.Filtered.{AreWhole}
 use Rattle.symfilter_engine.specs.Progress.{HasFiltered}
 use Rattle.symfilter_engine.proofs.FilteredText.{at_fault, none_filtered, lines_filtered, next_unwritten, WritesLinesFront-append}
-use Rattle.symfilter_engine.proofs.LineEnds.{ended_after, utf8_after}
+use Rattle.symfilter_engine.proofs.LineEnds.{whole_after, utf8_after}
 use Rattle.symfilter_engine.proofs.lines.write_lines.Goals as goal
 
 pub loop-rest-init : goal.loop-rest-init
@@ -14,8 +14,8 @@ loop-rest-init g c =
     record {
       not_failed = c.requires.not_failed;
       in_time = refl;
-      ended = c.requires.ended;
-      known = search rules;
+      whole = c.requires.whole;
+      known = λ _. search rules;
       so_far = none_filtered c.args.symbols _ _;
     }
 
@@ -34,8 +34,8 @@ loop-rest-preserved g c =
     record {
       not_failed = search rules;
       in_time = c.in_ok-len.ensures.in_time ∙ c.loop-rest.invariant.in_time;
-      ended = subst EndsInLineFeed left (ended_after rest len c.loop-rest.invariant.ended);
-      known = λ known. subst IsUtf8 left (utf8_after c.args.symbols rest c.in_ok-len.ensures.ok.0 len c.in_ok-len.ensures.ok.1 (c.loop-rest.invariant.known known));
+      whole = subst (AreWhole c.args.symbols) left (whole_after c.args.symbols rest len c.loop-rest.invariant.whole);
+      known = λ is known. subst IsUtf8 left (utf8_after c.args.symbols rest c.in_ok-len.ensures.ok.0 len is c.in_ok-len.ensures.ok.1 (c.loop-rest.invariant.known is known));
       so_far = subst (λ l. HasFiltered c.args.symbols c.args.lines.now l (g.W.Sink.taken c.args.sink.now) (g.W.Sink.taken c.write_next.new.sink)) left
           (lines_filtered c.args.symbols _ rest len _ _ _ c.loop-rest.invariant.so_far c.in_ok-len.ensures.ok);
     }

@@ -1,6 +1,7 @@
 use Rattle.std.proofs.Common.{◌≡◌, false, length, IsTrue}
 use Rattle.std.specs.Prelude.{IsUtf8}
-use Rattle.symfilter_engine.specs.Filtered.{EndsInLineFeed}
+use Rattle.symfilter_engine.specs.Filtered.{AreWhole}
+use Rattle.symfilter_engine.specs.declared.symbols.Symbols.TheVariants.{Lines}
 use Rattle.symfilter_engine.specs.Progress.{HasFiltered}
 use Rattle.symfilter_engine.proofs.lines.write_lines.Given as goal
 
@@ -9,8 +10,8 @@ invariant-loop-rest g l =
     record {
       not_failed : g.W.Sink.failed l.sink ≡ false;
       in_time : g.W.Sink.called_late l.sink ≡ g.W.Sink.called_late l.fn.sink;
-      ended : EndsInLineFeed l.rest;
-      known : IsTrue l.known_utf8 → IsUtf8 l.rest;
+      whole : AreWhole l.symbols l.rest;
+      known : l.symbols ≡ Lines → IsTrue l.known_utf8 → IsUtf8 l.rest;
       so_far : HasFiltered l.symbols l.lines l.rest (g.W.Sink.taken l.fn.sink) (g.W.Sink.taken l.sink);
     }
 

@@ -1,0 +1,22 @@
+-- Standard output, and which fault is told.
+use Rattle.std.specs.Prelude.{ℕ, Bool, true, false, Option, Some, None, Result, Ok, Err, if◌then◌else◌}
+use Rattle.std.specs.Io.{error_kind}
+use Rattle.std.specs.declared.io.ErrorKind.{ErrorKind}
+use Rattle.std.specs.declared.io.ErrorKind.TheVariants as kind
+use Rattle.symfilter_engine.specs.declared.fault.FilterFault.{FilterFault}
+use Rattle.symfilter_engine.specs.declared.fault.FilterFault.TheVariants.{Read, Write, Memory}
+use Rattle.cosvigle.specs.declared.output.Output.{Output}
+
+-- the writer
+abbrev pub inner_of : {W : Type 0} → Output W → W
+inner_of output = output.inner
+
+-- whether a write has failed since its reader has gone
+abbrev pub is_closed : {W : Type 0} → Output W → Bool
+is_closed output = output.closed
+
+-- the fault that is told: any but a failed write to a reader that has gone
+abbrev pub told : FilterFault → Bool → Option FilterFault
+told Read closed = Some Read
+told Write closed = if closed then None else Some Write
+told Memory closed = Some Memory

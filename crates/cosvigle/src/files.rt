@@ -1,0 +1,124 @@
+//! The words of a file that stands as `@FILE` among the arguments.
+ghost use Rattle.std.specs.Prelude.{◌≡◌, ◌≢◌, All, map, option_map, IsTrue, IsFalse, IfOk};
+ghost use Rattle.cosvigle.specs.Files as spec;
+
+use std::alloc::{AllocError, Global};
+
+/// What a byte is quoted by.
+#[derive(Clone, Copy, Debug, PartialEq, Eq)]
+pub enum Quote {
+    /// Nothing.
+    Nothing,
+    /// A `'` in front.
+    Single,
+    /// A `"` in front.
+    Double,
+}
+
+/// How the next byte is read.
+#[derive(Clone, Copy, Debug, PartialEq, Eq)]
+pub enum Mode {
+    /// It stands between words, or begins one.
+    Between,
+    /// It stands in a word.
+    In(Quote),
+    /// It stands in a word, after a backslash.
+    Escaped(Quote),
+}
+
+/// What a byte does.
+#[derive(Clone, Copy, Debug, PartialEq, Eq)]
+pub enum Effect {
+    /// Nothing.
+    Skip(Mode),
+    /// It is a byte of the word.
+    Put(Mode),
+    /// It ends the word.
+    End,
+}
+
+/// Whether the byte stands between words.
+fn is_space(byte: u8) -> bool
+    ensures value { result ≡ spec.is_space byte }
+{
+    matches!(byte, b' ' | b'\t' | b'\n' | 11 | 12 | b'\r')
+}
+
+/// What a byte of a word does.
+fn inside(quote: Quote, byte: u8) -> Effect
+    ensures value { result ≡ spec.inside quote byte }
+{
+    match quote {
+        Quote::Nothing if is_space(byte) => Effect::End,
+        _ if byte == b'\\' => Effect::Skip(Mode::Escaped(quote)),
+        Quote::Nothing if byte == b'\'' => Effect::Skip(Mode::In(Quote::Single)),
+        Quote::Nothing if byte == b'"' => Effect::Skip(Mode::In(Quote::Double)),
+        Quote::Single if byte == b'\'' => Effect::Skip(Mode::In(Quote::Nothing)),
+        Quote::Double if byte == b'"' => Effect::Skip(Mode::In(Quote::Nothing)),
+        _ => Effect::Put(Mode::In(quote)),
+    }
+}
+
+/// What a byte does.
+fn effect_of(mode: Mode, byte: u8) -> Effect
+    ensures value { result ≡ spec.effect_of mode byte }
+{
+    match mode {
+        Mode::Between if is_space(byte) => Effect::Skip(Mode::Between),
+        Mode::Between => inside(Quote::Nothing, byte),
+        Mode::In(quote) => inside(quote, byte),
+        Mode::Escaped(quote) => Effect::Put(Mode::In(quote)),
+    }
+}
+
+/// The words of a text, which space parts. A `'` or `"` goes up to the next one, and what stands between them is of one
+/// word. The byte after a backslash stands for itself. An error comes only where memory is refused.
+pub fn words_in(alloc: Global, text: &[u8]) -> Result<Vec<Vec<u8>>, AllocError>
+    ensures words { IfOk result (λ words. map (λ word. word.items) words.items ≡ spec.words_in text.now) }
+{
+    let mut words = Vec::new(alloc);
+    let mut word = Vec::new(alloc);
+    let mut mode = Mode::Between;
+    for at in 0..text.len() {
+        match effect_of(mode, text[at]) {
+            Effect::Skip(next) => mode = next,
+            Effect::Put(next) => {
+                word.push(text[at])?;
+                mode = next;
+            }
+            Effect::End => {
+                words.push(word)?;
+                word = Vec::new(alloc);
+                mode = Mode::Between;
+            }
+        }
+    }
+    match mode {
+        Mode::Between => {}
+        Mode::In(_) | Mode::Escaped(_) => words.push(word)?,
+    }
+    Ok(words)
+}
+
+/// The name of the file that an argument names: what follows a `@` that it begins with.
+pub fn file_name(argument: &[u8]) -> Option<&[u8]>
+    ensures value { option_map (λ name. name.now) result ≡ spec.file_name argument.now }
+{
+    match argument {
+        [b'@', ..] => Some(&argument[1..]),
+        _ => None,
+    }
+}
+
+/// Whether no byte is a NUL.
+pub fn is_text(bytes: &[u8]) -> bool
+    ensures yes { IsTrue result → All (λ byte. byte ≢ 0) bytes.now }
+    ensures no { IsFalse result → ¬ (All (λ byte. byte ≢ 0) bytes.now) }
+{
+    for byte in bytes {
+        if *byte == 0 {
+            return false;
+        }
+    }
+    true
+}

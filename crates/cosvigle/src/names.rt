@@ -1,0 +1,59 @@
+//! The names of options, and what they are shortened to.
+ghost use Rattle.std.specs.Prelude.{◌≡◌};
+ghost use Rattle.cosvigle.specs.Options as spec;
+
+/// The options whose names begin with some bytes. An option is told by its letter.
+#[derive(Clone, Copy, Debug, PartialEq, Eq)]
+pub enum Found {
+    /// None does.
+    Nothing,
+    /// This one's names alone do.
+    Front(u8),
+    /// Those of more than one do.
+    Several,
+    /// The bytes are this one's name.
+    Whole(u8),
+}
+
+/// The options found, and one more, whose name begins with the bytes.
+fn one_more(found: Found, letter: u8) -> Found
+    ensures value { result ≡ spec.one_more found letter }
+{
+    match found {
+        Found::Nothing => Found::Front(letter),
+        Found::Front(first) if first != letter => Found::Several,
+        _ => found,
+    }
+}
+
+/// The options found, and the one with this name and letter if its name begins with the bytes.
+fn look_at(found: Found, bytes: &[u8], name: &[u8], letter: u8) -> Found
+    ensures value { result ≡ spec.look_at found bytes.now name.now letter }
+{
+    if !name.starts_with(bytes) {
+        return found;
+    }
+    if name.len() == bytes.len() {
+        return Found::Whole(letter);
+    }
+    one_more(found, letter)
+}
+
+/// The options whose names begin with the bytes.
+pub fn find_name(bytes: &[u8]) -> Found
+    ensures value { result ≡ spec.find_name bytes.now }
+{
+    let found = look_at(Found::Nothing, bytes, b"strip-underscore", b'_');
+    let found = look_at(found, bytes, b"no-strip-underscores", b'n');
+    let found = look_at(found, bytes, b"no-params", b'p');
+    let found = look_at(found, bytes, b"no-verbose", b'i');
+    let found = look_at(found, bytes, b"no-recurse-limit", b'r');
+    let found = look_at(found, bytes, b"no-recursion-limit", b'r');
+    let found = look_at(found, bytes, b"recurse-limit", b'R');
+    let found = look_at(found, bytes, b"recursion-limit", b'R');
+    let found = look_at(found, bytes, b"types", b't');
+    let found = look_at(found, bytes, b"format", b's');
+    let found = look_at(found, bytes, b"lines", b'l');
+    let found = look_at(found, bytes, b"help", b'h');
+    look_at(found, bytes, b"version", b'v')
+}

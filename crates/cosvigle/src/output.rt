@@ -1,0 +1,73 @@
+//! Standard output, and whether its reader has gone.
+ghost use Rattle.std.specs.Prelude.{◌≡◌, ◌||◌, false};
+ghost use Rattle.std.specs.Io.{WritesAtMost};
+ghost use Rattle.std.specs.Io.KnownBytes.{Keeps, WriteAppends};
+ghost use Rattle.cosvigle.specs.Output as spec;
+
+use std::io;
+use std::io::{ErrorKind, Write};
+use symfilter_engine::FilterFault;
+
+/// A writer, and whether a write to it has failed since its reader has gone.
+#[derive(Drop)]
+pub struct Output<W> {
+    inner: W,
+    closed: bool,
+}
+
+impl<W> Output<W> {
+    /// No write has failed.
+    pub fn new(inner: W) -> Self
+        ensures inner { spec.inner_of result ≡ inner }
+        ensures closed { spec.is_closed result ≡ false }
+    {
+        Output {
+            inner,
+            closed: false,
+        }
+    }
+
+    /// Whether a write has failed since its reader has gone.
+    pub fn is_closed(&self) -> bool
+        ensures value { result ≡ spec.is_closed self.now }
+    {
+        self.closed
+    }
+}
+
+impl<W: Write> Write for Output<W> {
+    ghost contents = { λ output. W.contents (spec.inner_of output) };
+
+    fn write(&mut self, bytes: &[u8]) -> io::Result<usize>
+        ensures bound { WritesAtMost result bytes.now }
+        ensures bytes { WriteAppends (W.contents (spec.inner_of self.old)) (W.contents (spec.inner_of self.new)) result bytes.now }
+        ensures closed { spec.is_closed self.new ≡ (spec.is_closed self.old || spec.is_broken result) }
+    {
+        match self.inner.write(bytes) {
+            Ok(count) => Ok(count),
+            Err(error) => {
+                if error.kind() == ErrorKind::BrokenPipe {
+                    self.closed = true;
+                }
+                Err(error)
+            }
+        }
+    }
+
+    fn flush(&mut self) -> io::Result<()>
+        ensures bytes { Keeps (W.contents (spec.inner_of self.old)) (W.contents (spec.inner_of self.new)) }
+        ensures closed { spec.is_closed self.new ≡ spec.is_closed self.old }
+    {
+        self.inner.flush()
+    }
+}
+
+/// The fault that is told: any but a failed write to a reader that has gone.
+pub fn told(fault: FilterFault, closed: bool) -> Option<FilterFault>
+    ensures value { result ≡ spec.told fault closed }
+{
+    match fault {
+        FilterFault::Write if closed => None,
+        _ => Some(fault),
+    }
+}

@@ -1,0 +1,510 @@
+-- What was read and written, word by word.
+use Rattle.std.proofs.Common.{◌≡◌, ◌≢◌, ℕ, ◌<◌, ◌≤◌, List, [], ◌∷◌, ◌++◌, Bool, true, false, Option, length, take, drop}
+use Rattle.std.proofs.Common.{IfSome, refl, sym, ap, subst, ◌∙◌, arith, append_assoc, append-nil}
+use Rattle.std.proofs.lemmas.Bool.{false≢true}
+use Rattle.std.proofs.lemmas.List.{length-take-le, take-append-drop, take-append-le, take-take}
+use Rattle.std.proofs.lemmas.List.Elements.{All-nil, All-cons, All-append, All-same}
+use Rattle.std.proofs.KnownBytes.{Appends-nil, Appends-trans, Appends-kept, Consumes-nil, Consumes-trans, Consumes-kept}
+use Rattle.std.specs.Io.KnownBytes.{Appends, Consumes, IsAtEnd, Keeps}
+use Rattle.std.specs.Prelude.{All}
+use Rattle.symfilter_engine.specs.declared.symbols.Symbols.TheVariants.{Words}
+use Rattle.symfilter_engine.specs.Replaced.{is_word_byte, IsWordByte, begins_word, ends_word, IsHeld, may_hold_symbol, IsReplaced, no_byte, other, one_word, no_symbol}
+use Rattle.symfilter_engine.specs.Filtered.{IsFront, FiltersFront, FiltersWholeLines, ReplacesAllButHeld, WritesBeginning, WritesFiltered}
+use Rattle.symfilter_engine.specs.Progress.{GoesOn, HasCopiedWords, HasFiltered, HasReplaced, IsPastWord, IsReplacedIn, Leads, ReadsMore, ReplacesBeginning, ReplacesFront, ReplacesWhole, WritesFront, WritesLinesFront}
+use Rattle.symfilter_engine.proofs.Chunks.{nothing_read}
+use Rattle.symfilter_engine.proofs.Copying.{all_read}
+use Rattle.symfilter_engine.proofs.ReplacedText.{IsReplaced-append, whole_parted, whole-append, replaced_of, split_of}
+use Rattle.symfilter_engine.proofs.Signs.{stem_plain, plain_some}
+
+-- all bytes have a replaced text, also where a word goes on in them
+goes_at : (strip : Bool) (byte : ℕ) (bytes : List ℕ) (t : Bool) → is_word_byte byte ≡ t → ((text : List ℕ) × GoesOn strip bytes text)
+    → (text : List ℕ) × GoesOn strip (byte ∷ bytes) text
+goes_at strip byte bytes true is rest = (
+  byte ∷ rest.0,
+  record {
+    word = byte ∷ rest.1.word;
+    more = rest.1.more;
+    more_text = rest.1.more_text;
+    bytes_are = ap (λ l. byte ∷ l) rest.1.bytes_are;
+    text_is = ap (λ l. byte ∷ l) rest.1.text_is;
+    all = All-cons IsWordByte byte rest.1.word is rest.1.all;
+    next = rest.1.next;
+    replaced = rest.1.replaced;
+  },
+)
+goes_at strip byte bytes false is rest =
+    let found = replaced_of strip (byte ∷ bytes) in (
+      found.0,
+      record {
+        word = [];
+        more = byte ∷ bytes;
+        more_text = found.0;
+        bytes_are = refl;
+        text_is = refl;
+        all = All-nil IsWordByte;
+        next = is;
+        replaced = found.1;
+      },
+    )
+
+-- no byte of the word
+not_gone_on : (strip : Bool) (bytes text : List ℕ) → begins_word bytes ≡ false → IsReplaced strip bytes text → GoesOn strip bytes text
+not_gone_on strip bytes text next replaced =
+    record {
+      word = [];
+      more = bytes;
+      more_text = text;
+      bytes_are = refl;
+      text_is = refl;
+      all = All-nil IsWordByte;
+      next = next;
+      replaced = replaced;
+    }
+
+goes_of : (strip : Bool) (bytes : List ℕ) → (text : List ℕ) × GoesOn strip bytes text
+goes_of strip [] = ([], not_gone_on strip [] [] refl no_byte)
+goes_of strip (byte ∷ bytes) = goes_at strip byte bytes (is_word_byte byte) refl (goes_of strip bytes)
+
+replaced_in : (strip inside : Bool) (bytes : List ℕ) → (text : List ℕ) × IsReplacedIn strip inside bytes text
+replaced_in strip true bytes = goes_of strip bytes
+replaced_in strip false bytes = replaced_of strip bytes
+
+nothing_in : (strip inside : Bool) → IsReplacedIn strip inside [] []
+nothing_in strip true = not_gone_on strip [] [] refl no_byte
+nothing_in strip false = no_byte
+
+-- what is left has one too, where no word goes on in it
+left_in : (strip inside : Bool) (left text : List ℕ) → (inside ≡ true → left ≡ []) → IsReplaced strip left text → IsReplacedIn strip inside left text
+left_in strip true left text none replaced = not_gone_on strip left text (ap begins_word (none refl)) replaced
+left_in strip false left text none replaced = replaced
+
+-- bytes after bytes
+none_before : (first second : List ℕ) → first ++ second ≡ [] → (first ≡ []) × (second ≡ [])
+none_before [] second none = (refl, none)
+none_before (byte ∷ bytes) second none = absurd (cc)
+
+leads_on : (strip inside mid after : Bool) (first text second more : List ℕ) → Leads strip inside first text mid → Leads strip mid second more after
+    → Leads strip inside (first ++ second) (text ++ more) after
+leads_on strip inside mid after first text second more one two =
+    record {
+      goes = λ rest end replaced.
+          subst (λ l. IsReplacedIn strip inside l ((text ++ more) ++ end)) (sym (append_assoc first second rest))
+          (subst (IsReplacedIn strip inside (first ++ (second ++ rest))) (sym (append_assoc text more end))
+          (one.goes (second ++ rest) (more ++ end) (two.goes rest end replaced)));
+      ended = λ is. whole-append first second (two.ended is) (λ none. one.ended (two.none is none));
+      none = λ is all. let both = none_before first second all in one.none (two.none is both.1) both.0;
+    }
+
+-- no bytes yet
+none_leads : (strip : Bool) → Leads strip false [] [] false
+none_leads strip = record { goes = λ rest more replaced. replaced; ended = λ _. refl; none = λ _ _. refl }
+
+-- whole words
+whole_leads : (strip : Bool) (words text : List ℕ) → ends_word words ≡ false → IsReplaced strip words text → Leads strip false words text false
+whole_leads strip words text whole replaced =
+    record {
+      goes = λ rest more next. IsReplaced-append strip replaced next (whole_parted words rest whole);
+      ended = λ _. whole;
+      none = λ _ _. refl;
+    }
+
+-- a word whose front shows no symbol stays
+word_kept : (strip : Bool) (front rest bytes text : List ℕ) → All IsWordByte front → may_hold_symbol strip front ≡ false → All IsWordByte rest
+    → begins_word bytes ≡ false → IsReplaced strip bytes text → IsReplaced strip ((front ++ rest) ++ bytes) ((front ++ rest) ++ text)
+word_kept strip front rest bytes text all plain more next replaced =
+    let word : List ℕ = front ++ rest in
+    let split = split_of word in
+    let back : split.stem ++ split.dots ≡ word = sym split.word_is in
+    let some : split.stem ++ split.dots ≢ [] = λ e. absurd (omega (arith, plain_some strip front plain, ap length ((none_before front rest (split.word_is ∙ e)).0))) in
+    subst (λ l. IsReplaced strip (l ++ bytes) (l ++ text)) back
+    (one_word split.dots some (All-same IsWordByte (split.stem ++ split.dots) word back (All-append IsWordByte front rest all more)) split.dotted split.undotted
+    (no_symbol (stem_plain strip front rest split.stem split.dots plain split.word_is)) next replaced)
+
+plain_leads : (strip : Bool) (word : List ℕ) → All IsWordByte word → may_hold_symbol strip word ≡ false → Leads strip false word word true
+plain_leads strip word all plain =
+    record {
+      goes = λ rest more goes.
+          subst (λ l. IsReplaced strip (word ++ l) (word ++ more)) (sym goes.bytes_are)
+          (subst (λ l. IsReplaced strip (word ++ (goes.word ++ goes.more)) (word ++ l)) (sym goes.text_is)
+          (subst (λ l. IsReplaced strip l (word ++ (goes.word ++ goes.more_text))) (append_assoc word goes.word goes.more)
+          (subst (IsReplaced strip ((word ++ goes.word) ++ goes.more)) (append_assoc word goes.word goes.more_text)
+          (word_kept strip word goes.word goes.more goes.more_text all plain goes.all goes.next goes.replaced))));
+      ended = λ is. absurd (false≢true (sym is));
+      none = λ is _. absurd (false≢true (sym is));
+    }
+
+-- more bytes of it
+on_leads : (strip : Bool) (word : List ℕ) → All IsWordByte word → Leads strip true word word true
+on_leads strip word all =
+    record {
+      goes = λ rest more goes.
+          record {
+            word = word ++ goes.word;
+            more = goes.more;
+            more_text = goes.more_text;
+            bytes_are = ap (λ l. word ++ l) goes.bytes_are ∙ sym (append_assoc word goes.word goes.more);
+            text_is = ap (λ l. word ++ l) goes.text_is ∙ sym (append_assoc word goes.word goes.more_text);
+            all = All-append IsWordByte word goes.word all goes.all;
+            next = goes.next;
+            replaced = goes.replaced;
+          };
+      ended = λ is. absurd (false≢true (sym is));
+      none = λ is _. absurd (false≢true (sym is));
+    }
+
+-- its last bytes, and the byte after it
+past_leads : (strip : Bool) (word : List ℕ) (byte : ℕ) → All IsWordByte word → is_word_byte byte ≡ false → Leads strip true (word ++ byte ∷ []) (word ++ byte ∷ []) false
+past_leads strip word byte all end =
+    record {
+      goes = λ rest more replaced.
+          record {
+            word = word;
+            more = byte ∷ rest;
+            more_text = byte ∷ more;
+            bytes_are = append_assoc word (byte ∷ []) rest;
+            text_is = append_assoc word (byte ∷ []) more;
+            all = all;
+            next = end;
+            replaced = other end replaced;
+          };
+      ended = λ _. whole-append word (byte ∷ []) end (λ e. absurd (cc));
+      none = λ _ all_none. absurd (let both = none_before word (byte ∷ []) all_none in let e = both.1 in cc);
+    }
+
+-- nothing was given yet
+pub none_replaced : (strip : Bool) (given : List ℕ) (at : Option (List ℕ)) → HasReplaced strip false given given false at at
+none_replaced strip given at = record { done = []; text = []; given_is = refl; leads = none_leads strip; written = Appends-nil at }
+
+-- more of what was left was replaced
+pub replaced_on : (strip inside mid after : Bool) (given left left' : List ℕ) (t t' t'' : Option (List ℕ)) → HasReplaced strip inside given left mid t t'
+    → HasReplaced strip mid left left' after t' t'' → HasReplaced strip inside given left' after t t''
+replaced_on strip inside mid after given left left' t t' t'' one two =
+    record {
+      done = one.done ++ two.done;
+      text = one.text ++ two.text;
+      given_is = one.given_is ∙ ap (λ l. one.done ++ l) two.given_is ∙ sym (append_assoc one.done two.done left');
+      leads = leads_on strip inside mid after one.done one.text two.done two.text one.leads two.leads;
+      written = Appends-trans t t' t'' one.text two.text one.written two.written;
+    }
+
+-- more was given
+pub given_more : (strip inside after : Bool) (given left piece : List ℕ) (t t' : Option (List ℕ)) → HasReplaced strip inside given left after t t'
+    → HasReplaced strip inside (given ++ piece) (left ++ piece) after t t'
+given_more strip inside after given left piece t t' so_far =
+    record {
+      done = so_far.done;
+      text = so_far.text;
+      given_is = ap (λ l. l ++ piece) so_far.given_is ∙ append_assoc so_far.done left piece;
+      leads = so_far.leads;
+      written = so_far.written;
+    }
+
+-- whole words were written
+pub words_replaced : (strip : Bool) (given left : List ℕ) (t t' : Option (List ℕ)) → HasFiltered (Words strip) given left t t' → HasReplaced strip false given left false t t'
+words_replaced strip given left t t' so_far =
+    record {
+      done = so_far.lines;
+      text = so_far.text;
+      given_is = so_far.given_is;
+      leads = whole_leads strip so_far.lines so_far.text so_far.filtered.0 so_far.filtered.1;
+      written = so_far.written;
+    }
+
+-- a front of the bytes was replaced
+pub front_replaced : (strip inside after : Bool) (bytes front left : List ℕ) (n : ℕ) (t t' : Option (List ℕ)) → HasReplaced strip inside front left after t t' → front ≡ take n bytes
+    → HasReplaced strip inside bytes (left ++ drop n bytes) after t t'
+front_replaced strip inside after bytes front left n t t' so_far front_is =
+    subst (λ l. HasReplaced strip inside l (left ++ drop n bytes) after t t') (ap (λ l. l ++ drop n bytes) front_is ∙ take-append-drop n bytes)
+    (given_more strip inside after front left (drop n bytes) t t' so_far)
+
+-- a word was passed on
+pub word_passed : (strip : Bool) (word : List ℕ) (t t' : Option (List ℕ)) → All IsWordByte word → may_hold_symbol strip word ≡ false → Appends t t' word
+    → HasReplaced strip false word [] true t t'
+word_passed strip word t t' all plain writes =
+    record { done = word; text = word; given_is = sym (append-nil word); leads = plain_leads strip word all plain; written = writes }
+
+pub more_passed : (strip : Bool) (word : List ℕ) (t t' : Option (List ℕ)) → All IsWordByte word → Appends t t' word → HasReplaced strip true word [] true t t'
+more_passed strip word t t' all writes =
+    record { done = word; text = word; given_is = sym (append-nil word); leads = on_leads strip word all; written = writes }
+
+-- with the byte after it
+pub rest_passed : (strip : Bool) (bytes : List ℕ) (n : ℕ) (t t' : Option (List ℕ)) → IsPastWord bytes n → Appends t t' (take n bytes)
+    → HasReplaced strip true bytes (drop n bytes) false t t'
+rest_passed strip bytes n t t' past writes =
+    record {
+      done = take n bytes;
+      text = take n bytes;
+      given_is = sym (take-append-drop n bytes);
+      leads = subst (λ l. Leads strip true l l false) (sym past.front) (past_leads strip past.word past.byte past.all past.ended);
+      written = writes;
+    }
+
+-- a front of what the bytes lead to
+front_of : (strip inside after : Bool) (bytes text rest written : List ℕ) → Leads strip inside bytes text after → IsFront written text
+    → (all : List ℕ) × IsReplacedIn strip inside (bytes ++ rest) all × IsFront written all
+front_of strip inside after bytes text rest written leads is_front =
+    let found = replaced_in strip after rest in (
+      text ++ found.0,
+      leads.goes rest found.0 found.1,
+      (is_front.0 ++ found.0, ap (λ l. l ++ found.0) is_front.1 ∙ append_assoc written is_front.0 found.0),
+    )
+
+-- a front of bytes that stay was written
+stay_front : (strip inside after : Bool) (bytes front : List ℕ) (n : ℕ) (t t' : Option (List ℕ)) → Leads strip inside front front after → front ≡ take n bytes
+    → WritesFront front t t' → ReplacesFront strip inside bytes t t'
+stay_front strip inside after bytes front n t t' leads front_is (left, writes) rest =
+    let whole : bytes ++ rest ≡ front ++ (drop n bytes ++ rest) =
+    ap (λ l. l ++ rest) (sym (take-append-drop n bytes) ∙ ap (λ l. l ++ drop n bytes) (sym front_is)) ∙ append_assoc front (drop n bytes) rest in
+    let found = front_of strip inside after front front (drop n bytes ++ rest) writes.front leads (left, writes.bytes_are) in (
+      writes.front,
+      (found.0, subst (λ l. IsReplacedIn strip inside l found.0) (sym whole) found.1, found.2),
+      writes.written,
+    )
+
+pub word_front : (strip : Bool) (word : List ℕ) (t t' : Option (List ℕ)) → All IsWordByte word → may_hold_symbol strip word ≡ false → WritesFront word t t'
+    → ReplacesFront strip false word t t'
+word_front strip word t t' all plain writes rest =
+    let front = writes.1 in
+    let found = front_of strip false true word word rest front.front (plain_leads strip word all plain) (writes.0, front.bytes_are) in
+    (front.front, found, front.written)
+
+pub more_front : (strip : Bool) (word : List ℕ) (t t' : Option (List ℕ)) → All IsWordByte word → WritesFront word t t' → ReplacesFront strip true word t t'
+more_front strip word t t' all writes rest =
+    let front = writes.1 in
+    let found = front_of strip true true word word rest front.front (on_leads strip word all) (writes.0, front.bytes_are) in
+    (front.front, found, front.written)
+
+pub past_front : (strip : Bool) (bytes : List ℕ) (n : ℕ) (t t' : Option (List ℕ)) → IsPastWord bytes n → WritesFront (take n bytes) t t' → ReplacesFront strip true bytes t t'
+past_front strip bytes n t t' past writes =
+    stay_front strip true false bytes (take n bytes) n t t'
+    (subst (λ l. Leads strip true l l false) (sym past.front) (past_leads strip past.word past.byte past.all past.ended)) refl writes
+
+-- a beginning of what was left
+begins_after : (strip inside mid : Bool) (given left rest : List ℕ) (t t' t'' : Option (List ℕ)) → HasReplaced strip inside given left mid t t'
+    → ReplacesBeginning strip mid (left ++ rest) t' t'' → ReplacesBeginning strip inside (given ++ rest) t t''
+begins_after strip inside mid given left rest t t' t'' so_far (written, (text, replaced, is_front), writes) = (
+  so_far.text ++ written,
+  (
+    so_far.text ++ text,
+    subst (λ l. IsReplacedIn strip inside l (so_far.text ++ text)) (sym (ap (λ l. l ++ rest) so_far.given_is ∙ append_assoc so_far.done left rest))
+        (so_far.leads.goes (left ++ rest) text replaced),
+    (is_front.0, ap (λ l. so_far.text ++ l) is_front.1 ∙ sym (append_assoc so_far.text written is_front.0)),
+  ),
+  Appends-trans t t' t'' so_far.text written so_far.written writes,
+)
+
+pub front_after : (strip inside mid : Bool) (given left : List ℕ) (t t' t'' : Option (List ℕ)) → HasReplaced strip inside given left mid t t'
+    → ReplacesFront strip mid left t' t'' → ReplacesFront strip inside given t t''
+front_after strip inside mid given left t t' t'' so_far begins rest = begins_after strip inside mid given left rest t t' t'' so_far (begins rest)
+
+-- a front of whole words, before other bytes
+pub words_front : (strip : Bool) (bytes words : List ℕ) (n : ℕ) (t t' : Option (List ℕ)) → WritesLinesFront (Words strip) words t t' → words ≡ take n bytes
+    → ReplacesFront strip false bytes t t'
+words_front strip bytes words n t t' begins words_are rest =
+    let whole : words ++ (drop n bytes ++ rest) ≡ bytes ++ rest =
+    sym (append_assoc words (drop n bytes) rest) ∙ ap (λ l. l ++ rest) (ap (λ l. l ++ drop n bytes) words_are ∙ take-append-drop n bytes) in
+    subst (λ l. ReplacesBeginning strip false l t t') whole (begins (drop n bytes ++ rest))
+
+-- nothing was read yet
+pub none_copied_words : (strip : Bool) (word : List ℕ) (source sink : Option (List ℕ)) → word ≡ [] → HasCopiedWords strip false word source source sink sink
+none_copied_words strip word source sink word_is =
+    record {
+      read = [];
+      consumed = Consumes-nil source;
+      none = λ _. word_is;
+      replaced = subst (λ l. HasReplaced strip false [] l false sink sink) (sym word_is) (none_replaced strip [] sink);
+    }
+
+-- and nothing is held back
+pub none_held : (strip : Bool) (word : List ℕ) → word ≡ [] → IsHeld strip word
+none_held strip word word_is = subst (IsHeld strip) (sym word_is) (record { word = All-nil IsWordByte; may_hold = refl })
+
+-- what was read in one turn, after the word that was kept
+read_on : (strip inside : Bool) (word piece all : List ℕ) (s s' s'' t t' : Option (List ℕ)) (so_far : HasCopiedWords strip inside word s s' t t')
+    → Consumes s' s'' piece → all ≡ word ++ piece
+    → Consumes s s'' (so_far.read ++ piece) × HasReplaced strip false (so_far.read ++ piece) all inside t t'
+read_on strip inside word piece all s s' s'' t t' so_far consumed all_is = (
+  Consumes-trans s s' s'' so_far.read piece so_far.consumed consumed,
+  subst (λ l. HasReplaced strip false (so_far.read ++ piece) l inside t t') (sym all_is)
+      (given_more strip false inside so_far.read word piece t t' so_far.replaced),
+)
+
+-- one turn more
+pub turn_copied : (strip inside after : Bool) (kept end : ℕ) (old new rest left : List ℕ) (s s' s'' t t' t'' : Option (List ℕ))
+    → HasCopiedWords strip inside (take kept old) s s' t t' → ReadsMore kept end old new s' s'' → HasReplaced strip inside (take end new) left after t' t'' → rest ≡ left
+    → (after ≡ true → left ≡ []) → HasCopiedWords strip after rest s s'' t t''
+turn_copied strip inside after kept end old new rest left s s' s'' t t' t'' so_far more replaced rest_is none =
+    let all = read_on strip inside (take kept old) more.piece (take end new) s s' s'' t t' so_far more.consumed more.held in
+    subst (λ l. HasCopiedWords strip after l s s'' t t'') (sym rest_is)
+    (record {
+      read = so_far.read ++ more.piece;
+      consumed = all.0;
+      none = none;
+      replaced = replaced_on strip false inside after (so_far.read ++ more.piece) (take end new) left t t' t'' all.1 replaced;
+    })
+
+-- a fault came in it
+pub turn_fault : (strip inside : Bool) (kept end : ℕ) (old new : List ℕ) (s s' s'' t t' t'' : Option (List ℕ))
+    → HasCopiedWords strip inside (take kept old) s s' t t' → ReadsMore kept end old new s' s'' → ReplacesFront strip inside (take end new) t' t''
+    → FiltersFront (Words strip) s s'' t t''
+turn_fault strip inside kept end old new s s' s'' t t' t'' so_far more begins =
+    let all = read_on strip inside (take kept old) more.piece (take end new) s s' s'' t t' so_far more.consumed more.held in
+    let read : List ℕ = so_far.read ++ more.piece in
+    record {
+      read = read;
+      consumed = all.0;
+      begins = subst (λ l. ReplacesBeginning strip false l t t'') (append-nil read)
+          (front_after strip false inside read (take end new) t t' t'' all.1 begins []);
+    }
+
+-- whole words were written of what was read
+whole_words : (strip : Bool) (read left : List ℕ) (s s' t t' : Option (List ℕ)) → Consumes s s' read → HasReplaced strip false read left false t t'
+    → FiltersWholeLines (Words strip) s s' t t'
+whole_words strip read left s s' t t' consumed replaced =
+    let leads = replaced.leads in
+    record {
+      lines = replaced.done;
+      left = left;
+      consumed = subst (Consumes s s') replaced.given_is consumed;
+      text = replaced.text;
+      filtered = (
+        leads.ended refl,
+        subst (λ l. IsReplaced strip l replaced.text) (append-nil replaced.done)
+            (subst (IsReplaced strip (replaced.done ++ [])) (append-nil replaced.text) (leads.goes [] [] no_byte)),
+      );
+      written = replaced.written;
+    }
+
+-- memory was refused in it
+pub turn_refused : (strip inside : Bool) (kept end : ℕ) (old new : List ℕ) (s s' s'' t t' t'' : Option (List ℕ))
+    → HasCopiedWords strip inside (take kept old) s s' t t' → ReadsMore kept end old new s' s'' → ReplacesWhole strip inside (take end new) t' t''
+    → FiltersWholeLines (Words strip) s s'' t t''
+turn_refused strip inside kept end old new s s' s'' t t' t'' so_far more (left, replaced) =
+    let all = read_on strip inside (take kept old) more.piece (take end new) s s' s'' t t' so_far more.consumed more.held in
+    let read : List ℕ = so_far.read ++ more.piece in
+    whole_words strip read left s s'' t t'' all.0 (replaced_on strip false inside false read (take end new) left t t' t'' all.1 replaced)
+
+-- memory was refused for more room
+pub read_refused : (strip inside : Bool) (kept : ℕ) (old : List ℕ) (s s' s'' t t' : Option (List ℕ)) → HasCopiedWords strip inside (take kept old) s s' t t'
+    → Keeps s' s'' → kept ≡ length old → 0 < length old → FiltersWholeLines (Words strip) s s'' t t'
+read_refused strip true kept old s s' s'' t t' so_far keeps full some =
+    absurd (omega (arith, some, full, length-take-le kept old (omega (arith, full)), ap length (so_far.none refl)))
+read_refused strip false kept old s s' s'' t t' so_far keeps full some =
+    whole_words strip so_far.read (take kept old) s s'' t t' (Consumes-kept s s' s'' so_far.read so_far.consumed keeps) so_far.replaced
+
+-- what was held stands in front
+pub still_held : (strip : Bool) (kept end : ℕ) (old new : List ℕ) (s s' : Option (List ℕ)) → IsHeld strip (take kept old) → ReadsMore kept end old new s s' → kept ≤ length old
+    → All IsWordByte (take kept (take end new))
+still_held strip kept end old new s s' held more within =
+    let same : take kept (take end new) ≡ take kept old =
+    ap (take kept) more.held ∙ take-append-le kept (take kept old) more.piece (omega (arith, length-take-le kept old within)) ∙ take-take kept kept old (omega arith) in
+    All-same IsWordByte (take kept (take end new)) (take kept old) same held.word
+
+-- nothing more was read
+pub end_copied : (strip inside : Bool) (kept end : ℕ) (old new : List ℕ) (s s' s'' t t' : Option (List ℕ))
+    → HasCopiedWords strip inside (take kept old) s s' t t' → ReadsMore kept end old new s' s'' → kept ≤ length old → end ≡ kept
+    → HasCopiedWords strip inside (take kept new) s s'' t t'
+end_copied strip inside kept end old new s s' s'' t t' so_far more within same =
+    let none = nothing_read kept end old new s' s'' more within same in
+    let held : take kept new ≡ take kept old = ap (λ n. take n new) (sym same) ∙ more.held ∙ ap (λ l. take kept old ++ l) none ∙ append-nil (take kept old) in
+    subst (λ l. HasCopiedWords strip inside l s s'' t t') (sym held)
+    (record {
+      read = so_far.read;
+      consumed = subst (Consumes s s'') (ap (λ l. so_far.read ++ l) none ∙ append-nil so_far.read)
+          (Consumes-trans s s' s'' so_far.read more.piece so_far.consumed more.consumed);
+      none = so_far.none;
+      replaced = so_far.replaced;
+    })
+
+-- the replaced text of what was done
+done_replaced : (strip inside : Bool) (bytes text : List ℕ) → Leads strip false bytes text inside → IsReplaced strip bytes text
+done_replaced strip inside bytes text leads =
+    subst (λ l. IsReplaced strip l text) (append-nil bytes)
+    (subst (IsReplaced strip (bytes ++ [])) (append-nil text) (leads.goes [] [] (nothing_in strip inside)))
+
+-- what is held back begins a word
+held_begins : (inside : Bool) (done word : List ℕ) → (inside ≡ false → ends_word done ≡ false) → (inside ≡ true → word ≡ []) → ends_word done ≡ true → word ≡ []
+held_begins true done word ended none ends = none refl
+held_begins false done word ended none ends = absurd (false≢true (sym (ended refl) ∙ ends))
+
+-- the source failed, and gave nothing
+pub read_put : (strip inside : Bool) (word : List ℕ) (s s' s'' t t' : Option (List ℕ)) → HasCopiedWords strip inside word s s' t t' → IsHeld strip word → Keeps s' s''
+    → ReplacesAllButHeld strip s s'' t t'
+read_put strip inside word s s' s'' t t' so_far held keeps =
+    let replaced = so_far.replaced in
+    record {
+      given = replaced.done;
+      held = word;
+      consumed = subst (Consumes s s'') replaced.given_is (Consumes-kept s s' s'' so_far.read so_far.consumed keeps);
+      is_held = held;
+      begins = held_begins inside replaced.done word replaced.leads.ended so_far.none;
+      text = replaced.text;
+      replaced = done_replaced strip inside replaced.done replaced.text replaced.leads;
+      written = replaced.written;
+    }
+
+pub read_fault : (strip inside : Bool) (word : List ℕ) (s s' s'' t t' : Option (List ℕ)) → HasCopiedWords strip inside word s s' t t' → Keeps s' s''
+    → FiltersFront (Words strip) s s'' t t'
+read_fault strip inside word s s' s'' t t' so_far keeps =
+    let replaced = so_far.replaced in
+    let found = replaced_in strip inside word in
+    record {
+      read = so_far.read;
+      consumed = Consumes-kept s s' s'' so_far.read so_far.consumed keeps;
+      begins = (
+        replaced.text,
+        (
+          replaced.text ++ found.0,
+          subst (λ l. IsReplaced strip l (replaced.text ++ found.0)) (sym replaced.given_is) (replaced.leads.goes word found.0 found.1),
+          (found.0, refl),
+        ),
+        replaced.written,
+      );
+    }
+
+-- the last word was written too
+pub last_copied : (strip inside : Bool) (word : List ℕ) (s s' t t' t'' : Option (List ℕ)) → HasCopiedWords strip inside word s s' t t' → IsAtEnd s'
+    → WritesFiltered (Words strip) word t' t'' → IfSome s (λ given. WritesFiltered (Words strip) given t t'')
+last_copied strip inside word s s' t t' t'' so_far ends (text, is_replaced, writes) =
+    let replaced = so_far.replaced in
+    all_read (Words strip) s s' t t'' so_far.read so_far.consumed ends (
+      replaced.text ++ text,
+      subst (λ l. IsReplaced strip l (replaced.text ++ text)) (sym replaced.given_is)
+          (replaced.leads.goes word text (left_in strip inside word text so_far.none is_replaced)),
+      Appends-trans t t' t'' replaced.text text replaced.written writes,
+    )
+
+-- a fault came while it was written
+pub last_fault : (strip inside : Bool) (word : List ℕ) (s s' t t' t'' : Option (List ℕ)) → HasCopiedWords strip inside word s s' t t'
+    → WritesBeginning (Words strip) word t' t'' → FiltersFront (Words strip) s s' t t''
+last_fault strip inside word s s' t t' t'' so_far (written, (text, is_replaced, is_front), writes) =
+    let replaced = so_far.replaced in
+    record {
+      read = so_far.read;
+      consumed = so_far.consumed;
+      begins = (
+        replaced.text ++ written,
+        (
+          replaced.text ++ text,
+          subst (λ l. IsReplaced strip l (replaced.text ++ text)) (sym replaced.given_is)
+              (replaced.leads.goes word text (left_in strip inside word text so_far.none is_replaced)),
+          (is_front.0, ap (λ l. replaced.text ++ l) is_front.1 ∙ sym (append_assoc replaced.text written is_front.0)),
+        ),
+        Appends-trans t t' t'' replaced.text written replaced.written writes,
+      );
+    }
+
+-- memory was refused for it
+pub last_refused : (strip inside : Bool) (word : List ℕ) (s s' t t' t'' : Option (List ℕ)) → HasCopiedWords strip inside word s s' t t' → 0 < length word → Keeps t' t''
+    → FiltersWholeLines (Words strip) s s' t t''
+last_refused strip true word s s' t t' t'' so_far some keeps = absurd (omega (arith, some, ap length (so_far.none refl)))
+last_refused strip false word s s' t t' t'' so_far some keeps =
+    let replaced = so_far.replaced in
+    whole_words strip so_far.read word s s' t t'' so_far.consumed
+    (record {
+      done = replaced.done;
+      text = replaced.text;
+      given_is = replaced.given_is;
+      leads = replaced.leads;
+      written = Appends-kept t t' t'' replaced.text replaced.written keeps;
+    })

@@ -1,0 +1,20 @@
+use Rattle.std.proofs.Common.{◌≡◌, ◌<◌, ◌≤◌, false, length, take}
+use Rattle.symfilter_engine.specs.Progress.{HasCopiedWords}
+use Rattle.symfilter_engine.specs.Replaced.{IsHeld}
+use Rattle.symfilter_engine.proofs.replacing.copy_words.Given as goal
+
+abbrev pub invariant-turns : goal.invariant-turns
+invariant-turns g l =
+    record {
+      source_not_failed : g.R.Source.failed l.source ≡ false;
+      sink_not_failed : g.W.Sink.failed l.sink ≡ false;
+      source_in_time : g.R.Source.called_late l.source ≡ g.R.Source.called_late l.fn.source;
+      sink_in_time : g.W.Sink.called_late l.sink ≡ g.W.Sink.called_late l.fn.sink;
+      room : 0 < length l.chunk.items;
+      within : l.kept ≤ length l.chunk.items;
+      held : IsHeld l.strip (take l.kept l.chunk.items);
+      so_far : HasCopiedWords l.strip l.inside (take l.kept l.chunk.items) (g.R.Source.remaining l.fn.source) (g.R.Source.remaining l.source) (g.W.Sink.taken l.fn.sink) (g.W.Sink.taken l.sink);
+    }
+
+abbrev pub decreases-turns : goal.decreases-turns
+decreases-turns g l = g.R.Source.calls_left l.source

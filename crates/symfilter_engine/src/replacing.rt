@@ -1,0 +1,283 @@
+//! The replacement, and its loop over chunks of the input.
+ghost use Rattle.std.specs.Prelude.{◌≡◌, ◌<◌, ◌≤◌, ◌↔◌, List, ℕ, true, false, [], length, take, drop, All, IsTrue, IsErrOf, IfOk, IfSome, IfNone, Some, OnOk, OnErr};
+ghost use Rattle.std.specs.Io.KnownBytes.{IsAtEnd};
+ghost use Rattle.symfilter_engine.specs.declared.symbols.Symbols.TheVariants.{Words};
+ghost use Rattle.symfilter_engine.specs.Fault.{IsRunOutcome, IsWriteOutcome};
+ghost use Rattle.symfilter_engine.specs.Filtered.{FiltersFront, FiltersWholeLines, ReplacesAllButHeld, WritesFiltered};
+ghost use Rattle.symfilter_engine.specs.Progress.{CopiesWords, HasReplaced, IsPastWord, ReplacesFront, ReplacesWhole};
+ghost use Rattle.symfilter_engine.specs.Replaced.{IsHeld, IsWordByte};
+
+use super::bounds::{whole_words_len, word_end};
+use super::ends::{Sink, Source};
+use super::fault::FilterFault;
+use super::filtering::{CHUNK_LEN, read_more};
+use super::lines::{write_last, write_lines};
+use super::output::write_all;
+use super::symbols::Symbols;
+use super::words::may_hold_symbol;
+use growing_text::Text;
+use itanium_demangle::Demangler;
+use std::alloc::Global;
+
+/// Reads to the end, and writes the replaced text: each symbol that stands in a word is replaced by its demangled name.
+/// A word is a maximal run of ASCII letters, digits, `_`, `$` and `.`. Its symbol stands at its front, after at most
+/// one sign: `.`, `$` or `__imp_`. The sign and the dots at the word's end stay. With `strip` one more
+/// underscore may stand in front of the symbol, and is dropped.
+///
+/// Before each read all is written that was read, up to a last word that may hold a symbol: it begins with one, or has
+/// fewer than ten bytes. A line may have any length, and only such a word is kept.
+///
+/// Its faults are those of `filter`, and what was written is a beginning of the replaced text. After `Read` that is the
+/// text of all but the word that is kept, and after `Memory` that of some whole words.
+pub fn replace<R: Source, W: Sink>(
+    alloc: Global,
+    strip: bool,
+    source: &mut R,
+    sink: &mut W,
+) -> Result<(), FilterFault>
+    requires source_not_failed { R.failed source.old ≡ false }
+    requires sink_not_failed { W.failed sink.old ≡ false }
+    ensures read { IsErrOf result FilterFault.Read ↔ IsTrue (R.failed source.new) }
+    ensures write { IsErrOf result FilterFault.Write ↔ IsTrue (W.failed sink.new) }
+
+    // Neither source nor sink is called after a failure, which `called_late` would record.
+    ensures source_in_time { R.called_late source.new ≡ R.called_late source.old }
+    ensures sink_in_time { W.called_late sink.new ≡ W.called_late sink.old }
+
+    // These clauses hold where the bytes of the source and of the sink are known.
+    ensures used_up { OnOk result (IfSome (R.remaining source.old) (λ _.
+        R.remaining source.new ≡ Some [])) }
+    ensures ok { OnOk result (IfSome (R.remaining source.old) (λ given.
+        WritesFiltered (Words strip) given (W.taken sink.old) (W.taken sink.new))) }
+    ensures err { OnErr result (FiltersFront (Words strip)
+        (R.remaining source.old) (R.remaining source.new)
+        (W.taken sink.old) (W.taken sink.new)) }
+
+    // Any call of the source may fail. So all that it gave is written before each call, but for a word that may hold a
+    // symbol.
+    ensures put { IsErrOf result FilterFault.Read → ReplacesAllButHeld strip
+        (R.remaining source.old) (R.remaining source.new)
+        (W.taken sink.old) (W.taken sink.new) }
+
+    // After a failed allocation whole words have been written, and nothing of the next word.
+    ensures memory { IsErrOf result FilterFault.Memory → FiltersWholeLines (Words strip)
+        (R.remaining source.old) (R.remaining source.new)
+        (W.taken sink.old) (W.taken sink.new) }
+{
+    let mut chunk = vec![in alloc; 0u8; CHUNK_LEN]?;
+    replace_by_chunks(alloc, strip, source, sink, &mut chunk)
+}
+
+/// Reads to the end through the chunk, and writes the replaced text. The chunk keeps a word that may hold a symbol.
+fn replace_by_chunks<R: Source, W: Sink>(
+    alloc: Global,
+    strip: bool,
+    source: &mut R,
+    sink: &mut W,
+    chunk: &mut Vec<u8>,
+) -> Result<(), FilterFault>
+    requires source_not_failed { R.failed source.old ≡ false }
+    requires sink_not_failed { W.failed sink.old ≡ false }
+    requires room { 0 < length chunk.old.items }
+    ensures outcome { IsRunOutcome result (R.failed source.new) (W.failed sink.new) }
+    ensures source_in_time { R.called_late source.new ≡ R.called_late source.old }
+    ensures sink_in_time { W.called_late sink.new ≡ W.called_late sink.old }
+    ensures used_up { OnOk result (IfSome (R.remaining source.old) (λ _.
+        R.remaining source.new ≡ Some [])) }
+    ensures ok { OnOk result (IfSome (R.remaining source.old) (λ given.
+        WritesFiltered (Words strip) given (W.taken sink.old) (W.taken sink.new))) }
+    ensures err { OnErr result (FiltersFront (Words strip)
+        (R.remaining source.old) (R.remaining source.new)
+        (W.taken sink.old) (W.taken sink.new)) }
+    ensures put { IsErrOf result FilterFault.Read → ReplacesAllButHeld strip
+        (R.remaining source.old) (R.remaining source.new)
+        (W.taken sink.old) (W.taken sink.new) }
+    ensures memory { IsErrOf result FilterFault.Memory → FiltersWholeLines (Words strip)
+        (R.remaining source.old) (R.remaining source.new)
+        (W.taken sink.old) (W.taken sink.new) }
+{
+    let mut demangler = Demangler::new();
+    let kept = copy_words(alloc, &mut demangler, strip, chunk, source, sink)?;
+    write_last(
+        alloc,
+        &mut demangler,
+        Symbols::Words(strip),
+        &chunk[..kept],
+        sink,
+    )
+}
+
+/// Reads to the end, and writes all but a last word that may hold a symbol. It returns that word's length in bytes; the
+/// front of the chunk holds it.
+fn copy_words<R: Source, W: Sink>(
+    alloc: Global,
+    demangler: &mut Demangler,
+    strip: bool,
+    chunk: &mut Vec<u8>,
+    source: &mut R,
+    sink: &mut W,
+) -> Result<usize, FilterFault>
+    requires source_not_failed { R.failed source.old ≡ false }
+    requires sink_not_failed { W.failed sink.old ≡ false }
+    requires room { 0 < length chunk.old.items }
+    ensures outcome { IsRunOutcome result (R.failed source.new) (W.failed sink.new) }
+    ensures source_in_time { R.called_late source.new ≡ R.called_late source.old }
+    ensures sink_in_time { W.called_late sink.new ≡ W.called_late sink.old }
+    ensures bound { IfOk result (λ kept. kept ≤ length chunk.new.items) }
+    ensures at_end { OnOk result (IsAtEnd (R.remaining source.new)) }
+    ensures ok { IfOk result (λ kept. CopiesWords strip (take kept chunk.new.items)
+        (R.remaining source.old) (R.remaining source.new)
+        (W.taken sink.old) (W.taken sink.new)) }
+    ensures err { OnErr result (FiltersFront (Words strip)
+        (R.remaining source.old) (R.remaining source.new)
+        (W.taken sink.old) (W.taken sink.new)) }
+    ensures put { IsErrOf result FilterFault.Read → ReplacesAllButHeld strip
+        (R.remaining source.old) (R.remaining source.new)
+        (W.taken sink.old) (W.taken sink.new) }
+    ensures memory { IsErrOf result FilterFault.Memory → FiltersWholeLines (Words strip)
+        (R.remaining source.old) (R.remaining source.new)
+        (W.taken sink.old) (W.taken sink.new) }
+{
+    let mut output = Text::new(alloc);
+    let mut kept = 0;
+    let mut inside = false;
+    'turns: loop {
+        let end = read_more(source, chunk, kept)?;
+        if end == kept {
+            return Ok(kept);
+        }
+        let turn = write_turn(
+            alloc,
+            demangler,
+            strip,
+            &chunk[..end],
+            kept,
+            inside,
+            &mut output,
+            sink,
+        )?;
+        // A word that may hold a symbol moves to the front.
+        if turn.done > 0 {
+            chunk.copy_within(turn.done..end, 0);
+        }
+        kept = end - turn.done;
+        inside = turn.inside;
+    }
+}
+
+/// What was written of a chunk.
+#[derive(Clone, Copy)]
+struct Turn {
+    /// So many bytes were written.
+    done: usize,
+    /// The last word holds no symbol, and may go on in the next chunk.
+    inside: bool,
+}
+
+/// Writes what is written for these bytes, up to a last word that may hold a symbol. If `inside` is true, a word that
+/// holds no symbol goes on in them. The first `seen` bytes are of a word that was kept.
+fn write_turn<W: Sink>(
+    alloc: Global,
+    demangler: &mut Demangler,
+    strip: bool,
+    bytes: &[u8],
+    seen: usize,
+    inside: bool,
+    output: &mut Text,
+    sink: &mut W,
+) -> Result<Turn, FilterFault>
+    requires not_failed { W.failed sink.old ≡ false }
+    requires within { seen ≤ length bytes.now }
+    requires before { All IsWordByte (take seen bytes.now) }
+    ensures outcome { IsWriteOutcome result (W.failed sink.new) }
+    ensures in_time { W.called_late sink.new ≡ W.called_late sink.old }
+    ensures bound { IfOk result (λ turn. turn.done ≤ length bytes.now) }
+    ensures held { IfOk result (λ turn. IsHeld strip (drop turn.done bytes.now)) }
+    ensures none { IfOk result (λ turn. turn.inside ≡ true → drop turn.done bytes.now ≡ []) }
+    ensures ok { IfOk result (λ turn. HasReplaced strip inside bytes.now (drop turn.done bytes.now) turn.inside
+        (W.taken sink.old) (W.taken sink.new)) }
+    ensures err { OnErr result (ReplacesFront strip inside bytes.now (W.taken sink.old) (W.taken sink.new)) }
+    ensures memory { IsErrOf result FilterFault.Memory →
+        ReplacesWhole strip inside bytes.now (W.taken sink.old) (W.taken sink.new) }
+{
+    if !inside {
+        return write_words(alloc, demangler, strip, bytes, seen, output, sink);
+    }
+    match past_word(bytes) {
+        Some(start) => {
+            write_all(sink, &bytes[..start])?;
+            let turn = write_words(alloc, demangler, strip, &bytes[start..], 0, output, sink)?;
+            Ok(Turn {
+                done: start + turn.done,
+                inside: turn.inside,
+            })
+        }
+        None => {
+            write_all(sink, bytes)?;
+            Ok(Turn {
+                done: bytes.len(),
+                inside: true,
+            })
+        }
+    }
+}
+
+/// The length in bytes of a word with the byte after it, or `None` where all bytes are of the word.
+fn past_word(bytes: &[u8]) -> Option<usize>
+    ensures some { IfSome result (IsPastWord bytes.now) }
+    ensures none { IfNone result (All IsWordByte bytes.now) }
+{
+    let end = word_end(bytes, 0);
+    if end == bytes.len() {
+        return None;
+    }
+    Some(end + 1)
+}
+
+/// Writes what is written for these bytes, up to a last word that may hold a symbol. The first `seen` bytes are of a
+/// word.
+fn write_words<W: Sink>(
+    alloc: Global,
+    demangler: &mut Demangler,
+    strip: bool,
+    bytes: &[u8],
+    seen: usize,
+    output: &mut Text,
+    sink: &mut W,
+) -> Result<Turn, FilterFault>
+    requires not_failed { W.failed sink.old ≡ false }
+    requires within { seen ≤ length bytes.now }
+    requires before { All IsWordByte (take seen bytes.now) }
+    ensures outcome { IsWriteOutcome result (W.failed sink.new) }
+    ensures in_time { W.called_late sink.new ≡ W.called_late sink.old }
+    ensures bound { IfOk result (λ turn. turn.done ≤ length bytes.now) }
+    ensures held { IfOk result (λ turn. IsHeld strip (drop turn.done bytes.now)) }
+    ensures none { IfOk result (λ turn. turn.inside ≡ true → drop turn.done bytes.now ≡ []) }
+    ensures ok { IfOk result (λ turn. HasReplaced strip false bytes.now (drop turn.done bytes.now) turn.inside
+        (W.taken sink.old) (W.taken sink.new)) }
+    ensures err { OnErr result (ReplacesFront strip false bytes.now (W.taken sink.old) (W.taken sink.new)) }
+    ensures memory { IsErrOf result FilterFault.Memory →
+        ReplacesWhole strip false bytes.now (W.taken sink.old) (W.taken sink.new) }
+{
+    let whole = whole_words_len(bytes, seen);
+    write_lines(
+        alloc,
+        demangler,
+        Symbols::Words(strip),
+        &bytes[..whole],
+        output,
+        sink,
+    )?;
+    let word = &bytes[whole..];
+    if may_hold_symbol(strip, word) {
+        return Ok(Turn {
+            done: whole,
+            inside: false,
+        });
+    }
+    write_all(sink, word)?;
+    Ok(Turn {
+        done: bytes.len(),
+        inside: true,
+    })
+}
