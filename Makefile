@@ -1,7 +1,8 @@
 # Builds and installs the programs, the libraries for C, their headers and the manual page. The builds are proved ones, by
 # the Rattle toolchain. `make install` builds what is missing, or older than its sources, too.
 #
-#     make                                     an hour where nothing is proved yet
+#     make -j4                                 half an hour where nothing is proved yet
+#     make -j4 cosvigle                        the program alone
 #     make install PREFIX=/usr DESTDIR=/tmp/x  PREFIX: /usr/local unless given; DESTDIR: put in front, for packages;
 #                  LIBDIR=/usr/lib64           BINDIR, LIBDIR, INCLUDEDIR, MANDIR: below PREFIX unless given
 #     make uninstall                           removes what `make install` with the same variables installed
@@ -22,12 +23,15 @@ symfilter = crates/symfilter/out/symfilter
 cosvigle = crates/cosvigle/out/cosvigle
 library = crates/cosvigle_c/out/libcosvigle_c.a
 
-# The files that a crate is built of: its own, and those of all crates below it, by crates.txt.
-below = $(shell awk -v wanted=$(1) '/^[a-z]/ { name = $$1; sub(/:$$/, "", name); deps[name] = $$0 } \
-    function visit(it, list, count, at) { if (it in seen || !(it in deps)) return; seen[it] = 1; print "crates/" it; \
-    count = split(deps[it], list, /[ :]+/); for (at = 2; at <= count; at++) visit(list[at]) } END { visit(wanted) }' crates.txt)
-sources = crates.txt $(shell find $(wildcard $(foreach part,src specs proofs,$(addsuffix /$(part),$(call below,$(1))))) \
-    -name '*.rt' -o -name '*.antt')
+# Of a crate, by crates.txt: those that it uses; it and all below it; its files, and those of all of these.
+uses = $(shell sed -nE 's/^$(1)( staticlib)?: *(.*)/\2/p' crates.txt)
+whole = $(sort $(1) $(foreach it,$(call uses,$(1)),$(call whole,$(it))))
+files = crates.txt $(shell find $(wildcard $(foreach part,src specs proofs,$(1:%=crates/%/$(part)))) -name '*.rt' -o -name '*.antt')
+sources = $(call files,$(call whole,$(1)))
+
+# The libraries, and what a proved build of one leaves.
+libraries = $(shell sed -nE 's/^([a-z_]+):.*/\1/p' crates.txt | while read -r it; do test ! -e crates/$$it/src/lib.rt || echo $$it; done)
+built = $(1:%=crates/%/out/rlib/stamp)
 
 # The toolchain, or a sentence where it isn't there.
 needs_rt = command -v rt >/dev/null || { echo 'make: there is no command rt. Install the Rattle toolchain, which proves \
@@ -39,19 +43,35 @@ headers = include/cosvigle.h include/cosvigle.hpp
 
 all: $(symfilter) $(cosvigle) $(library)
 
+cosvigle: $(cosvigle)
+symfilter: $(symfilter)
+
+# Each crate is proved by one process, which takes a third less of a processor than four: `make -j4` has several crates
+# proved side by side.
+define library_rule
+$(call built,$(1)): $(call files,$(1)) $(call built,$(call uses,$(1)))
+	@$$(needs_rt)
+	cd crates/$(1) && rt lib --jobs 1
+	touch $$@
+endef
+$(foreach it,$(libraries),$(eval $(call library_rule,$(it))))
+
 $(symfilter): $(call sources,symfilter)
 	@$(needs_rt)
-	cd crates/symfilter && rt run <stdin
+	$(MAKE) $(call built,$(call uses,symfilter))
+	cd crates/symfilter && rt run --jobs 1 <stdin
 	touch $@
 
 $(cosvigle): $(call sources,cosvigle)
 	@$(needs_rt)
-	cd crates/cosvigle && rt run <stdin
+	$(MAKE) $(call built,$(call uses,cosvigle))
+	cd crates/cosvigle && rt run --jobs 1 <stdin
 	touch $@
 
 $(library): $(call sources,cosvigle_c)
 	@$(needs_rt)
-	cd crates/cosvigle_c && rt lib
+	$(MAKE) $(call built,$(call uses,cosvigle_c))
+	cd crates/cosvigle_c && rt lib --jobs 1
 	touch $@
 
 # One archive out of the crate's and the toolchain's library where malloc is called, which each library for C needs.
@@ -103,7 +123,4 @@ clean:
 
 FORCE:
 
-# Two builds at once would build the crates below twice, in one folder.
-.NOTPARALLEL:
-
-.PHONY: all install uninstall clean FORCE
+.PHONY: all cosvigle symfilter install uninstall clean FORCE
