@@ -11,8 +11,9 @@
  * - malloc, realloc and free are of one allocator, which aligns a block to each power of two up to 16 that divides its
  *   size.
  * - No call is made from a signal handler, or in the forked child of a process with threads.
- * - A handle begins as COSVIGLE_NONE, and only the calls change it. It is used by one thread, in one call at a time,
- *   and with one copy of the library. After it is copied, only one of the two is used and freed.
+ * - A handle begins as COSVIGLE_NONE, and only the calls change it. It is used in one call at a time, and with one
+ *   copy of the library. It may be handed to another thread, as a lock or the start or end of a thread orders that.
+ *   After it is copied, only one of the two is used and freed.
  * Calls share nothing but a handle: threads with handles of their own may call at the same time.
  *
  * NULL: a text or symbol of length 0 and room of 0 bytes may be NULL, and so may needed, and the handle of

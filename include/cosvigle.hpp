@@ -117,7 +117,8 @@ class error : public std::runtime_error {
     int number;
 };
 
-// Demangles symbol after symbol, and keeps its memory. It can be moved, but is used by one thread.
+// Demangles symbol after symbol, and keeps its memory. It can be moved, also to another thread, but is used by one at a
+// time.
 class demangler {
   public:
     demangler() noexcept = default;
