@@ -112,8 +112,10 @@ void cosvigle_free(cosvigle_handle *handle);
  */
 #ifdef __cplusplus
 #define COSVIGLE_INLINE inline
+#define COSVIGLE_TEXT(at) static_cast<char *>(at)
 #else
 #define COSVIGLE_INLINE static inline
+#define COSVIGLE_TEXT(at) ((char *)(at))
 #endif
 
 /* Whether a pointer and a length can't be a text or room. */
@@ -200,11 +202,11 @@ COSVIGLE_INLINE char *cosvigle_string(const char *symbol) {
     cosvigle_handle handle = COSVIGLE_NONE;
     const size_t len = symbol == NULL ? 0 : strlen(symbol);
     size_t needed = 0, room = 2 * len + 1;
-    char *text = (char *)malloc(room), *larger;
+    char *text = COSVIGLE_TEXT(malloc(room)), *larger;
     int status = text == NULL ? COSVIGLE_NO_MEMORY : cosvigle_ask(&handle, symbol, len, text, room - 1, &needed);
     if (status == COSVIGLE_NO_ROOM) {
         room = needed + 1;
-        larger = (char *)realloc(text, room);
+        larger = COSVIGLE_TEXT(realloc(text, room));
         if (larger != NULL) text = larger;
         status = larger == NULL ? COSVIGLE_NO_MEMORY : cosvigle_ask(&handle, symbol, len, text, room - 1, &needed);
     }
