@@ -11,8 +11,9 @@
  * - malloc, realloc and free are of one allocator, which aligns a block to each power of two up to 16 that divides its
  *   size.
  * - No call is made from a signal handler, or in the forked child of a process with threads.
- * - A handle begins as COSVIGLE_NONE, and only the calls change it. It is used by one thread, in one call at a time,
- *   and with one copy of the library. After it is copied, only one of the two is used and freed.
+ * - A handle begins as COSVIGLE_NONE, and only the calls change it. It is used in one call at a time, and with one
+ *   copy of the library. It may be handed to another thread, as a lock or the start or end of a thread orders that.
+ *   After it is copied, only one of the two is used and freed.
  * Calls share nothing but a handle: threads with handles of their own may call at the same time.
  *
  * NULL: a text or symbol of length 0 and room of 0 bytes may be NULL, and so may needed, and the handle of
@@ -111,8 +112,10 @@ void cosvigle_free(cosvigle_handle *handle);
  */
 #ifdef __cplusplus
 #define COSVIGLE_INLINE inline
+#define COSVIGLE_TEXT(at) static_cast<char *>(at)
 #else
 #define COSVIGLE_INLINE static inline
+#define COSVIGLE_TEXT(at) ((char *)(at))
 #endif
 
 /* Whether a pointer and a length can't be a text or room. */
@@ -199,11 +202,11 @@ COSVIGLE_INLINE char *cosvigle_string(const char *symbol) {
     cosvigle_handle handle = COSVIGLE_NONE;
     const size_t len = symbol == NULL ? 0 : strlen(symbol);
     size_t needed = 0, room = 2 * len + 1;
-    char *text = (char *)malloc(room), *larger;
+    char *text = COSVIGLE_TEXT(malloc(room)), *larger;
     int status = text == NULL ? COSVIGLE_NO_MEMORY : cosvigle_ask(&handle, symbol, len, text, room - 1, &needed);
     if (status == COSVIGLE_NO_ROOM) {
         room = needed + 1;
-        larger = (char *)realloc(text, room);
+        larger = COSVIGLE_TEXT(realloc(text, room));
         if (larger != NULL) text = larger;
         status = larger == NULL ? COSVIGLE_NO_MEMORY : cosvigle_ask(&handle, symbol, len, text, room - 1, &needed);
     }

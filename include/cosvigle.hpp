@@ -117,7 +117,8 @@ class error : public std::runtime_error {
     int number;
 };
 
-// Demangles symbol after symbol, and keeps its memory. It can be moved, but is used by one thread.
+// Demangles symbol after symbol, and keeps its memory. It can be moved, also to another thread, but is used by one at a
+// time.
 class demangler {
   public:
     demangler() noexcept = default;
@@ -137,12 +138,8 @@ class demangler {
     // not be a name that this value lends. After a fault the value can be used again.
     optional<string_view> demangle(string_view symbol) {
         std::size_t needed = 0;
-        if (text == nullptr && !grow(256)) return fault(), nullopt;
-        last = cosvigle_ask(&handle, symbol.data(), symbol.size(), text, room, &needed);
-        if (last == COSVIGLE_NO_ROOM && needed > room) {
-            if (!grow(needed)) return fault(), nullopt;
-            last = cosvigle_ask(&handle, symbol.data(), symbol.size(), text, room, &needed);
-        }
+        if (text != nullptr || grow(256)) ask(symbol, needed);
+        if (last == COSVIGLE_NO_ROOM && needed > room && grow(needed)) ask(symbol, needed);
         if (last == COSVIGLE_WRITTEN) return string_view(text, needed);
         if (last != COSVIGLE_NO_ANSWER && last != COSVIGLE_NOT_UTF8) fault();
         return nullopt;
@@ -182,6 +179,10 @@ class demangler {
         std::swap(last, other.last);
     }
 
+    void ask(string_view symbol, std::size_t &needed) noexcept {
+        last = cosvigle_ask(&handle, symbol.data(), symbol.size(), text, room, &needed);
+    }
+
     bool grow(std::size_t wanted) noexcept {
         char *larger = static_cast<char *>(std::realloc(text, wanted));
         if (larger == nullptr) {
@@ -199,9 +200,12 @@ class demangler {
             made.resize(needed);
             last = cosvigle_take(&handle, &made[0], made.size(), &needed);
         }
-        if (last != COSVIGLE_WRITTEN) return fault(), nullopt;
-        made.resize(needed);
-        return optional<std::string>(std::move(made));
+        if (last == COSVIGLE_WRITTEN) {
+            made.resize(needed);
+            return optional<std::string>(std::move(made));
+        }
+        fault();
+        return nullopt;
     }
 
     // Throws what the status says, where there are exceptions.

@@ -203,6 +203,10 @@ fn failure(status: c_int) -> Error {
     }
 }
 
+// The handle may be handed to another thread: the library's type is proved to be `Send`, what it points to is reached by
+// this value alone, and a call borrows it mutably. The bytes are Rust's own.
+unsafe impl Send for Demangler {}
+
 impl Default for Demangler {
     fn default() -> Self {
         Self::new()

@@ -65,6 +65,20 @@ fn errors_are_values() {
 }
 
 #[test]
+fn another_thread() {
+    let mut demangler = Demangler::new();
+    assert_eq!(demangler.demangle("_Z3foov"), Ok(Some("foo")));
+    let mut demangler = std::thread::spawn(move || {
+        assert_eq!(demangler.demangle("_Z3barv"), Ok(Some("bar")));
+        demangler
+    })
+    .join()
+    .unwrap();
+    assert_eq!(demangler.demangle("_Z4quuxv"), Ok(Some("quux")));
+    std::thread::spawn(move || drop(demangler)).join().unwrap();
+}
+
+#[test]
 fn versions() {
     let parts: Vec<u32> = env!("CARGO_PKG_VERSION").split('.').map(|part| part.parse().unwrap()).collect();
     assert_eq!(version(), parts[0] * 1_000_000 + parts[1] * 1_000 + parts[2]);

@@ -8,7 +8,7 @@ ghost use Rattle.cosvigle_c.specs.Handle.{holds};
 use crate::kept::Kept;
 use crate::loose::Loose;
 use std::alloc::Global;
-use std::marker::Model;
+use std::marker::{Model, Send};
 use std::ptr::null_mut;
 
 /// What is kept in a box, or nothing. To C it is a struct of one pointer, which is null where there is none: a `Global`
@@ -24,6 +24,9 @@ pub struct Handle {
 impl Model for Handle {
     ghost also_owns = { λ handle. holds (ghosts.dealloc_token handle.alloc) the_row handle.at handle.kept };
 }
+
+/// It may be handed to another thread: what is kept may, and any thread may free the box.
+unsafe impl Send for Handle {}
 
 impl Handle {
     /// Nothing is kept.

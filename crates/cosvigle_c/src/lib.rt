@@ -26,7 +26,8 @@ use std::alloc::Global;
 use std::mem::replace;
 use std::str::from_utf8_unchecked;
 
-/// The version of the library, 0.1.0: the major version times 1,000,000, the minor times 1,000, and the patch, added up.
+/// The version of the library, 0.1.0: the major version times 1,000,000, the minor times 1,000, and the patch, added
+/// up.
 #[unsafe(no_mangle)]
 pub extern "C" fn cosvigle_version() -> u32
     ensures value { result ≡ 1000 }
@@ -35,9 +36,9 @@ pub extern "C" fn cosvigle_version() -> u32
 }
 
 /// Writes the demangled name of a symbol at the front of `answer`, and returns 0, with its length in bytes in `needed`.
-/// The bytes after it stay. 1 if the symbol has no demangled name, 2 if an allocation fails, 3 if the name is longer than
-/// the room, with its length in `needed`, 4 if the symbol isn't UTF-8. With these nothing is written, and but for 3
-/// `needed` is 0. The name is that of `Demangler::demangle` (Itanium C++ ABI 5.1.2).
+/// The bytes after it stay. 1 if the symbol has no demangled name, 2 if an allocation fails, 3 if the name is longer
+/// than the room, with its length in `needed`, 4 if the symbol isn't UTF-8. With these nothing is written, and but for
+/// 3 `needed` is 0. The name is that of `Demangler::demangle` (Itanium C++ ABI 5.1.2).
 ///
 /// The handle's demangler reads the symbol, and keeps its memory for the next one, or a new one if the handle has none.
 /// The handle has one afterwards; with 2 or 4 one that had none may have none. A text that it keeps stays.
@@ -84,8 +85,8 @@ pub extern "C" fn cosvigle_ask(
     status
 }
 
-/// Writes the demangled name of a symbol at the front of `answer`, as `cosvigle_ask` does, with the same statuses and its
-/// length in bytes in `needed`. No memory is kept (Itanium C++ ABI 5.1.2).
+/// Writes the demangled name of a symbol at the front of `answer`, as `cosvigle_ask` does, with the same statuses and
+/// its length in bytes in `needed`. No memory is kept (Itanium C++ ABI 5.1.2).
 #[unsafe(no_mangle)]
 pub extern "C" fn cosvigle_demangle(
     alloc: Global,

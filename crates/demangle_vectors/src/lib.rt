@@ -14,3 +14,5 @@ mod lent;
 mod scalars;
 #[cfg(test)]
 mod serving;
+#[cfg(test)]
+mod signatures;
