@@ -50,20 +50,20 @@ use Rattle.itanium_productions.proofs.+reader.Goals as goal
 pub args::read_template_args-loop-reader-init : goal.args::read_template_args-loop-reader-init
 args::read_template_args-loop-reader-init t c =
     let last = IsLast-stays _ _ _ _ (c.in_ok-list.ensures {u = tt}).edit (c.in_ok-list.ensures {u = tt}).in_place in record {
-      below = search rules;
+      below = grind (arith, common_steps);
       front = begun_front (shape c.args.reader.now.buffer.value c.args.reader.now.found) (shape c.open_arguments.new.buf c.in_ok-list.list) (search rules) (search rules);
-      widest = search rules;
+      widest = grind (arith, common_steps);
       reads = attached_start _ _ _ _ (shape c.args.reader.now.buffer.value c.args.reader.now.found) (search rules) (search rules) (search rules) (text_after-last _ _ last) (search rules) (search rules);
-      begun = search rules;
+      begun = grind (arith, common_steps);
       inner = IsInner-last _ _ last;
-      run = search rules;
-      scopes_stand = search rules;
-      scopes_kept = search rules;
-      opened = search rules;
-      taken = search rules;
-      counted = search rules;
-      list = search rules;
-      most = search rules;
+      run = grind (arith, common_steps);
+      scopes_stand = grind (arith, common_steps);
+      scopes_kept = grind (arith, common_steps);
+      opened = grind (arith, common_steps);
+      taken = grind (arith, common_steps);
+      counted = grind (arith, common_steps);
+      list = grind (arith, common_steps);
+      most = grind (arith, common_steps);
     }
 
 pub args::read_template_args-returns-in-EndOfArguments-clause-reads : goal.args::read_template_args-returns-in-EndOfArguments-clause-reads
@@ -135,31 +135,31 @@ args::read_template_args-loop-reader-preserved t c =
     subst (λ (b : Buffer). shape b c.up_to_end.result ≡ appended (text_after b list) (shape b list)) c.deref-in-NextArgument-2.ensures c.up_to_end.ensures.shape.shape_is
     ∙ ap (appended (text_after new list)) begun.shape_is in
     let long : c.len-in-NextArgument.result ≡ text_len all = search rules in record {
-      below = search rules;
+      below = grind (arith, common_steps);
       front = c.loop-reader.invariant.front;
       widest = c.loop-reader.invariant.widest;
       reads = attached_more _ _ _ so_far.reads {next = next} {all = all} {mid = state framed} (sym c.in-NextArgument.ensures.case) (search rules) (search rules) longer built
           (omega (arith, c.if-len-widest-2.false, so_far.widest, long, so_far.front)) (search rules) (search rules);
       begun = begun;
-      inner = search rules;
+      inner = grind (arith, common_steps);
       run = search rules;
-      scopes_stand = search rules;
-      scopes_kept = search rules;
-      opened = search rules;
-      taken = search rules;
-      counted = search rules;
-      list = search rules;
-      most = search rules;
+      scopes_stand = grind (arith, common_steps);
+      scopes_kept = grind (arith, common_steps);
+      opened = grind (arith, common_steps);
+      taken = grind (arith, common_steps);
+      counted = grind (arith, common_steps);
+      list = grind (arith, common_steps);
+      most = grind (arith, common_steps);
     }
 
 pub args::read_argument_pack-loop-reader-init : goal.args::read_argument_pack-loop-reader-init
 args::read_argument_pack-loop-reader-init t c = record {
-  below = search rules;
+  below = grind (arith, common_steps);
   reads = pack_start _ _ _ (search rules) (search rules) (search rules) (search rules) (search rules);
-  living = search rules;
-  run = search rules;
-  cost = search rules;
-  growth = search rules;
+  living = grind (arith, common_steps);
+  run = grind (arith, common_steps);
+  cost = grind (arith, common_steps);
+  growth = grind (arith, common_steps);
 }
 
 pub args::read_argument_pack-returns-in-EndOfArguments-clause-reads : goal.args::read_argument_pack-returns-in-EndOfArguments-clause-reads
@@ -175,13 +175,13 @@ args::read_argument_pack-returns-in_err-framed_template_arg-in-NextArgument-clau
 
 pub args::read_argument_pack-loop-reader-preserved : goal.args::read_argument_pack-loop-reader-preserved
 args::read_argument_pack-loop-reader-preserved t c = record {
-  below = search rules;
+  below = grind (arith, common_steps);
   reads = items_more _ _ _ c.loop-reader.invariant.reads {next = shape c.framed_template_arg.new.reader.buffer.value c.framed_template_arg.new.reader.found} {mid = state c.framed_template_arg.new.reader}
       (sym c.in-NextArgument.ensures.case) (search rules) (search rules) (search rules) (search rules) (search rules) (search rules);
-  living = search rules;
+  living = grind (arith, common_steps);
   run = search rules;
-  cost = search rules;
-  growth = search rules;
+  cost = grind (arith, common_steps);
+  growth = grind (arith, common_steps);
 }
 
 pub types::read_params-returns-in-EndOfTypes-clause-reads : goal.types::read_params-returns-in-EndOfTypes-clause-reads
@@ -206,10 +206,10 @@ types::read_params-loop-list-preserved t c = record {
   reads = typed_more _ _ _ c.loop-list.invariant.reads
       {next = shape c.framed_type.new.reader.buffer.value c.framed_type.new.reader.found}
       (sym c.in-NextType.ensures.case) (search rules) (search rules) (search rules) (search rules);
-  living = search rules;
+  living = grind (arith, common_steps);
   run = search rules;
-  cost = search rules;
-  growth = search rules;
+  cost = grind (arith, common_steps);
+  growth = grind (arith, common_steps);
 }
 
 pub args::read_argument_pack-returns-in_err-measure-in-EndOfArguments-clause-reads : goal.args::read_argument_pack-returns-in_err-measure-in-EndOfArguments-clause-reads
@@ -299,10 +299,10 @@ names::read_prefix-loop-reader-preserved-then-begins_source t c =
     record {
       reads = segments_read _ _ c.loop-reader.invariant.reads {next = shape new.buffer.value new.found} {mid = state new} case.0 (case.1 ∙ read.reads.1) (search rules)
           (rw case.2 (search rules)) refl (search rules);
-      living = search rules;
-      last = search rules;
-      run = search rules;
-      cost = search rules;
+      living = grind (arith, common_steps);
+      last = grind (arith, common_steps);
+      run = grind (arith, common_steps);
+      cost = grind (arith, common_steps);
       list = omega (arith, longer, read.saved.list, c.loop-reader.invariant.list);
       most = omega (arith, longer, read.saved.list, read.saved.most, c.loop-reader.invariant.list, c.loop-reader.invariant.most);
     }
@@ -387,10 +387,10 @@ names::read_prefix-loop-reader-preserved t c =
     let longer = length-append (saved m.buffer.value) (shape m.buffer.value m.found ∷ []) in
     record {
       reads = segments_read _ _ c.loop-reader.invariant.reads {next = shape m.buffer.value m.found} {mid = state m} later.goes_on later.gives (search rules) (search rules) refl (search rules);
-      living = search rules;
-      last = search rules;
-      run = search rules;
-      cost = search rules;
+      living = grind (arith, common_steps);
+      last = grind (arith, common_steps);
+      run = grind (arith, common_steps);
+      cost = grind (arith, common_steps);
       list = search (rules, longer);
       most = search (rules, longer);
     }
