@@ -1,3 +1,3 @@
-mod Meanings
-mod Choosing
-mod Printed
+mod Steps
+mod Turns
+mod ArgumentTexts

@@ -1,5 +1,5 @@
 -- The words of a file that stands as `@FILE` among the arguments.
-use Rattle.std.specs.Prelude.{ℕ, List, [], ◌∷◌, ◌++◌, Bool, Option, Some, None, codes, if◌then◌else◌}
+use Rattle.std.specs.Prelude.{ℕ, List, [], ◌∷◌, ◌++◌, Bool, Option, Some, None, if◌then◌else◌}
 use Rattle.itanium_syntax.specs.Bytes.{is, one_of}
 use Rattle.cosvigle.specs.declared.files.Quote.{Quote}
 use Rattle.cosvigle.specs.declared.files.Quote.TheVariants as quote

@@ -102,16 +102,19 @@ name_len (b ∷ bytes) = if is "=" b then 0 else 1 + name_len bytes
 abbrev pub with_value : Step → List ℕ → Step
 with_value (Value flags) value = format_step flags value
 with_value (Go flags) value = Stopping stop.Valued
-with_value (Stopping stop) value = Stopping stop.Valued
+with_value (Stopping by) value = Stopping stop.Valued
 
--- what the option found asks for, where so many bytes are its name
+-- what the option with a letter asks for, where so many bytes are its name, and after a `=` the others are its value
+abbrev pub valued_step : Flags → ℕ → ℕ → List ℕ → Step
+valued_step flags letter len bytes =
+    if len == length bytes then letter_step flags letter else with_value (letter_step flags letter) (drop (len + 1) bytes)
+
+-- what the option found asks for
 abbrev pub found_step : Flags → Found → ℕ → List ℕ → Step
 found_step flags Nothing len bytes = Stopping stop.Unknown
 found_step flags Several len bytes = Stopping stop.Several
-found_step flags (Front letter) len bytes =
-    if len == length bytes then letter_step flags letter else with_value (letter_step flags letter) (drop (len + 1) bytes)
-found_step flags (Whole letter) len bytes =
-    if len == length bytes then letter_step flags letter else with_value (letter_step flags letter) (drop (len + 1) bytes)
+found_step flags (Front letter) len bytes = valued_step flags letter len bytes
+found_step flags (Whole letter) len bytes = valued_step flags letter len bytes
 
 -- what follows `--`: a name, and a value after `=`
 abbrev pub name_step : Flags → List ℕ → Step

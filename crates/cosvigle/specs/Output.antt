@@ -1,8 +1,8 @@
 -- Standard output, and which fault is told.
-use Rattle.std.specs.Prelude.{ℕ, Bool, true, false, Option, Some, None, Result, Ok, Err, if◌then◌else◌}
-use Rattle.std.specs.Io.{error_kind}
-use Rattle.std.specs.declared.io.ErrorKind.{ErrorKind}
-use Rattle.std.specs.declared.io.ErrorKind.TheVariants as kind
+use Rattle.std.specs.Prelude.{◌≡◌, Bool, Option, Some, None, Result, Ok, Err, if◌then◌else◌}
+use Rattle.std.specs.IoError.{error_kind}
+use Rattle.std.specs.declared.io.Error.{Error}
+use Rattle.std.specs.declared.io.ErrorKind.TheVariants.{BrokenPipe}
 use Rattle.symfilter_engine.specs.declared.fault.FilterFault.{FilterFault}
 use Rattle.symfilter_engine.specs.declared.fault.FilterFault.TheVariants.{Read, Write, Memory}
 use Rattle.cosvigle.specs.declared.output.Output.{Output}
@@ -20,3 +20,8 @@ abbrev pub told : FilterFault → Bool → Option FilterFault
 told Read closed = Some Read
 told Write closed = if closed then None else Some Write
 told Memory closed = Some Memory
+
+-- a write has failed since its reader has gone
+abbrev pub IsBroken : {T : Type 0} → Result T Error → Type 0
+IsBroken (Ok _) = ⊥
+IsBroken (Err error) = error_kind error ≡ BrokenPipe

@@ -72,7 +72,7 @@ pub fn answer_of<'a>(
 
 /// Makes the line of what is printed for an argument. An error comes only where memory is refused.
 pub fn set_line(line: &mut Vec<u8>, printed: Printed<'_>) -> Result<(), AllocError>
-    ensures line { OnOk result (line.new.items ≡ printed.front.now ++ (printed.text.now ++ spec.line_feed ∷ [])) }
+    ensures line { OnOk result (line.new.items ≡ printed.entry.front.now ++ (printed.entry.text.now ++ spec.line_feed ∷ [])) }
 {
     line.clear();
     line.extend_from_slice(printed.front)?;

@@ -1,5 +1,5 @@
 //! The words of a file that stands as `@FILE` among the arguments.
-ghost use Rattle.std.specs.Prelude.{◌≡◌, ◌≢◌, All, map, option_map, IsTrue, IsFalse, IfOk};
+ghost use Rattle.std.specs.Prelude.{◌≡◌, map, option_map, IfOk};
 ghost use Rattle.cosvigle.specs.Files as spec;
 
 use std::alloc::{AllocError, Global};
@@ -111,10 +111,7 @@ pub fn file_name(argument: &[u8]) -> Option<&[u8]>
 }
 
 /// Whether no byte is a NUL.
-pub fn is_text(bytes: &[u8]) -> bool
-    ensures yes { IsTrue result → All (λ byte. byte ≢ 0) bytes.now }
-    ensures no { IsFalse result → ¬ (All (λ byte. byte ≢ 0) bytes.now) }
-{
+pub fn is_text(bytes: &[u8]) -> bool {
     for byte in bytes {
         if *byte == 0 {
             return false;

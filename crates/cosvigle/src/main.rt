@@ -19,10 +19,9 @@ use options::{Asked, Flags, Stop, read_arguments};
 use output::{Output, told};
 use std::alloc::AllocError;
 use std::env::{Env, FillError};
-use std::fs;
 use std::io::{ErrorKind, Read, Stdout, Write};
 use std::process::ExitCode;
-use std::str;
+use std::{fs, str};
 use symfilter_engine::{FilterFault, Tally, filter, replace};
 
 /// Nothing is done, since what is asked isn't understood.
@@ -109,14 +108,26 @@ fn copy(rt: &HostRuntime, output: &mut Output<Stdout>, flags: Flags) -> Result<(
 /// Says on standard error why nothing is done.
 fn refuse(rt: &HostRuntime, before: &str, argument: &[u8], after: &str) -> u8 {
     let mut errors = rt.stderr();
-    for part in [b"cosvigle: ", before.as_bytes(), argument, after.as_bytes(), b"\n", HELP.as_bytes()] {
+    for part in [
+        b"cosvigle: ",
+        before.as_bytes(),
+        argument,
+        after.as_bytes(),
+        b"\n",
+        HELP.as_bytes(),
+    ] {
         let _ = errors.write_all(part);
     }
     NOT_ASKED
 }
 
 /// Does what is asked in place of reading symbols, and returns the status.
-fn stop(rt: &HostRuntime, output: &mut Output<Stdout>, stop: Stop, argument: &[u8]) -> Result<u8, FilterFault> {
+fn stop(
+    rt: &HostRuntime,
+    output: &mut Output<Stdout>,
+    stop: Stop,
+    argument: &[u8],
+) -> Result<u8, FilterFault> {
     let status = match stop {
         Stop::Help => {
             put(output, HELP.as_bytes())?;
@@ -149,7 +160,7 @@ fn answer(rt: &HostRuntime, output: &mut Output<Stdout>, asked: &Asked) -> Resul
 /// The argument at this place, or `None` past the last one.
 fn argument_at(rt: &HostRuntime, at: usize) -> Result<Option<Vec<u8>>, AllocError> {
     let mut len = ARGUMENT_LEN;
-    while len <= usize::MAX / 2 {
+    for _ in 0..64 {
         let mut bytes = vec![in rt.alloc(); 0u8; len]?;
         match rt.arg(at, &mut bytes) {
             Ok(count) => {
@@ -157,7 +168,8 @@ fn argument_at(rt: &HostRuntime, at: usize) -> Result<Option<Vec<u8>>, AllocErro
                 return Ok(Some(bytes));
             }
             Err(FillError::NotPresent) => return Ok(None),
-            Err(FillError::TooLong) => len *= 2,
+            Err(FillError::TooLong) if len <= usize::MAX / 2 => len *= 2,
+            Err(FillError::TooLong) => break,
         }
     }
     Err(AllocError)
@@ -197,16 +209,16 @@ fn expanded(rt: &HostRuntime, arguments: Vec<Vec<u8>>) -> Result<Option<Vec<Vec<
     let mut left = arguments;
     left.reverse();
     let mut all = Vec::new(rt.alloc());
-    let mut files = 0;
+    let mut files = MOST_FILES;
     for _ in 0..u64::MAX {
         let Some(argument) = left.pop() else {
             break;
         };
         match file_words(rt, &argument)? {
             None => all.push(argument)?,
-            Some(_) if files == MOST_FILES => return Ok(None),
+            Some(_) if files == 0 => return Ok(None),
             Some(words) => {
-                files += 1;
+                files -= 1;
                 let mut words = words;
                 words.reverse();
                 left.append(&mut words)?;

@@ -1,5 +1,6 @@
 //! The names of options, and what they are shortened to.
 ghost use Rattle.std.specs.Prelude.{◌≡◌};
+ghost use Rattle.itanium_syntax.specs.Bytes.{begins};
 ghost use Rattle.cosvigle.specs.Options as spec;
 
 /// The options whose names begin with some bytes. An option is told by its letter.
@@ -26,11 +27,26 @@ fn one_more(found: Found, letter: u8) -> Found
     }
 }
 
+/// Whether the bytes begin with the front.
+fn begins(bytes: &[u8], front: &[u8]) -> bool
+    ensures value { result ≡ begins front.now bytes.now }
+{
+    if bytes.len() < front.len() {
+        return false;
+    }
+    for at in 0..front.len() {
+        if bytes[at] != front[at] {
+            return false;
+        }
+    }
+    true
+}
+
 /// The options found, and the one with this name and letter if its name begins with the bytes.
 fn look_at(found: Found, bytes: &[u8], name: &[u8], letter: u8) -> Found
     ensures value { result ≡ spec.look_at found bytes.now name.now letter }
 {
-    if !name.starts_with(bytes) {
+    if !begins(name, bytes) {
         return found;
     }
     if name.len() == bytes.len() {

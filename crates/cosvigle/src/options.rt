@@ -137,17 +137,11 @@ fn name_len(bytes: &[u8]) -> usize
     bytes.len()
 }
 
-/// The option whose name stands after `--`, or a beginning of its name that no other has. What follows a `=` is its
-/// value.
-fn name_step(flags: Flags, bytes: &[u8]) -> Step
-    ensures value { result ≡ spec.name_step flags bytes.now }
+/// The option with this letter. The first `len` bytes are its name, and what follows a `=` after them is its value.
+fn valued_step(flags: Flags, letter: u8, len: usize, bytes: &[u8]) -> Step
+    requires { len ≤ length bytes.now }
+    ensures value { result ≡ spec.valued_step flags letter len bytes.now }
 {
-    let len = name_len(bytes);
-    let letter = match find_name(&bytes[..len]) {
-        Found::Whole(letter) | Found::Front(letter) => letter,
-        Found::Several => return Step::Stop(Stop::Several),
-        Found::Nothing => return Step::Stop(Stop::Unknown),
-    };
     let step = letter_step(flags, letter);
     if len == bytes.len() {
         return step;
@@ -155,6 +149,20 @@ fn name_step(flags: Flags, bytes: &[u8]) -> Step
     match step {
         Step::Value(next) => format_step(next, &bytes[len + 1..]),
         _ => Step::Stop(Stop::Valued),
+    }
+}
+
+/// The option whose name stands after `--`, or a beginning of its name that no other has. What follows a `=` is its
+/// value.
+fn name_step(flags: Flags, bytes: &[u8]) -> Step
+    ensures value { result ≡ spec.name_step flags bytes.now }
+{
+    let len = name_len(bytes);
+    match find_name(&bytes[..len]) {
+        Found::Whole(letter) => valued_step(flags, letter, len, bytes),
+        Found::Front(letter) => valued_step(flags, letter, len, bytes),
+        Found::Several => Step::Stop(Stop::Several),
+        Found::Nothing => Step::Stop(Stop::Unknown),
     }
 }
 
@@ -185,7 +193,7 @@ fn kind_of(argument: &[u8]) -> Kind
 
 /// What is asked where so much has been read, and no argument is left.
 fn asked_at_end<'a>(step: Step, symbols: Vec<&'a [u8]>, word: &'a [u8]) -> Asked<'a>
-    ensures asked { Asks (reading step (texts symbols.items) word.now) result }
+    ensures asked { Asks (reading step (texts symbols.entry.items) word.now) result }
 {
     match step {
         Step::Go(flags) => Asked::Answers(flags, symbols),

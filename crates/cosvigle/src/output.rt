@@ -1,8 +1,9 @@
 //! Standard output, and whether its reader has gone.
-ghost use Rattle.std.specs.Prelude.{◌≡◌, ◌||◌, false};
+ghost use Rattle.std.specs.Prelude.{◌≡◌, true, false};
 ghost use Rattle.std.specs.Io.{WritesAtMost};
 ghost use Rattle.std.specs.Io.KnownBytes.{Keeps, WriteAppends};
 ghost use Rattle.cosvigle.specs.Output as spec;
+ghost use Rattle.cosvigle.specs.Output.{IsBroken};
 
 use std::io;
 use std::io::{ErrorKind, Write};
@@ -41,12 +42,14 @@ impl<W: Write> Write for Output<W> {
     fn write(&mut self, bytes: &[u8]) -> io::Result<usize>
         ensures bound { WritesAtMost result bytes.now }
         ensures bytes { WriteAppends (W.contents (spec.inner_of self.old)) (W.contents (spec.inner_of self.new)) result bytes.now }
-        ensures closed { spec.is_closed self.new ≡ (spec.is_closed self.old || spec.is_broken result) }
+        ensures closes { IsBroken result → spec.is_closed self.new ≡ true }
+        ensures closed { spec.is_closed self.old ≡ true → spec.is_closed self.new ≡ true }
+        ensures open { spec.is_closed self.old ≡ false → spec.is_closed self.new ≡ true → IsBroken result }
     {
         match self.inner.write(bytes) {
             Ok(count) => Ok(count),
             Err(error) => {
-                if error.kind() == ErrorKind::BrokenPipe {
+                if matches!(error.kind(), ErrorKind::BrokenPipe) {
                     self.closed = true;
                 }
                 Err(error)

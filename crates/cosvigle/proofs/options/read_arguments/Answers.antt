@@ -1,50 +1,57 @@
-use Rattle.std.proofs.Common.{◌+◌, ◌<◌, length, sym, subst, ◌∙◌, arith}
-use Rattle.std.proofs.lemmas.List.{length-map}
-use Rattle.cosvigle.specs.Options.{texts, AllChoose, no_argument}
-use Rattle.cosvigle.proofs.Choosing.{stops_at, ends_at, all_choose, symbols_after, stop_is_unknown}
+use Rattle.std.proofs.Common.{◌+◌, ◌<◌, length, drop, get_or, [], refl, sym, subst, ◌∙◌, arith}
+use Rattle.std.proofs.lemmas.List.{take_rest}
+use Rattle.cosvigle.specs.declared.options.Kind.TheVariants.{End, Name, Letters, Symbol}
+use Rattle.cosvigle.specs.declared.options.Asked.TheVariants.{Answers, Stopped}
+use Rattle.cosvigle.specs.Options.{Asks, texts}
+use Rattle.cosvigle.proofs.Turns.{value_turn, go_turn, stop_turn, read_ended, next_symbol, symbols_after}
 use Rattle.cosvigle.proofs.options.read_arguments.Goals as goal
+use Rattle.cosvigle.proofs.options.read_arguments.Goals.{in-Name, in-Letters, in-Symbol+in_ok-push-in-Symbol}
 
-pub take_choices-requires : goal.take_choices-requires
-take_choices-requires c = rw c.new.ensures.items no_argument
-
-pub returns-then-count-arguments : goal.returns-then-count-arguments
-returns-then-count-arguments c =
-    let all = texts c.args.arguments.now in
-    record { asked = all_choose all _ c.in_ok-count.count _ _ (omega (arith, c.if-count-arguments.true, length-map c.args.arguments.now (λ argument. argument.now))) c.in_ok-count.ensures.chosen }
-
-pub returns-in-Help : goal.returns-in-Help
-returns-in-Help c =
+pub loop-at-preserved-in-Value : goal.loop-at-preserved-in-Value
+loop-at-preserved-in-Value c =
     let all = c.args.arguments.now in
-    let count = c.in_ok-count.count in
-    let inside : count < length all = omega (arith, c.in_ok-count.ensures.bound, c.if-count-arguments.false) in
-    record { asked = (_, stops_at all _ count _ _ _ inside c.in_ok-count.ensures.chosen, sym c.meaning_of.ensures.value ∙ c.in-Help.is) }
+    let at = c.loop-at.at in
+    let inside : at < length all = omega arith in
+    value_turn all at _ _ c.loop-at.step c.format_step-step.result c.in-Value.flags _ _ inside c.in-Value.is c.format_step-step.ensures.value c.loop-at.invariant
 
-pub returns-in-Version : goal.returns-in-Version
-returns-in-Version c =
+pub returns-in-Stop : goal.returns-in-Stop
+returns-in-Stop c =
     let all = c.args.arguments.now in
-    let count = c.in_ok-count.count in
-    let inside : count < length all = omega (arith, c.in_ok-count.ensures.bound, c.if-count-arguments.false) in
-    record { asked = (_, stops_at all _ count _ _ _ inside c.in_ok-count.ensures.chosen, sym c.meaning_of.ensures.value ∙ c.in-Version.is) }
+    let at = c.loop-at.at in
+    let inside : at < length all = omega arith in
+    record {
+      asked =
+          subst (λ s. Asks s (Stopped c.in-Stop.stop c.loop-at.word))
+          (sym (stop_turn all at record { ref_ptr = (0, 0); now = [] } _ c.loop-at.step c.in-Stop.stop _ _ inside c.in-Stop.is c.loop-at.invariant)) (refl, refl);
+    }
 
 pub returns-in-End : goal.returns-in-End
 returns-in-End c =
     let all = c.args.arguments.now in
-    let count = c.in_ok-count.count in
-    let inside : count < length all = omega (arith, c.in_ok-count.ensures.bound, c.if-count-arguments.false) in
+    let at = c.loop-at.at in
+    let inside : at < length all = omega arith in
+    let read_all = go_turn all at _ _ c.loop-at.step c.in-Go.flags _ _ End inside c.in-Go.is (sym c.kind_of.ensures.value ∙ c.in-End.is) c.loop-at.invariant
+    ∙ read_ended c.in-Go.flags (texts c.loop-at.symbols.items) (drop (at + 1) (texts all)) in
     record {
       asked =
-          subst (AllChoose (texts all) _ _) (sym (symbols_after _ _ all (count + 1) c.in_ok-extend_from_slice-in-End.ensures.items))
-          (ends_at all _ count _ _ _ inside c.in_ok-count.ensures.chosen (sym c.meaning_of.ensures.value ∙ c.in-End.is));
+          subst (λ s. Asks s (Answers c.in-Go.flags c.extend_from_slice.new.self)) (sym read_all)
+          (refl, symbols_after c.loop-at.symbols.items c.extend_from_slice.new.self.items all (at + 1) c.in_ok-extend_from_slice-in-End.ensures.items);
     }
 
-pub returns : goal.returns
-returns c =
+pub loop-at-preserved : goal.loop-at-preserved
+loop-at-preserved c =
     let all = c.args.arguments.now in
-    let count = c.in_ok-count.count in
-    let inside : count < length all = omega (arith, c.in_ok-count.ensures.bound, c.if-count-arguments.false) in
-    record {
-      asked = (
-        stops_at all _ count _ _ _ inside c.in_ok-count.ensures.chosen,
-        stop_is_unknown all count _ c.meaning_of.result inside c.in_ok-count.ensures.ends c.meaning_of.ensures.value c.in_default.not-Help c.in_default.not-Version c.in_default.not-End,
-      );
-    }
+    let at = c.loop-at.at in
+    let inside : at < length all = omega arith in
+    let says = sym c.kind_of.ensures.value in
+    elim c.match-kind_of.branch [
+      | in-Name w ↦
+          rw (w.step-is, w.symbols-is, w.word-is, w.name_step-step.ensures.value, take_rest (get_or all at record { ref_ptr = (0, 0); now = [] }).now 2)
+          (go_turn all at _ _ c.loop-at.step c.in-Go.flags _ _ Name inside c.in-Go.is (says ∙ w.in-Name.is) c.loop-at.invariant)
+      | in-Letters w ↦
+          rw (w.step-is, w.symbols-is, w.word-is, w.letters_step-step.ensures.value)
+          (go_turn all at _ _ c.loop-at.step c.in-Go.flags _ _ Letters inside c.in-Go.is (says ∙ w.in-Letters.is) c.loop-at.invariant)
+      | in-Symbol+in_ok-push-in-Symbol w ↦
+          rw (w.step-is, w.symbols-is, w.word-is, next_symbol _ _ _ w.in_ok-push-in-Symbol.ensures.items)
+          (go_turn all at _ _ c.loop-at.step c.in-Go.flags _ _ Symbol inside c.in-Go.is (says ∙ w.in-Symbol.is) c.loop-at.invariant)
+    ]

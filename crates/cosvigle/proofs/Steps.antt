@@ -1,0 +1,76 @@
+-- Steps through the letters and names of options.
+use Rattle.std.proofs.Common.{◌≡◌, ◌≢◌, ℕ, suc, ◌+◌, ◌<◌, ◌≤◌, List, [], ◌∷◌, Bool, true, false, ◌&&◌, ◌==◌, if◌then◌else◌, length, drop, get_or, refl, sym, ap, ◌∙◌, arith}
+use Rattle.std.proofs.lemmas.Bool.{ne_eqb, eq-eqb, and_left}
+use Rattle.std.proofs.lemmas.List.{length-drop, drop_all}
+use Rattle.std.proofs.Math.Seq.{drop-cons}
+use Rattle.itanium_syntax.specs.Bytes.{begins}
+use Rattle.cosvigle.specs.declared.options.Flags.{Flags}
+use Rattle.cosvigle.specs.declared.options.Stop.TheVariants as stop
+use Rattle.cosvigle.specs.declared.options.Step.{Step}
+use Rattle.cosvigle.specs.declared.options.Step.TheVariants.{Go, Value, Stop as Stopping}
+use Rattle.cosvigle.specs.Options.{letter_step, format_step, letters, with_value, valued_step}
+
+-- one byte more of a front
+begins_at : (front bytes : List ℕ) (at : ℕ) → at < length front → at < length bytes
+    → begins (drop at front) (drop at bytes) ≡ ((get_or bytes at 0 == get_or front at 0) && begins (drop (suc at) front) (drop (suc at) bytes))
+begins_at front bytes at low high =
+    ap (λ l. begins l (drop at bytes)) (drop-cons front at 0 low) ∙ ap (begins (get_or front at 0 ∷ drop (suc at) front)) (drop-cons bytes at 0 high)
+
+pub begins_on : (front bytes : List ℕ) (at : ℕ) (all : Bool) → at < length front → at < length bytes → all ≡ begins (drop at front) (drop at bytes)
+    → get_or bytes at 0 ≡ get_or front at 0 → all ≡ begins (drop (suc at) front) (drop (suc at) bytes)
+begins_on front bytes at all low high so_far same =
+    so_far ∙ begins_at front bytes at low high
+    ∙ ap (λ t. t && begins (drop (suc at) front) (drop (suc at) bytes)) (eq-eqb (get_or bytes at 0) (get_or front at 0) same)
+
+pub begins_not : (front bytes : List ℕ) (at : ℕ) (all : Bool) → at < length front → at < length bytes → all ≡ begins (drop at front) (drop at bytes)
+    → get_or bytes at 0 ≢ get_or front at 0 → false ≡ all
+begins_not front bytes at all low high so_far differs =
+    sym (so_far ∙ begins_at front bytes at low high
+    ∙ and_left (get_or bytes at 0 == get_or front at 0) (begins (drop (suc at) front) (drop (suc at) bytes)) (ne_eqb (get_or bytes at 0) (get_or front at 0) differs))
+
+pub begins_all : (front bytes : List ℕ) (at : ℕ) (all : Bool) → length front ≤ at → all ≡ begins (drop at front) (drop at bytes) → true ≡ all
+begins_all front bytes at all end so_far = sym (so_far ∙ ap (λ l. begins l (drop at bytes)) (drop_all at front end))
+
+begins_cons : (x y : Bool) → false ≡ y → false ≡ (x && y)
+begins_cons true y none = none
+begins_cons false y none = refl
+
+-- no longer one
+pub begins_short : (front bytes : List ℕ) → length bytes < length front → false ≡ begins front bytes
+begins_short [] bytes short = absurd (omega (arith, short))
+begins_short (c ∷ front) [] short = refl
+begins_short (c ∷ front) (b ∷ bytes) short =
+    begins_cons (b == c) (begins front bytes) (begins_short front bytes (omega (arith, short)))
+
+-- the value after a letter
+letters_some : (next : Flags) (bytes : List ℕ) → 0 < length bytes → letters (Value next) bytes ≡ format_step next bytes
+letters_some next [] some = absurd (omega (arith, some))
+letters_some next (b ∷ bytes) some = refl
+
+pub letters_value : (flags next : Flags) (argument : List ℕ) (at : ℕ) → at + 1 < length argument → letter_step flags (get_or argument at 0) ≡ Value next
+    → letters (Go flags) (drop at argument) ≡ format_step next (drop (at + 1) argument)
+letters_value flags next argument at inside is =
+    let more : 0 < length (drop (suc at) argument) = omega (arith, inside, length-drop (suc at) argument) in
+    let place : suc at ≡ at + 1 = omega arith in
+    ap (letters (Go flags)) (drop-cons argument at 0 (omega (arith, inside)))
+    ∙ ap (λ s. letters s (drop (suc at) argument)) is
+    ∙ letters_some next (drop (suc at) argument) more
+    ∙ ap (λ n. format_step next (drop n argument)) place
+
+-- the value after a name
+pub valued_value : (flags next : Flags) (letter len : ℕ) (bytes : List ℕ) → len ≢ length bytes → letter_step flags letter ≡ Value next
+    → valued_step flags letter len bytes ≡ format_step next (drop (len + 1) bytes)
+valued_value flags next letter len bytes more is =
+    ap (λ t. if t then letter_step flags letter else with_value (letter_step flags letter) (drop (len + 1) bytes)) (ne_eqb len (length bytes) more)
+    ∙ ap (λ s. with_value s (drop (len + 1) bytes)) is
+
+no_value : (step : Step) (value : List ℕ) → ((next : Flags) → step ≡ Value next → ⊥) → with_value step value ≡ Stopping stop.Valued
+no_value (Go flags) value none = refl
+no_value (Value flags) value none = absurd (none flags refl)
+no_value (Stopping by) value none = refl
+
+pub valued_none : (flags : Flags) (letter len : ℕ) (bytes : List ℕ) → len ≢ length bytes → ((next : Flags) → letter_step flags letter ≡ Value next → ⊥)
+    → valued_step flags letter len bytes ≡ Stopping stop.Valued
+valued_none flags letter len bytes more none =
+    ap (λ t. if t then letter_step flags letter else with_value (letter_step flags letter) (drop (len + 1) bytes)) (ne_eqb len (length bytes) more)
+    ∙ no_value (letter_step flags letter) (drop (len + 1) bytes) none

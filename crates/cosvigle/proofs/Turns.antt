@@ -1,0 +1,77 @@
+-- Arguments, one after the other.
+use Rattle.std.proofs.Common.{◌≡◌, ℕ, suc, ◌+◌, ◌-◌, ◌<◌, List, [], ◌∷◌, ◌++◌, length, take, drop, get_or, refl, sym, ap, ◌∙◌, arith, append_assoc, append-nil}
+use Rattle.std.proofs.lemmas.List.{length-map, get_or-map, take_rest, map-append, drop-map}
+use Rattle.std.proofs.Math.Seq.{drop-cons}
+use Rattle.std.specs.Borrow.{Bor}
+use Rattle.cosvigle.specs.declared.options.Flags.{Flags}
+use Rattle.cosvigle.specs.declared.options.Stop.{Stop}
+use Rattle.cosvigle.specs.declared.options.Step.{Step}
+use Rattle.cosvigle.specs.declared.options.Step.TheVariants.{Go, Value, Stop as Stopping}
+use Rattle.cosvigle.specs.declared.options.Kind.{Kind}
+use Rattle.cosvigle.specs.Options.{State, reading, ended, stopped, of_kind, next, read, texts, format_step, kind_of}
+
+-- this argument, and those after it
+argument_at : (arguments : List (Bor (List ℕ))) (at : ℕ) (none : Bor (List ℕ)) → at < length arguments
+    → drop at (texts arguments) ≡ (get_or arguments at none).now ∷ drop (suc at) (texts arguments)
+argument_at arguments at none inside =
+    drop-cons (texts arguments) at [] (omega (arith, inside, length-map arguments (λ argument. argument.now)))
+    ∙ ap (λ a. a ∷ drop (suc at) (texts arguments)) (get_or-map (λ argument. argument.now) arguments at none [] inside)
+
+turned : (arguments : List (Bor (List ℕ))) (at : ℕ) (none : Bor (List ℕ)) (all state : State) → at < length arguments → all ≡ read state (drop at (texts arguments))
+    → all ≡ read (next state (get_or arguments at none).now) (drop (at + 1) (texts arguments))
+turned arguments at none all state inside so_far =
+    let place : suc at ≡ at + 1 = omega arith in
+    so_far ∙ ap (read state) (argument_at arguments at none inside)
+    ∙ ap (λ n. read (next state (get_or arguments at none).now) (drop n (texts arguments))) place
+
+-- it is a value
+pub value_turn : (arguments : List (Bor (List ℕ))) (at : ℕ) (none : Bor (List ℕ)) (all : State) (step result : Step) (flags : Flags) (symbols : List (List ℕ)) (word : List ℕ)
+    → at < length arguments → step ≡ Value flags → result ≡ format_step flags (get_or arguments at none).now
+    → all ≡ read (reading step symbols word) (drop at (texts arguments))
+    → all ≡ read (reading result symbols (get_or arguments at none).now) (drop (at + 1) (texts arguments))
+value_turn arguments at none all step result flags symbols word inside is result_is so_far =
+    let argument : List ℕ = (get_or arguments at none).now in
+    turned arguments at none all (reading step symbols word) inside so_far
+    ∙ ap (λ s. read (next (reading s symbols word) argument) (drop (at + 1) (texts arguments))) is
+    ∙ ap (λ s. read (reading s symbols argument) (drop (at + 1) (texts arguments))) (sym result_is)
+
+-- it is none
+pub go_turn : (arguments : List (Bor (List ℕ))) (at : ℕ) (none : Bor (List ℕ)) (all : State) (step : Step) (flags : Flags) (symbols : List (List ℕ)) (word : List ℕ) (kind : Kind)
+    → at < length arguments → step ≡ Go flags → kind_of (get_or arguments at none).now ≡ kind
+    → all ≡ read (reading step symbols word) (drop at (texts arguments))
+    → all ≡ read (of_kind kind flags symbols word (get_or arguments at none).now) (drop (at + 1) (texts arguments))
+go_turn arguments at none all step flags symbols word kind inside is kind_is so_far =
+    let argument : List ℕ = (get_or arguments at none).now in
+    turned arguments at none all (reading step symbols word) inside so_far
+    ∙ ap (λ s. read (next (reading s symbols word) argument) (drop (at + 1) (texts arguments))) is
+    ∙ ap (λ k. read (of_kind k flags symbols word argument) (drop (at + 1) (texts arguments))) kind_is
+
+-- nothing is read after a stop
+read_stopped : (stop : Stop) (word : List ℕ) (arguments : List (List ℕ)) → read (stopped stop word) arguments ≡ stopped stop word
+read_stopped stop word [] = refl
+read_stopped stop word (argument ∷ arguments) = read_stopped stop word arguments
+
+pub stop_turn : (arguments : List (Bor (List ℕ))) (at : ℕ) (none : Bor (List ℕ)) (all : State) (step : Step) (stop : Stop) (symbols : List (List ℕ)) (word : List ℕ)
+    → at < length arguments → step ≡ Stopping stop → all ≡ read (reading step symbols word) (drop at (texts arguments)) → all ≡ stopped stop word
+stop_turn arguments at none all step stop symbols word inside is so_far =
+    turned arguments at none all (reading step symbols word) inside so_far
+    ∙ ap (λ s. read (next (reading s symbols word) (get_or arguments at none).now) (drop (at + 1) (texts arguments))) is
+    ∙ read_stopped stop word (drop (at + 1) (texts arguments))
+
+-- all are symbols after the end
+pub read_ended : (flags : Flags) (symbols arguments : List (List ℕ)) → read (ended flags symbols) arguments ≡ ended flags (symbols ++ arguments)
+read_ended flags symbols [] = ap (ended flags) (sym (append-nil symbols))
+read_ended flags symbols (argument ∷ arguments) =
+    read_ended flags (symbols ++ argument ∷ []) arguments ∙ ap (ended flags) (append_assoc symbols (argument ∷ []) arguments)
+
+-- one symbol more
+pub next_symbol : (symbols after : List (Bor (List ℕ))) (symbol : Bor (List ℕ)) → after ≡ symbols ++ symbol ∷ [] → texts after ≡ texts symbols ++ symbol.now ∷ []
+next_symbol symbols after symbol after_is = ap texts after_is ∙ map-append (λ argument. argument.now) symbols (symbol ∷ [])
+
+-- the symbols with those after it
+pub symbols_after : (symbols after arguments : List (Bor (List ℕ))) (at : ℕ) → after ≡ symbols ++ take (length arguments - at) (drop at arguments)
+    → texts after ≡ texts symbols ++ drop at (texts arguments)
+symbols_after symbols after arguments at after_is =
+    ap texts after_is
+    ∙ map-append (λ argument. argument.now) symbols (take (length arguments - at) (drop at arguments))
+    ∙ ap (λ l. texts symbols ++ l) (ap texts (take_rest arguments at) ∙ sym (drop-map (λ argument. argument.now) at arguments))
