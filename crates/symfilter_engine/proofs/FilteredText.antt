@@ -7,8 +7,8 @@ use Rattle.std.proofs.lemmas.List.Elements.{All-nil, All-push}
 use Rattle.std.specs.Str.{is_utf8}
 use Rattle.std.proofs.lemmas.Str.{IsUtf8-from_is_utf8, is_utf8-from_IsUtf8}
 use Rattle.std.proofs.lemmas.Bool.{false≢true, cases_eq}
-use Rattle.itanium_grammar.specs.Answer.{IsAnswer}
-use Rattle.itanium_demangle.proofs.Answered.{each_answered}
+use Rattle.symfilter_engine.specs.Shown.{IsShown}
+use Rattle.symfilter_engine.proofs.Shown.{each_shown}
 use Rattle.std.proofs.KnownBytes.{Appends-nil, Appends-trans, Appends-kept}
 use Rattle.std.specs.Io.KnownBytes.{Appends, Keeps}
 use Rattle.symfilter_engine.specs.declared.symbols.Symbols.{Symbols}
@@ -20,42 +20,44 @@ use Rattle.symfilter_engine.specs.Filtered.{IsBeginning, IsLineAnswer, answered,
 use Rattle.symfilter_engine.specs.Filtered.{WritesBeginning}
 use Rattle.symfilter_engine.specs.Progress.{AppendsReplaced, WritesFront, WritesLines, WritesLinesFront, HasFiltered}
 use Rattle.symfilter_engine.proofs.ReplacedText.{IsReplaced-append, whole_parted, whole-append, replaced_of}
+use Rattle.symfilter_engine.specs.declared.symbols.Replacement.{Replacement}
+use Rattle.symfilter_engine.specs.declared.symbols.Printing.{Printing}
 
 -- lines after lines, where each is a symbol
-pub AreLinesAnswered-append : {lines text lines' text' : List ℕ} → AreLinesAnswered lines text → AreLinesAnswered lines' text' → AreLinesAnswered (lines ++ lines') (text ++ text')
-AreLinesAnswered-append {lines} {text} first no_line =
-    subst (λ l. AreLinesAnswered l (text ++ [])) (sym (append-nil lines)) (subst (AreLinesAnswered lines) (sym (append-nil text)) first)
-AreLinesAnswered-append {lines} {text} first (one_more {lines = lines'} {text = text'} {line = line} {answer = answer} before unended_line is_answer) =
-    subst (λ l. AreLinesAnswered l (text ++ (text' ++ (answer ++ line_feed ∷ [])))) (append_assoc lines lines' (line ++ line_feed ∷ []))
-    (subst (AreLinesAnswered ((lines ++ lines') ++ (line ++ line_feed ∷ []))) (append_assoc text text' (answer ++ line_feed ∷ []))
-    (one_more (AreLinesAnswered-append first before) unended_line is_answer))
+pub AreLinesAnswered-append : (printing : Printing) {lines text lines' text' : List ℕ} → AreLinesAnswered printing lines text → AreLinesAnswered printing lines' text' → AreLinesAnswered printing (lines ++ lines') (text ++ text')
+AreLinesAnswered-append printing {lines} {text} first no_line =
+    subst (λ l. AreLinesAnswered printing l (text ++ [])) (sym (append-nil lines)) (subst (AreLinesAnswered printing lines) (sym (append-nil text)) first)
+AreLinesAnswered-append printing {lines} {text} first (one_more {lines = lines'} {text = text'} {line = line} {answer = answer} before unended_line is_answer) =
+    subst (λ l. AreLinesAnswered printing l (text ++ (text' ++ (answer ++ line_feed ∷ [])))) (append_assoc lines lines' (line ++ line_feed ∷ []))
+    (subst (AreLinesAnswered printing ((lines ++ lines') ++ (line ++ line_feed ∷ []))) (append_assoc text text' (answer ++ line_feed ∷ []))
+    (one_more (AreLinesAnswered-append printing first before) unended_line is_answer))
 
 -- bytes after such lines
-IsAnswered-append : {lines text given text' : List ℕ} → AreLinesAnswered lines text → IsAnswered given text' → IsAnswered (lines ++ given) (text ++ text')
-IsAnswered-append first (ended more) = ended (AreLinesAnswered-append first more)
-IsAnswered-append {lines} {text} first (unended {lines = lines'} {text = text'} {line = line} {answer = answer} before some unended_line is_answer) =
-    subst (λ l. IsAnswered l (text ++ (text' ++ answer))) (append_assoc lines lines' line)
-    (subst (IsAnswered ((lines ++ lines') ++ line)) (append_assoc text text' answer)
-    (unended (AreLinesAnswered-append first before) some unended_line is_answer))
+IsAnswered-append : (printing : Printing) {lines text given text' : List ℕ} → AreLinesAnswered printing lines text → IsAnswered printing given text' → IsAnswered printing (lines ++ given) (text ++ text')
+IsAnswered-append printing first (ended more) = ended (AreLinesAnswered-append printing first more)
+IsAnswered-append printing {lines} {text} first (unended {lines = lines'} {text = text'} {line = line} {answer = answer} before some unended_line is_answer) =
+    subst (λ l. IsAnswered printing l (text ++ (text' ++ answer))) (append_assoc lines lines' line)
+    (subst (IsAnswered printing ((lines ++ lines') ++ line)) (append_assoc text text' answer)
+    (unended (AreLinesAnswered-append printing first before) some unended_line is_answer))
 
 -- no line
 pub no_lines : (symbols : Symbols) → AreLinesFiltered symbols [] []
-no_lines Lines = no_line
-no_lines (Words strip) = (refl, no_byte)
+no_lines (Lines printing) = no_line
+no_lines (Words how) = (refl, no_byte)
 
 -- lines after lines
 pub AreLinesFiltered-append : (symbols : Symbols) (lines text lines' text' : List ℕ) → AreLinesFiltered symbols lines text → AreLinesFiltered symbols lines' text'
     → AreLinesFiltered symbols (lines ++ lines') (text ++ text')
-AreLinesFiltered-append Lines lines text lines' text' first second = AreLinesAnswered-append first second
-AreLinesFiltered-append (Words strip) lines text lines' text' first second =
-    (whole-append lines lines' second.0 (λ _. first.0), IsReplaced-append strip first.1 second.1 (whole_parted lines lines' first.0))
+AreLinesFiltered-append (Lines printing) lines text lines' text' first second = AreLinesAnswered-append printing first second
+AreLinesFiltered-append (Words how) lines text lines' text' first second =
+    (whole-append lines lines' second.0 (λ _. first.0), IsReplaced-append how first.1 second.1 (whole_parted lines lines' first.0))
 
 -- bytes after lines
 IsFiltered-append : (symbols : Symbols) (lines text given text' : List ℕ) → AreLinesFiltered symbols lines text → IsFiltered symbols given text'
     → IsFiltered symbols (lines ++ given) (text ++ text')
-IsFiltered-append Lines lines text given text' first second = IsAnswered-append first second
-IsFiltered-append (Words strip) lines text given text' first second =
-    IsReplaced-append strip first.1 second (whole_parted lines given first.0)
+IsFiltered-append (Lines printing) lines text given text' first second = IsAnswered-append printing first second
+IsFiltered-append (Words how) lines text given text' first second =
+    IsReplaced-append how first.1 second (whole_parted lines given first.0)
 
 -- a front after a text
 pub IsFront-append : (text written more : List ℕ) → IsFront written more → IsFront (text ++ written) (text ++ more)
@@ -63,50 +65,50 @@ IsFront-append text written more is_front =
     (is_front.0, ap (λ l. text ++ l) is_front.1 ∙ sym (append_assoc text written is_front.0))
 
 -- a line has an answer, or stands for itself
-answer_of_line : (line : List ℕ) (b : Bool) → is_utf8 line ≡ b → (found : Option (List ℕ)) → IsAnswer line found → (text : List ℕ) × IsLineAnswer line text
-answer_of_line line false bad found is_answer = (line, not_utf8 (λ good. false≢true (sym bad ∙ is_utf8-from_IsUtf8 line good)))
-answer_of_line line true good None is_answer = (line, unanswered (IsUtf8-from_is_utf8 line good) is_answer)
-answer_of_line line true good (Some text) is_answer = (text, answered (IsUtf8-from_is_utf8 line good) is_answer)
+answer_of_line : (printing : Printing) (line : List ℕ) (b : Bool) → is_utf8 line ≡ b → (found : Option (List ℕ)) → IsShown printing line found → (text : List ℕ) × IsLineAnswer printing line text
+answer_of_line printing line false bad found is_answer = (line, not_utf8 (λ good. false≢true (sym bad ∙ is_utf8-from_IsUtf8 line good)))
+answer_of_line printing line true good None is_answer = (line, unanswered (IsUtf8-from_is_utf8 line good) is_answer)
+answer_of_line printing line true good (Some text) is_answer = (text, answered (IsUtf8-from_is_utf8 line good) is_answer)
 
-line_answered : (line : List ℕ) → (text : List ℕ) × IsLineAnswer line text
-line_answered line = let found = each_answered line in answer_of_line line (is_utf8 line) refl found.0 found.1
+line_answered : (printing : Printing) (line : List ℕ) → (text : List ℕ) × IsLineAnswer printing line text
+line_answered printing line = let found = each_shown printing line in answer_of_line printing line (is_utf8 line) refl found.0 found.1
 
 -- a last line has an answer, or stands for itself
-last_answered : (line : List ℕ) → HasNoLineFeed line → (text : List ℕ) × IsAnswered line text
-last_answered [] unended_line = ([], ended no_line)
-last_answered (byte ∷ bytes) unended_line =
-    let found = line_answered (byte ∷ bytes) in
+last_answered : (printing : Printing) (line : List ℕ) → HasNoLineFeed line → (text : List ℕ) × IsAnswered printing line text
+last_answered printing [] unended_line = ([], ended no_line)
+last_answered printing (byte ∷ bytes) unended_line =
+    let found = line_answered printing (byte ∷ bytes) in
     (found.0, unended no_line (λ e. cc) unended_line found.1)
 
 -- the next byte ends the line or is in it
-at_byte : (line bytes : List ℕ) (byte : ℕ) → HasNoLineFeed line → (byte ≡ line_feed) ⊎ (byte ≡ line_feed → ⊥)
-    → ((text : List ℕ) × IsAnswered bytes text) → (HasNoLineFeed (line ++ byte ∷ []) → (text : List ℕ) × IsAnswered ((line ++ byte ∷ []) ++ bytes) text)
-    → (text : List ℕ) × IsAnswered (line ++ byte ∷ bytes) text
-at_byte line bytes byte unended_line (inl is_feed) rest longer =
-    let found = line_answered line in
+at_byte : (printing : Printing) (line bytes : List ℕ) (byte : ℕ) → HasNoLineFeed line → (byte ≡ line_feed) ⊎ (byte ≡ line_feed → ⊥)
+    → ((text : List ℕ) × IsAnswered printing bytes text) → (HasNoLineFeed (line ++ byte ∷ []) → (text : List ℕ) × IsAnswered printing ((line ++ byte ∷ []) ++ bytes) text)
+    → (text : List ℕ) × IsAnswered printing (line ++ byte ∷ bytes) text
+at_byte printing line bytes byte unended_line (inl is_feed) rest longer =
+    let found = line_answered printing line in
     let text : List ℕ = (found.0 ++ line_feed ∷ []) ++ rest.0 in (
       text,
-      subst (λ l. IsAnswered l text) (append_assoc line (line_feed ∷ []) bytes ∙ ap (λ b. line ++ b ∷ bytes) (sym is_feed))
-          (IsAnswered-append (one_more no_line unended_line found.1) rest.1),
+      subst (λ l. IsAnswered printing l text) (append_assoc line (line_feed ∷ []) bytes ∙ ap (λ b. line ++ b ∷ bytes) (sym is_feed))
+          (IsAnswered-append printing (one_more no_line unended_line found.1) rest.1),
     )
-at_byte line bytes byte unended_line (inr no_feed) rest longer =
+at_byte printing line bytes byte unended_line (inr no_feed) rest longer =
     let more = longer (All-push (λ b. b ≢ line_feed) line byte unended_line no_feed) in
-    (more.0, subst (λ l. IsAnswered l more.0) (append_assoc line (byte ∷ []) bytes) more.1)
+    (more.0, subst (λ l. IsAnswered printing l more.0) (append_assoc line (byte ∷ []) bytes) more.1)
 
 -- bytes after the beginning of a line have one
-after_line : (line bytes : List ℕ) → HasNoLineFeed line → (text : List ℕ) × IsAnswered (line ++ bytes) text
-after_line line [] unended_line =
-    let found = last_answered line unended_line in
-    (found.0, subst (λ l. IsAnswered l found.0) (sym (append-nil line)) found.1)
-after_line line (byte ∷ bytes) unended_line =
-    at_byte line bytes byte unended_line (cases_eq byte line_feed)
-    (after_line [] bytes (All-nil (λ b. b ≢ line_feed)))
-    (λ longer. after_line (line ++ byte ∷ []) bytes longer)
+after_line : (printing : Printing) (line bytes : List ℕ) → HasNoLineFeed line → (text : List ℕ) × IsAnswered printing (line ++ bytes) text
+after_line printing line [] unended_line =
+    let found = last_answered printing line unended_line in
+    (found.0, subst (λ l. IsAnswered printing l found.0) (sym (append-nil line)) found.1)
+after_line printing line (byte ∷ bytes) unended_line =
+    at_byte printing line bytes byte unended_line (cases_eq byte line_feed)
+    (after_line printing [] bytes (All-nil (λ b. b ≢ line_feed)))
+    (λ longer. after_line printing (line ++ byte ∷ []) bytes longer)
 
 -- all bytes have a filtered text
 filtered_of : (symbols : Symbols) (bytes : List ℕ) → (text : List ℕ) × IsFiltered symbols bytes text
-filtered_of Lines bytes = after_line [] bytes (All-nil (λ byte. byte ≢ line_feed))
-filtered_of (Words strip) bytes = replaced_of strip bytes
+filtered_of (Lines printing) bytes = after_line printing [] bytes (All-nil (λ byte. byte ≢ line_feed))
+filtered_of (Words how) bytes = replaced_of how bytes
 
 -- a front of the filtered text of the first lines
 of_lines : (symbols : Symbols) (lines text given rest written : List ℕ) → given ≡ lines ++ rest → AreLinesFiltered symbols lines text → IsFront written text
@@ -120,17 +122,17 @@ of_lines symbols lines text given rest written given_is filtered is_front =
 
 -- no byte
 nothing_filtered : (symbols : Symbols) → IsFiltered symbols [] []
-nothing_filtered Lines = ended no_line
-nothing_filtered (Words strip) = no_byte
+nothing_filtered (Lines printing) = ended no_line
+nothing_filtered (Words how) = no_byte
 
 -- no last line was written
 pub no_last : (symbols : Symbols) (line : List ℕ) (at : Option (List ℕ)) → line ≡ [] → WritesFiltered symbols line at at
 no_last symbols line at line_is = subst (λ l. WritesFiltered symbols l at at) (sym line_is) ([], nothing_filtered symbols, Appends-nil at)
 
 -- a last line was written
-pub last_written : (symbols : Symbols) (line answer : List ℕ) (before after : Option (List ℕ)) → symbols ≡ Lines → line ≢ [] → HasNoLineFeed line → IsLineAnswer line answer
+pub last_written : (symbols : Symbols) (printing : Printing) (line answer : List ℕ) (before after : Option (List ℕ)) → symbols ≡ Lines printing → line ≢ [] → HasNoLineFeed line → IsLineAnswer printing line answer
     → Appends before after answer → WritesFiltered symbols line before after
-last_written symbols line answer before after is some unended_line is_answer writes =
+last_written symbols printing line answer before after is some unended_line is_answer writes =
     subst (λ s. WritesFiltered s line before after) (sym is) (answer, unended no_line some unended_line is_answer, writes)
 
 -- nothing of it was written
@@ -139,23 +141,23 @@ last_unwritten symbols line at =
     let found = filtered_of symbols line in ([], (found.0, found.1, (found.0, refl)), Appends-nil at)
 
 -- a front of it was written
-pub last_begins : (symbols : Symbols) (line answer : List ℕ) (before after : Option (List ℕ)) → symbols ≡ Lines → line ≢ [] → HasNoLineFeed line → IsLineAnswer line answer
+pub last_begins : (symbols : Symbols) (printing : Printing) (line answer : List ℕ) (before after : Option (List ℕ)) → symbols ≡ Lines printing → line ≢ [] → HasNoLineFeed line → IsLineAnswer printing line answer
     → WritesFront answer before after → WritesBeginning symbols line before after
-last_begins symbols line answer before after is some unended_line is_answer (rest, writes) =
+last_begins symbols printing line answer before after is some unended_line is_answer (rest, writes) =
     subst (λ s. WritesBeginning s line before after) (sym is)
     (writes.front, (answer, unended no_line some unended_line is_answer, (rest, writes.bytes_are)), writes.written)
 
 -- a last line was written replaced
-pub last_replaced : (symbols : Symbols) (strip : Bool) (line old output bytes : List ℕ) (before after : Option (List ℕ)) → symbols ≡ Words strip → old ≡ []
-    → AppendsReplaced strip line old output → bytes ≡ output → Appends before after bytes → WritesFiltered symbols line before after
-last_replaced symbols strip line old output bytes before after is none (text, replaced, output_is) bytes_are writes =
+pub last_replaced : (symbols : Symbols) (how : Replacement) (line old output bytes : List ℕ) (before after : Option (List ℕ)) → symbols ≡ Words how → old ≡ []
+    → AppendsReplaced how line old output → bytes ≡ output → Appends before after bytes → WritesFiltered symbols line before after
+last_replaced symbols how line old output bytes before after is none (text, replaced, output_is) bytes_are writes =
     subst (λ s. WritesFiltered s line before after) (sym is)
     (text, replaced, subst (Appends before after) (bytes_are ∙ output_is ∙ ap (λ l. l ++ text) none) writes)
 
 -- a front of its replaced text was written
-pub replaced_begins : (symbols : Symbols) (strip : Bool) (line old output bytes : List ℕ) (before after : Option (List ℕ)) → symbols ≡ Words strip → old ≡ []
-    → AppendsReplaced strip line old output → bytes ≡ output → WritesFront bytes before after → WritesBeginning symbols line before after
-replaced_begins symbols strip line old output bytes before after is none (text, replaced, output_is) bytes_are (rest, writes) =
+pub replaced_begins : (symbols : Symbols) (how : Replacement) (line old output bytes : List ℕ) (before after : Option (List ℕ)) → symbols ≡ Words how → old ≡ []
+    → AppendsReplaced how line old output → bytes ≡ output → WritesFront bytes before after → WritesBeginning symbols line before after
+replaced_begins symbols how line old output bytes before after is none (text, replaced, output_is) bytes_are (rest, writes) =
     subst (λ s. WritesBeginning s line before after) (sym is)
     (writes.front, (text, replaced, (rest, sym (bytes_are ∙ output_is ∙ ap (λ l. l ++ text) none) ∙ writes.bytes_are)), writes.written)
 

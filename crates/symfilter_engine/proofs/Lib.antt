@@ -7,5 +7,6 @@ pub mod LineAnswers
 pub mod LineEnds
 pub mod Chunks
 pub mod Copying
+mod Shown
 mod Signs
 mod WordTurns

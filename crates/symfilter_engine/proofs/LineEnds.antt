@@ -1,5 +1,5 @@
 -- Where lines end.
-use Rattle.std.proofs.Common.{Bool, false, ◌≡◌, ◌≢◌, inl, inr, ℕ, zero, suc, ◌+◌, ◌-◌, ◌<◌, ◌≤◌, List, [], ◌∷◌, ◌++◌, not, eqb, length, take, drop, get_or, sym, ap, subst, ◌∙◌, arith, append_assoc}
+use Rattle.std.proofs.Common.{false, ◌≡◌, ◌≢◌, inl, inr, ℕ, zero, suc, ◌+◌, ◌-◌, ◌<◌, ◌≤◌, List, [], ◌∷◌, ◌++◌, not, eqb, length, take, drop, get_or, sym, ap, subst, ◌∙◌, arith, append_assoc}
 use Rattle.std.proofs.lemmas.Bool.{eqb-true, eqb-false, cases_lt}
 use Rattle.std.proofs.lemmas.List.{get_or-take, get_or-drop, length-take-le, length-drop, length-append, take_more, length_push, get_or_push, get_or_append_left, drop_at, drop-drop, take-append-drop, take_rest}
 use Rattle.std.proofs.lemmas.List.Elements.{All-from_get_or, All-get_or}
@@ -17,6 +17,8 @@ use Rattle.symfilter_engine.specs.Progress.{HasNone, IsFirst, EndsAt, HasNoPrefi
 use Rattle.symfilter_engine.proofs.FilteredText.{AreLinesAnswered-append, AreLinesFiltered-append}
 use Rattle.symfilter_engine.proofs.ReplacedText.{unprefixed, whole-drop}
 use Rattle.symfilter_engine.proofs.LineAnswers.{other_line}
+use Rattle.symfilter_engine.specs.declared.symbols.Replacement.{Replacement}
+use Rattle.symfilter_engine.specs.declared.symbols.Printing.{Printing}
 
 -- a byte is no line feed
 abbrev pub is_other : ℕ → Type 0
@@ -64,26 +66,26 @@ ended_after lines n ended some =
 
 -- and what follows whole lines or words
 pub whole_after : (symbols : Symbols) (lines : List ℕ) (n : ℕ) → AreWhole symbols lines → AreWhole symbols (drop n lines)
-whole_after Lines lines n whole = ended_after lines n whole
-whole_after (Words strip) lines n whole = whole-drop lines n whole
+whole_after (Lines printing) lines n whole = ended_after lines n whole
+whole_after (Words how) lines n whole = whole-drop lines n whole
 
 -- lines are whole
-pub whole_lines : (symbols : Symbols) (lines : List ℕ) → symbols ≡ Lines → AreWhole symbols lines → EndsInLineFeed lines
-whole_lines symbols lines is whole = subst (λ s. AreWhole s lines) is whole
+pub whole_lines : (symbols : Symbols) (printing : Printing) (lines : List ℕ) → symbols ≡ Lines printing → AreWhole symbols lines → EndsInLineFeed lines
+whole_lines symbols printing lines is whole = subst (λ s. AreWhole s lines) is whole
 
 -- so are words
-pub whole_words : (symbols : Symbols) (strip : Bool) (text : List ℕ) → symbols ≡ Words strip → AreWhole symbols text → ends_word text ≡ false
-whole_words symbols strip text is whole = subst (λ s. AreWhole s text) is whole
+pub whole_words : (symbols : Symbols) (how : Replacement) (text : List ℕ) → symbols ≡ Words how → AreWhole symbols text → ends_word text ≡ false
+whole_words symbols how text is whole = subst (λ s. AreWhole s text) is whole
 
 -- the first line with its line feed
 pub with_feed : (lines : List ℕ) (end : ℕ) → EndsAt lines end → take (end + 1) lines ≡ take end lines ++ line_feed ∷ []
 with_feed lines end ends = take_more lines end 0 ends.inside ∙ ap (λ byte. take end lines ++ byte ∷ []) ends.found
 
 -- the first line, and what is written for it
-pub first_line : (lines answer : List ℕ) (end : ℕ) → EndsAt lines end → IsLineAnswer (take end lines) answer
-    → AreLinesAnswered (take (end + 1) lines) (answer ++ line_feed ∷ [])
-first_line lines answer end ends is_answer =
-    subst (λ l. AreLinesAnswered l (answer ++ line_feed ∷ [])) (sym (with_feed lines end ends)) (one_more no_line ends.before is_answer)
+pub first_line : (printing : Printing) (lines answer : List ℕ) (end : ℕ) → EndsAt lines end → IsLineAnswer printing (take end lines) answer
+    → AreLinesAnswered printing (take (end + 1) lines) (answer ++ line_feed ∷ [])
+first_line printing lines answer end ends is_answer =
+    subst (λ l. AreLinesAnswered printing l (answer ++ line_feed ∷ [])) (sym (with_feed lines end ends)) (one_more no_line ends.before is_answer)
 
 -- the first byte of a line
 front_byte : (lines : List ℕ) (end : ℕ) → get_or lines 0 0 ≢ 95 → get_or (take end lines) 0 0 ≢ 95
@@ -91,37 +93,37 @@ front_byte lines zero ordinary = λ e. absurd (omega (arith, e))
 front_byte lines (suc end) ordinary = subst (λ byte. byte ≢ 95) (sym (get_or-take (suc end) lines 0 0 (omega arith))) ordinary
 
 -- the first line, where it is ordinary
-pub ordinary_line : (lines : List ℕ) (end : ℕ) → EndsAt lines end → get_or lines 0 0 ≢ 95 → AreLinesAnswered (take (end + 1) lines) (take (end + 1) lines)
-ordinary_line lines end ends ordinary =
-    subst (AreLinesAnswered (take (end + 1) lines)) (sym (with_feed lines end ends))
-    (first_line lines (take end lines) end ends (other_line (take end lines) (front_byte lines end ordinary)))
+pub ordinary_line : (printing : Printing) (lines : List ℕ) (end : ℕ) → EndsAt lines end → get_or lines 0 0 ≢ 95 → AreLinesAnswered printing (take (end + 1) lines) (take (end + 1) lines)
+ordinary_line printing lines end ends ordinary =
+    subst (AreLinesAnswered printing (take (end + 1) lines)) (sym (with_feed lines end ends))
+    (first_line printing lines (take end lines) end ends (other_line printing (take end lines) (front_byte lines end ordinary)))
 
 -- ordinary lines, and one more
-pub more_ordinary : (lines : List ℕ) (len end : ℕ) → AreLinesAnswered (take len lines) (take len lines)
+pub more_ordinary : (printing : Printing) (lines : List ℕ) (len end : ℕ) → AreLinesAnswered printing (take len lines) (take len lines)
     → EndsAt (take (length lines - len) (drop len lines)) end → get_or lines len 0 ≢ 95
-    → (len + (end + 1) ≤ length lines) × AreLinesAnswered (take (len + (end + 1)) lines) (take (len + (end + 1)) lines)
-more_ordinary lines len end first ends ordinary =
+    → (len + (end + 1) ≤ length lines) × AreLinesAnswered printing (take (len + (end + 1)) lines) (take (len + (end + 1)) lines)
+more_ordinary printing lines len end first ends ordinary =
     let rest : List ℕ = drop len lines in
     let there : EndsAt rest end = subst (λ l. EndsAt l end) (take_rest lines len) ends in
     let front : get_or rest 0 0 ≡ get_or lines len 0 = get_or-drop len lines 0 0 ∙ ap (λ n. get_or lines n 0) (omega arith) in
-    let next = ordinary_line rest end there (λ is. ordinary (sym front ∙ is)) in (
+    let next = ordinary_line printing rest end there (λ is. ordinary (sym front ∙ is)) in (
       omega (arith, there.inside, length-drop len lines),
-      subst (λ l. AreLinesAnswered l l) (sym (take-add len (end + 1) lines)) (AreLinesAnswered-append first next),
+      subst (λ l. AreLinesAnswered printing l l) (sym (take-add len (end + 1) lines)) (AreLinesAnswered-append printing first next),
     )
 
 -- whole words without a prefix
-pub unprefixed_words : (symbols : Symbols) (strip : Bool) (text : List ℕ) → symbols ≡ Words strip → ends_word text ≡ false → HasNoPrefix text
+pub unprefixed_words : (symbols : Symbols) (how : Replacement) (text : List ℕ) → symbols ≡ Words how → ends_word text ≡ false → HasNoPrefix text
     → AreLinesFiltered symbols text text
-unprefixed_words symbols strip text is whole none = subst (λ s. AreLinesFiltered s text text) (sym is) (whole, unprefixed strip text none)
+unprefixed_words symbols how text is whole none = subst (λ s. AreLinesFiltered s text text) (sym is) (whole, unprefixed how text none)
 
 -- whole words were appended replaced
-pub block_appended : (strip : Bool) (text before after : List ℕ) → ends_word text ≡ false → AppendsReplaced strip text before after → AppendsLines (Words strip) text before after
-block_appended strip text before after whole (replaced, is_replaced, after_is) = (replaced, (whole, is_replaced), after_is)
+pub block_appended : (how : Replacement) (text before after : List ℕ) → ends_word text ≡ false → AppendsReplaced how text before after → AppendsLines (Words how) text before after
+block_appended how text before after whole (replaced, is_replaced, after_is) = (replaced, (whole, is_replaced), after_is)
 
 -- one line was appended
-pub line_appended : (lines answer before after : List ℕ) (end : ℕ) → EndsAt lines end → IsLineAnswer (take end lines) answer → after ≡ before ++ (answer ++ line_feed ∷ [])
-    → AppendsLines Lines (take (end + 1) lines) before after
-line_appended lines answer before after end ends is_answer after_is = (answer ++ line_feed ∷ [], first_line lines answer end ends is_answer, after_is)
+pub line_appended : (printing : Printing) (lines answer before after : List ℕ) (end : ℕ) → EndsAt lines end → IsLineAnswer printing (take end lines) answer → after ≡ before ++ (answer ++ line_feed ∷ [])
+    → AppendsLines (Lines printing) (take (end + 1) lines) before after
+line_appended printing lines answer before after end ends is_answer after_is = (answer ++ line_feed ∷ [], first_line printing lines answer end ends is_answer, after_is)
 
 -- more lines were appended
 pub lines_appended : (symbols : Symbols) (lines rest before after : List ℕ) (n m : ℕ) → AreLinesFiltered symbols (take n lines) before → rest ≡ drop n lines
@@ -152,7 +154,7 @@ line_utf8 bytes end ends utf8 =
     IsUtf8-take bytes end utf8 (let inside = ends.inside in omega arith, λ _ high. absurd (omega (arith, ends.found)))
 
 -- whole lines end in a line feed
-answered_ended : {lines text : List ℕ} → AreLinesAnswered lines text → EndsInLineFeed lines
+answered_ended : {printing : Printing} {lines text : List ℕ} → AreLinesAnswered printing lines text → EndsInLineFeed lines
 answered_ended no_line some = absurd (omega (arith, some))
 answered_ended (one_more {lines = lines} {line = line} before unended_line is_answer) some =
     let front : List ℕ = lines ++ line in
@@ -172,6 +174,6 @@ after_lines (byte ∷ bytes) rest ended utf8 =
     (IsUtf8-drop (lines ++ rest) (last + 1) utf8
     (IsCharBoundary-after_ascii (lines ++ rest) last utf8 (omega (arith, some, all)) (omega (arith, feed))))
 
-pub utf8_after : (symbols : Symbols) (lines text : List ℕ) (n : ℕ) → symbols ≡ Lines → AreLinesFiltered symbols (take n lines) text → IsUtf8 lines → IsUtf8 (drop n lines)
-utf8_after symbols lines text n is filtered utf8 =
+pub utf8_after : (symbols : Symbols) (lines text : List ℕ) (n : ℕ) (printing : Printing) → symbols ≡ Lines printing → AreLinesFiltered symbols (take n lines) text → IsUtf8 lines → IsUtf8 (drop n lines)
+utf8_after symbols lines text n printing is filtered utf8 =
     after_lines (take n lines) (drop n lines) (answered_ended (subst (λ s. AreLinesFiltered s (take n lines) text) is filtered)) (subst IsUtf8 (sym (take-append-drop n lines)) utf8)

@@ -8,12 +8,13 @@ use Rattle.std.proofs.lemmas.Bool.{false≢true, and_parts, eqb-true, cases_lt, 
 use Rattle.std.proofs.Math.Seq.{take-add}
 use Rattle.std.specs.Prelude.{All}
 use Rattle.itanium_syntax.specs.Bytes.{is, begins}
-use Rattle.itanium_grammar.specs.Answer.{IsAnswer}
-use Rattle.itanium_demangle.proofs.Answered.{each_answered}
+use Rattle.symfilter_engine.specs.Shown.{IsShown}
+use Rattle.symfilter_engine.proofs.Shown.{each_shown}
 use Rattle.symfilter_engine.specs.Replaced.{is_word_byte, IsWordByte, begins_word, ends_word, IsDot, ends_in_dot, sign_len, sign_of}
 use Rattle.symfilter_engine.specs.Replaced.{past_sign, symbol_at, symbol_in, IsWordAnswer, answered, unanswered}
 use Rattle.symfilter_engine.specs.Replaced.{no_symbol, IsReplaced, no_byte, other, one_word}
 use Rattle.symfilter_engine.specs.Progress.{underscore, capital_z, HasNoPrefix, AreWordBytes, IsBoundary}
+use Rattle.symfilter_engine.specs.declared.symbols.Replacement.{Replacement}
 
 ends_word-cons : (byte : ℕ) (bytes : List ℕ) → ends_word bytes ≡ true → ends_word (byte ∷ bytes) ≡ true
 ends_word-cons byte [] ends = absurd (false≢true ends)
@@ -55,17 +56,17 @@ next_after word [] rest ends next parted = parted (subst (λ l. ends_word l ≡ 
 next_after word (byte ∷ bytes) rest ends next parted = next
 
 -- bytes after bytes, where no word goes on
-pub IsReplaced-append : (strip : Bool) {first text rest more : List ℕ} → IsReplaced strip first text → IsReplaced strip rest more
-    → (ends_word first ≡ true → begins_word rest ≡ false) → IsReplaced strip (first ++ rest) (text ++ more)
-IsReplaced-append strip no_byte second parted = second
-IsReplaced-append strip (other {byte = byte} {bytes = bytes} no_word first) second parted =
-    other no_word (IsReplaced-append strip first second (λ ends. parted (ends_word-cons byte bytes ends)))
-IsReplaced-append strip {rest = rest} {more = more} (one_word {word = word} {bytes = bytes} {answer = answer} {text = text} dots some all dotted undotted is_answer next first) second parted =
-    subst (λ l. IsReplaced strip l (((answer ++ dots) ++ text) ++ more)) (sym (append_assoc (word ++ dots) bytes rest))
-    (subst (IsReplaced strip ((word ++ dots) ++ (bytes ++ rest))) (sym (append_assoc (answer ++ dots) text more))
+pub IsReplaced-append : (how : Replacement) {first text rest more : List ℕ} → IsReplaced how first text → IsReplaced how rest more
+    → (ends_word first ≡ true → begins_word rest ≡ false) → IsReplaced how (first ++ rest) (text ++ more)
+IsReplaced-append how no_byte second parted = second
+IsReplaced-append how (other {byte = byte} {bytes = bytes} no_word first) second parted =
+    other no_word (IsReplaced-append how first second (λ ends. parted (ends_word-cons byte bytes ends)))
+IsReplaced-append how {rest = rest} {more = more} (one_word {word = word} {bytes = bytes} {answer = answer} {text = text} dots some all dotted undotted is_answer next first) second parted =
+    subst (λ l. IsReplaced how l (((answer ++ dots) ++ text) ++ more)) (sym (append_assoc (word ++ dots) bytes rest))
+    (subst (IsReplaced how ((word ++ dots) ++ (bytes ++ rest))) (sym (append_assoc (answer ++ dots) text more))
     (one_word dots some all dotted undotted is_answer
     (next_after (word ++ dots) bytes rest (ends_word-all (word ++ dots) some all) next parted)
-    (IsReplaced-append strip first second (λ ends. parted (ends_word-append (word ++ dots) bytes ends)))))
+    (IsReplaced-append how first second (λ ends. parted (ends_word-append (word ++ dots) bytes ends)))))
 
 -- no word goes on from whole words
 pub whole_parted : (words rest : List ℕ) → ends_word words ≡ false → ends_word words ≡ true → begins_word rest ≡ false
@@ -127,11 +128,11 @@ boundary_parted bytes n m inside boundary ends =
     begins_word-take m (drop n bytes) (begins_word-at (drop n bytes) ∙ ap is_word_byte after ∙ boundary some before)
 
 -- more bytes after a boundary
-pub more_replaced : (strip : Bool) (bytes text more : List ℕ) (n m : ℕ) → n ≤ length bytes → IsBoundary bytes n → IsReplaced strip (take n bytes) text
-    → IsReplaced strip (take m (drop n bytes)) more → IsReplaced strip (take (n + m) bytes) (text ++ more)
-more_replaced strip bytes text more n m inside boundary first second =
-    subst (λ l. IsReplaced strip l (text ++ more)) (sym (take-add n m bytes))
-    (IsReplaced-append strip first second (boundary_parted bytes n m inside boundary))
+pub more_replaced : (how : Replacement) (bytes text more : List ℕ) (n m : ℕ) → n ≤ length bytes → IsBoundary bytes n → IsReplaced how (take n bytes) text
+    → IsReplaced how (take m (drop n bytes)) more → IsReplaced how (take (n + m) bytes) (text ++ more)
+more_replaced how bytes text more n m inside boundary first second =
+    subst (λ l. IsReplaced how l (text ++ more)) (sym (take-add n m bytes))
+    (IsReplaced-append how first second (boundary_parted bytes n m inside boundary))
 
 -- a word is its stem and the dots at its end
 pub record Split (word : List ℕ) : Type 0 where
@@ -207,36 +208,36 @@ word_has_prefix : (strip : Bool) (word symbol : List ℕ) → symbol_in strip wo
 word_has_prefix strip word symbol is none = symbol_has_prefix strip (past_sign word) symbol is (no_prefix-drop (sign_len word) word none)
 
 -- what is written for a word: the word itself, where no prefix is in it
-record WordText (strip : Bool) (word : List ℕ) : Type 0 where
+record WordText (how : Replacement) (word : List ℕ) : Type 0 where
   answer : List ℕ
-  is_answer : IsWordAnswer strip word answer
+  is_answer : IsWordAnswer how word answer
   same : HasNoPrefix word → answer ≡ word
 
-symbol_text : (strip : Bool) (word symbol : List ℕ) → symbol_in strip word ≡ Some symbol → (found : Option (List ℕ)) → IsAnswer symbol found → WordText strip word
-symbol_text strip word symbol is None none = record { answer = word; is_answer = unanswered is none; same = λ _. refl }
-symbol_text strip word symbol is (Some text) has =
-    record { answer = sign_of word ++ text; is_answer = answered is has; same = λ none. absurd (word_has_prefix strip word symbol is none) }
+symbol_text : (how : Replacement) (word symbol : List ℕ) → symbol_in how.strip word ≡ Some symbol → (found : Option (List ℕ)) → IsShown how.printing symbol found → WordText how word
+symbol_text how word symbol is None none = record { answer = word; is_answer = unanswered is none; same = λ _. refl }
+symbol_text how word symbol is (Some text) has =
+    record { answer = sign_of word ++ text; is_answer = answered is has; same = λ none. absurd (word_has_prefix how.strip word symbol is none) }
 
-word_text : (strip : Bool) (word : List ℕ) (found : Option (List ℕ)) → symbol_in strip word ≡ found → WordText strip word
-word_text strip word None is = record { answer = word; is_answer = no_symbol is; same = λ _. refl }
-word_text strip word (Some symbol) is = let found = each_answered symbol in symbol_text strip word symbol is found.0 found.1
+word_text : (how : Replacement) (word : List ℕ) (found : Option (List ℕ)) → symbol_in how.strip word ≡ found → WordText how word
+word_text how word None is = record { answer = word; is_answer = no_symbol is; same = λ _. refl }
+word_text how word (Some symbol) is = let found = each_shown how.printing symbol in symbol_text how word symbol is found.0 found.1
 
 -- bytes have a replaced text: they themselves, where no prefix is in them
-record BytesText (strip : Bool) (bytes : List ℕ) : Type 0 where
+record BytesText (how : Replacement) (bytes : List ℕ) : Type 0 where
   text : List ℕ
-  replaced : IsReplaced strip bytes text
+  replaced : IsReplaced how bytes text
   same : HasNoPrefix bytes → text ≡ bytes
 
 -- a word, and what follows it
-after_word : (strip : Bool) (word bytes : List ℕ) → word ≢ [] → All IsWordByte word → begins_word bytes ≡ false → BytesText strip bytes → BytesText strip (word ++ bytes)
-after_word strip word bytes some all next rest =
+after_word : (how : Replacement) (word bytes : List ℕ) → word ≢ [] → All IsWordByte word → begins_word bytes ≡ false → BytesText how bytes → BytesText how (word ++ bytes)
+after_word how word bytes some all next rest =
     let split = split_of word in
-    let found = word_text strip split.stem (symbol_in strip split.stem) refl in
+    let found = word_text how split.stem (symbol_in how.strip split.stem) refl in
     let text : List ℕ = (found.answer ++ split.dots) ++ rest.text in
     let back : split.stem ++ split.dots ≡ word = sym split.word_is in
     record {
       text = text;
-      replaced = subst (λ l. IsReplaced strip (l ++ bytes) text) back
+      replaced = subst (λ l. IsReplaced how (l ++ bytes) text) back
           (one_word split.dots (λ e. some (split.word_is ∙ e)) (All-same IsWordByte (split.stem ++ split.dots) word back all) split.dotted split.undotted found.is_answer next rest.replaced);
       same = λ none.
           let in_word : HasNoPrefix (split.stem ++ split.dots) = subst HasNoPrefix split.word_is (no_prefix-left word bytes none) in
@@ -245,35 +246,35 @@ after_word strip word bytes some all next rest =
     }
 
 -- there may be no byte of the word yet
-after_front : (strip : Bool) (word bytes : List ℕ) → All IsWordByte word → begins_word bytes ≡ false → BytesText strip bytes → BytesText strip (word ++ bytes)
-after_front strip [] bytes all next rest = rest
-after_front strip (byte ∷ word) bytes all next rest = after_word strip (byte ∷ word) bytes (λ e. cc) all next rest
+after_front : (how : Replacement) (word bytes : List ℕ) → All IsWordByte word → begins_word bytes ≡ false → BytesText how bytes → BytesText how (word ++ bytes)
+after_front how [] bytes all next rest = rest
+after_front how (byte ∷ word) bytes all next rest = after_word how (byte ∷ word) bytes (λ e. cc) all next rest
 
-none_text : (strip : Bool) → BytesText strip []
-none_text strip = record { text = []; replaced = no_byte; same = λ _. refl }
+none_text : (how : Replacement) → BytesText how []
+none_text how = record { text = []; replaced = no_byte; same = λ _. refl }
 
 -- the next byte is in the word, or none of words
-at_byte : (strip : Bool) (word bytes : List ℕ) (byte : ℕ) → All IsWordByte word → (t : Bool) → is_word_byte byte ≡ t
-    → (All IsWordByte (word ++ byte ∷ []) → BytesText strip ((word ++ byte ∷ []) ++ bytes)) → BytesText strip bytes
-    → BytesText strip (word ++ byte ∷ bytes)
-at_byte strip word bytes byte all true is longer rest =
-    subst (BytesText strip) (append_assoc word (byte ∷ []) bytes) (longer (All-push IsWordByte word byte all is))
-at_byte strip word bytes byte all false is longer rest =
-    after_front strip word (byte ∷ bytes) all is
+at_byte : (how : Replacement) (word bytes : List ℕ) (byte : ℕ) → All IsWordByte word → (t : Bool) → is_word_byte byte ≡ t
+    → (All IsWordByte (word ++ byte ∷ []) → BytesText how ((word ++ byte ∷ []) ++ bytes)) → BytesText how bytes
+    → BytesText how (word ++ byte ∷ bytes)
+at_byte how word bytes byte all true is longer rest =
+    subst (BytesText how) (append_assoc word (byte ∷ []) bytes) (longer (All-push IsWordByte word byte all is))
+at_byte how word bytes byte all false is longer rest =
+    after_front how word (byte ∷ bytes) all is
     (record { text = byte ∷ rest.text; replaced = other is rest.replaced; same = λ none. ap (λ l. byte ∷ l) (rest.same (no_prefix-right (byte ∷ []) bytes none)) })
 
-from_word : (strip : Bool) (word bytes : List ℕ) → All IsWordByte word → BytesText strip (word ++ bytes)
-from_word strip word [] all = after_front strip word [] all refl (none_text strip)
-from_word strip word (byte ∷ bytes) all =
-    at_byte strip word bytes byte all (is_word_byte byte) refl (λ longer. from_word strip (word ++ byte ∷ []) bytes longer)
-    (from_word strip [] bytes (All-nil IsWordByte))
+from_word : (how : Replacement) (word bytes : List ℕ) → All IsWordByte word → BytesText how (word ++ bytes)
+from_word how word [] all = after_front how word [] all refl (none_text how)
+from_word how word (byte ∷ bytes) all =
+    at_byte how word bytes byte all (is_word_byte byte) refl (λ longer. from_word how (word ++ byte ∷ []) bytes longer)
+    (from_word how [] bytes (All-nil IsWordByte))
 
 -- all bytes have a replaced text
-pub replaced_of : (strip : Bool) (bytes : List ℕ) → (text : List ℕ) × IsReplaced strip bytes text
-replaced_of strip bytes = let found = from_word strip [] bytes (All-nil IsWordByte) in (found.text, found.replaced)
+pub replaced_of : (how : Replacement) (bytes : List ℕ) → (text : List ℕ) × IsReplaced how bytes text
+replaced_of how bytes = let found = from_word how [] bytes (All-nil IsWordByte) in (found.text, found.replaced)
 
 -- bytes without a prefix stay
-pub unprefixed : (strip : Bool) (bytes : List ℕ) → HasNoPrefix bytes → IsReplaced strip bytes bytes
-unprefixed strip bytes none =
-    let found = from_word strip [] bytes (All-nil IsWordByte) in
-    subst (IsReplaced strip bytes) (found.same none) found.replaced
+pub unprefixed : (how : Replacement) (bytes : List ℕ) → HasNoPrefix bytes → IsReplaced how bytes bytes
+unprefixed how bytes none =
+    let found = from_word how [] bytes (All-nil IsWordByte) in
+    subst (IsReplaced how bytes) (found.same none) found.replaced

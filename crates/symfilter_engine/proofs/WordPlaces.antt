@@ -12,6 +12,7 @@ use Rattle.itanium_syntax.specs.Bytes.{is, is_between, is_digit, one_of, begins}
 use Rattle.symfilter_engine.specs.Replaced.{is_word_byte, IsWordByte, IsDot, ends_in_dot, sign_len, past_sign, symbol_in, IsWordAnswer, IsReplaced, no_byte, one_word}
 use Rattle.symfilter_engine.specs.Progress.{underscore, capital_z, HasNone, IsFirst, HasNoPrefix, IsFirstPrefix, AreWordBytes, IsBoundary, IsPastWord, Extends, AppendsReplaced}
 use Rattle.symfilter_engine.proofs.ReplacedText.{no_prefix-left, more_replaced, unprefixed}
+use Rattle.symfilter_engine.specs.declared.symbols.Replacement.{Replacement}
 
 -- no prefix ends before the place
 abbrev pub NoneUpTo : List ℕ → ℕ → Type 0
@@ -191,36 +192,36 @@ symbol_words strip word symbol is all =
     ]
 
 -- a word, and what is written for it
-pub word_replaced : (strip : Bool) (word answer : List ℕ) (stem : ℕ) → 0 < length word → All IsWordByte word → All IsDot (drop stem word)
-    → ends_in_dot (take stem word) ≡ false → IsWordAnswer strip (take stem word) answer → IsReplaced strip word (answer ++ drop stem word)
-word_replaced strip word answer stem some all dotted undotted is_answer =
+pub word_replaced : (how : Replacement) (word answer : List ℕ) (stem : ℕ) → 0 < length word → All IsWordByte word → All IsDot (drop stem word)
+    → ends_in_dot (take stem word) ≡ false → IsWordAnswer how (take stem word) answer → IsReplaced how word (answer ++ drop stem word)
+word_replaced how word answer stem some all dotted undotted is_answer =
     let whole : take stem word ++ drop stem word ≡ word = take-append-drop stem word in
     let nonempty : take stem word ++ drop stem word ≢ [] = λ e. absurd (omega (arith, some, ap length (sym whole ∙ e))) in
-    subst (IsReplaced strip word) (append-nil (answer ++ drop stem word))
-    (subst (λ l. IsReplaced strip l ((answer ++ drop stem word) ++ [])) (append-nil (take stem word ++ drop stem word) ∙ whole)
+    subst (IsReplaced how word) (append-nil (answer ++ drop stem word))
+    (subst (λ l. IsReplaced how l ((answer ++ drop stem word) ++ [])) (append-nil (take stem word ++ drop stem word) ∙ whole)
     (one_word (drop stem word) nonempty (All-same IsWordByte (take stem word ++ drop stem word) word whole all) dotted undotted is_answer refl no_byte))
 
 -- the word itself
-pub word_stays : (strip : Bool) (word : List ℕ) (stem : ℕ) → 0 < length word → All IsWordByte word → All IsDot (drop stem word)
-    → ends_in_dot (take stem word) ≡ false → IsWordAnswer strip (take stem word) (take stem word) → IsReplaced strip word word
-word_stays strip word stem some all dotted undotted is_answer =
-    subst (IsReplaced strip word) (take-append-drop stem word) (word_replaced strip word (take stem word) stem some all dotted undotted is_answer)
+pub word_stays : (how : Replacement) (word : List ℕ) (stem : ℕ) → 0 < length word → All IsWordByte word → All IsDot (drop stem word)
+    → ends_in_dot (take stem word) ≡ false → IsWordAnswer how (take stem word) (take stem word) → IsReplaced how word word
+word_stays how word stem some all dotted undotted is_answer =
+    subst (IsReplaced how word) (take-append-drop stem word) (word_replaced how word (take stem word) stem some all dotted undotted is_answer)
 
 -- after bytes without a prefix a word was replaced too
-pub turn_replaced : (strip : Bool) (text old before mid after : List ℕ) (done more start end : ℕ) → end ≤ length text → done ≤ start → start ≤ done + more → start ≤ end
-    → IsBoundary text done → IsBoundary text start → AppendsReplaced strip (take done text) old before → HasNoPrefix (take more (drop done text))
-    → mid ≡ before ++ take (start - done) (drop done text) → AppendsReplaced strip (take (end - start) (drop start text)) mid after
-    → AppendsReplaced strip (take end text) old after
-turn_replaced strip text old before mid after done more start end inside low high ordered first second (written, replaced, before_is) none mid_is (answer, is_answer, after_is) =
+pub turn_replaced : (how : Replacement) (text old before mid after : List ℕ) (done more start end : ℕ) → end ≤ length text → done ≤ start → start ≤ done + more → start ≤ end
+    → IsBoundary text done → IsBoundary text start → AppendsReplaced how (take done text) old before → HasNoPrefix (take more (drop done text))
+    → mid ≡ before ++ take (start - done) (drop done text) → AppendsReplaced how (take (end - start) (drop start text)) mid after
+    → AppendsReplaced how (take end text) old after
+turn_replaced how text old before mid after done more start end inside low high ordered first second (written, replaced, before_is) none mid_is (answer, is_answer, after_is) =
     let front : List ℕ = take (start - done) (drop done text) in
-    let stays : IsReplaced strip front front = unprefixed strip front (no_prefix-shorter (drop done text) (start - done) more (omega (arith, high)) none) in
-    let up_to : IsReplaced strip (take (done + (start - done)) text) (written ++ front) =
-    more_replaced strip text written front done (start - done) (omega (arith, inside, low, ordered)) first replaced stays in
-    let to_start : IsReplaced strip (take start text) (written ++ front) = subst (λ n. IsReplaced strip (take n text) (written ++ front)) (omega (arith, low)) up_to in
-    let to_end : IsReplaced strip (take (start + (end - start)) text) ((written ++ front) ++ answer) =
-    more_replaced strip text (written ++ front) answer start (end - start) (omega (arith, inside, ordered)) second to_start is_answer in (
+    let stays : IsReplaced how front front = unprefixed how front (no_prefix-shorter (drop done text) (start - done) more (omega (arith, high)) none) in
+    let up_to : IsReplaced how (take (done + (start - done)) text) (written ++ front) =
+    more_replaced how text written front done (start - done) (omega (arith, inside, low, ordered)) first replaced stays in
+    let to_start : IsReplaced how (take start text) (written ++ front) = subst (λ n. IsReplaced how (take n text) (written ++ front)) (omega (arith, low)) up_to in
+    let to_end : IsReplaced how (take (start + (end - start)) text) ((written ++ front) ++ answer) =
+    more_replaced how text (written ++ front) answer start (end - start) (omega (arith, inside, ordered)) second to_start is_answer in (
       (written ++ front) ++ answer,
-      subst (λ n. IsReplaced strip (take n text) ((written ++ front) ++ answer)) (omega (arith, ordered)) to_end,
+      subst (λ n. IsReplaced how (take n text) ((written ++ front) ++ answer)) (omega (arith, ordered)) to_end,
       after_is ∙ ap (λ l. l ++ answer) (mid_is ∙ ap (λ l. l ++ front) before_is ∙ append_assoc old written front) ∙ append_assoc old (written ++ front) answer,
     )
 
@@ -242,12 +243,12 @@ more_parts output text low mid high first second =
     ap (λ l. output ++ l) (sym (parts_joined text low mid high first second)) ∙ sym (append_assoc output (part text low mid) (part text mid high))
 
 -- one more word stays, and is yet to be appended
-pub stays_replaced : (strip : Bool) (text old output : List ℕ) (done from more start end : ℕ) → done ≤ from → from ≤ start → start ≤ from + more → start ≤ end
-    → end ≤ length text → IsBoundary text from → IsBoundary text start → AppendsReplaced strip (take from text) old (output ++ part text done from)
-    → HasNoPrefix (take more (drop from text)) → IsReplaced strip (part text start end) (part text start end)
-    → AppendsReplaced strip (take end text) old (output ++ part text done end)
-stays_replaced strip text old output done from more start end kept low high ordered inside first second so_far none replaced =
-    turn_replaced strip text old (output ++ part text done from) (output ++ part text done start) (output ++ part text done end) from more start end
+pub stays_replaced : (how : Replacement) (text old output : List ℕ) (done from more start end : ℕ) → done ≤ from → from ≤ start → start ≤ from + more → start ≤ end
+    → end ≤ length text → IsBoundary text from → IsBoundary text start → AppendsReplaced how (take from text) old (output ++ part text done from)
+    → HasNoPrefix (take more (drop from text)) → IsReplaced how (part text start end) (part text start end)
+    → AppendsReplaced how (take end text) old (output ++ part text done end)
+stays_replaced how text old output done from more start end kept low high ordered inside first second so_far none replaced =
+    turn_replaced how text old (output ++ part text done from) (output ++ part text done start) (output ++ part text done end) from more start end
     inside low high ordered first second so_far none (more_parts output text done from start kept low)
     (part text start end, replaced, more_parts output text done start end (omega (arith, kept, low)) ordered)
 
@@ -272,46 +273,46 @@ answer_placed output text answer done start sign stem end first second third =
     ∙ sym (append_assoc output before ((front ++ answer) ++ dots))
 
 -- one more word is answered
-pub answer_replaced : (strip : Bool) (text old output answer after : List ℕ) (done from more start sign stem end : ℕ) → done ≤ from → from ≤ start → start ≤ from + more
-    → start < end → end ≤ length text → IsBoundary text from → IsBoundary text start → AppendsReplaced strip (take from text) old (output ++ part text done from)
+pub answer_replaced : (how : Replacement) (text old output answer after : List ℕ) (done from more start sign stem end : ℕ) → done ≤ from → from ≤ start → start ≤ from + more
+    → start < end → end ≤ length text → IsBoundary text from → IsBoundary text start → AppendsReplaced how (take from text) old (output ++ part text done from)
     → HasNoPrefix (take more (drop from text)) → All IsWordByte (part text start end) → All IsDot (drop stem (part text start end))
     → ends_in_dot (take stem (part text start end)) ≡ false → sign ≤ stem → start + stem ≤ end
-    → IsWordAnswer strip (take stem (part text start end)) (take sign (take stem (part text start end)) ++ answer)
+    → IsWordAnswer how (take stem (part text start end)) (take sign (take stem (part text start end)) ++ answer)
     → after ≡ output ++ (part text done (start + sign) ++ answer)
-    → AppendsReplaced strip (take end text) old (after ++ part text (start + stem) end)
-answer_replaced strip text old output answer after done from more start sign stem end kept low high some inside first second so_far none all dotted undotted sign_in stem_in is_answer after_is =
+    → AppendsReplaced how (take end text) old (after ++ part text (start + stem) end)
+answer_replaced how text old output answer after done from more start sign stem end kept low high some inside first second so_far none all dotted undotted sign_in stem_in is_answer after_is =
     let word = part text start end in
     let front = take sign (take stem word) in
-    turn_replaced strip text old (output ++ part text done from) (output ++ part text done start) (after ++ part text (start + stem) end) from more start end
+    turn_replaced how text old (output ++ part text done from) (output ++ part text done start) (after ++ part text (start + stem) end) from more start end
     inside low high (omega (arith, some)) first second so_far none (more_parts output text done from start kept low) (
       (front ++ answer) ++ drop stem word,
-      word_replaced strip word (front ++ answer) stem (omega (arith, some, part_len text start end inside)) all dotted undotted is_answer,
+      word_replaced how word (front ++ answer) stem (omega (arith, some, part_len text start end inside)) all dotted undotted is_answer,
       ap (λ l. l ++ part text (start + stem) end) after_is
           ∙ answer_placed output text answer done start sign stem end (omega (arith, kept, low)) sign_in stem_in
           ∙ ap (λ l. (output ++ part text done start) ++ ((l ++ answer) ++ drop stem word)) (sym (take-take sign stem word sign_in)),
     )
 
 -- no prefix is left
-rest_replaced : (strip : Bool) (text old before after : List ℕ) (done : ℕ) → done ≤ length text → IsBoundary text done
-    → AppendsReplaced strip (take done text) old before → HasNoPrefix (take (length text - done) (drop done text))
-    → after ≡ before ++ take (length text - done) (drop done text) → AppendsReplaced strip text old after
-rest_replaced strip text old before after done inside boundary (written, replaced, before_is) none after_is =
+rest_replaced : (how : Replacement) (text old before after : List ℕ) (done : ℕ) → done ≤ length text → IsBoundary text done
+    → AppendsReplaced how (take done text) old before → HasNoPrefix (take (length text - done) (drop done text))
+    → after ≡ before ++ take (length text - done) (drop done text) → AppendsReplaced how text old after
+rest_replaced how text old before after done inside boundary (written, replaced, before_is) none after_is =
     let rest : List ℕ = take (length text - done) (drop done text) in
     let all : take (done + (length text - done)) text ≡ text = take_all (done + (length text - done)) text (omega (arith, inside)) in (
       written ++ rest,
-      subst (λ l. IsReplaced strip l (written ++ rest)) all (more_replaced strip text written rest done (length text - done) inside boundary replaced (unprefixed strip rest none)),
+      subst (λ l. IsReplaced how l (written ++ rest)) all (more_replaced how text written rest done (length text - done) inside boundary replaced (unprefixed how rest none)),
       after_is ∙ ap (λ l. l ++ rest) before_is ∙ append_assoc old written rest,
     )
 
 pub extended : (old output more after : List ℕ) → Extends old output → after ≡ output ++ more → Extends old after
 extended old output more after (front, output_is) after_is = (front ++ more, after_is ∙ ap (λ l. l ++ more) output_is ∙ append_assoc old front more)
 
-pub rest_appended : {T E : Type 0} (r : Result T E) (strip : Bool) (text old output after : List ℕ) (done from : ℕ) → done ≤ from → from ≤ length text → IsBoundary text from
-    → AppendsReplaced strip (take from text) old (output ++ part text done from) → HasNoPrefix (part text from (length text))
-    → OnOk r (after ≡ output ++ part text done (length text)) → OnOk r (AppendsReplaced strip text old after)
-rest_appended (Ok _) strip text old output after done from kept inside boundary so_far none after_is =
-    rest_replaced strip text old (output ++ part text done from) after from inside boundary so_far none (after_is ∙ more_parts output text done from (length text) kept inside)
-rest_appended (Err _) strip text old output after done from kept inside boundary so_far none after_is = tt
+pub rest_appended : {T E : Type 0} (r : Result T E) (how : Replacement) (text old output after : List ℕ) (done from : ℕ) → done ≤ from → from ≤ length text → IsBoundary text from
+    → AppendsReplaced how (take from text) old (output ++ part text done from) → HasNoPrefix (part text from (length text))
+    → OnOk r (after ≡ output ++ part text done (length text)) → OnOk r (AppendsReplaced how text old after)
+rest_appended (Ok _) how text old output after done from kept inside boundary so_far none after_is =
+    rest_replaced how text old (output ++ part text done from) after from inside boundary so_far none (after_is ∙ more_parts output text done from (length text) kept inside)
+rest_appended (Err _) how text old output after done from kept inside boundary so_far none after_is = tt
 
 -- one byte more of a word, in front
 pub word_down : (bytes : List ℕ) (place : ℕ) → place < length bytes → is_word_byte (get_or bytes place 0) ≡ true → All IsWordByte (drop (suc place) bytes) → All IsWordByte (drop place bytes)

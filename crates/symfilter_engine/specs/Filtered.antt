@@ -1,9 +1,11 @@
 -- The filtered text of a list of bytes.
-use Rattle.std.specs.Prelude.{◌≡◌, ◌≢◌, ℕ, ◌-◌, ◌<◌, List, [], ◌∷◌, ◌++◌, All, Bool, true, false, IsUtf8, Option, Some, None, length, slice_index}
+use Rattle.std.specs.Prelude.{◌≡◌, ◌≢◌, ℕ, ◌-◌, ◌<◌, List, [], ◌∷◌, ◌++◌, All, true, false, IsUtf8, Option, Some, None, length, slice_index}
 use Rattle.std.specs.Io.KnownBytes.{Appends, Consumes}
-use Rattle.itanium_grammar.specs.Answer.{IsAnswer}
+use Rattle.symfilter_engine.specs.declared.symbols.Printing.{Printing}
+use Rattle.symfilter_engine.specs.declared.symbols.Replacement.{Replacement}
 use Rattle.symfilter_engine.specs.declared.symbols.Symbols.{Symbols}
 use Rattle.symfilter_engine.specs.declared.symbols.Symbols.TheVariants.{Lines, Words}
+use Rattle.symfilter_engine.specs.Shown.{IsShown}
 use Rattle.symfilter_engine.specs.Replaced.{ends_word, IsHeld, IsReplaced}
 
 -- the byte that ends a line
@@ -15,31 +17,31 @@ abbrev pub HasNoLineFeed : List ℕ → Type 0
 HasNoLineFeed bytes = All (λ byte. byte ≢ line_feed) bytes
 
 -- a line without its line feed, and what is written for it
-pub data IsLineAnswer (line : List ℕ) : List ℕ → Type 0 where
+pub data IsLineAnswer (printing : Printing) (line : List ℕ) : List ℕ → Type 0 where
   -- its demangled name, where it is UTF-8 and has one
-  answered : {text : List ℕ} → IsUtf8 line → IsAnswer line (Some text) → IsLineAnswer line text
+  answered : {text : List ℕ} → IsUtf8 line → IsShown printing line (Some text) → IsLineAnswer printing line text
   -- the line itself, where it has none
-  unanswered : IsUtf8 line → IsAnswer line None → IsLineAnswer line line
+  unanswered : IsUtf8 line → IsShown printing line None → IsLineAnswer printing line line
   -- the line itself, where it isn't UTF-8
-  not_utf8 : ¬ (IsUtf8 line) → IsLineAnswer line line
+  not_utf8 : ¬ (IsUtf8 line) → IsLineAnswer printing line line
 
 -- lines that each end in a line feed, and what is written where each is a symbol
-pub data AreLinesAnswered : List ℕ → List ℕ → Type 0 where
+pub data AreLinesAnswered (printing : Printing) : List ℕ → List ℕ → Type 0 where
   -- there is none
-  no_line : AreLinesAnswered [] []
+  no_line : AreLinesAnswered printing [] []
   -- one more line: what is written for it is followed by the line feed
-  one_more : {lines text line answer : List ℕ} → AreLinesAnswered lines text
-      → HasNoLineFeed line → IsLineAnswer line answer
-      → AreLinesAnswered (lines ++ (line ++ line_feed ∷ [])) (text ++ (answer ++ line_feed ∷ []))
+  one_more : {lines text line answer : List ℕ} → AreLinesAnswered printing lines text
+      → HasNoLineFeed line → IsLineAnswer printing line answer
+      → AreLinesAnswered printing (lines ++ (line ++ line_feed ∷ [])) (text ++ (answer ++ line_feed ∷ []))
 
 -- bytes that were read, and what is written where each line is a symbol
-pub data IsAnswered : List ℕ → List ℕ → Type 0 where
+pub data IsAnswered (printing : Printing) : List ℕ → List ℕ → Type 0 where
   -- they end in a line feed, or there are none
-  ended : {lines text : List ℕ} → AreLinesAnswered lines text → IsAnswered lines text
+  ended : {lines text : List ℕ} → AreLinesAnswered printing lines text → IsAnswered printing lines text
   -- a last line has no line feed, and none is written for it
-  unended : {lines text line answer : List ℕ} → AreLinesAnswered lines text
-      → line ≢ [] → HasNoLineFeed line → IsLineAnswer line answer
-      → IsAnswered (lines ++ line) (text ++ answer)
+  unended : {lines text line answer : List ℕ} → AreLinesAnswered printing lines text
+      → line ≢ [] → HasNoLineFeed line → IsLineAnswer printing line answer
+      → IsAnswered printing (lines ++ line) (text ++ answer)
 
 -- there is no byte, or the last is a line feed
 abbrev pub EndsInLineFeed : List ℕ → Type 0
@@ -47,18 +49,18 @@ EndsInLineFeed bytes = 0 < length bytes → slice_index bytes (length bytes - 1)
 
 -- bytes that were read, and their filtered text: where symbols stand in words, it is the replaced text
 abbrev pub IsFiltered : Symbols → List ℕ → List ℕ → Type 0
-IsFiltered Lines bytes text = IsAnswered bytes text
-IsFiltered (Words strip) bytes text = IsReplaced strip bytes text
+IsFiltered (Lines printing) bytes text = IsAnswered printing bytes text
+IsFiltered (Words how) bytes text = IsReplaced how bytes text
 
 -- whole lines; where symbols stand in words, whole words, after the last of which a byte that is in no word stands
 abbrev pub AreWhole : Symbols → List ℕ → Type 0
-AreWhole Lines bytes = EndsInLineFeed bytes
-AreWhole (Words strip) bytes = ends_word bytes ≡ false
+AreWhole (Lines printing) bytes = EndsInLineFeed bytes
+AreWhole (Words how) bytes = ends_word bytes ≡ false
 
 -- whole lines or words, and their filtered text
 abbrev pub AreLinesFiltered : Symbols → List ℕ → List ℕ → Type 0
-AreLinesFiltered Lines lines text = AreLinesAnswered lines text
-AreLinesFiltered (Words strip) lines text = (ends_word lines ≡ false) × IsReplaced strip lines text
+AreLinesFiltered (Lines printing) lines text = AreLinesAnswered printing lines text
+AreLinesFiltered (Words how) lines text = (ends_word lines ≡ false) × IsReplaced how lines text
 
 -- written is a front of the text
 abbrev pub IsFront : List ℕ → List ℕ → Type 0
@@ -108,14 +110,14 @@ pub record FiltersLines (symbols : Symbols) (before after written_before written
 
 -- the source gave these bytes and then those that are held back, where its bytes are known, and the sink got the
 -- replaced text of the former and nothing else
-pub record ReplacesAllButHeld (strip : Bool)
+pub record ReplacesAllButHeld (how : Replacement)
     (before after written_before written_after : Option (List ℕ)) : Type 0 where
   pub given : List ℕ
   pub held : List ℕ
   pub consumed : Consumes before after (given ++ held)
-  pub is_held : IsHeld strip held
+  pub is_held : IsHeld how.strip held
   -- what is held back begins a word
   pub begins : ends_word given ≡ true → held ≡ []
   pub text : List ℕ
-  pub replaced : IsReplaced strip given text
+  pub replaced : IsReplaced how given text
   pub written : Appends written_before written_after text

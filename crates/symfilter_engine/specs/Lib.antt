@@ -1,4 +1,5 @@
 pub mod Replaced
+pub mod Shown
 pub mod Filtered
 pub mod Fault
 pub mod Progress

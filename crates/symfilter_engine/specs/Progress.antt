@@ -1,6 +1,7 @@
 -- What has been written on the way.
 use Rattle.std.specs.Prelude.{◌≡◌, ◌≢◌, ℕ, suc, ◌-◌, ◌<◌, ◌≤◌, List, [], ◌∷◌, ◌++◌, All, Bool, true, false, Option, length, take, slice_index}
 use Rattle.std.specs.Io.KnownBytes.{Appends, Consumes, IsAtEnd}
+use Rattle.symfilter_engine.specs.declared.symbols.Replacement.{Replacement}
 use Rattle.symfilter_engine.specs.declared.symbols.Symbols.{Symbols}
 use Rattle.symfilter_engine.specs.Filtered.{line_feed, AreLinesFiltered, IsFront, WritesBeginning}
 use Rattle.symfilter_engine.specs.Replaced.{is_word_byte, IsWordByte, begins_word, ends_word, IsReplaced}
@@ -50,9 +51,9 @@ abbrev pub Extends : List ℕ → List ℕ → Type 0
 Extends before after = (more : List ℕ) × (after ≡ before ++ more)
 
 -- the replaced text of the bytes was appended
-abbrev pub AppendsReplaced : Bool → List ℕ → List ℕ → List ℕ → Type 0
-AppendsReplaced strip bytes before after =
-    (text : List ℕ) × IsReplaced strip bytes text × (after ≡ before ++ text)
+abbrev pub AppendsReplaced : Replacement → List ℕ → List ℕ → List ℕ → Type 0
+AppendsReplaced how bytes before after =
+    (text : List ℕ) × IsReplaced how bytes text × (after ≡ before ++ text)
 
 -- these bytes were written up to the rest
 pub record WritesUpTo (bytes rest : List ℕ) (before after : Option (List ℕ)) : Type 0 where
@@ -107,7 +108,7 @@ pub record ReadsMore (kept end : ℕ) (old new : List ℕ) (before after : Optio
   pub ended : end ≡ kept → IsAtEnd after
 
 -- bytes in which a word that holds no symbol goes on, and their replaced text
-pub record GoesOn (strip : Bool) (bytes text : List ℕ) : Type 0 where
+pub record GoesOn (how : Replacement) (bytes text : List ℕ) : Type 0 where
   pub word : List ℕ
   pub more : List ℕ
   pub more_text : List ℕ
@@ -115,52 +116,52 @@ pub record GoesOn (strip : Bool) (bytes text : List ℕ) : Type 0 where
   pub text_is : text ≡ word ++ more_text
   pub all : All IsWordByte word
   pub next : begins_word more ≡ false
-  pub replaced : IsReplaced strip more more_text
+  pub replaced : IsReplaced how more more_text
 
 -- bytes, and their replaced text, after a word that holds no symbol and goes on in them, or after none
-abbrev pub IsReplacedIn : Bool → Bool → List ℕ → List ℕ → Type 0
-IsReplacedIn strip true bytes text = GoesOn strip bytes text
-IsReplacedIn strip false bytes text = IsReplaced strip bytes text
+abbrev pub IsReplacedIn : Replacement → Bool → List ℕ → List ℕ → Type 0
+IsReplacedIn how true bytes text = GoesOn how bytes text
+IsReplacedIn how false bytes text = IsReplaced how bytes text
 
 -- the replaced text of bytes that come after such a word or none, and whether such a word goes on after them
-pub record Leads (strip inside : Bool) (bytes text : List ℕ) (after : Bool) : Type 0 where
-  pub goes : (rest more : List ℕ) → IsReplacedIn strip after rest more → IsReplacedIn strip inside (bytes ++ rest) (text ++ more)
+pub record Leads (how : Replacement) (inside : Bool) (bytes text : List ℕ) (after : Bool) : Type 0 where
+  pub goes : (rest more : List ℕ) → IsReplacedIn how after rest more → IsReplacedIn how inside (bytes ++ rest) (text ++ more)
   pub ended : after ≡ false → ends_word bytes ≡ false
   pub none : after ≡ false → bytes ≡ [] → inside ≡ false
 
 -- of the bytes given the replaced text of all but those left was written
-pub record HasReplaced (strip inside : Bool) (given left : List ℕ) (after : Bool) (before_written after_written : Option (List ℕ)) : Type 0 where
+pub record HasReplaced (how : Replacement) (inside : Bool) (given left : List ℕ) (after : Bool) (before_written after_written : Option (List ℕ)) : Type 0 where
   pub done : List ℕ
   pub text : List ℕ
   pub given_is : given ≡ done ++ left
-  pub leads : Leads strip inside done text after
+  pub leads : Leads how inside done text after
   pub written : Appends before_written after_written text
 
 -- the replaced text of whole words was written, and nothing of the next word
-abbrev pub ReplacesWhole : Bool → Bool → List ℕ → Option (List ℕ) → Option (List ℕ) → Type 0
-ReplacesWhole strip inside given before after = (left : List ℕ) × HasReplaced strip inside given left false before after
+abbrev pub ReplacesWhole : Replacement → Bool → List ℕ → Option (List ℕ) → Option (List ℕ) → Type 0
+ReplacesWhole how inside given before after = (left : List ℕ) × HasReplaced how inside given left false before after
 
 -- a beginning of the replaced text of the bytes was written
-abbrev pub ReplacesBeginning : Bool → Bool → List ℕ → Option (List ℕ) → Option (List ℕ) → Type 0
-ReplacesBeginning strip inside given before after =
-    (written : List ℕ) × ((text : List ℕ) × IsReplacedIn strip inside given text × IsFront written text) × Appends before after written
+abbrev pub ReplacesBeginning : Replacement → Bool → List ℕ → Option (List ℕ) → Option (List ℕ) → Type 0
+ReplacesBeginning how inside given before after =
+    (written : List ℕ) × ((text : List ℕ) × IsReplacedIn how inside given text × IsFront written text) × Appends before after written
 
 -- whatever follows these bytes, a beginning of the replaced text of all was written
-abbrev pub ReplacesFront : Bool → Bool → List ℕ → Option (List ℕ) → Option (List ℕ) → Type 0
-ReplacesFront strip inside given before after = (rest : List ℕ) → ReplacesBeginning strip inside (given ++ rest) before after
+abbrev pub ReplacesFront : Replacement → Bool → List ℕ → Option (List ℕ) → Option (List ℕ) → Type 0
+ReplacesFront how inside given before after = (rest : List ℕ) → ReplacesBeginning how inside (given ++ rest) before after
 
 -- bytes were read, and the replaced text of all but a last word was written; none is left where a word goes on
-pub record HasCopiedWords (strip inside : Bool) (word : List ℕ)
+pub record HasCopiedWords (how : Replacement) (inside : Bool) (word : List ℕ)
     (before after written_before written_after : Option (List ℕ)) : Type 0 where
   pub read : List ℕ
   pub consumed : Consumes before after read
   pub none : inside ≡ true → word ≡ []
-  pub replaced : HasReplaced strip false read word inside written_before written_after
+  pub replaced : HasReplaced how false read word inside written_before written_after
 
 -- the same, whether a word goes on or not
-abbrev pub CopiesWords : Bool → List ℕ → Option (List ℕ) → Option (List ℕ) → Option (List ℕ) → Option (List ℕ) → Type 0
-CopiesWords strip word before after written_before written_after =
-    (inside : Bool) × HasCopiedWords strip inside word before after written_before written_after
+abbrev pub CopiesWords : Replacement → List ℕ → Option (List ℕ) → Option (List ℕ) → Option (List ℕ) → Option (List ℕ) → Type 0
+CopiesWords how word before after written_before written_after =
+    (inside : Bool) × HasCopiedWords how inside word before after written_before written_after
 
 -- a word has so many bytes, with one after it that is in no word
 pub record IsPastWord (bytes : List ℕ) (len : ℕ) : Type 0 where

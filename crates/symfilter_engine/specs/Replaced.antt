@@ -1,7 +1,8 @@
 -- The replaced text of a list of bytes: symbols that stand in words are replaced by their demangled names.
 use Rattle.std.specs.Prelude.{◌≡◌, ◌≢◌, ℕ, List, [], ◌∷◌, ◌++◌, All, Bool, false, ◌&&◌, ◌||◌, Option, Some, None, IsTrue, is_some, nat_lt, codes, length, take, drop, if◌then◌else◌}
 use Rattle.itanium_syntax.specs.Bytes.{is, is_between, is_digit, one_of, begins, begins_one_of}
-use Rattle.itanium_grammar.specs.Answer.{IsAnswer}
+use Rattle.symfilter_engine.specs.declared.symbols.Replacement.{Replacement}
+use Rattle.symfilter_engine.specs.Shown.{IsShown}
 
 -- a byte of words: an ASCII letter, a digit, `_`, `$` or `.`
 abbrev pub is_word_byte : ℕ → Bool
@@ -56,19 +57,19 @@ abbrev pub symbol_in : Bool → List ℕ → Option (List ℕ)
 symbol_in strip word = symbol_at strip (past_sign word)
 
 -- a word without the dots at its end, and what is written for it
-pub data IsWordAnswer (strip : Bool) (word : List ℕ) : List ℕ → Type 0 where
+pub data IsWordAnswer (how : Replacement) (word : List ℕ) : List ℕ → Type 0 where
   -- its sign stays, and its symbol has a demangled name
   answered : {symbol text : List ℕ}
-      → symbol_in strip word ≡ Some symbol
-      → IsAnswer symbol (Some text)
-      → IsWordAnswer strip word (sign_of word ++ text)
+      → symbol_in how.strip word ≡ Some symbol
+      → IsShown how.printing symbol (Some text)
+      → IsWordAnswer how word (sign_of word ++ text)
   -- it stays, where its symbol has none
   unanswered : {symbol : List ℕ}
-      → symbol_in strip word ≡ Some symbol
-      → IsAnswer symbol None
-      → IsWordAnswer strip word word
+      → symbol_in how.strip word ≡ Some symbol
+      → IsShown how.printing symbol None
+      → IsWordAnswer how word word
   -- it stays, where it has no symbol
-  no_symbol : symbol_in strip word ≡ None → IsWordAnswer strip word word
+  no_symbol : symbol_in how.strip word ≡ None → IsWordAnswer how word word
 
 -- a word that begins with these bytes may hold a symbol: it begins with one, or they are too few to show that it doesn't
 abbrev pub may_hold_symbol : Bool → List ℕ → Bool
@@ -80,14 +81,14 @@ pub record IsHeld (strip : Bool) (bytes : List ℕ) : Type 0 where
   pub may_hold : IsTrue (may_hold_symbol strip bytes)
 
 -- bytes, and their replaced text
-pub data IsReplaced (strip : Bool) : List ℕ → List ℕ → Type 0 where
+pub data IsReplaced (how : Replacement) : List ℕ → List ℕ → Type 0 where
   -- there are none
-  no_byte : IsReplaced strip [] []
+  no_byte : IsReplaced how [] []
   -- a byte that is in no word stays, and more bytes follow
   other : {byte : ℕ} {bytes text : List ℕ}
       → is_word_byte byte ≡ false
-      → IsReplaced strip bytes text
-      → IsReplaced strip (byte ∷ bytes) (byte ∷ text)
+      → IsReplaced how bytes text
+      → IsReplaced how (byte ∷ bytes) (byte ∷ text)
   -- a word, which has a byte at least
   one_word : {word bytes answer text : List ℕ} (dots : List ℕ)
       → word ++ dots ≢ []
@@ -95,8 +96,8 @@ pub data IsReplaced (strip : Bool) : List ℕ → List ℕ → Type 0 where
       -- all dots at its end stay
       → All IsDot dots
       → ends_in_dot word ≡ false
-      → IsWordAnswer strip word answer
+      → IsWordAnswer how word answer
       -- no more bytes of the word follow
       → begins_word bytes ≡ false
-      → IsReplaced strip bytes text
-      → IsReplaced strip ((word ++ dots) ++ bytes) ((answer ++ dots) ++ text)
+      → IsReplaced how bytes text
+      → IsReplaced how ((word ++ dots) ++ bytes) ((answer ++ dots) ++ text)

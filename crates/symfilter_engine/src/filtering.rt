@@ -1,6 +1,7 @@
 //! The filter, its loop over chunks of the input, and how more is read into a chunk.
 ghost use Rattle.std.specs.Prelude.{◌≡◌, ◌≤◌, ◌↔◌, ◌<◌, false, [], length, take, IsTrue, IsErrOf, IfOk, IfSome, Some, OnOk, OnErr};
 ghost use Rattle.std.specs.Io.KnownBytes.{IsAtEnd, Keeps};
+ghost use Rattle.symfilter_engine.specs.declared.symbols.Printing.TheVariants.{Names};
 ghost use Rattle.symfilter_engine.specs.declared.symbols.Symbols.TheVariants.{Lines};
 ghost use Rattle.symfilter_engine.specs.Fault.{IsRunOutcome, IsReadOutcome};
 ghost use Rattle.symfilter_engine.specs.Filtered.{HasNoLineFeed, FiltersFront, FiltersLines, FiltersWholeLines, WritesFiltered};
@@ -10,7 +11,7 @@ use super::ends::{Failed, Sink, Source};
 use super::fault::FilterFault;
 use super::line_feeds::ended_len;
 use super::lines::{write_last, write_lines};
-use super::symbols::Symbols;
+use super::symbols::{Printing, Symbols};
 use growing_text::Text;
 use itanium_demangle::Demangler;
 use std::alloc::Global;
@@ -44,28 +45,74 @@ pub fn filter<R: Source, W: Sink>(
     ensures used_up { OnOk result (IfSome (R.remaining source.old) (λ _.
         R.remaining source.new ≡ Some [])) }
     ensures ok { OnOk result (IfSome (R.remaining source.old) (λ given.
-        WritesFiltered Lines given (W.taken sink.old) (W.taken sink.new))) }
-    ensures err { OnErr result (FiltersFront Lines
+        WritesFiltered (Lines Names) given (W.taken sink.old) (W.taken sink.new))) }
+    ensures err { OnErr result (FiltersFront (Lines Names)
         (R.remaining source.old) (R.remaining source.new)
         (W.taken sink.old) (W.taken sink.new)) }
 
     // Any call of the source may fail. So all whole lines that it gave are written before each call.
-    ensures put { IsErrOf result FilterFault.Read → FiltersLines Lines
+    ensures put { IsErrOf result FilterFault.Read → FiltersLines (Lines Names)
         (R.remaining source.old) (R.remaining source.new)
         (W.taken sink.old) (W.taken sink.new) }
 
     // After a failed allocation whole lines have been written, and nothing of the next line.
-    ensures memory { IsErrOf result FilterFault.Memory → FiltersWholeLines Lines
+    ensures memory { IsErrOf result FilterFault.Memory → FiltersWholeLines (Lines Names)
+        (R.remaining source.old) (R.remaining source.new)
+        (W.taken sink.old) (W.taken sink.new) }
+{
+    filter_by(alloc, Printing::Names, source, sink)
+}
+
+/// Reads to the end, and writes for each line what is printed for it as a symbol: its demangled name, or its signature. A
+/// line that has none, or that isn't UTF-8, is written as it is. A line goes up to the next line feed or the end of the input. Its line feed is written
+/// where there was one. Before each read all whole lines that were read are written.
+///
+/// It returns at the first fault, and calls neither source nor sink after it. The fault is `Read` if the source has
+/// failed, `Write` if the sink has failed, and `Memory` if an allocation has failed. The sink has then got a beginning
+/// of the filtered text: after `Read` the text of all whole lines that were read, and after `Memory` that of some whole
+/// lines. By the code the next line is then the one that the allocation was for; no clause says so.
+pub fn filter_by<R: Source, W: Sink>(
+    alloc: Global,
+    printing: Printing,
+    source: &mut R,
+    sink: &mut W,
+) -> Result<(), FilterFault>
+    requires source_not_failed { R.failed source.old ≡ false }
+    requires sink_not_failed { W.failed sink.old ≡ false }
+    ensures read { IsErrOf result FilterFault.Read ↔ IsTrue (R.failed source.new) }
+    ensures write { IsErrOf result FilterFault.Write ↔ IsTrue (W.failed sink.new) }
+
+    // Neither source nor sink is called after a failure, which `called_late` would record.
+    ensures source_in_time { R.called_late source.new ≡ R.called_late source.old }
+    ensures sink_in_time { W.called_late sink.new ≡ W.called_late sink.old }
+
+    // These clauses hold where the bytes of the source and of the sink are known.
+    ensures used_up { OnOk result (IfSome (R.remaining source.old) (λ _.
+        R.remaining source.new ≡ Some [])) }
+    ensures ok { OnOk result (IfSome (R.remaining source.old) (λ given.
+        WritesFiltered (Lines printing) given (W.taken sink.old) (W.taken sink.new))) }
+    ensures err { OnErr result (FiltersFront (Lines printing)
+        (R.remaining source.old) (R.remaining source.new)
+        (W.taken sink.old) (W.taken sink.new)) }
+
+    // Any call of the source may fail. So all whole lines that it gave are written before each call.
+    ensures put { IsErrOf result FilterFault.Read → FiltersLines (Lines printing)
+        (R.remaining source.old) (R.remaining source.new)
+        (W.taken sink.old) (W.taken sink.new) }
+
+    // After a failed allocation whole lines have been written, and nothing of the next line.
+    ensures memory { IsErrOf result FilterFault.Memory → FiltersWholeLines (Lines printing)
         (R.remaining source.old) (R.remaining source.new)
         (W.taken sink.old) (W.taken sink.new) }
 {
     let mut chunk = vec![in alloc; 0u8; CHUNK_LEN]?;
-    filter_by_chunks(alloc, source, sink, &mut chunk)
+    filter_by_chunks(alloc, printing, source, sink, &mut chunk)
 }
 
 /// Reads to the end through the chunk, and writes each line. The chunk keeps the beginning of a line that isn't whole.
 fn filter_by_chunks<R: Source, W: Sink>(
     alloc: Global,
+    printing: Printing,
     source: &mut R,
     sink: &mut W,
     chunk: &mut Vec<u8>,
@@ -78,20 +125,26 @@ fn filter_by_chunks<R: Source, W: Sink>(
     ensures used_up { OnOk result (IfSome (R.remaining source.old) (λ _.
         R.remaining source.new ≡ Some [])) }
     ensures ok { OnOk result (IfSome (R.remaining source.old) (λ given.
-        WritesFiltered Lines given (W.taken sink.old) (W.taken sink.new))) }
-    ensures err { OnErr result (FiltersFront Lines
+        WritesFiltered (Lines printing) given (W.taken sink.old) (W.taken sink.new))) }
+    ensures err { OnErr result (FiltersFront (Lines printing)
         (R.remaining source.old) (R.remaining source.new)
         (W.taken sink.old) (W.taken sink.new)) }
-    ensures put { IsErrOf result FilterFault.Read → FiltersLines Lines
+    ensures put { IsErrOf result FilterFault.Read → FiltersLines (Lines printing)
         (R.remaining source.old) (R.remaining source.new)
         (W.taken sink.old) (W.taken sink.new) }
-    ensures memory { IsErrOf result FilterFault.Memory → FiltersWholeLines Lines
+    ensures memory { IsErrOf result FilterFault.Memory → FiltersWholeLines (Lines printing)
         (R.remaining source.old) (R.remaining source.new)
         (W.taken sink.old) (W.taken sink.new) }
 {
     let mut demangler = Demangler::new();
-    let kept = copy_lines(alloc, &mut demangler, chunk, source, sink)?;
-    write_last(alloc, &mut demangler, Symbols::Lines, &chunk[..kept], sink)
+    let kept = copy_lines(alloc, &mut demangler, printing, chunk, source, sink)?;
+    write_last(
+        alloc,
+        &mut demangler,
+        Symbols::Lines(printing),
+        &chunk[..kept],
+        sink,
+    )
 }
 
 /// Reads to the end, and writes each line that ends in a line feed. It returns the length in bytes of a last line
@@ -99,6 +152,7 @@ fn filter_by_chunks<R: Source, W: Sink>(
 fn copy_lines<R: Source, W: Sink>(
     alloc: Global,
     demangler: &mut Demangler,
+    printing: Printing,
     chunk: &mut Vec<u8>,
     source: &mut R,
     sink: &mut W,
@@ -111,16 +165,16 @@ fn copy_lines<R: Source, W: Sink>(
     ensures bound { IfOk result (λ kept. kept ≤ length chunk.new.items) }
     ensures at_end { OnOk result (IsAtEnd (R.remaining source.new)) }
     ensures unended { IfOk result (λ kept. HasNoLineFeed (take kept chunk.new.items)) }
-    ensures ok { IfOk result (λ kept. HasCopied Lines (take kept chunk.new.items)
+    ensures ok { IfOk result (λ kept. HasCopied (Lines printing) (take kept chunk.new.items)
         (R.remaining source.old) (R.remaining source.new)
         (W.taken sink.old) (W.taken sink.new)) }
-    ensures err { OnErr result (FiltersFront Lines
+    ensures err { OnErr result (FiltersFront (Lines printing)
         (R.remaining source.old) (R.remaining source.new)
         (W.taken sink.old) (W.taken sink.new)) }
-    ensures put { IsErrOf result FilterFault.Read → FiltersLines Lines
+    ensures put { IsErrOf result FilterFault.Read → FiltersLines (Lines printing)
         (R.remaining source.old) (R.remaining source.new)
         (W.taken sink.old) (W.taken sink.new) }
-    ensures memory { IsErrOf result FilterFault.Memory → FiltersWholeLines Lines
+    ensures memory { IsErrOf result FilterFault.Memory → FiltersWholeLines (Lines printing)
         (R.remaining source.old) (R.remaining source.new)
         (W.taken sink.old) (W.taken sink.new) }
 {
@@ -135,7 +189,7 @@ fn copy_lines<R: Source, W: Sink>(
         write_lines(
             alloc,
             demangler,
-            Symbols::Lines,
+            Symbols::Lines(printing),
             &chunk[..ended],
             &mut output,
             sink,

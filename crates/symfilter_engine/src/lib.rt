@@ -1,5 +1,6 @@
 //! The engine of the filter and the replacement, which copy text from a source to a sink. `filter` demangles each line
-//! that is a symbol, and `replace` each symbol that stands in a word. Before each read `filter` writes all whole lines,
+//! that is a symbol, `filter_by` does so with names or signatures, and `replace` does for each symbol that stands in a word.
+//! Before each read `filter` writes all whole lines,
 //! and `replace` all but a word that may hold a symbol.
 #![tactic(auto)]
 
@@ -19,6 +20,7 @@ mod words;
 
 pub use ends::{Failed, Sink, Source};
 pub use fault::FilterFault;
-pub use filtering::filter;
+pub use filtering::{filter, filter_by};
 pub use replacing::replace;
+pub use symbols::{Printing, Replacement};
 pub use tally::Tally;

@@ -7,6 +7,7 @@ ghost use Rattle.std.specs.Prelude.{◌≡◌, ◌<◌, ◌≤◌, [], false, le
 ghost use Rattle.std.specs.Io.KnownBytes.{Keeps};
 ghost use Rattle.symfilter_engine.specs.Fault.{IsWriteOutcome};
 ghost use Rattle.symfilter_engine.specs.Replaced.{ends_word};
+ghost use Rattle.symfilter_engine.specs.declared.symbols.Printing.{Printing};
 ghost use Rattle.symfilter_engine.specs.declared.symbols.Symbols.TheVariants.{Lines, Words};
 ghost use Rattle.symfilter_engine.specs.Filtered.{HasNoLineFeed, EndsInLineFeed, AreWhole, IsLineAnswer, AreLinesAnswered, AreLinesFiltered, WritesFiltered, WritesBeginning};
 ghost use Rattle.symfilter_engine.specs.Progress.{AppendsLines, HasFiltered, WritesLines, WritesLinesFront, WritesWholeLines};
@@ -17,7 +18,7 @@ use super::fault::FilterFault;
 use super::line_feeds::line_end;
 use super::output::write_all;
 use super::prefixes::unprefixed_len;
-use super::symbols::Symbols;
+use super::symbols::{Printing, Replacement, Symbols, prepare_shown};
 use super::words::append_words;
 use growing_text::Text;
 use itanium_demangle::{Demangler, is_utf8};
@@ -46,7 +47,7 @@ fn ordinary_len(symbols: Symbols, lines: &[u8]) -> usize
     ensures ordinary { AreLinesFiltered symbols (take result lines.now) (take result lines.now) }
 {
     match symbols {
-        Symbols::Lines => unmangled_len(lines),
+        Symbols::Lines(_) => unmangled_len(lines),
         Symbols::Words(_) => unprefixed_len(lines),
     }
 }
@@ -54,7 +55,8 @@ fn ordinary_len(symbols: Symbols, lines: &[u8]) -> usize
 /// The length in bytes of the first whole lines, up to one that begins with an underscore.
 fn unmangled_len(lines: &[u8]) -> usize
     ensures bound { result ≤ length lines.now }
-    ensures ordinary { AreLinesAnswered (take result lines.now) (take result lines.now) }
+    ensures ordinary { (printing : Printing) →
+        AreLinesAnswered printing (take result lines.now) (take result lines.now) }
 {
     let mut len = 0;
     while len < lines.len() && lines[len] != UNDERSCORE {
@@ -66,23 +68,24 @@ fn unmangled_len(lines: &[u8]) -> usize
     len
 }
 
-/// What is written for a line without its line feed: the demangled name, or the line itself where it has none or isn't
-/// UTF-8. Where `known_utf8` is true the line is UTF-8 and isn't tested again.
+/// What is written for a line without its line feed: the name or signature of its symbol, or the line itself where it
+/// has none or isn't UTF-8. Where `known_utf8` is true the line is UTF-8 and isn't tested again.
 #[inline(always)]
 fn line_answer<'a>(
     alloc: Global,
     demangler: &'a mut Demangler,
+    printing: Printing,
     line: &'a [u8],
     known_utf8: bool,
 ) -> Result<&'a [u8], AllocError>
     requires { IsTrue known_utf8 → IsUtf8 line.now }
-    ensures { IfOk result (λ text. IsLineAnswer line.now text.now) }
+    ensures { IfOk result (λ text. IsLineAnswer printing line.now text.now) }
 {
     if !known_utf8 && !is_utf8(line) {
         return Ok(line);
     }
     let symbol = unsafe { str::from_utf8_unchecked(line) };
-    demangler.prepare(alloc, symbol)?;
+    prepare_shown(alloc, demangler, printing, symbol)?;
     match demangler.text() {
         Some(answer) => Ok(answer.as_bytes()),
         None => Ok(line),
@@ -95,6 +98,7 @@ fn line_answer<'a>(
 fn append_line(
     alloc: Global,
     demangler: &mut Demangler,
+    printing: Printing,
     lines: &[u8],
     known_utf8: bool,
     output: &mut Text,
@@ -104,13 +108,13 @@ fn append_line(
     requires known { IsTrue known_utf8 → IsUtf8 lines.now }
     ensures some { IfOk result (λ len. 0 < len) }
     ensures bound { IfOk result (λ len. len ≤ length lines.now) }
-    ensures ok { IfOk result (λ len. AppendsLines Lines (take len lines.now) output.old output.new) }
+    ensures ok { IfOk result (λ len. AppendsLines (Lines printing) (take len lines.now) output.old output.new) }
     ensures err { OnErr result (output.new ≡ output.old) }
 {
     let Some(end) = line_end(lines) else {
         unreachable!()
     };
-    let answer = line_answer(alloc, demangler, &lines[..end], known_utf8)?;
+    let answer = line_answer(alloc, demangler, printing, &lines[..end], known_utf8)?;
     output.add_pair(answer, b"\n")?;
     Ok(end + 1)
 }
@@ -138,7 +142,7 @@ fn block_len(text: &[u8], most: usize) -> usize
 fn append_block(
     alloc: Global,
     demangler: &mut Demangler,
-    strip: bool,
+    how: Replacement,
     text: &[u8],
     output: &mut Text,
 ) -> Result<usize, AllocError>
@@ -146,15 +150,15 @@ fn append_block(
     requires whole { ends_word text.now ≡ false }
     ensures some { IfOk result (λ len. 0 < len) }
     ensures bound { IfOk result (λ len. len ≤ length text.now) }
-    ensures ok { IfOk result (λ len. AppendsLines (Words strip) (take len text.now) output.old output.new) }
+    ensures ok { IfOk result (λ len. AppendsLines (Words how) (take len text.now) output.old output.new) }
     ensures err { OnErr result (output.new ≡ output.old) }
 {
     let len = block_len(text, BLOCK_LEN);
-    if append_words(alloc, demangler, strip, &text[..len], output).is_ok() {
+    if append_words(alloc, demangler, how, &text[..len], output).is_ok() {
         return Ok(len);
     }
     let first = block_len(text, 1);
-    append_words(alloc, demangler, strip, &text[..first], output)?;
+    append_words(alloc, demangler, how, &text[..first], output)?;
     Ok(first)
 }
 
@@ -171,7 +175,7 @@ fn append_next(
 ) -> Result<usize, AllocError>
     requires some { 0 < length lines.now }
     requires whole { AreWhole symbols lines.now }
-    requires known { symbols ≡ Lines → IsTrue known_utf8 → IsUtf8 lines.now }
+    requires known { (printing : Printing) → symbols ≡ Lines printing → IsTrue known_utf8 → IsUtf8 lines.now }
     ensures some { IfOk result (λ len. 0 < len) }
     ensures bound { IfOk result (λ len. len ≤ length lines.now) }
     ensures ok { IfOk result (λ len. AppendsLines symbols (take len lines.now) output.old output.new) }
@@ -183,8 +187,10 @@ fn append_next(
         return Ok(ordinary);
     }
     match symbols {
-        Symbols::Lines => append_line(alloc, demangler, lines, known_utf8, output),
-        Symbols::Words(strip) => append_block(alloc, demangler, strip, lines, output),
+        Symbols::Lines(printing) => append_line(
+            alloc, demangler, printing, lines, known_utf8, output,
+        ),
+        Symbols::Words(how) => append_block(alloc, demangler, how, lines, output),
     }
 }
 
@@ -201,7 +207,7 @@ fn gather_lines(
 ) -> Result<usize, AllocError>
     requires some { 0 < length lines.now }
     requires whole { AreWhole symbols lines.now }
-    requires known { symbols ≡ Lines → IsTrue known_utf8 → IsUtf8 lines.now }
+    requires known { (printing : Printing) → symbols ≡ Lines printing → IsTrue known_utf8 → IsUtf8 lines.now }
     requires empty { output.old ≡ [] }
     ensures some { IfOk result (λ len. 0 < len) }
     ensures bound { IfOk result (λ len. len ≤ length lines.now) }
@@ -232,7 +238,7 @@ fn write_next<W: Sink>(
     requires not_failed { W.failed sink.old ≡ false }
     requires some { 0 < length lines.now }
     requires whole { AreWhole symbols lines.now }
-    requires known { symbols ≡ Lines → IsTrue known_utf8 → IsUtf8 lines.now }
+    requires known { (printing : Printing) → symbols ≡ Lines printing → IsTrue known_utf8 → IsUtf8 lines.now }
     ensures outcome { IsWriteOutcome result (W.failed sink.new) }
     ensures in_time { W.called_late sink.new ≡ W.called_late sink.old }
     ensures some { IfOk result (λ len. 0 < len) }
@@ -273,7 +279,7 @@ pub(crate) fn write_lines<W: Sink>(
     ensures memory { IsErrOf result FilterFault.Memory →
         WritesWholeLines symbols lines.now (W.taken sink.old) (W.taken sink.new) }
 {
-    let known_utf8 = matches!(symbols, Symbols::Lines) && is_utf8(lines);
+    let known_utf8 = matches!(symbols, Symbols::Lines(_)) && is_utf8(lines);
     let mut rest = lines;
     while !rest.is_empty() {
         let len = write_next(alloc, demangler, symbols, rest, known_utf8, output, sink)?;
@@ -291,7 +297,7 @@ pub(crate) fn write_last<W: Sink>(
     sink: &mut W,
 ) -> Result<(), FilterFault>
     requires not_failed { W.failed sink.old ≡ false }
-    requires unended { symbols ≡ Lines → HasNoLineFeed line.now }
+    requires unended { (printing : Printing) → symbols ≡ Lines printing → HasNoLineFeed line.now }
     ensures outcome { IsWriteOutcome result (W.failed sink.new) }
     ensures in_time { W.called_late sink.new ≡ W.called_late sink.old }
     ensures ok { OnOk result (WritesFiltered symbols line.now (W.taken sink.old) (W.taken sink.new)) }
@@ -304,13 +310,13 @@ pub(crate) fn write_last<W: Sink>(
         return Ok(());
     }
     match symbols {
-        Symbols::Lines => {
-            let answer = line_answer(alloc, demangler, line, false)?;
+        Symbols::Lines(printing) => {
+            let answer = line_answer(alloc, demangler, printing, line, false)?;
             write_all(sink, answer)
         }
-        Symbols::Words(strip) => {
+        Symbols::Words(how) => {
             let mut output = Text::new(alloc);
-            append_words(alloc, demangler, strip, line, &mut output)?;
+            append_words(alloc, demangler, how, line, &mut output)?;
             write_all(sink, output.as_slice())
         }
     }

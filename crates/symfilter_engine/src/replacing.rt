@@ -13,7 +13,7 @@ use super::fault::FilterFault;
 use super::filtering::{CHUNK_LEN, read_more};
 use super::lines::{write_last, write_lines};
 use super::output::write_all;
-use super::symbols::Symbols;
+use super::symbols::{Replacement, Symbols};
 use super::words::may_hold_symbol;
 use growing_text::Text;
 use itanium_demangle::Demangler;
@@ -31,7 +31,7 @@ use std::alloc::Global;
 /// text of all but the word that is kept, and after `Memory` that of some whole words.
 pub fn replace<R: Source, W: Sink>(
     alloc: Global,
-    strip: bool,
+    how: Replacement,
     source: &mut R,
     sink: &mut W,
 ) -> Result<(), FilterFault>
@@ -48,30 +48,30 @@ pub fn replace<R: Source, W: Sink>(
     ensures used_up { OnOk result (IfSome (R.remaining source.old) (λ _.
         R.remaining source.new ≡ Some [])) }
     ensures ok { OnOk result (IfSome (R.remaining source.old) (λ given.
-        WritesFiltered (Words strip) given (W.taken sink.old) (W.taken sink.new))) }
-    ensures err { OnErr result (FiltersFront (Words strip)
+        WritesFiltered (Words how) given (W.taken sink.old) (W.taken sink.new))) }
+    ensures err { OnErr result (FiltersFront (Words how)
         (R.remaining source.old) (R.remaining source.new)
         (W.taken sink.old) (W.taken sink.new)) }
 
     // Any call of the source may fail. So all that it gave is written before each call, but for a word that may hold a
     // symbol.
-    ensures put { IsErrOf result FilterFault.Read → ReplacesAllButHeld strip
+    ensures put { IsErrOf result FilterFault.Read → ReplacesAllButHeld how
         (R.remaining source.old) (R.remaining source.new)
         (W.taken sink.old) (W.taken sink.new) }
 
     // After a failed allocation whole words have been written, and nothing of the next word.
-    ensures memory { IsErrOf result FilterFault.Memory → FiltersWholeLines (Words strip)
+    ensures memory { IsErrOf result FilterFault.Memory → FiltersWholeLines (Words how)
         (R.remaining source.old) (R.remaining source.new)
         (W.taken sink.old) (W.taken sink.new) }
 {
     let mut chunk = vec![in alloc; 0u8; CHUNK_LEN]?;
-    replace_by_chunks(alloc, strip, source, sink, &mut chunk)
+    replace_by_chunks(alloc, how, source, sink, &mut chunk)
 }
 
 /// Reads to the end through the chunk, and writes the replaced text. The chunk keeps a word that may hold a symbol.
 fn replace_by_chunks<R: Source, W: Sink>(
     alloc: Global,
-    strip: bool,
+    how: Replacement,
     source: &mut R,
     sink: &mut W,
     chunk: &mut Vec<u8>,
@@ -85,23 +85,23 @@ fn replace_by_chunks<R: Source, W: Sink>(
     ensures used_up { OnOk result (IfSome (R.remaining source.old) (λ _.
         R.remaining source.new ≡ Some [])) }
     ensures ok { OnOk result (IfSome (R.remaining source.old) (λ given.
-        WritesFiltered (Words strip) given (W.taken sink.old) (W.taken sink.new))) }
-    ensures err { OnErr result (FiltersFront (Words strip)
+        WritesFiltered (Words how) given (W.taken sink.old) (W.taken sink.new))) }
+    ensures err { OnErr result (FiltersFront (Words how)
         (R.remaining source.old) (R.remaining source.new)
         (W.taken sink.old) (W.taken sink.new)) }
-    ensures put { IsErrOf result FilterFault.Read → ReplacesAllButHeld strip
+    ensures put { IsErrOf result FilterFault.Read → ReplacesAllButHeld how
         (R.remaining source.old) (R.remaining source.new)
         (W.taken sink.old) (W.taken sink.new) }
-    ensures memory { IsErrOf result FilterFault.Memory → FiltersWholeLines (Words strip)
+    ensures memory { IsErrOf result FilterFault.Memory → FiltersWholeLines (Words how)
         (R.remaining source.old) (R.remaining source.new)
         (W.taken sink.old) (W.taken sink.new) }
 {
     let mut demangler = Demangler::new();
-    let kept = copy_words(alloc, &mut demangler, strip, chunk, source, sink)?;
+    let kept = copy_words(alloc, &mut demangler, how, chunk, source, sink)?;
     write_last(
         alloc,
         &mut demangler,
-        Symbols::Words(strip),
+        Symbols::Words(how),
         &chunk[..kept],
         sink,
     )
@@ -112,7 +112,7 @@ fn replace_by_chunks<R: Source, W: Sink>(
 fn copy_words<R: Source, W: Sink>(
     alloc: Global,
     demangler: &mut Demangler,
-    strip: bool,
+    how: Replacement,
     chunk: &mut Vec<u8>,
     source: &mut R,
     sink: &mut W,
@@ -125,16 +125,16 @@ fn copy_words<R: Source, W: Sink>(
     ensures sink_in_time { W.called_late sink.new ≡ W.called_late sink.old }
     ensures bound { IfOk result (λ kept. kept ≤ length chunk.new.items) }
     ensures at_end { OnOk result (IsAtEnd (R.remaining source.new)) }
-    ensures ok { IfOk result (λ kept. CopiesWords strip (take kept chunk.new.items)
+    ensures ok { IfOk result (λ kept. CopiesWords how (take kept chunk.new.items)
         (R.remaining source.old) (R.remaining source.new)
         (W.taken sink.old) (W.taken sink.new)) }
-    ensures err { OnErr result (FiltersFront (Words strip)
+    ensures err { OnErr result (FiltersFront (Words how)
         (R.remaining source.old) (R.remaining source.new)
         (W.taken sink.old) (W.taken sink.new)) }
-    ensures put { IsErrOf result FilterFault.Read → ReplacesAllButHeld strip
+    ensures put { IsErrOf result FilterFault.Read → ReplacesAllButHeld how
         (R.remaining source.old) (R.remaining source.new)
         (W.taken sink.old) (W.taken sink.new) }
-    ensures memory { IsErrOf result FilterFault.Memory → FiltersWholeLines (Words strip)
+    ensures memory { IsErrOf result FilterFault.Memory → FiltersWholeLines (Words how)
         (R.remaining source.old) (R.remaining source.new)
         (W.taken sink.old) (W.taken sink.new) }
 {
@@ -149,7 +149,7 @@ fn copy_words<R: Source, W: Sink>(
         let turn = write_turn(
             alloc,
             demangler,
-            strip,
+            how,
             &chunk[..end],
             kept,
             inside,
@@ -179,7 +179,7 @@ struct Turn {
 fn write_turn<W: Sink>(
     alloc: Global,
     demangler: &mut Demangler,
-    strip: bool,
+    how: Replacement,
     bytes: &[u8],
     seen: usize,
     inside: bool,
@@ -192,21 +192,21 @@ fn write_turn<W: Sink>(
     ensures outcome { IsWriteOutcome result (W.failed sink.new) }
     ensures in_time { W.called_late sink.new ≡ W.called_late sink.old }
     ensures bound { IfOk result (λ turn. turn.done ≤ length bytes.now) }
-    ensures held { IfOk result (λ turn. IsHeld strip (drop turn.done bytes.now)) }
+    ensures held { IfOk result (λ turn. IsHeld how.strip (drop turn.done bytes.now)) }
     ensures none { IfOk result (λ turn. turn.inside ≡ true → drop turn.done bytes.now ≡ []) }
-    ensures ok { IfOk result (λ turn. HasReplaced strip inside bytes.now (drop turn.done bytes.now) turn.inside
+    ensures ok { IfOk result (λ turn. HasReplaced how inside bytes.now (drop turn.done bytes.now) turn.inside
         (W.taken sink.old) (W.taken sink.new)) }
-    ensures err { OnErr result (ReplacesFront strip inside bytes.now (W.taken sink.old) (W.taken sink.new)) }
+    ensures err { OnErr result (ReplacesFront how inside bytes.now (W.taken sink.old) (W.taken sink.new)) }
     ensures memory { IsErrOf result FilterFault.Memory →
-        ReplacesWhole strip inside bytes.now (W.taken sink.old) (W.taken sink.new) }
+        ReplacesWhole how inside bytes.now (W.taken sink.old) (W.taken sink.new) }
 {
     if !inside {
-        return write_words(alloc, demangler, strip, bytes, seen, output, sink);
+        return write_words(alloc, demangler, how, bytes, seen, output, sink);
     }
     match past_word(bytes) {
         Some(start) => {
             write_all(sink, &bytes[..start])?;
-            let turn = write_words(alloc, demangler, strip, &bytes[start..], 0, output, sink)?;
+            let turn = write_words(alloc, demangler, how, &bytes[start..], 0, output, sink)?;
             Ok(Turn {
                 done: start + turn.done,
                 inside: turn.inside,
@@ -239,7 +239,7 @@ fn past_word(bytes: &[u8]) -> Option<usize>
 fn write_words<W: Sink>(
     alloc: Global,
     demangler: &mut Demangler,
-    strip: bool,
+    how: Replacement,
     bytes: &[u8],
     seen: usize,
     output: &mut Text,
@@ -251,25 +251,25 @@ fn write_words<W: Sink>(
     ensures outcome { IsWriteOutcome result (W.failed sink.new) }
     ensures in_time { W.called_late sink.new ≡ W.called_late sink.old }
     ensures bound { IfOk result (λ turn. turn.done ≤ length bytes.now) }
-    ensures held { IfOk result (λ turn. IsHeld strip (drop turn.done bytes.now)) }
+    ensures held { IfOk result (λ turn. IsHeld how.strip (drop turn.done bytes.now)) }
     ensures none { IfOk result (λ turn. turn.inside ≡ true → drop turn.done bytes.now ≡ []) }
-    ensures ok { IfOk result (λ turn. HasReplaced strip false bytes.now (drop turn.done bytes.now) turn.inside
+    ensures ok { IfOk result (λ turn. HasReplaced how false bytes.now (drop turn.done bytes.now) turn.inside
         (W.taken sink.old) (W.taken sink.new)) }
-    ensures err { OnErr result (ReplacesFront strip false bytes.now (W.taken sink.old) (W.taken sink.new)) }
+    ensures err { OnErr result (ReplacesFront how false bytes.now (W.taken sink.old) (W.taken sink.new)) }
     ensures memory { IsErrOf result FilterFault.Memory →
-        ReplacesWhole strip false bytes.now (W.taken sink.old) (W.taken sink.new) }
+        ReplacesWhole how false bytes.now (W.taken sink.old) (W.taken sink.new) }
 {
     let whole = whole_words_len(bytes, seen);
     write_lines(
         alloc,
         demangler,
-        Symbols::Words(strip),
+        Symbols::Words(how),
         &bytes[..whole],
         output,
         sink,
     )?;
     let word = &bytes[whole..];
-    if may_hold_symbol(strip, word) {
+    if may_hold_symbol(how.strip, word) {
         return Ok(Turn {
             done: whole,
             inside: false,

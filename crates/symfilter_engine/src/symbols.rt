@@ -1,10 +1,50 @@
-//! Where symbols stand.
+//! Where symbols stand, and what is printed for them.
+ghost use Rattle.std.specs.Prelude.{◌≡◌, OnOk};
+ghost use Rattle.symfilter_engine.specs.Shown.{IsShown};
+
+use itanium_demangle::Demangler;
+use std::alloc::{AllocError, Global};
+
+/// What is printed for a symbol.
+#[derive(Clone, Copy, Debug, PartialEq, Eq)]
+pub enum Printing {
+    /// Its demangled name.
+    Names,
+    /// Its signature, which is its demangled name with its parameters. Where it has none, its demangled name.
+    Signatures,
+}
+
+/// How symbols in words are replaced.
+#[derive(Clone, Copy, Debug, PartialEq, Eq)]
+pub struct Replacement {
+    /// Whether one more underscore may stand in front of a symbol, and is dropped.
+    pub strip: bool,
+    /// What stands in place of a symbol.
+    pub printing: Printing,
+}
 
 /// What may be a symbol.
 #[derive(Clone, Copy, Debug, PartialEq, Eq)]
 pub(crate) enum Symbols {
     /// Whole lines.
-    Lines,
-    /// The front of words. If it is true, one more underscore may stand in front of a symbol, and is dropped.
-    Words(bool),
+    Lines(Printing),
+    /// The front of words.
+    Words(Replacement),
+}
+
+/// Reads a symbol: afterwards the demangler has the text that is printed for it, or none where it stays as it is.
+#[inline(always)]
+pub(crate) fn prepare_shown(
+    alloc: Global,
+    demangler: &mut Demangler,
+    printing: Printing,
+    symbol: &str,
+) -> Result<(), AllocError>
+    ensures { OnOk result (IsShown printing symbol.now demangler.new.text) }
+{
+    match printing {
+        Printing::Names => demangler.prepare(alloc, symbol)?,
+        Printing::Signatures => demangler.prepare_signature(alloc, symbol)?,
+    };
+    Ok(())
 }

@@ -6,6 +6,7 @@ ghost use Rattle.symfilter_engine.specs.Progress.{AppendsReplaced, Extends};
 
 use super::bounds::{word_end, word_start};
 use super::prefixes::first_prefix;
+use super::symbols::{Replacement, prepare_shown};
 use growing_text::Text;
 use itanium_demangle::Demangler;
 use std::alloc::{AllocError, Global};
@@ -60,27 +61,27 @@ pub(crate) fn may_hold_symbol(strip: bool, bytes: &[u8]) -> bool
     bytes.len() < SHOWN_LEN || symbol_at(strip, &bytes[sign_len(bytes)..]).is_some()
 }
 
-/// The demangled name of the symbol in a word without the dots at its end, and the length of what stays before it.
+/// What is printed for the symbol in a word without the dots at its end, and the length of what stays before it.
 /// `None` where the word stays as it is.
 #[inline(always)]
 fn word_answer<'a>(
     alloc: Global,
     demangler: &'a mut Demangler,
-    strip: bool,
+    how: Replacement,
     word: &'a [u8],
 ) -> Result<Option<(usize, &'a str)>, AllocError>
     requires { All IsWordByte word.now }
     ensures bound { IfOk result (λ found. IfSome found (λ answer. answer.0 ≤ length word.now)) }
     ensures some { IfOk result (λ found. IfSome found (λ answer.
-        IsWordAnswer strip word.now (take answer.0 word.now ++ answer.1.now))) }
-    ensures none { IfOk result (λ found. IfNone found (IsWordAnswer strip word.now word.now)) }
+        IsWordAnswer how word.now (take answer.0 word.now ++ answer.1.now))) }
+    ensures none { IfOk result (λ found. IfNone found (IsWordAnswer how word.now word.now)) }
 {
     let front = sign_len(word);
-    let Some(symbol) = symbol_at(strip, &word[front..]) else {
+    let Some(symbol) = symbol_at(how.strip, &word[front..]) else {
         return Ok(None);
     };
     let symbol = unsafe { str::from_utf8_unchecked(symbol) };
-    demangler.prepare(alloc, symbol)?;
+    prepare_shown(alloc, demangler, how.printing, symbol)?;
     match demangler.text() {
         Some(answer) => Ok(Some((front, answer))),
         None => Ok(None),
@@ -91,11 +92,11 @@ fn word_answer<'a>(
 fn append_each_word(
     alloc: Global,
     demangler: &mut Demangler,
-    strip: bool,
+    how: Replacement,
     text: &[u8],
     output: &mut Text,
 ) -> Result<(), AllocError>
-    ensures ok { OnOk result (AppendsReplaced strip text.now output.old output.new) }
+    ensures ok { OnOk result (AppendsReplaced how text.now output.old output.new) }
     ensures err { OnErr result (Extends output.old output.new) }
 {
     // The text up to `from` has been searched, and the replaced text up to `done` has been appended.
@@ -107,7 +108,7 @@ fn append_each_word(
         from = word_end(text, place);
         let word = &text[start..from];
         let stem = stem_len(word);
-        if let Some((front, answer)) = word_answer(alloc, demangler, strip, &word[..stem])? {
+        if let Some((front, answer)) = word_answer(alloc, demangler, how, &word[..stem])? {
             output.add_pair(&text[done..start + front], answer.as_bytes())?;
             done = start + stem;
         }
@@ -119,15 +120,15 @@ fn append_each_word(
 pub(crate) fn append_words(
     alloc: Global,
     demangler: &mut Demangler,
-    strip: bool,
+    how: Replacement,
     text: &[u8],
     output: &mut Text,
 ) -> Result<(), AllocError>
-    ensures ok { OnOk result (AppendsReplaced strip text.now output.old output.new) }
+    ensures ok { OnOk result (AppendsReplaced how text.now output.old output.new) }
     ensures err { OnErr result (output.new ≡ output.old) }
 {
     let len = output.len();
-    match append_each_word(alloc, demangler, strip, text, output) {
+    match append_each_word(alloc, demangler, how, text, output) {
         Ok(()) => Ok(()),
         Err(error) => {
             output.truncate(len);

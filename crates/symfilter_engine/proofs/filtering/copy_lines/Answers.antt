@@ -18,15 +18,15 @@ turns-init g c = record {
   sink_in_time = refl;
   inside = search rules;
   unended = search rules;
-  so_far = none_copied Lines _ _ _ refl;
+  so_far = none_copied (Lines c.args.printing) _ _ _ refl;
 }
 
 pub returns-in_err-end-clause-err : goal.returns-in_err-end-clause-err
-returns-in_err-end-clause-err g c = at_fault _ (read_fault Lines _ _ _ _ _ _ c.turns.invariant.so_far c.in_err-end.ensures.err)
+returns-in_err-end-clause-err g c = at_fault _ (read_fault (Lines c.args.printing) _ _ _ _ _ _ c.turns.invariant.so_far c.in_err-end.ensures.err)
 
 pub returns-then-end-kept-clause-ok : goal.returns-then-end-kept-clause-ok
 returns-then-end-kept-clause-ok g c =
-    end_copied Lines _ _ _ _ _ _ _ _ _ c.turns.invariant.so_far c.in_ok-end.ensures.ok c.turns.invariant.inside c.if-end-kept.true
+    end_copied (Lines c.args.printing) _ _ _ _ _ _ _ _ _ c.turns.invariant.so_far c.in_ok-end.ensures.ok c.turns.invariant.inside c.if-end-kept.true
 
 pub returns-in_err-write_lines-clause-err : goal.returns-in_err-write_lines-clause-err
 returns-in_err-write_lines-clause-err g c =
@@ -34,7 +34,7 @@ returns-in_err-write_lines-clause-err g c =
     let end = c.in_ok-end.end in
     let all = c.read_more.new.chunk.items in
     let within : ended ≤ end = omega (arith, c.ended_len-ended.ensures.bound, length-take end c.deref.result.now) in
-    at_fault _ (turn_fault Lines _ _ ended _ all _ _ _ _ _ _ _ c.turns.invariant.so_far c.in_ok-end.ensures.ok c.in_err-write_lines.ensures.err
+    at_fault _ (turn_fault (Lines c.args.printing) _ _ ended _ all _ _ _ _ _ _ _ c.turns.invariant.so_far c.in_ok-end.ensures.ok c.in_err-write_lines.ensures.err
     (ap (take ended) c.deref-in-turns.ensures.value ∙ sym (take-take ended end all within)))
 
 pub returns-in_err-write_lines-clause-memory : goal.returns-in_err-write_lines-clause-memory
@@ -43,7 +43,7 @@ returns-in_err-write_lines-clause-memory g c = λ refused.
     let end = c.in_ok-end.end in
     let all = c.read_more.new.chunk.items in
     let within : ended ≤ end = omega (arith, c.ended_len-ended.ensures.bound, length-take end c.deref.result.now) in
-    turn_refused Lines _ _ ended _ all _ _ _ _ _ _ _ c.turns.invariant.so_far c.in_ok-end.ensures.ok (c.in_err-write_lines.ensures.memory (search rules))
+    turn_refused (Lines c.args.printing) _ _ ended _ all _ _ _ _ _ _ _ c.turns.invariant.so_far c.in_ok-end.ensures.ok (c.in_err-write_lines.ensures.memory (search rules))
     (ap (take ended) c.deref-in-turns.ensures.value ∙ sym (take-take ended end all within))
 
 pub turns-preserved : goal.turns-preserved
@@ -70,7 +70,7 @@ turns-preserved g c =
       sink_in_time = c.in_ok-write_lines.ensures.in_time ∙ c.turns.invariant.sink_in_time;
       inside = omega (arith, inside, same);
       unended = All-same is_other _ _ (moved ∙ ap (λ l. drop ended (take end l)) (sym c.deref.ensures.value)) c.ended_len-ended.ensures.unended;
-      so_far = turn_copied Lines _ end ended _ all _ _ _ _ _ _ _ _ c.turns.invariant.so_far c.in_ok-end.ensures.ok c.in_ok-write_lines.ensures.ok
+      so_far = turn_copied (Lines c.args.printing) _ end ended _ all _ _ _ _ _ _ _ _ c.turns.invariant.so_far c.in_ok-end.ensures.ok c.in_ok-write_lines.ensures.ok
           (ap (take ended) c.deref-in-turns.ensures.value ∙ sym (take-take ended end all within)) moved;
     }
 

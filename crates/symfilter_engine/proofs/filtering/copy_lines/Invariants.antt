@@ -13,7 +13,7 @@ invariant-turns g l =
       sink_in_time : g.W.Sink.called_late l.sink ≡ g.W.Sink.called_late l.fn.sink;
       inside : l.kept ≤ length l.chunk.items;
       unended : HasNoLineFeed (take l.kept l.chunk.items);
-      so_far : HasCopied Lines (take l.kept l.chunk.items) (g.R.Source.remaining l.fn.source) (g.R.Source.remaining l.source) (g.W.Sink.taken l.fn.sink) (g.W.Sink.taken l.sink);
+      so_far : HasCopied (Lines l.printing) (take l.kept l.chunk.items) (g.R.Source.remaining l.fn.source) (g.R.Source.remaining l.source) (g.W.Sink.taken l.fn.sink) (g.W.Sink.taken l.sink);
     }
 
 abbrev pub decreases-turns : goal.decreases-turns

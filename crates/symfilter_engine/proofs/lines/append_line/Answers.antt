@@ -6,4 +6,4 @@ line_answer-requires c = λ known. line_utf8 c.args.lines.now c.in-Some.end c.in
 
 pub returns-clause-ok : goal.returns-clause-ok
 returns-clause-ok c =
-    line_appended c.args.lines.now c.in_ok-answer.answer.now _ _ c.in-Some.end c.in-Some.ensures.found c.in_ok-answer.ensures c.in_ok-add_pair.ensures.ok
+    line_appended c.args.printing c.args.lines.now c.in_ok-answer.answer.now _ _ c.in-Some.end c.in-Some.ensures.found c.in_ok-answer.ensures c.in_ok-add_pair.ensures.ok

@@ -22,8 +22,8 @@ pub append_next-requires-clause-known : goal.append_next-requires-clause-known
 append_next-requires-clause-known c =
     let lines = c.args.lines.now in
     let taken = length lines - length c.loop-output.rest.now in
-    λ is known. subst IsUtf8 (sym c.loop-output.invariant.left)
-    (utf8_after c.args.symbols lines _ taken is c.loop-output.invariant.so_far (c.requires.known is known))
+    λ printing is known. subst IsUtf8 (sym c.loop-output.invariant.left)
+    (utf8_after c.args.symbols lines _ taken printing is c.loop-output.invariant.so_far (c.requires.known printing is known))
 
 pub loop-output-preserved : goal.loop-output-preserved
 loop-output-preserved c =

@@ -1,6 +1,6 @@
 use Rattle.std.proofs.Common.{sym, subst}
 use Rattle.std.specs.Prelude.{IsUtf8}
-use Rattle.itanium_grammar.specs.Answer.{IsAnswer}
+use Rattle.symfilter_engine.specs.Shown.{IsShown}
 use Rattle.symfilter_engine.proofs.LineAnswers.{not_text, line_without, line_with}
 use Rattle.symfilter_engine.proofs.lines.line_answer.Goals as goal
 use Rattle.symfilter_engine.proofs.lines.line_answer.Goals.{else-not-known_utf8-via-then-not-known_utf8+else-not-is_utf8, else-not-known_utf8-via-else-not-known_utf8}
@@ -17,10 +17,10 @@ from_utf8_unchecked-symbol-requires c =
 
 pub returns-in-Some : goal.returns-in-Some
 returns-in-Some c =
-    line_with (λ s. s.now) _ _ _ c.text.result c.in-Some.answer c.from_utf8_unchecked-symbol.ensures (subst IsUtf8 c.from_utf8_unchecked-symbol.ensures c.from_utf8_unchecked-symbol.utf8)
-    (subst (IsAnswer c.from_utf8_unchecked-symbol.result.now) (sym c.text.ensures.value) c.in_ok-prepare.ensures.answer) c.in-Some.is c.as_bytes.ensures.value
+    line_with c.args.printing (λ s. s.now) _ _ _ c.text.result c.in-Some.answer c.from_utf8_unchecked-symbol.ensures (subst IsUtf8 c.from_utf8_unchecked-symbol.ensures c.from_utf8_unchecked-symbol.utf8)
+    (subst (IsShown c.args.printing c.from_utf8_unchecked-symbol.result.now) (sym c.text.ensures.value) c.in_ok-prepare_shown.ensures) c.in-Some.is c.as_bytes.ensures.value
 
 pub returns-in-None : goal.returns-in-None
 returns-in-None c =
-    line_without (λ s. s.now) _ _ c.text.result c.from_utf8_unchecked-symbol.ensures (subst IsUtf8 c.from_utf8_unchecked-symbol.ensures c.from_utf8_unchecked-symbol.utf8)
-    (subst (IsAnswer c.from_utf8_unchecked-symbol.result.now) (sym c.text.ensures.value) c.in_ok-prepare.ensures.answer) c.in-None.is
+    line_without c.args.printing (λ s. s.now) _ _ c.text.result c.from_utf8_unchecked-symbol.ensures (subst IsUtf8 c.from_utf8_unchecked-symbol.ensures c.from_utf8_unchecked-symbol.utf8)
+    (subst (IsShown c.args.printing c.from_utf8_unchecked-symbol.result.now) (sym c.text.ensures.value) c.in_ok-prepare_shown.ensures) c.in-None.is

@@ -15,7 +15,7 @@ loop-rest-init g c =
       not_failed = c.requires.not_failed;
       in_time = refl;
       whole = c.requires.whole;
-      known = λ _. search rules;
+      known = λ _ _. search rules;
       so_far = none_filtered c.args.symbols _ _;
     }
 
@@ -35,7 +35,7 @@ loop-rest-preserved g c =
       not_failed = search rules;
       in_time = c.in_ok-len.ensures.in_time ∙ c.loop-rest.invariant.in_time;
       whole = subst (AreWhole c.args.symbols) left (whole_after c.args.symbols rest len c.loop-rest.invariant.whole);
-      known = λ is known. subst IsUtf8 left (utf8_after c.args.symbols rest c.in_ok-len.ensures.ok.0 len is c.in_ok-len.ensures.ok.1 (c.loop-rest.invariant.known is known));
+      known = λ printing is known. subst IsUtf8 left (utf8_after c.args.symbols rest c.in_ok-len.ensures.ok.0 len printing is c.in_ok-len.ensures.ok.1 (c.loop-rest.invariant.known printing is known));
       so_far = subst (λ l. HasFiltered c.args.symbols c.args.lines.now l (g.W.Sink.taken c.args.sink.now) (g.W.Sink.taken c.write_next.new.sink)) left
           (lines_filtered c.args.symbols _ rest len _ _ _ c.loop-rest.invariant.so_far c.in_ok-len.ensures.ok);
     }

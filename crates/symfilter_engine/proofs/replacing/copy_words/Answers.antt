@@ -18,42 +18,42 @@ turns-init g c = record {
   sink_in_time = refl;
   room = c.requires.room;
   within = search rules;
-  held = none_held c.args.strip _ refl;
-  so_far = none_copied_words c.args.strip _ _ _ refl;
+  held = none_held c.args.how _ refl;
+  so_far = none_copied_words c.args.how _ _ _ refl;
 }
 
 pub returns-in_err-end-clause-err : goal.returns-in_err-end-clause-err
-returns-in_err-end-clause-err g c = at_fault _ (read_fault c.args.strip _ _ _ _ _ _ _ c.turns.invariant.so_far c.in_err-end.ensures.err)
+returns-in_err-end-clause-err g c = at_fault _ (read_fault c.args.how _ _ _ _ _ _ _ c.turns.invariant.so_far c.in_err-end.ensures.err)
 
 pub returns-in_err-end-clause-put : goal.returns-in_err-end-clause-put
-returns-in_err-end-clause-put g c = λ _. read_put c.args.strip _ _ _ _ _ _ _ c.turns.invariant.so_far c.turns.invariant.held c.in_err-end.ensures.err
+returns-in_err-end-clause-put g c = λ _. read_put c.args.how _ _ _ _ _ _ _ c.turns.invariant.so_far c.turns.invariant.held c.in_err-end.ensures.err
 
 pub returns-then-end-kept-clause-ok : goal.returns-then-end-kept-clause-ok
 returns-then-end-kept-clause-ok g c =
-    (_, end_copied c.args.strip _ _ _ _ _ _ _ _ _ _ c.turns.invariant.so_far c.in_ok-end.ensures.ok c.turns.invariant.within c.if-end-kept.true)
+    (_, end_copied c.args.how _ _ _ _ _ _ _ _ _ _ c.turns.invariant.so_far c.in_ok-end.ensures.ok c.turns.invariant.within c.if-end-kept.true)
 
 pub returns-in_err-end-clause-memory : goal.returns-in_err-end-clause-memory
 returns-in_err-end-clause-memory g c = λ refused.
-    read_refused c.args.strip _ _ _ _ _ _ _ _ c.turns.invariant.so_far c.in_err-end.ensures.err (c.in_err-end.ensures.full (search rules)) c.turns.invariant.room
+    read_refused c.args.how _ _ _ _ _ _ _ _ c.turns.invariant.so_far c.in_err-end.ensures.err (c.in_err-end.ensures.full (search rules)) c.turns.invariant.room
 
 pub write_turn-requires-clause-before : goal.write_turn-requires-clause-before
 write_turn-requires-clause-before g c =
     let end = c.in_ok-end.end in
     let kept = c.turns.kept in
     subst (λ l. All IsWordByte (take kept (take end l))) (sym c.deref.ensures.value)
-    (still_held c.args.strip kept end _ _ _ _ c.turns.invariant.held c.in_ok-end.ensures.ok c.turns.invariant.within)
+    (still_held c.args.how kept end _ _ _ _ c.turns.invariant.held c.in_ok-end.ensures.ok c.turns.invariant.within)
 
 pub returns-in_err-turn-clause-err : goal.returns-in_err-turn-clause-err
 returns-in_err-turn-clause-err g c =
     let end = c.in_ok-end.end in
-    at_fault _ (turn_fault c.args.strip c.turns.inside _ end _ _ _ _ _ _ _ _ c.turns.invariant.so_far c.in_ok-end.ensures.ok
-    (subst (λ l. ReplacesFront c.args.strip c.turns.inside (take end l) (g.W.Sink.taken c.turns.sink) (g.W.Sink.taken c.write_turn.new.sink)) c.deref.ensures.value c.in_err-turn.ensures.err))
+    at_fault _ (turn_fault c.args.how c.turns.inside _ end _ _ _ _ _ _ _ _ c.turns.invariant.so_far c.in_ok-end.ensures.ok
+    (subst (λ l. ReplacesFront c.args.how c.turns.inside (take end l) (g.W.Sink.taken c.turns.sink) (g.W.Sink.taken c.write_turn.new.sink)) c.deref.ensures.value c.in_err-turn.ensures.err))
 
 pub returns-in_err-turn-clause-memory : goal.returns-in_err-turn-clause-memory
 returns-in_err-turn-clause-memory g c = λ refused.
     let end = c.in_ok-end.end in
-    turn_refused c.args.strip c.turns.inside _ end _ _ _ _ _ _ _ _ c.turns.invariant.so_far c.in_ok-end.ensures.ok
-    (subst (λ l. ReplacesWhole c.args.strip c.turns.inside (take end l) (g.W.Sink.taken c.turns.sink) (g.W.Sink.taken c.write_turn.new.sink)) c.deref.ensures.value
+    turn_refused c.args.how c.turns.inside _ end _ _ _ _ _ _ _ _ c.turns.invariant.so_far c.in_ok-end.ensures.ok
+    (subst (λ l. ReplacesWhole c.args.how c.turns.inside (take end l) (g.W.Sink.taken c.turns.sink) (g.W.Sink.taken c.write_turn.new.sink)) c.deref.ensures.value
     (c.in_err-turn.ensures.memory (search rules)))
 
 pub turns-preserved : goal.turns-preserved
@@ -82,8 +82,8 @@ turns-preserved g c =
       sink_in_time = c.in_ok-turn.ensures.in_time ∙ c.turns.invariant.sink_in_time;
       room = omega (arith, inside, long, c.in_ok-end.ensures.ok.low, c.if-end-kept.false);
       within = omega (arith, inside, long);
-      held = subst (IsHeld c.args.strip) (ap (λ l. drop done (take end l)) same ∙ sym moved) c.in_ok-turn.ensures.held;
-      so_far = turn_copied c.args.strip c.turns.inside after c.turns.kept end _ all _ (drop done (take end all)) _ _ _ _ _ _ c.turns.invariant.so_far c.in_ok-end.ensures.ok
-          (subst (λ l. HasReplaced c.args.strip c.turns.inside (take end l) (drop done (take end l)) after (g.W.Sink.taken c.turns.sink) (g.W.Sink.taken c.write_turn.new.sink)) same c.in_ok-turn.ensures.ok)
+      held = subst (IsHeld c.args.how.strip) (ap (λ l. drop done (take end l)) same ∙ sym moved) c.in_ok-turn.ensures.held;
+      so_far = turn_copied c.args.how c.turns.inside after c.turns.kept end _ all _ (drop done (take end all)) _ _ _ _ _ _ c.turns.invariant.so_far c.in_ok-end.ensures.ok
+          (subst (λ l. HasReplaced c.args.how c.turns.inside (take end l) (drop done (take end l)) after (g.W.Sink.taken c.turns.sink) (g.W.Sink.taken c.write_turn.new.sink)) same c.in_ok-turn.ensures.ok)
           moved (λ is. ap (λ l. drop done (take end l)) (sym same) ∙ c.in_ok-turn.ensures.none is);
     }

@@ -12,8 +12,8 @@ invariant-turns g l =
       sink_in_time : g.W.Sink.called_late l.sink ≡ g.W.Sink.called_late l.fn.sink;
       room : 0 < length l.chunk.items;
       within : l.kept ≤ length l.chunk.items;
-      held : IsHeld l.strip (take l.kept l.chunk.items);
-      so_far : HasCopiedWords l.strip l.inside (take l.kept l.chunk.items) (g.R.Source.remaining l.fn.source) (g.R.Source.remaining l.source) (g.W.Sink.taken l.fn.sink) (g.W.Sink.taken l.sink);
+      held : IsHeld l.how.strip (take l.kept l.chunk.items);
+      so_far : HasCopiedWords l.how l.inside (take l.kept l.chunk.items) (g.R.Source.remaining l.fn.source) (g.R.Source.remaining l.source) (g.W.Sink.taken l.fn.sink) (g.W.Sink.taken l.sink);
     }
 
 abbrev pub decreases-turns : goal.decreases-turns

@@ -8,22 +8,22 @@ use Rattle.symfilter_engine.proofs.replacing.write_turn.Goals as goal
 
 pub returns-then-not-inside-clause-err : goal.returns-then-not-inside-clause-err
 returns-then-not-inside-clause-err g c =
-    subst (λ b. OnErr c.write_words.result (ReplacesFront c.args.strip b c.args.bytes.now (g.W.Sink.taken c.args.sink.now) (g.W.Sink.taken c.write_words.new.sink))) (sym c.if-not-inside.true)
+    subst (λ b. OnErr c.write_words.result (ReplacesFront c.args.how b c.args.bytes.now (g.W.Sink.taken c.args.sink.now) (g.W.Sink.taken c.write_words.new.sink))) (sym c.if-not-inside.true)
     c.write_words.ensures.err
 
 pub returns-in_err-write_all-in-Some-clause-err : goal.returns-in_err-write_all-in-Some-clause-err
 returns-in_err-write_all-in-Some-clause-err g c =
-    at_fault _ (subst (λ b. ReplacesFront c.args.strip b c.args.bytes.now (g.W.Sink.taken c.args.sink.now) (g.W.Sink.taken c.write_all.new.sink)) (sym c.if-not-inside.false)
-    (past_front c.args.strip c.args.bytes.now c.in-Some.start _ _ c.in-Some.ensures.some c.in_err-write_all-in-Some.ensures.err))
+    at_fault _ (subst (λ b. ReplacesFront c.args.how b c.args.bytes.now (g.W.Sink.taken c.args.sink.now) (g.W.Sink.taken c.write_all.new.sink)) (sym c.if-not-inside.false)
+    (past_front c.args.how c.args.bytes.now c.in-Some.start _ _ c.in-Some.ensures.some c.in_err-write_all-in-Some.ensures.err))
 
 pub returns-in_err-turn-in-Some-clause-err : goal.returns-in_err-turn-in-Some-clause-err
 returns-in_err-turn-in-Some-clause-err g c =
     let bytes = c.args.bytes.now in
     let start = c.in-Some.start in
-    at_fault _ (subst (λ b. ReplacesFront c.args.strip b bytes (g.W.Sink.taken c.args.sink.now) (g.W.Sink.taken c.write_words-in-Some.new.sink)) (sym c.if-not-inside.false)
-    (front_after c.args.strip true false bytes (drop start bytes) _ _ _
-    (rest_passed c.args.strip bytes start _ _ c.in-Some.ensures.some c.in_ok-write_all-in-Some.ensures.ok)
-    (subst (λ l. ReplacesFront c.args.strip false l (g.W.Sink.taken c.write_all.new.sink) (g.W.Sink.taken c.write_words-in-Some.new.sink)) (take_rest bytes start) c.in_err-turn-in-Some.ensures.err)))
+    at_fault _ (subst (λ b. ReplacesFront c.args.how b bytes (g.W.Sink.taken c.args.sink.now) (g.W.Sink.taken c.write_words-in-Some.new.sink)) (sym c.if-not-inside.false)
+    (front_after c.args.how true false bytes (drop start bytes) _ _ _
+    (rest_passed c.args.how bytes start _ _ c.in-Some.ensures.some c.in_ok-write_all-in-Some.ensures.ok)
+    (subst (λ l. ReplacesFront c.args.how false l (g.W.Sink.taken c.write_all.new.sink) (g.W.Sink.taken c.write_words-in-Some.new.sink)) (take_rest bytes start) c.in_err-turn-in-Some.ensures.err)))
 
 pub returns-in_err-turn-in-Some-clause-memory : goal.returns-in_err-turn-in-Some-clause-memory
 returns-in_err-turn-in-Some-clause-memory g c = λ refused.
@@ -31,16 +31,16 @@ returns-in_err-turn-in-Some-clause-memory g c = λ refused.
     let start = c.in-Some.start in
     let found = c.in_err-turn-in-Some.ensures.memory (search rules) in (
       found.0,
-      subst (λ b. HasReplaced c.args.strip b bytes found.0 false (g.W.Sink.taken c.args.sink.now) (g.W.Sink.taken c.write_words-in-Some.new.sink)) (sym c.if-not-inside.false)
-          (replaced_on c.args.strip true false false bytes (drop start bytes) found.0 _ _ _
-          (rest_passed c.args.strip bytes start _ _ c.in-Some.ensures.some c.in_ok-write_all-in-Some.ensures.ok)
-          (subst (λ l. HasReplaced c.args.strip false l found.0 false (g.W.Sink.taken c.write_all.new.sink) (g.W.Sink.taken c.write_words-in-Some.new.sink)) (take_rest bytes start) found.1)),
+      subst (λ b. HasReplaced c.args.how b bytes found.0 false (g.W.Sink.taken c.args.sink.now) (g.W.Sink.taken c.write_words-in-Some.new.sink)) (sym c.if-not-inside.false)
+          (replaced_on c.args.how true false false bytes (drop start bytes) found.0 _ _ _
+          (rest_passed c.args.how bytes start _ _ c.in-Some.ensures.some c.in_ok-write_all-in-Some.ensures.ok)
+          (subst (λ l. HasReplaced c.args.how false l found.0 false (g.W.Sink.taken c.write_all.new.sink) (g.W.Sink.taken c.write_words-in-Some.new.sink)) (take_rest bytes start) found.1)),
     )
 
 pub returns-in_err-write_all-in-None-clause-err : goal.returns-in_err-write_all-in-None-clause-err
 returns-in_err-write_all-in-None-clause-err g c =
-    at_fault _ (subst (λ b. ReplacesFront c.args.strip b c.args.bytes.now (g.W.Sink.taken c.args.sink.now) (g.W.Sink.taken c.write_all-in-None.new.sink)) (sym c.if-not-inside.false)
-    (more_front c.args.strip c.args.bytes.now _ _ c.in-None.ensures.none c.in_err-write_all-in-None.ensures.err))
+    at_fault _ (subst (λ b. ReplacesFront c.args.how b c.args.bytes.now (g.W.Sink.taken c.args.sink.now) (g.W.Sink.taken c.write_all-in-None.new.sink)) (sym c.if-not-inside.false)
+    (more_front c.args.how c.args.bytes.now _ _ c.in-None.ensures.none c.in_err-write_all-in-None.ensures.err))
 
 pub returns-in_ok-turn-in-Some-clause-ok : goal.returns-in_ok-turn-in-Some-clause-ok
 returns-in_ok-turn-in-Some-clause-ok g c =
@@ -48,15 +48,15 @@ returns-in_ok-turn-in-Some-clause-ok g c =
     let start = c.in-Some.start in
     let turn = c.in_ok-turn-in-Some.turn in
     let rest : List ℕ = take (length bytes - start) (drop start bytes) in
-    subst (λ b. HasReplaced c.args.strip b bytes (drop (start + turn.done) bytes) turn.inside (g.W.Sink.taken c.args.sink.now) (g.W.Sink.taken c.write_words-in-Some.new.sink)) (sym c.if-not-inside.false)
-    (subst (λ l. HasReplaced c.args.strip true bytes l turn.inside (g.W.Sink.taken c.args.sink.now) (g.W.Sink.taken c.write_words-in-Some.new.sink)) (drop-drop turn.done start bytes)
-    (replaced_on c.args.strip true false turn.inside bytes (drop start bytes) (drop turn.done (drop start bytes)) _ _ _
-    (rest_passed c.args.strip bytes start _ _ c.in-Some.ensures.some c.in_ok-write_all-in-Some.ensures.ok)
-    (subst (λ l. HasReplaced c.args.strip false l (drop turn.done l) turn.inside (g.W.Sink.taken c.write_all.new.sink) (g.W.Sink.taken c.write_words-in-Some.new.sink)) (take_rest bytes start) c.in_ok-turn-in-Some.ensures.ok)))
+    subst (λ b. HasReplaced c.args.how b bytes (drop (start + turn.done) bytes) turn.inside (g.W.Sink.taken c.args.sink.now) (g.W.Sink.taken c.write_words-in-Some.new.sink)) (sym c.if-not-inside.false)
+    (subst (λ l. HasReplaced c.args.how true bytes l turn.inside (g.W.Sink.taken c.args.sink.now) (g.W.Sink.taken c.write_words-in-Some.new.sink)) (drop-drop turn.done start bytes)
+    (replaced_on c.args.how true false turn.inside bytes (drop start bytes) (drop turn.done (drop start bytes)) _ _ _
+    (rest_passed c.args.how bytes start _ _ c.in-Some.ensures.some c.in_ok-write_all-in-Some.ensures.ok)
+    (subst (λ l. HasReplaced c.args.how false l (drop turn.done l) turn.inside (g.W.Sink.taken c.write_all.new.sink) (g.W.Sink.taken c.write_words-in-Some.new.sink)) (take_rest bytes start) c.in_ok-turn-in-Some.ensures.ok)))
 
 pub returns-in_ok-write_all-in-None-clause-ok : goal.returns-in_ok-write_all-in-None-clause-ok
 returns-in_ok-write_all-in-None-clause-ok g c =
     let bytes = c.args.bytes.now in
-    subst (λ b. HasReplaced c.args.strip b bytes (drop (length bytes) bytes) true (g.W.Sink.taken c.args.sink.now) (g.W.Sink.taken c.write_all-in-None.new.sink)) (sym c.if-not-inside.false)
-    (subst (λ l. HasReplaced c.args.strip true bytes l true (g.W.Sink.taken c.args.sink.now) (g.W.Sink.taken c.write_all-in-None.new.sink)) (sym (drop-length bytes))
-    (more_passed c.args.strip bytes _ _ c.in-None.ensures.none c.in_ok-write_all-in-None.ensures.ok))
+    subst (λ b. HasReplaced c.args.how b bytes (drop (length bytes) bytes) true (g.W.Sink.taken c.args.sink.now) (g.W.Sink.taken c.write_all-in-None.new.sink)) (sym c.if-not-inside.false)
+    (subst (λ l. HasReplaced c.args.how true bytes l true (g.W.Sink.taken c.args.sink.now) (g.W.Sink.taken c.write_all-in-None.new.sink)) (sym (drop-length bytes))
+    (more_passed c.args.how bytes _ _ c.in-None.ensures.none c.in_ok-write_all-in-None.ensures.ok))

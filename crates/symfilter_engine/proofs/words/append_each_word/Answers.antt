@@ -39,15 +39,15 @@ loop-more-preserved-in-Some-2 c =
     let stem_in : start + stem ≤ end = omega (arith, c.stem_len-stem.ensures.bound, part_len text start end c.word_end-from.ensures.high) in
     let front_in : front ≤ stem =
     omega (arith, subst (λ found. IfSome found (λ a. a.0 ≤ length (take stem word))) c.in-Some-2.is c.in_ok-front.ensures.bound, length-take-le stem word c.stem_len-stem.ensures.bound) in
-    let is_answer : IsWordAnswer c.args.strip (take stem word) (take front (take stem word) ++ answer) =
-    subst (λ l. IsWordAnswer c.args.strip (take stem word) (take front (take stem word) ++ l)) (sym c.as_bytes.ensures.value)
-    (subst (λ found. IfSome found (λ a. IsWordAnswer c.args.strip (take stem word) (take a.0 (take stem word) ++ a.1.now))) c.in-Some-2.is c.in_ok-front.ensures.some) in
+    let is_answer : IsWordAnswer c.args.how (take stem word) (take front (take stem word) ++ answer) =
+    subst (λ l. IsWordAnswer c.args.how (take stem word) (take front (take stem word) ++ l)) (sym c.as_bytes.ensures.value)
+    (subst (λ found. IfSome found (λ a. IsWordAnswer c.args.how (take stem word) (take a.0 (take stem word) ++ a.1.now))) c.in-Some-2.is c.in_ok-front.ensures.some) in
     record {
       ordered = stem_in;
       inside = c.word_end-from.ensures.high;
       boundary = λ _ _. c.word_end-from.ensures.ended;
       extends = extended c.args.output.now c.loop-more.output _ c.add_pair.new.self c.loop-more.invariant.extends c.in_ok-add_pair.ensures.ok;
-      so_far = answer_replaced c.args.strip text c.args.output.now c.loop-more.output answer c.add_pair.new.self c.loop-more.done c.loop-more.from c.in-Some.more
+      so_far = answer_replaced c.args.how text c.args.output.now c.loop-more.output answer c.add_pair.new.self c.loop-more.done c.loop-more.from c.in-Some.more
           start front stem end c.loop-more.invariant.ordered c.word_start-start.ensures.low c.word_start-start.ensures.high (omega (arith, some, c.word_start-start.ensures.high)) c.word_end-from.ensures.high
           c.loop-more.invariant.boundary c.word_start-start.ensures.boundary c.loop-more.invariant.so_far
           (no_prefix-rest text c.loop-more.from c.in-Some.more c.in-Some.ensures.found.before) all c.stem_len-stem.ensures.dots c.stem_len-stem.ensures.stem
@@ -64,23 +64,23 @@ loop-more-preserved c =
     let all = word_slice text start end (omega arith) c.word_end-from.ensures.high
     (words_joined text start (c.loop-more.from + c.in-Some.more) end c.word_start-start.ensures.word c.word_end-from.ensures.word) in
     let some = some_word text c.loop-more.from c.in-Some.more end c.in-Some.ensures.found c.word_end-from.ensures.low c.word_end-from.ensures.ended in
-    let is_answer : IsWordAnswer c.args.strip (take stem word) (take stem word) =
-    subst (λ found. IfNone found (IsWordAnswer c.args.strip (take stem word) (take stem word))) c.in_default-2.is c.in_ok-front.ensures.none in
+    let is_answer : IsWordAnswer c.args.how (take stem word) (take stem word) =
+    subst (λ found. IfNone found (IsWordAnswer c.args.how (take stem word) (take stem word))) c.in_default-2.is c.in_ok-front.ensures.none in
     record {
       ordered = omega (arith, c.loop-more.invariant.ordered, c.word_end-from.ensures.low);
       inside = c.word_end-from.ensures.high;
       boundary = λ _ _. c.word_end-from.ensures.ended;
       extends = c.loop-more.invariant.extends;
-      so_far = stays_replaced c.args.strip text c.args.output.now c.loop-more.output c.loop-more.done c.loop-more.from c.in-Some.more start end
+      so_far = stays_replaced c.args.how text c.args.output.now c.loop-more.output c.loop-more.done c.loop-more.from c.in-Some.more start end
           c.loop-more.invariant.ordered c.word_start-start.ensures.low c.word_start-start.ensures.high (omega arith) c.word_end-from.ensures.high
           c.loop-more.invariant.boundary c.word_start-start.ensures.boundary c.loop-more.invariant.so_far
           (no_prefix-rest text c.loop-more.from c.in-Some.more c.in-Some.ensures.found.before)
-          (word_stays c.args.strip word stem (omega (arith, some, c.word_start-start.ensures.high, part_len text start end c.word_end-from.ensures.high)) all c.stem_len-stem.ensures.dots c.stem_len-stem.ensures.stem is_answer);
+          (word_stays c.args.how word stem (omega (arith, some, c.word_start-start.ensures.high, part_len text start end c.word_end-from.ensures.high)) all c.stem_len-stem.ensures.dots c.stem_len-stem.ensures.stem is_answer);
     }
 
 pub returns-clause-ok : goal.returns-clause-ok
 returns-clause-ok c =
-    rest_appended c.add.result c.args.strip c.args.text.now c.args.output.now c.loop-more.output c.add.new.self c.loop-more.done c.loop-more.from
+    rest_appended c.add.result c.args.how c.args.text.now c.args.output.now c.loop-more.output c.add.new.self c.loop-more.done c.loop-more.from
     c.loop-more.invariant.ordered c.loop-more.invariant.inside c.loop-more.invariant.boundary c.loop-more.invariant.so_far c.in_default.ensures.none c.add.ensures.ok
 
 pub loop-more-smaller-in-Some-2 : goal.loop-more-smaller-in-Some-2
