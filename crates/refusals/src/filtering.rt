@@ -53,7 +53,7 @@ malloc
 ];
 
 /// Filters once, from a source that gives at most so many bytes a call: all of the filtered text is written, or whole
-/// lines before the fault.
+/// lines or words before the fault.
 fn run_once(alloc: Global, lines: &Lines, most: usize, watch: &Watch) -> Result<Memory, Wrong>
     requires { 0 < most }
 {
@@ -65,7 +65,11 @@ fn run_once(alloc: Global, lines: &Lines, most: usize, watch: &Watch) -> Result<
             Ok(Memory::Given)
         }
         Err(FilterFault::Memory) => {
-            must(sink.has_whole_lines(), "what is written isn't whole lines")?;
+            let is_whole = match lines.engine {
+                Engine::Filter => sink.has_whole_lines(),
+                Engine::Replace => sink.has_whole_words(),
+            };
+            must(is_whole, "what is written isn't whole lines or words")?;
             Ok(Memory::Refused)
         }
         Err(_) => Err(Wrong("another fault")),

@@ -22,6 +22,11 @@ pub const NOTHING: Asked = Asked {
     offered: 0,
 };
 
+/// Whether the byte is one of words.
+fn is_word_byte(byte: u8) -> bool {
+    byte.is_ascii_alphanumeric() || matches!(byte, b'_' | b'$' | b'.')
+}
+
 /// What the ends of a run are asked for.
 #[derive(Drop)]
 pub struct Watch {
@@ -124,6 +129,7 @@ pub struct TextSink<'a> {
     rest: &'a [u8],
     differs: bool,
     is_at_line: bool,
+    is_in_word: bool,
     watch: &'a Watch,
 }
 
@@ -133,6 +139,7 @@ impl<'a> TextSink<'a> {
             rest: expected,
             differs: false,
             is_at_line: true,
+            is_in_word: false,
             watch,
         }
     }
@@ -147,14 +154,20 @@ impl<'a> TextSink<'a> {
         !self.differs && self.is_at_line
     }
 
+    /// Whether it got whole words of what it expects, and after the last one a byte that is in no word.
+    pub fn has_whole_words(&self) -> bool {
+        !self.differs && !self.is_in_word
+    }
+
     /// Compares the bytes with what is expected next.
     fn compare(&mut self, bytes: &[u8]) {
         match self.rest.get(bytes.len()..) {
             Some(rest) if self.rest.starts_with(bytes) => self.rest = rest,
             _ => self.differs = true,
         }
-        if !bytes.is_empty() {
-            self.is_at_line = bytes.ends_with(b"\n");
+        if let Some(byte) = bytes.last() {
+            self.is_at_line = *byte == b'\n';
+            self.is_in_word = is_word_byte(*byte);
         }
     }
 }
