@@ -1,7 +1,8 @@
 -- What is printed for an argument that is a symbol.
 use Rattle.std.specs.Prelude.{ℕ, List, ◌++◌, Bool, ◌&&◌, IsUtf8, Some, None, codes, take, drop, if◌then◌else◌}
 use Rattle.itanium_syntax.specs.Bytes.{begins}
-use Rattle.itanium_grammar.specs.Answer.{IsAnswer}
+use Rattle.symfilter_engine.specs.declared.symbols.Replacement.{Replacement}
+use Rattle.symfilter_engine.specs.Shown.{IsShown}
 
 -- the byte that ends a line
 abbrev pub line_feed : ℕ
@@ -24,13 +25,13 @@ abbrev pub symbol_of : Bool → List ℕ → List ℕ
 symbol_of strip argument = stripped strip (drop (import_len argument) argument)
 
 -- an argument, and what is printed for it
-pub data IsArgumentAnswer (strip : Bool) (argument : List ℕ) : List ℕ → Type 0 where
-  -- what stands in front of its symbol, and the demangled name of that
-  answered : {text : List ℕ} → IsUtf8 (symbol_of strip argument)
-      → IsAnswer (symbol_of strip argument) (Some text)
-      → IsArgumentAnswer strip argument (take (import_len argument) argument ++ text)
-  -- the argument itself, where its symbol has no demangled name
-  unanswered : IsUtf8 (symbol_of strip argument) → IsAnswer (symbol_of strip argument) None
-      → IsArgumentAnswer strip argument argument
+pub data IsArgumentAnswer (how : Replacement) (argument : List ℕ) : List ℕ → Type 0 where
+  -- what stands in front of its symbol, and what is printed for that
+  answered : {text : List ℕ} → IsUtf8 (symbol_of how.strip argument)
+      → IsShown how.printing (symbol_of how.strip argument) (Some text)
+      → IsArgumentAnswer how argument (take (import_len argument) argument ++ text)
+  -- the argument itself, where nothing is printed for its symbol
+  unanswered : IsUtf8 (symbol_of how.strip argument) → IsShown how.printing (symbol_of how.strip argument) None
+      → IsArgumentAnswer how argument argument
   -- or isn't UTF-8
-  not_utf8 : ¬ (IsUtf8 (symbol_of strip argument)) → IsArgumentAnswer strip argument argument
+  not_utf8 : ¬ (IsUtf8 (symbol_of how.strip argument)) → IsArgumentAnswer how argument argument

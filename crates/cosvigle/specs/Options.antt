@@ -11,6 +11,8 @@ use Rattle.cosvigle.specs.declared.options.Kind.{Kind}
 use Rattle.cosvigle.specs.declared.options.Kind.TheVariants.{End, Name, Letters, Symbol}
 use Rattle.cosvigle.specs.declared.options.Asked.{Asked}
 use Rattle.cosvigle.specs.declared.options.Asked.TheVariants.{Answers, Stopped}
+use Rattle.symfilter_engine.specs.declared.symbols.Printing.{Printing}
+use Rattle.symfilter_engine.specs.declared.symbols.Printing.TheVariants.{Names, Signatures}
 use Rattle.cosvigle.specs.declared.names.Found.{Found}
 use Rattle.cosvigle.specs.declared.names.Found.TheVariants.{Nothing, Front, Several, Whole}
 
@@ -23,13 +25,16 @@ same (c ∷ word) (b ∷ bytes) = (b == c) && same word bytes
 
 -- flags with another one
 abbrev pub with_strip : Bool → Flags → Flags
-with_strip on flags = record { strip = on; lines = flags.lines; plain = flags.plain }
+with_strip on flags = record flags { strip = on }
 
 abbrev pub with_lines : Bool → Flags → Flags
-with_lines on flags = record { strip = flags.strip; lines = on; plain = flags.plain }
+with_lines on flags = record flags { lines = on }
 
 abbrev pub with_plain : Bool → Flags → Flags
-with_plain on flags = record { strip = flags.strip; lines = flags.lines; plain = on }
+with_plain on flags = record flags { plain = on }
+
+abbrev pub with_printing : Printing → Flags → Flags
+with_printing printing flags = record flags { printing = printing }
 
 -- what a format asks for
 abbrev pub format_step : Flags → List ℕ → Step
@@ -44,7 +49,9 @@ letter_step flags letter =
     if is "_" letter then Go (with_strip true flags) else
     if is "n" letter then Go (with_strip false flags) else
     if is "l" letter then Go (with_lines true flags) else
-    if one_of (codes "pirR") letter then Go flags else
+    if is "p" letter then Go (with_printing Names flags) else
+    if is "P" letter then Go (with_printing Signatures flags) else
+    if one_of (codes "irR") letter then Go flags else
     if is "s" letter then Value flags else
     if is "t" letter then Stopping stop.Types else
     if is "h" letter then Stopping stop.Help else
@@ -78,10 +85,11 @@ look_at found bytes name letter =
 -- the options whose names begin with the bytes: a whole name counts alone
 abbrev pub find_name : List ℕ → Found
 find_name bytes =
-    look_at (look_at (look_at (look_at (look_at (look_at (look_at (look_at (look_at (look_at (look_at (look_at (look_at Nothing
+    look_at (look_at (look_at (look_at (look_at (look_at (look_at (look_at (look_at (look_at (look_at (look_at (look_at (look_at Nothing
     bytes (codes "strip-underscore") 95)
     bytes (codes "no-strip-underscores") 110)
     bytes (codes "no-params") 112)
+    bytes (codes "params") 80)
     bytes (codes "no-verbose") 105)
     bytes (codes "no-recurse-limit") 114)
     bytes (codes "no-recursion-limit") 114)
@@ -164,7 +172,7 @@ read state (argument ∷ arguments) = read (next state argument) arguments
 
 -- no option
 abbrev pub no_flags : Flags
-no_flags = record { strip = false; lines = false; plain = false }
+no_flags = record { strip = false; lines = false; plain = false; printing = Names }
 
 -- the bytes of texts
 abbrev pub texts : List (Bor (List ℕ)) → List (List ℕ)

@@ -6,6 +6,7 @@ ghost use Rattle.cosvigle.specs.Arguments.{IsArgumentAnswer};
 use itanium_demangle::{Demangler, is_utf8};
 use std::alloc::{AllocError, Global};
 use std::str;
+use symfilter_engine::{Replacement, prepare_shown};
 
 /// How many bytes stand in front of the symbol, and stay.
 fn import_len(argument: &[u8]) -> usize
@@ -33,23 +34,23 @@ fn stripped(strip: bool, bytes: &[u8]) -> &[u8]
 pub struct Printed<'a> {
     /// What stands in front of its symbol.
     pub front: &'a [u8],
-    /// The demangled name, or the argument.
+    /// The demangled name, the signature, or the argument.
     pub text: &'a [u8],
 }
 
-/// What is printed for an argument: the demangled name of its symbol after what stands in front of that, or the argument
+/// What is printed for an argument: the demangled name or the signature of its symbol, after what stands in front of that, or the argument
 /// itself where it has none or isn't UTF-8. With `strip` the symbol may have one more underscore in front. An error comes
 /// only where memory is refused.
 pub fn answer_of<'a>(
     alloc: Global,
     demangler: &'a mut Demangler,
-    strip: bool,
+    how: Replacement,
     argument: &'a [u8],
 ) -> Result<Printed<'a>, AllocError>
-    ensures answer { IfOk result (λ printed. IsArgumentAnswer strip argument.now (printed.front.now ++ printed.text.now)) }
+    ensures answer { IfOk result (λ printed. IsArgumentAnswer how argument.now (printed.front.now ++ printed.text.now)) }
 {
     let len = import_len(argument);
-    let symbol = stripped(strip, &argument[len..]);
+    let symbol = stripped(how.strip, &argument[len..]);
     if !is_utf8(symbol) {
         return Ok(Printed {
             front: b"",
@@ -57,7 +58,7 @@ pub fn answer_of<'a>(
         });
     }
     let symbol = unsafe { str::from_utf8_unchecked(symbol) };
-    demangler.prepare(alloc, symbol)?;
+    prepare_shown(alloc, demangler, how.printing, symbol)?;
     match demangler.text() {
         Some(answer) => Ok(Printed {
             front: &argument[..len],

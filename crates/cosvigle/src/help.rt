@@ -9,14 +9,15 @@ copies standard input to standard output, with names in place of symbols.
 
   -_, --strip-underscore     a symbol may begin with ___Z
   -n, --no-strip-underscores it may not: so it is without an option
+  -P, --params               names with their parameters
+  -p, --no-params            names alone: so it is without an option
   -l, --lines                of standard input each line is a symbol; no -_
   -s, --format=FORMAT        auto or gnu-v3; or none: no symbol is read
   -h, --help                 print this, and end
   -v, --version              print the version, and end
   @FILE                      the words of this file stand in its place
   --                         all that follows is a symbol
-  no effect: -p, --no-params; -i, --no-verbose; -r, --no-recurse-limit;
-             -R, --recurse-limit
+  no effect: -i, --no-verbose; -r, --no-recurse-limit; -R, --recurse-limit
 Letters may stand in a group, and names may be shortened.
 
 examples:

@@ -4,6 +4,8 @@
 //! Standard error says which. Where the reader of standard output has gone, it ends with status 0 and says nothing.
 #![tactic(auto)]
 
+ghost use Rattle.std.specs.Prelude.{◌≡◌};
+
 mod arguments;
 mod files;
 mod help;
@@ -22,7 +24,7 @@ use std::env::{Env, FillError};
 use std::io::{ErrorKind, Read, Stdout, Write};
 use std::process::ExitCode;
 use std::{fs, str};
-use symfilter_engine::{FilterFault, Tally, filter, replace};
+use symfilter_engine::{FilterFault, Replacement, Tally, filter_by, replace};
 
 /// Nothing is done, since what is asked isn't understood.
 const NOT_ASKED: u8 = 2;
@@ -44,6 +46,17 @@ fn put(output: &mut Output<Stdout>, bytes: &[u8]) -> Result<(), FilterFault> {
     }
 }
 
+/// How symbols are replaced.
+fn replacement(flags: Flags) -> Replacement
+    ensures strip { result.strip ≡ flags.strip }
+    ensures printing { result.printing ≡ flags.printing }
+{
+    Replacement {
+        strip: flags.strip,
+        printing: flags.printing,
+    }
+}
+
 /// What is printed for an argument. With `plain` no symbol is read.
 fn printed<'a>(
     rt: &HostRuntime,
@@ -57,7 +70,7 @@ fn printed<'a>(
             text: argument,
         });
     }
-    answer_of(rt.alloc(), demangler, flags.strip, argument)
+    answer_of(rt.alloc(), demangler, replacement(flags), argument)
 }
 
 /// Prints the name of each symbol, or the symbol itself, one a line.
@@ -100,9 +113,9 @@ fn copy(rt: &HostRuntime, output: &mut Output<Stdout>, flags: Flags) -> Result<(
     let mut source = Tally::new(rt.stdin());
     let mut sink = Tally::new(output);
     if flags.lines {
-        return filter(rt.alloc(), &mut source, &mut sink);
+        return filter_by(rt.alloc(), flags.printing, &mut source, &mut sink);
     }
-    replace(rt.alloc(), flags.strip, &mut source, &mut sink)
+    replace(rt.alloc(), replacement(flags), &mut source, &mut sink)
 }
 
 /// Says on standard error why nothing is done.

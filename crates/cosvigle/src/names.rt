@@ -62,6 +62,7 @@ pub fn find_name(bytes: &[u8]) -> Found
     let found = look_at(Found::Nothing, bytes, b"strip-underscore", b'_');
     let found = look_at(found, bytes, b"no-strip-underscores", b'n');
     let found = look_at(found, bytes, b"no-params", b'p');
+    let found = look_at(found, bytes, b"params", b'P');
     let found = look_at(found, bytes, b"no-verbose", b'i');
     let found = look_at(found, bytes, b"no-recurse-limit", b'r');
     let found = look_at(found, bytes, b"no-recursion-limit", b'r');

@@ -5,6 +5,7 @@ ghost use Rattle.cosvigle.specs.Options.{reading, texts, Asks, IsAsked};
 
 use super::names::{Found, find_name};
 use std::alloc::{AllocError, Global};
+use symfilter_engine::Printing;
 
 /// What options choose.
 #[derive(Clone, Copy, Debug, PartialEq, Eq)]
@@ -15,6 +16,8 @@ pub struct Flags {
     pub lines: bool,
     /// No symbol is read: all stays as it is.
     pub plain: bool,
+    /// What is printed for a symbol.
+    pub printing: Printing,
 }
 
 /// What is done in place of reading symbols.
@@ -67,11 +70,13 @@ fn format_step(flags: Flags, format: &[u8]) -> Step
             strip: flags.strip,
             lines: flags.lines,
             plain: false,
+            printing: flags.printing,
         }),
         [b'n', b'o', b'n', b'e'] => Step::Go(Flags {
             strip: flags.strip,
             lines: flags.lines,
             plain: true,
+            printing: flags.printing,
         }),
         _ => Step::Stop(Stop::Format),
     }
@@ -86,18 +91,33 @@ fn letter_step(flags: Flags, letter: u8) -> Step
             strip: true,
             lines: flags.lines,
             plain: flags.plain,
+            printing: flags.printing,
         }),
         b'n' => Step::Go(Flags {
             strip: false,
             lines: flags.lines,
             plain: flags.plain,
+            printing: flags.printing,
         }),
         b'l' => Step::Go(Flags {
             strip: flags.strip,
             lines: true,
             plain: flags.plain,
+            printing: flags.printing,
         }),
-        b'p' | b'i' | b'r' | b'R' => Step::Go(flags),
+        b'p' => Step::Go(Flags {
+            strip: flags.strip,
+            lines: flags.lines,
+            plain: flags.plain,
+            printing: Printing::Names,
+        }),
+        b'P' => Step::Go(Flags {
+            strip: flags.strip,
+            lines: flags.lines,
+            plain: flags.plain,
+            printing: Printing::Signatures,
+        }),
+        b'i' | b'r' | b'R' => Step::Go(flags),
         b's' => Step::Value(flags),
         b't' => Step::Stop(Stop::Types),
         b'h' => Step::Stop(Stop::Help),
@@ -210,6 +230,7 @@ pub fn read_arguments<'a>(alloc: Global, arguments: &[&'a [u8]]) -> Result<Asked
         strip: false,
         lines: false,
         plain: false,
+        printing: Printing::Names,
     });
     let mut symbols = Vec::new(alloc);
     // The argument that was read last, if it was an option or its value.

@@ -22,5 +22,5 @@ pub use ends::{Failed, Sink, Source};
 pub use fault::FilterFault;
 pub use filtering::{filter, filter_by};
 pub use replacing::replace;
-pub use symbols::{Printing, Replacement};
+pub use symbols::{Printing, Replacement, prepare_shown};
 pub use tally::Tally;

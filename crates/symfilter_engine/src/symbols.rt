@@ -32,9 +32,9 @@ pub(crate) enum Symbols {
     Words(Replacement),
 }
 
-/// Reads a symbol: afterwards the demangler has the text that is printed for it, or none where it stays as it is.
+/// Reads a symbol. Afterwards the demangler has the text that is printed for it, or none where it stays as it is.
 #[inline(always)]
-pub(crate) fn prepare_shown(
+pub fn prepare_shown(
     alloc: Global,
     demangler: &mut Demangler,
     printing: Printing,
