@@ -23,7 +23,8 @@ use std::fmt::{self, Debug, Formatter, Write};
 use std::marker::Model;
 use std::str::from_utf8_unchecked;
 
-/// Most counted productions that may nest in a symbol: names, types, argument lists, packs, thunks and expressions.
+/// Most counted productions that may nest in a symbol: names, types, argument lists, packs, thunks, expressions and
+/// signatures.
 pub const MAX_DEPTH: usize = 128;
 
 /// Answers symbol after symbol from the same buffer, and keeps the last answer.
