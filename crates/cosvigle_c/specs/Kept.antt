@@ -1,7 +1,9 @@
 -- What a handle keeps from one call to the next.
 use Rattle.std.specs.Prelude.{ℕ, List, [], Option, Some, None}
 use Rattle.itanium_grammar.specs.Answer.{IsAnswer}
-use Rattle.itanium_demangle.specs.Demangler.{IsPrepared}
+use Rattle.itanium_demangle.specs.Demangler.{IsPrepared, IsPreparedSignature}
+use Rattle.symfilter_engine.specs.declared.symbols.Printing.{Printing}
+use Rattle.symfilter_engine.specs.declared.symbols.Printing.TheVariants.{Names, Signatures}
 use Rattle.itanium_demangle.specs.LastRun.{LastRun}
 use Rattle.cosvigle_c.specs.declared.kept.Kept.{Kept}
 
@@ -15,7 +17,12 @@ abbrev pub run_of : Option Kept → Option LastRun
 run_of (Some kept) = Some kept.demangler
 run_of None = None
 
+-- what the demangler keeps of a symbol that it was asked for
+abbrev pub HasRead : Printing → List ℕ → LastRun → Type 0
+HasRead Names symbol run = IsAnswer symbol run.text × IsPrepared symbol run
+HasRead Signatures symbol run = IsPreparedSignature symbol run
+
 -- there is a demangler, which keeps what a symbol leaves: its answer, counts and components
-abbrev pub KeepsSymbol : List ℕ → Option Kept → Type 0
-KeepsSymbol symbol (Some kept) = IsAnswer symbol kept.demangler.text × IsPrepared symbol kept.demangler
-KeepsSymbol symbol None = ⊥
+abbrev pub KeepsSymbol : Printing → List ℕ → Option Kept → Type 0
+KeepsSymbol printing symbol (Some kept) = HasRead printing symbol kept.demangler
+KeepsSymbol printing symbol None = ⊥

@@ -1,11 +1,12 @@
 //! What a handle keeps between calls.
 ghost use Rattle.std.specs.Prelude.{◌≡◌, [], OnOk};
-ghost use Rattle.itanium_grammar.specs.Answer.{IsAnswer};
-ghost use Rattle.itanium_demangle.specs.Demangler.{IsPrepared};
 ghost use Rattle.itanium_demangle.specs.LastRun.{no_run};
+ghost use Rattle.cosvigle_c.specs.Calls.{IsAsked};
+ghost use Rattle.cosvigle_c.specs.Kept.{HasRead};
 
 use itanium_demangle::Demangler;
 use std::alloc::{AllocError, Global};
+use symfilter_engine::Printing;
 
 /// A demangler, and a text that was made and is still to be taken. The text is empty where there is none.
 #[derive(Drop)]
@@ -25,13 +26,26 @@ impl Kept {
             text: Vec::new(alloc),
         }
     }
-    /// Reads a symbol. The demangler keeps its demangled name.
-    pub fn read(&mut self, alloc: Global, symbol: &str) -> Result<(), AllocError>
-        ensures answer { OnOk result (IsAnswer symbol.now self.new.demangler.text) }
-        ensures prepared { OnOk result (IsPrepared symbol.now self.new.demangler) }
+
+    /// Reads a symbol, as a name or as a signature. The demangler keeps what it is asked for.
+    pub fn read(
+        &mut self,
+        alloc: Global,
+        printing: Printing,
+        symbol: &str,
+    ) -> Result<(), AllocError>
+        ensures answer { OnOk result (IsAsked printing symbol.now self.new.demangler.text) }
+        ensures read { OnOk result (HasRead printing symbol.now self.new.demangler) }
         ensures text { self.new.text ≡ self.old.text }
     {
-        self.demangler.demangle(alloc, symbol)?;
+        match printing {
+            Printing::Names => {
+                self.demangler.demangle(alloc, symbol)?;
+            }
+            Printing::Signatures => {
+                self.demangler.demangle_signature(alloc, symbol)?;
+            }
+        }
         Ok(())
     }
 }

@@ -10,7 +10,8 @@ ghost use Rattle.std.specs.Str.{IsUtf8};
 ghost use Rattle.itanium_grammar.specs.Answer.{IsAnswer};
 ghost use Rattle.itanium_demangle.specs.LastRun.{no_run};
 ghost use Rattle.cosvigle_c.specs.Kept.{run_of, text_of, KeepsSymbol};
-ghost use Rattle.cosvigle_c.specs.Calls.{WritesAnswer, LacksRoom};
+ghost use Rattle.symfilter_engine.specs.declared.symbols.Printing.TheVariants.{Names, Signatures};
+ghost use Rattle.cosvigle_c.specs.Calls.{IsAsked, WritesAnswer, LacksRoom};
 
 mod handle;
 mod kept;
@@ -25,6 +26,7 @@ use status::{NO_ANSWER, NO_MEMORY, NOT_UTF8, WRITTEN, hand_out};
 use std::alloc::Global;
 use std::mem::replace;
 use std::str::from_utf8_unchecked;
+use symfilter_engine::Printing;
 
 /// The version of the library, 0.1.0: the major version times 1,000,000, the minor times 1,000, and the patch, added
 /// up.
@@ -33,6 +35,50 @@ pub extern "C" fn cosvigle_version() -> u32
     ensures value { result ≡ 1000 }
 {
     1000
+}
+
+/// Writes what is asked of a symbol, its demangled name or its signature, as `cosvigle_ask` says.
+fn ask(
+    alloc: Global,
+    handle: &mut Handle,
+    printing: Printing,
+    symbol: &[u8],
+    answer: &mut [u8],
+    needed: &mut usize,
+) -> i32
+    ensures status { result ≢ pos 0 → result ≢ pos 1 → result ≢ pos 2 → result ≢ pos 3 → result ≡ pos 4 }
+    ensures written { result ≡ pos 0 → WritesAnswer printing symbol.now answer.old answer.new needed.new }
+    ensures no_answer { result ≡ pos 1 → IsAsked printing symbol.now None }
+    ensures no_room { result ≡ pos 3 → LacksRoom printing symbol.now answer.old answer.new needed.new }
+    ensures not_utf8 { result ≡ pos 4 ↔ (IsUtf8 symbol.now → ⊥) }
+    ensures stays { result ≢ pos 0 → answer.new ≡ answer.old }
+    ensures nothing { result ≢ pos 0 → result ≢ pos 3 → needed.new ≡ 0 }
+    ensures made { result ≢ pos 2 → result ≢ pos 4 → KeepsSymbol printing symbol.now handle.new.kept }
+    ensures keeps { handle.old.kept ≢ None → handle.new.kept ≢ None }
+    ensures text { text_of handle.new.kept ≡ text_of handle.old.kept }
+    ensures same { result ≡ pos 4 → handle.new.kept ≡ handle.old.kept }
+{
+    *needed = 0;
+    if !is_utf8(symbol) {
+        return NOT_UTF8;
+    }
+    let text = unsafe { from_utf8_unchecked(symbol) };
+    let mut kept = match replace(handle, Handle::none(alloc)).into_box() {
+        Some(kept) => kept,
+        None => match Box::new(alloc, Kept::new(alloc)) {
+            Ok(made) => made,
+            Err(_) => return NO_MEMORY,
+        },
+    };
+    let status = match kept.read(alloc, printing, text) {
+        Ok(()) => match kept.demangler.text() {
+            Some(found) => hand_out(found.as_bytes(), answer, needed),
+            None => NO_ANSWER,
+        },
+        Err(_) => NO_MEMORY,
+    };
+    *handle = Handle::of(kept);
+    status
 }
 
 /// Writes the demangled name of a symbol at the front of `answer`, and returns 0, with its length in bytes in `needed`.
@@ -51,38 +97,44 @@ pub extern "C" fn cosvigle_ask(
     needed: &mut usize,
 ) -> i32
     ensures status { result ≢ pos 0 → result ≢ pos 1 → result ≢ pos 2 → result ≢ pos 3 → result ≡ pos 4 }
-    ensures written { result ≡ pos 0 → WritesAnswer symbol.now answer.old answer.new needed.new }
+    ensures written { result ≡ pos 0 → WritesAnswer Names symbol.now answer.old answer.new needed.new }
     ensures no_answer { result ≡ pos 1 → IsAnswer symbol.now None }
-    ensures no_room { result ≡ pos 3 → LacksRoom symbol.now answer.old answer.new needed.new }
+    ensures no_room { result ≡ pos 3 → LacksRoom Names symbol.now answer.old answer.new needed.new }
     ensures not_utf8 { result ≡ pos 4 ↔ (IsUtf8 symbol.now → ⊥) }
     ensures stays { result ≢ pos 0 → answer.new ≡ answer.old }
     ensures nothing { result ≢ pos 0 → result ≢ pos 3 → needed.new ≡ 0 }
-    ensures made { result ≢ pos 2 → result ≢ pos 4 → KeepsSymbol symbol.now handle.new.kept }
+    ensures made { result ≢ pos 2 → result ≢ pos 4 → KeepsSymbol Names symbol.now handle.new.kept }
     ensures keeps { handle.old.kept ≢ None → handle.new.kept ≢ None }
     ensures text { text_of handle.new.kept ≡ text_of handle.old.kept }
     ensures same { result ≡ pos 4 → handle.new.kept ≡ handle.old.kept }
 {
-    *needed = 0;
-    if !is_utf8(symbol) {
-        return NOT_UTF8;
-    }
-    let text = unsafe { from_utf8_unchecked(symbol) };
-    let mut kept = match replace(handle, Handle::none(alloc)).into_box() {
-        Some(kept) => kept,
-        None => match Box::new(alloc, Kept::new(alloc)) {
-            Ok(made) => made,
-            Err(_) => return NO_MEMORY,
-        },
-    };
-    let status = match kept.read(alloc, text) {
-        Ok(()) => match kept.demangler.text() {
-            Some(found) => hand_out(found.as_bytes(), answer, needed),
-            None => NO_ANSWER,
-        },
-        Err(_) => NO_MEMORY,
-    };
-    *handle = Handle::of(kept);
-    status
+    ask(alloc, handle, Printing::Names, symbol, answer, needed)
+}
+
+/// Writes the signature of a symbol, that is its demangled name with its parameters, as `cosvigle_ask` writes the name,
+/// with the same statuses. Where it has no signature its demangled name is written. The text is that of
+/// `Demangler::demangle_signature`.
+#[unsafe(no_mangle)]
+pub extern "C" fn cosvigle_ask_signature(
+    alloc: Global,
+    handle: &mut Handle,
+    symbol: &[u8],
+    answer: &mut [u8],
+    needed: &mut usize,
+) -> i32
+    ensures status { result ≢ pos 0 → result ≢ pos 1 → result ≢ pos 2 → result ≢ pos 3 → result ≡ pos 4 }
+    ensures written { result ≡ pos 0 → WritesAnswer Signatures symbol.now answer.old answer.new needed.new }
+    ensures no_answer { result ≡ pos 1 → IsAsked Signatures symbol.now None }
+    ensures no_room { result ≡ pos 3 → LacksRoom Signatures symbol.now answer.old answer.new needed.new }
+    ensures not_utf8 { result ≡ pos 4 ↔ (IsUtf8 symbol.now → ⊥) }
+    ensures stays { result ≢ pos 0 → answer.new ≡ answer.old }
+    ensures nothing { result ≢ pos 0 → result ≢ pos 3 → needed.new ≡ 0 }
+    ensures made { result ≢ pos 2 → result ≢ pos 4 → KeepsSymbol Signatures symbol.now handle.new.kept }
+    ensures keeps { handle.old.kept ≢ None → handle.new.kept ≢ None }
+    ensures text { text_of handle.new.kept ≡ text_of handle.old.kept }
+    ensures same { result ≡ pos 4 → handle.new.kept ≡ handle.old.kept }
+{
+    ask(alloc, handle, Printing::Signatures, symbol, answer, needed)
 }
 
 /// Writes the demangled name of a symbol at the front of `answer`, as `cosvigle_ask` does, with the same statuses and
@@ -95,9 +147,9 @@ pub extern "C" fn cosvigle_demangle(
     needed: &mut usize,
 ) -> i32
     ensures status { result ≢ pos 0 → result ≢ pos 1 → result ≢ pos 2 → result ≢ pos 3 → result ≡ pos 4 }
-    ensures written { result ≡ pos 0 → WritesAnswer symbol.now answer.old answer.new needed.new }
+    ensures written { result ≡ pos 0 → WritesAnswer Names symbol.now answer.old answer.new needed.new }
     ensures no_answer { result ≡ pos 1 → IsAnswer symbol.now None }
-    ensures no_room { result ≡ pos 3 → LacksRoom symbol.now answer.old answer.new needed.new }
+    ensures no_room { result ≡ pos 3 → LacksRoom Names symbol.now answer.old answer.new needed.new }
     ensures not_utf8 { result ≡ pos 4 ↔ (IsUtf8 symbol.now → ⊥) }
     ensures stays { result ≢ pos 0 → answer.new ≡ answer.old }
     ensures nothing { result ≢ pos 0 → result ≢ pos 3 → needed.new ≡ 0 }

@@ -1,18 +1,19 @@
 //! The calls over whole texts: the filter, the replacement, and the text that a handle keeps where there was too little
 //! room for it.
 ghost use Rattle.std.specs.Prelude.{◌≡◌, ◌≢◌, ◌↔◌, [], pos, Some, None, IfOk, OnErr};
+ghost use Rattle.symfilter_engine.specs.declared.symbols.Printing.TheVariants.{Names};
 ghost use Rattle.symfilter_engine.specs.Filtered.{IsAnswered};
 ghost use Rattle.symfilter_engine.specs.Replaced.{IsReplaced};
 ghost use Rattle.cosvigle_c.specs.Room.{Fills, IsShort};
 ghost use Rattle.cosvigle_c.specs.Kept.{run_of, text_of};
-ghost use Rattle.cosvigle_c.specs.Calls.{WritesLines, LacksLines, KeepsLines, WritesWords, KeepsWords};
+ghost use Rattle.cosvigle_c.specs.Calls.{by_names, WritesLines, LacksLines, KeepsLines, WritesWords, KeepsWords};
 
 use crate::handle::Handle;
 use crate::kept::Kept;
 use crate::status::{NO_ANSWER, NO_MEMORY, NO_ROOM, WRITTEN, hand_out};
 use std::alloc::{AllocError, Global};
 use std::mem;
-use symfilter_engine::{Failed, FilterFault, Sink, Tally, filter, replace};
+use symfilter_engine::{Failed, FilterFault, Printing, Replacement, Sink, Tally, filter, replace};
 
 /// A sink in memory, which fails where an allocation fails.
 #[derive(Drop)]
@@ -44,7 +45,7 @@ impl Sink for Gathered {
 /// The filtered text of a block of lines. A fault where an allocation fails: the source is memory, and the sink has no
 /// other.
 fn filtered(alloc: Global, lines: &[u8]) -> Result<Vec<u8>, FilterFault>
-    ensures text { IfOk result (λ text. IsAnswered lines.now text.items) }
+    ensures text { IfOk result (λ text. IsAnswered Names lines.now text.items) }
 {
     let mut source = Tally::new(lines);
     let mut sink = Gathered {
@@ -57,14 +58,18 @@ fn filtered(alloc: Global, lines: &[u8]) -> Result<Vec<u8>, FilterFault>
 
 /// The replaced text of a text. A fault where an allocation fails.
 fn replaced(alloc: Global, strip: bool, bytes: &[u8]) -> Result<Vec<u8>, FilterFault>
-    ensures text { IfOk result (λ text. IsReplaced strip bytes.now text.items) }
+    ensures text { IfOk result (λ text. IsReplaced (by_names strip) bytes.now text.items) }
 {
     let mut source = Tally::new(bytes);
     let mut sink = Gathered {
         text: Vec::new(alloc),
         failed: false,
     };
-    replace(alloc, strip, &mut source, &mut sink)?;
+    let how = Replacement {
+        strip,
+        printing: Printing::Names,
+    };
+    replace(alloc, how, &mut source, &mut sink)?;
     Ok(sink.text)
 }
 

@@ -2,7 +2,13 @@
 ghost use Rattle.std.specs.Prelude.{◌≡◌, false};
 
 use std::alloc::Global;
-use symfilter_engine::{FilterFault, Sink, Source, filter, replace};
+use symfilter_engine::{FilterFault, Printing, Replacement, Sink, Source, filter, replace};
+
+/// Symbols in words are replaced by their names.
+const IN_WORDS: Replacement = Replacement {
+    strip: false,
+    printing: Printing::Names,
+};
 
 /// What the engine is asked for.
 #[derive(Clone, Copy)]
@@ -34,7 +40,7 @@ impl Engine {
     {
         match self {
             Engine::Filter => filter(alloc, source, sink),
-            Engine::Replace => replace(alloc, false, source, sink),
+            Engine::Replace => replace(alloc, IN_WORDS, source, sink),
         }
     }
 }

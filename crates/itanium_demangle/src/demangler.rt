@@ -23,7 +23,8 @@ use std::fmt::{self, Debug, Formatter, Write};
 use std::marker::Model;
 use std::str::from_utf8_unchecked;
 
-/// Most counted productions that may nest in a symbol: names, types, argument lists, packs, thunks and expressions.
+/// Most counted productions that may nest in a symbol: names, types, argument lists, packs, thunks, expressions and
+/// signatures.
 pub const MAX_DEPTH: usize = 128;
 
 /// Answers symbol after symbol from the same buffer, and keeps the last answer.
@@ -267,27 +268,27 @@ impl Demangler {
         }
     }
 
-    /// How many counted productions the last `prepare` or `demangle` entered: names, types, argument lists, packs,
-    /// thunks and expressions, also those of a symbol without an answer; 0 before the first, after an error, and of a
-    /// text without the prefix of a symbol. A production that is refused because `MAX_DEPTH` are open isn't entered.
+    /// How many counted productions the last symbol entered: names, types, argument lists, packs, thunks, expressions
+    /// and signatures, also those of a symbol without an answer; 0 before the first, after an error, and of a text
+    /// without the prefix of a symbol. A production that is refused because `MAX_DEPTH` are open isn't entered. Where a
+    /// signature was asked for and there is none, they are those of the name.
     pub fn entered(&self) -> usize
         ensures value { result ≡ self.now.entered }
     {
         self.entered
     }
 
-    /// The most components for substitutions that were saved at one moment of the last `prepare` or `demangle` (Itanium
-    /// C++ ABI 5.1.10), also of a symbol without an answer; 0 before the first, after an error, and of a text without
-    /// the prefix of a symbol.
+    /// The most components for substitutions that were saved at one moment of the last symbol (Itanium C++ ABI 5.1.10),
+    /// also of one without an answer; 0 before the first, after an error, and of a text without the prefix of a symbol.
     pub fn most_saved(&self) -> usize
         ensures value { result ≡ self.now.most_saved }
     {
         self.most_saved
     }
 
-    /// Where the last symbol had an answer, the text of the component with this index, from 0 on, of
-    /// those that the symbol leaves saved (Itanium C++ ABI 5.1.10): bytes, since a component needn't be UTF-8. Past
-    /// the last one, and where there is no answer, `None`.
+    /// Where the last symbol had an answer, the text of the component with this index, from 0 on, of those that the
+    /// symbol leaves saved (Itanium C++ ABI 5.1.10): bytes, since a component needn't be UTF-8. Past the last one, and
+    /// where there is no answer, `None`.
     pub fn component(&self, i: usize) -> Option<&[u8]>
         ensures value { option_map (λ text. text.now) result ≡ slice_get self.now.components i }
     {

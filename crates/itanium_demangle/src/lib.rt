@@ -26,6 +26,9 @@
 //!
 //! The answer is lent until the next call. Keep one value for symbol after symbol: it keeps its buffer. What an answer
 //! is, `itanium_grammar` defines.
+//!
+//! `demangle_signature` answers a symbol with the parameters of a function, as `Foo::bar()`, and where it isn't read so
+//! what `demangle` answers.
 #![tactic(auto)]
 
 mod demangler;

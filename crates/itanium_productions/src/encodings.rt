@@ -80,7 +80,8 @@ pub(crate) fn end_encoding(
     requires room { HasRoom 2 (state reader.old) }
     requires living { IsLiving reader.old.buffer.value name }
     ensures reads { Gives result reader.new (spec.encoding_end end (spec.parse_type depth context)
-        (spec.parse_type depth (inside_params end context)) (shape reader.old.buffer.value name, unwrap_or reader.old.quals no_quals) (state reader.old)) }
+        (spec.parse_type depth (inside_params end context))
+        (shape reader.old.buffer.value name, unwrap_or reader.old.quals no_quals) (state reader.old)) }
     ensures run { OnOk result (IsRun reader.old.buffer.value reader.new.buffer.value) }
     ensures bounds { MayTakeNone 2 result (state reader.old) (state reader.new) }
     ensures saved { SavedBounds 0 result (state reader.old) (state reader.new) }

@@ -512,8 +512,8 @@ encoding_as FullSymbol end special name bare type param s =
 abbrev pub encoding_by : EncodingEnd → Parses Shape → Parses Shape → ParsesBareName → Parses Shape → Context
     → Parses Shape
 encoding_by end type param bare thunk x s =
-    encoding_as (symbol_case end s.rest) end (special_by type (qualified_by bare x) thunk) (qualified_by bare x) bare type
-    param s
+    encoding_as (symbol_case end s.rest) end (special_by type (qualified_by bare x) thunk) (qualified_by bare x) bare
+    type param s
 
 -- the <encoding> of a local or an external name, by what it is made of
 abbrev pub encoding_in : Parses Shape → ParsesBareName → Parses Shape → Context → Parses Shape
