@@ -76,7 +76,8 @@ int cosvigle_demangle(const char *symbol, size_t len, char *answer, size_t room,
 /* Writes a text with its symbols replaced by their demangled names, as the program cosvigle does. A word is a longest
  * run of ASCII letters, digits, _, $ and dots. Its symbol stands at its front, after at most one dot or $, which
  * stays, as do the dots at its end. With strip, one more underscore may stand in front of a symbol, and is dropped.
- * All other bytes stay. WRITTEN, NO_MEMORY or NO_ROOM.
+ * All other bytes stay. WRITTEN, NO_MEMORY or NO_ROOM. A call takes more than 128 KiB of memory while it runs: give it
+ * whole texts rather than single lines.
  *
  * With COSVIGLE_NO_ROOM the handle keeps the text that was made: give *needed bytes of room to cosvigle_take. The next
  * call with this handle of cosvigle_replace, cosvigle_filter_with, cosvigle_new or cosvigle_free drops it. */
