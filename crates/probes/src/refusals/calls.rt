@@ -1,0 +1,247 @@
+//! The calls of a buffer, each repeated where memory is refused. Before it is repeated all must be as it was: two
+//! pieces that live, what is saved, the last scope, and how long the output is. A refused `close` isn't repeated.
+ghost use Rattle.std.specs.Prelude.{◌≡◌, ◌≤◌, IfOk, OnOk};
+ghost use Rattle.demangle_text.specs.Shape.{plain_shape, text_len};
+ghost use Rattle.demangle_text.specs.Calls.{IsDeclared, IsPlain};
+ghost use Rattle.demangle_text.specs.State.{IsLiving, Lives, shape, frame, inside};
+ghost use Rattle.demangle_text.specs.State.{KeepsAll, IsEdit, SameFrame, Closes};
+
+use crate::refusals::outcome::{Memory, Wrong, must};
+use crate::refusals::view::{BufferView, view_of};
+use demangle_text::{Buffer, Mark, Piece, Place};
+use std::alloc::AllocError;
+
+/// Why a script ends early.
+#[derive(Clone, Copy)]
+pub enum Stop {
+    /// `close` was refused memory.
+    Closed,
+    /// Something is wrong.
+    Wrong(Wrong),
+}
+
+impl From<Wrong> for Stop {
+    fn from(wrong: Wrong) -> Stop {
+        Stop::Wrong(wrong)
+    }
+}
+
+impl From<AllocError> for Stop {
+    fn from(error: AllocError) -> Stop {
+        Stop::Wrong(Wrong::from(error))
+    }
+}
+
+/// Memory was refused, for the first time.
+fn note_refusal(memory: &mut Memory) -> Result<(), Wrong> {
+    must(*memory == Memory::Given, "an error after the first one")?;
+    *memory = Memory::Refused;
+    Ok(())
+}
+
+/// A call was refused memory, and what is seen of the buffer and these two pieces is as it was.
+fn note_unchanged(
+    buf: &Buffer,
+    memory: &mut Memory,
+    one: Piece,
+    other: Piece,
+    before: &BufferView,
+) -> Result<(), Stop>
+    requires one { IsLiving buf.now one }
+    requires other { IsLiving buf.now other }
+{
+    note_refusal(memory)?;
+    let after = view_of(buf, one, other);
+    must(*before == after, "something has changed after the error")?;
+    Ok(())
+}
+
+/// The call, and after an error the call again, while these two pieces live.
+macro_rules! repeated {
+    ($buf:ident, $memory:ident, $one:expr, $other:expr, $call:expr) => {{
+        let before = view_of($buf, $one, $other);
+        if let Ok(answer) = $call {
+            return Ok(answer);
+        }
+        note_unchanged($buf, $memory, $one, $other, &before)?;
+        Ok($call?)
+    }};
+}
+
+/// `push`, beside two pieces.
+#[tactic(auto, using(demangle_text::proofs::Laws::laws, demangle_text::proofs::Laws::runs))]
+pub fn push(
+    buf: &mut Buffer,
+    memory: &mut Memory,
+    one: Piece,
+    other: Piece,
+    bytes: &[u8],
+) -> Result<Piece, Stop>
+    requires one { IsLiving buf.old one }
+    requires other { IsLiving buf.old other }
+    ensures shape { IfOk result (λ p. Lives buf.new p (plain_shape bytes.now)) }
+    ensures kept { OnOk result (KeepsAll buf.old buf.new) }
+{
+    repeated!(buf, memory, one, other, buf.push(bytes))
+}
+
+/// `copy` of the second piece.
+#[tactic(auto, using(demangle_text::proofs::Laws::laws, demangle_text::proofs::Laws::runs))]
+pub fn copy(
+    buf: &mut Buffer,
+    memory: &mut Memory,
+    beside: Piece,
+    piece: Piece,
+) -> Result<Piece, Stop>
+    requires beside { IsLiving buf.old beside }
+    requires living { IsLiving buf.old piece }
+    ensures living { IfOk result (IsLiving buf.new) }
+    ensures kept { OnOk result (KeepsAll buf.old buf.new) }
+{
+    repeated!(buf, memory, beside, piece, buf.copy(piece))
+}
+
+/// `append` to the second piece.
+#[tactic(auto, using(demangle_text::proofs::Laws::laws, demangle_text::proofs::Laws::runs))]
+pub fn append(
+    buf: &mut Buffer,
+    memory: &mut Memory,
+    beside: Piece,
+    piece: Piece,
+    bytes: &[u8],
+) -> Result<Piece, Stop>
+    requires beside { IsLiving buf.old beside }
+    requires living { IsLiving buf.old piece }
+    ensures living { IfOk result (IsLiving buf.new) }
+    ensures edit { OnOk result (IsEdit buf.old buf.new) }
+{
+    repeated!(buf, memory, beside, piece, buf.append(piece, bytes))
+}
+
+/// `insert` at the start of a piece.
+#[tactic(auto, using(demangle_text::proofs::Laws::laws, demangle_text::proofs::Laws::runs))]
+pub fn insert_first(
+    buf: &mut Buffer,
+    memory: &mut Memory,
+    piece: Piece,
+    bytes: &[u8],
+) -> Result<Piece, Stop>
+    requires living { IsLiving buf.old piece }
+    ensures living { IfOk result (IsLiving buf.new) }
+    ensures edit { OnOk result (IsEdit buf.old buf.new) }
+{
+    repeated!(
+        buf,
+        memory,
+        piece,
+        piece,
+        buf.insert(piece, Place::Start, bytes)
+    )
+}
+
+/// `open_group` of the second piece.
+#[tactic(auto, using(demangle_text::proofs::Laws::laws, demangle_text::proofs::Laws::runs))]
+pub fn open_group(
+    buf: &mut Buffer,
+    memory: &mut Memory,
+    beside: Piece,
+    piece: Piece,
+    bytes: &[u8],
+) -> Result<Piece, Stop>
+    requires beside { IsLiving buf.old beside }
+    requires living { IsLiving buf.old piece }
+    requires declared { IsDeclared (shape buf.old piece).form }
+    ensures living { IfOk result (IsLiving buf.new) }
+    ensures edit { OnOk result (IsEdit buf.old buf.new) }
+{
+    repeated!(buf, memory, beside, piece, buf.open_group(piece, bytes))
+}
+
+/// `cut` of a piece.
+#[tactic(auto, using(demangle_text::proofs::Laws::laws, demangle_text::proofs::Laws::runs))]
+pub fn cut(buf: &mut Buffer, memory: &mut Memory, piece: Piece, n: usize) -> Result<Piece, Stop>
+    requires living { IsLiving buf.old piece }
+    requires plain { IsPlain (shape buf.old piece).form }
+    requires long { n ≤ text_len (shape buf.old piece) }
+    ensures living { IfOk result (IsLiving buf.new) }
+    ensures edit { OnOk result (IsEdit buf.old buf.new) }
+{
+    repeated!(buf, memory, piece, piece, buf.cut(piece, n))
+}
+
+/// `join` of two pieces.
+#[tactic(auto, using(demangle_text::proofs::Laws::laws, demangle_text::proofs::Laws::runs))]
+pub fn join(
+    buf: &mut Buffer,
+    memory: &mut Memory,
+    first: Piece,
+    bytes: &[u8],
+    second: Piece,
+) -> Result<Piece, Stop>
+    requires first_living { IsLiving buf.old first }
+    requires second_living { IsLiving buf.old second }
+    ensures living { IfOk result (IsLiving buf.new) }
+    ensures edit { OnOk result (IsEdit buf.old buf.new) }
+{
+    repeated!(buf, memory, first, second, buf.join(first, bytes, second))
+}
+
+/// `save` of the second piece.
+#[tactic(auto, using(demangle_text::proofs::Laws::laws, demangle_text::proofs::Laws::runs))]
+pub fn save(buf: &mut Buffer, memory: &mut Memory, beside: Piece, piece: Piece) -> Result<(), Stop>
+    requires beside { IsLiving buf.old beside }
+    requires living { IsLiving buf.old piece }
+    ensures kept { OnOk result (SameFrame buf.old buf.new) }
+{
+    repeated!(buf, memory, beside, piece, buf.save(piece))
+}
+
+/// `open_scope`, beside two pieces.
+#[tactic(auto, using(demangle_text::proofs::Laws::laws, demangle_text::proofs::Laws::runs))]
+pub fn open_scope(
+    buf: &mut Buffer,
+    memory: &mut Memory,
+    one: Piece,
+    other: Piece,
+) -> Result<(), Stop>
+    requires one { IsLiving buf.old one }
+    requires other { IsLiving buf.old other }
+    ensures kept { OnOk result (SameFrame buf.old buf.new) }
+{
+    repeated!(buf, memory, one, other, buf.open_scope())
+}
+
+/// `push_arg` of the second piece.
+#[tactic(auto, using(demangle_text::proofs::Laws::laws, demangle_text::proofs::Laws::runs))]
+pub fn push_arg(
+    buf: &mut Buffer,
+    memory: &mut Memory,
+    beside: Piece,
+    piece: Piece,
+) -> Result<(), Stop>
+    requires beside { IsLiving buf.old beside }
+    requires living { IsLiving buf.old piece }
+    ensures kept { OnOk result (SameFrame buf.old buf.new) }
+{
+    if buf.scopes() == 0 {
+        return Err(Stop::Wrong(Wrong("no scope is open")));
+    }
+    repeated!(buf, memory, beside, piece, buf.push_arg(piece))
+}
+
+/// `close`, which isn't repeated.
+#[tactic(auto, using(demangle_text::proofs::Laws::laws, demangle_text::proofs::Laws::runs))]
+pub fn close(buf: &mut Buffer, memory: &mut Memory, mark: Mark, piece: Piece) -> Result<Piece, Stop>
+    requires innermost { frame buf.old ≡ inside mark }
+    requires living { IsLiving buf.old piece }
+    ensures living { IfOk result (IsLiving buf.new) }
+    ensures closed { OnOk result (Closes buf.old buf.new mark) }
+{
+    match buf.close(mark, piece) {
+        Ok(kept) => Ok(kept),
+        Err(_) => {
+            note_refusal(memory)?;
+            Err(Stop::Closed)
+        }
+    }
+}

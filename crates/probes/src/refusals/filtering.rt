@@ -1,0 +1,106 @@
+//! The rows of the filter and of the replacement, between two ends in memory that take no memory themselves.
+ghost use Rattle.std.specs.Prelude.{◌<◌};
+
+use crate::refusals::outcome::{Memory, Wrong, must};
+use crate::refusals::watch::{NOTHING, TextSink, TextSource, Watch};
+use filter_vectors::engine::Engine;
+use std::alloc::Global;
+use symfilter_engine::FilterFault;
+
+/// Some lines, and what must be written for them.
+#[derive(Clone, Copy)]
+pub struct Lines {
+    pub engine: Engine,
+    pub name: &'static str,
+    text: &'static [u8],
+    filtered: &'static [u8],
+}
+
+/// The lines of each row. Of the first the third is longer as its answer than all before it.
+pub const LINES: [Lines; 4] = [
+    Lines {
+        engine: Engine::Filter,
+        name: "lines_between_two_ends_in_memory",
+        text: b"_Z3foov\nmalloc\n_Z1fI1A1BIS0_S0_ES1_IS2_S2_ES1_IS3_S3_EEvv\n\n_Z3bar",
+        filtered: b"foo
+malloc
+f<A, B<A, A>, B<B<A, A>, B<A, A> >, B<B<B<A, A>, B<A, A> >, B<B<A, A>, B<A, A> > > >
+
+bar",
+    },
+    Lines {
+        engine: Engine::Filter,
+        name: "short_answers_between_two_ends_in_memory",
+        text: b"_Z3foov\nmalloc\n_Z1fI1AEvv\n_Z3bar",
+        filtered: b"foo\nmalloc\nf<A>\nbar",
+    },
+    Lines {
+        engine: Engine::Replace,
+        name: "words_between_two_ends_in_memory",
+        text: b"at _Z3foov (a.cc)\nmalloc\n(_Z3foo _Z1fI1A1BIS0_S0_ES1_IS2_S2_ES1_IS3_S3_EEvv)\n\n._Z3bar.",
+        filtered: b"at foo (a.cc)
+malloc
+(foo f<A, B<A, A>, B<B<A, A>, B<A, A> >, B<B<B<A, A>, B<A, A> >, B<B<A, A>, B<A, A> > > >)
+
+.bar.",
+    },
+    Lines {
+        engine: Engine::Replace,
+        name: "short_words_between_two_ends_in_memory",
+        text: b"(_Z3foov)\nmalloc\n_Z1fI1AEvv _Z4foo\n_Z3bar@plt",
+        filtered: b"(foo)\nmalloc\nf<A> _Z4foo\nbar@plt",
+    },
+];
+
+/// Filters once, from a source that gives at most so many bytes a call: all of the filtered text is written, or whole
+/// lines or words before the fault.
+fn run_once(alloc: Global, lines: &Lines, most: usize, watch: &Watch) -> Result<Memory, Wrong>
+    requires { 0 < most }
+{
+    let mut source = TextSource::new(lines.text, most, watch);
+    let mut sink = TextSink::new(lines.filtered, watch);
+    match lines.engine.run(alloc, &mut source, &mut sink) {
+        Ok(()) => {
+            must(sink.has_all(), "another text is written")?;
+            Ok(Memory::Given)
+        }
+        Err(FilterFault::Memory) => {
+            let is_whole = match lines.engine {
+                Engine::Filter => sink.has_whole_lines(),
+                Engine::Replace => sink.has_whole_words(),
+            };
+            must(is_whole, "what is written isn't whole lines or words")?;
+            Ok(Memory::Refused)
+        }
+        Err(_) => Err(Wrong("another fault")),
+    }
+}
+
+/// Filters from a source that gives at most so many bytes a call, and after a fault once more. The second run asks the
+/// ends for the same, call by call, up to where memory was refused in the first. So at some moment it has asked for as
+/// much as the first one in all, unless that one called an end after it was refused memory.
+fn run_by(alloc: Global, lines: &Lines, most: usize, memory: &mut Memory) -> Result<(), Wrong>
+    requires { 0 < most }
+{
+    let first = Watch::new(NOTHING);
+    if run_once(alloc, lines, most, &first)? == Memory::Refused {
+        *memory = Memory::Refused;
+        let second = Watch::new(first.asked());
+        let again = run_once(alloc, lines, most, &second)?;
+        must(again == Memory::Given, "a fault after the first one")?;
+        must(
+            second.has_met(),
+            "an end is called after memory was refused",
+        )?;
+    }
+    Ok(())
+}
+
+/// The row of these lines: the source gives one byte a call, some, or all.
+pub fn run(alloc: Global, lines: &Lines) -> Result<Memory, Wrong> {
+    let mut memory = Memory::Given;
+    for most in [1, 7, 1000] {
+        run_by(alloc, lines, most, &mut memory)?;
+    }
+    Ok(memory)
+}

@@ -1,0 +1,90 @@
+//! Calls that change nothing, and what is asked of a piece.
+ghost use Rattle.std.specs.Prelude.{IfSome};
+ghost use Rattle.demangle_text.specs.State.{IsLiving};
+
+use crate::scripts::calls::{Look, OfPiece};
+use crate::scripts::line::Line;
+use demangle_text::{Buffer, Kind, Piece};
+
+/// The piece with a base name.
+#[tactic(auto, using(crate::proofs::Forms::forms))]
+fn own_at(buf: &Buffer, piece: Piece, from: usize, to: usize) -> Option<Piece>
+    requires living { IsLiving buf.now piece }
+    ensures living { IfSome result (IsLiving buf.now) }
+{
+    if from > to || to > buf.len(piece) || buf.kind(piece) == Some(Kind::Function) {
+        return None;
+    }
+    Some(buf.own_at(piece, from, to))
+}
+
+/// The plain piece as a declarator.
+#[tactic(auto, using(demangle_edit::proofs::Declarators::declarators))]
+fn declare(buf: &Buffer, piece: Piece, kind: Kind, at: usize) -> Option<Piece>
+    requires living { IsLiving buf.now piece }
+    ensures living { IfSome result (IsLiving buf.now) }
+{
+    if at > buf.len(piece) || buf.kind(piece).is_some() {
+        return None;
+    }
+    Some(buf.declare(piece, kind, at))
+}
+
+/// The plain piece as a declarator with a group.
+#[tactic(auto, using(demangle_edit::proofs::Declarators::declarators))]
+fn declare_group(buf: &Buffer, piece: Piece, kind: Kind, from: usize, at: usize) -> Option<Piece>
+    requires living { IsLiving buf.now piece }
+    ensures living { IfSome result (IsLiving buf.now) }
+{
+    let bytes = buf.bytes(piece);
+    if buf.kind(piece).is_some() || from >= at || at - from < 2 || at > bytes.len() {
+        return None;
+    }
+    if bytes[from] != b'(' || bytes[at - 1] != b')' {
+        return None;
+    }
+    Some(buf.declare_group(piece, kind, from, at))
+}
+
+/// A piece of a list, or the piece with another form, where there is one.
+pub fn look(buf: &Buffer, piece: Piece, line: &Line, look: Look) -> Option<Piece>
+    requires living { IsLiving buf.now piece }
+    ensures living { IfSome result (IsLiving buf.now) }
+{
+    match look {
+        Look::Saved => buf.saved(line.number(3)),
+        Look::Arg => buf.arg(line.number(3)),
+        Look::Own => Some(buf.own(piece)),
+        Look::Whole => Some(buf.whole(piece)),
+        Look::WithFlags => Some(buf.with_flags(piece, line.has("templ"), line.has("ctor"))),
+        Look::OwnAt => own_at(buf, piece, line.number(4), line.number(5)),
+        Look::Declare(kind) => declare(buf, piece, kind, line.number(4)),
+        Look::DeclareGroup(kind) => {
+            declare_group(buf, piece, kind, line.number(4), line.number(5))
+        }
+    }
+}
+
+/// Whether what is said of the piece is so.
+pub fn is_so(buf: &Buffer, piece: Piece, line: &Line, question: OfPiece) -> bool
+    requires living { IsLiving buf.now piece }
+{
+    match question {
+        OfPiece::Is => buf.bytes(piece) == line.text(0).as_bytes(),
+        OfPiece::Own => buf.own_range(piece) == (line.number(2), line.number(3)),
+        OfPiece::After => buf.after_at(piece) == Some(line.number(2)),
+        OfPiece::Declares(kind) => buf.kind(piece) == kind,
+        OfPiece::Grouped(group) => buf.has_group(piece) == group,
+        OfPiece::Flags(templ, ctor) => buf.templ(piece) == templ && buf.ctor(piece) == ctor,
+    }
+}
+
+/// Whether what is said of the buffer is so.
+pub fn is_so_of_all(buf: &Buffer, line: &Line) -> bool {
+    match line.word(0) {
+        "output" if line.texts_len == 1 => buf.main_bytes() == line.text(0).as_bytes(),
+        "saved_len" => buf.saved_len() == line.number(1),
+        "scopes" => buf.scopes() == line.number(1),
+        _ => false,
+    }
+}

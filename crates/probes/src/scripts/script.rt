@@ -1,0 +1,352 @@
+//! A script: calls over a new buffer, one a line, and questions.
+ghost use Rattle.std.specs.Prelude.{◌≡◌, IfOk, IfSome, OnOk};
+ghost use Rattle.demangle_text.specs.State.{IsLiving, IsEdit, SameFrame, KeepsAll};
+ghost use Rattle.demangle_edit.specs.Answers.{IfFound, OnNone};
+ghost use Rattle.probes.specs.Held.{Holds, IsMarked};
+
+use crate::scripts::built;
+use crate::scripts::calls::{Call, Look, OfPiece, Push};
+use crate::scripts::edits::{of_one, of_several, of_two, quals, with_text, with_words};
+use crate::scripts::line::Line;
+use crate::scripts::looks::{is_so, is_so_of_all, look};
+use demangle_text::{Buffer, Mark, Piece};
+use std::alloc::{AllocError, Global};
+
+/// A buffer, up to three pieces that live in it, and the open mark, if there is one. Then `a` was made before the mark.
+#[derive(Drop)]
+pub struct Script {
+    pub buf: Buffer,
+    pub a: Option<Piece>,
+    pub b: Option<Piece>,
+    pub c: Option<Piece>,
+    pub mark: Option<Mark>,
+}
+
+/// What a line did.
+#[derive(Clone, Copy)]
+pub enum Outcome {
+    /// A call was made, of which nothing is asked.
+    Called,
+    /// What it asks is so.
+    Passed,
+    /// What it asks isn't so, or it can't be played, for this reason.
+    Failed(&'static str),
+}
+
+/// The edit of these pieces.
+#[tactic(auto, using(demangle_text::proofs::Laws::laws))]
+fn edit(
+    buf: &mut Buffer,
+    first: Piece,
+    second: Piece,
+    third: Piece,
+    line: &Line,
+    call: Call,
+) -> Result<Option<Piece>, AllocError>
+    requires first { IsLiving buf.old first }
+    requires second { IsLiving buf.old second }
+    requires third { IsLiving buf.old third }
+    ensures living { IfFound result (IsLiving buf.new) }
+    ensures edit { OnOk result (IsEdit buf.old buf.new) }
+    ensures none { OnNone result (KeepsAll buf.old buf.new) }
+{
+    let (text, bytes) = (line.text(0), line.text(0).as_bytes());
+    match call {
+        Call::Try(call) => built::try_form(buf, first, bytes, line.number(4), call),
+        Call::Type(call) => built::try_type(buf, first, second, line.number(4), text, call),
+        Call::Function(n) => built::try_function(buf, first, second, third, quals(line), n),
+        Call::WriteOpenedLiteral => built::opened_literal(buf, text, line.text(1)),
+        _ => Ok(Some(edit_always(buf, first, second, third, line, call)?)),
+    }
+}
+
+/// The edit of these pieces that makes a piece in any case.
+#[tactic(auto, using(demangle_text::proofs::Laws::laws))]
+fn edit_always(
+    buf: &mut Buffer,
+    first: Piece,
+    second: Piece,
+    third: Piece,
+    line: &Line,
+    call: Call,
+) -> Result<Piece, AllocError>
+    requires first { IsLiving buf.old first }
+    requires second { IsLiving buf.old second }
+    requires third { IsLiving buf.old third }
+    ensures living { IfOk result (IsLiving buf.new) }
+    ensures edit { OnOk result (IsEdit buf.old buf.new) }
+{
+    let bytes = line.text(0).as_bytes();
+    match call {
+        Call::One(call) => of_one(buf, first, call),
+        Call::Text(call) => with_text(buf, first, bytes, line.text(1).as_bytes(), call),
+        Call::Words(call) => with_words(buf, first, line.number(4), quals(line), call),
+        Call::Two(call) => of_two(buf, first, second, bytes, line.number(5), call),
+        Call::Several(call) => of_several(buf, first, second, third, line, call),
+        Call::Arguments(closed) => built::arguments(buf, first, line, closed),
+        _ => buf.push(bytes),
+    }
+}
+
+/// A call of the lists, with a piece. It says whether it could be made.
+fn list(buf: &mut Buffer, piece: Piece, line: &Line) -> Result<bool, AllocError>
+    requires living { IsLiving buf.old piece }
+    ensures kept { OnOk result (SameFrame buf.old buf.new) }
+{
+    let n = line.number(1);
+    match line.word(0) {
+        "save" => buf.save(piece)?,
+        "open_scope" => buf.open_scope()?,
+        "push_arg" if buf.scopes() > 0 => buf.push_arg(piece)?,
+        "unsave" if buf.saved_len() > 0 => buf.unsave(),
+        "keep_scopes" if n <= buf.scopes() => buf.keep_scopes(n),
+        _ => return Ok(false),
+    }
+    Ok(true)
+}
+
+impl Script {
+    pub fn new(alloc: Global) -> Self
+        ensures holds { Holds result }
+    {
+        Script {
+            buf: Buffer::new(alloc),
+            a: None,
+            b: None,
+            c: None,
+            mark: None,
+        }
+    }
+
+    /// The piece of this name, if it lives.
+    fn piece(&self, name: &str) -> Option<Piece>
+        requires holds { Holds self.now }
+        ensures living { IfSome result (IsLiving self.now.buf) }
+    {
+        match name {
+            "a" => self.a,
+            "b" => self.b,
+            "c" => self.c,
+            _ => None,
+        }
+    }
+
+    /// The piece of this name, if it lives, or a piece that is given.
+    fn piece_or(&self, name: &str, other: Piece) -> Piece
+        requires holds { Holds self.now }
+        requires other { IsLiving self.now.buf other }
+        ensures living { IsLiving self.now.buf result }
+    {
+        match self.piece(name) {
+            Some(piece) => piece,
+            None => other,
+        }
+    }
+
+    /// The piece that a call is given first. Where a line has a number there, or nothing, that is an empty one.
+    fn first(&self, line: &Line) -> Option<Piece>
+        requires holds { Holds self.now }
+        ensures living { IfSome result (IsLiving self.now.buf) }
+    {
+        if line.words_len == 3 || line.number(3) < usize::MAX {
+            Some(self.buf.empty())
+        } else {
+            self.piece(line.word(3))
+        }
+    }
+
+    /// Gives the piece this name.
+    fn put(&mut self, name: &str, piece: Piece) -> Outcome
+        requires holds { Holds self.old }
+        requires living { IsLiving self.old.buf piece }
+        ensures holds { Holds self.new }
+    {
+        match name {
+            "a" if self.mark.is_none() => self.a = Some(piece),
+            "b" => self.b = Some(piece),
+            "c" => self.c = Some(piece),
+            _ => return Outcome::Failed("no piece can have this name now"),
+        }
+        Outcome::Called
+    }
+
+    /// What is said where nothing is made: `none` has to stand in place of the name.
+    fn put_none(name: &str) -> Outcome {
+        if name == "none" {
+            Outcome::Passed
+        } else {
+            Outcome::Failed("nothing is made")
+        }
+    }
+
+    /// Forgets the pieces that an edit ended, and gives the answer this name.
+    fn put_edited(&mut self, name: &str, piece: Piece) -> Outcome
+        requires living { IsLiving self.old.buf piece }
+        requires marked { IsMarked self.old.buf self.old.mark self.old.a }
+        ensures holds { Holds self.new }
+    {
+        if self.mark.is_none() {
+            self.a = None;
+        }
+        self.b = None;
+        self.c = None;
+        self.put(name, piece)
+    }
+
+    /// A call that changes nothing.
+    fn look(&mut self, line: &Line, call: Look) -> Outcome
+        requires holds { Holds self.old }
+        ensures holds { Holds self.new }
+    {
+        let Some(first) = self.first(line) else {
+            return Outcome::Failed("no such piece lives");
+        };
+        match look(&self.buf, first, line, call) {
+            Some(found) => self.put(line.word(0), found),
+            None => Script::put_none(line.word(0)),
+        }
+    }
+
+    /// A call that leaves all pieces as they are.
+    #[tactic(auto, using(crate::proofs::Held::held))]
+    fn push(&mut self, line: &Line, call: Push) -> Result<Outcome, AllocError>
+        requires holds { Holds self.old }
+        ensures holds { OnOk result (Holds self.new) }
+    {
+        let piece = match call {
+            Push::Push => self.buf.push(line.text(0).as_bytes())?,
+            Push::UpToEnd => built::up_to_end(&mut self.buf, line)?,
+        };
+        Ok(self.put(line.word(0), piece))
+    }
+
+    /// An edit of pieces, or a call that may make nothing. Then all pieces stay.
+    #[tactic(auto, using(crate::proofs::Held::held))]
+    fn edit(&mut self, line: &Line, call: Call) -> Result<Outcome, AllocError>
+        requires holds { Holds self.old }
+        ensures holds { OnOk result (Holds self.new) }
+    {
+        let Some(first) = self.first(line) else {
+            return Ok(Outcome::Failed("no such piece lives"));
+        };
+        let second = self.piece_or(line.word(4), first);
+        let third = self.piece_or(line.word(5), first);
+        match edit(&mut self.buf, first, second, third, line, call)? {
+            Some(piece) => Ok(self.put_edited(line.word(0), piece)),
+            None => Ok(Script::put_none(line.word(0))),
+        }
+    }
+
+    /// The call that saves what it names.
+    #[tactic(auto, using(crate::proofs::Held::held))]
+    fn save_and_name(&mut self, line: &Line) -> Result<Outcome, AllocError>
+        requires holds { Holds self.old }
+        ensures holds { OnOk result (Holds self.new) }
+    {
+        let (text, between) = (line.text(0).as_bytes(), line.text(1).as_bytes());
+        let name = line.text(2).as_bytes();
+        let piece = built::save_and_name(&mut self.buf, text, between, name)?;
+        Ok(self.put_edited(line.word(0), piece))
+    }
+
+    /// Closes the mark with a piece.
+    #[tactic(auto, using(crate::proofs::Held::held))]
+    fn close(&mut self, line: &Line) -> Result<Outcome, AllocError>
+        requires holds { Holds self.old }
+        ensures holds { OnOk result (Holds self.new) }
+    {
+        let Some(piece) = self.first(line) else {
+            return Ok(Outcome::Failed("no such piece lives"));
+        };
+        let Some(mark) = self.mark.take() else {
+            return Ok(Outcome::Failed("no mark is open"));
+        };
+        let kept = self.buf.close(mark, piece)?;
+        self.b = None;
+        self.c = None;
+        Ok(self.put(line.word(0), kept))
+    }
+
+    /// A call of the lists, which makes no piece.
+    #[tactic(auto, using(crate::proofs::Held::held))]
+    fn list(&mut self, line: &Line) -> Result<Outcome, AllocError>
+        requires holds { Holds self.old }
+        ensures holds { OnOk result (Holds self.new) }
+    {
+        let piece = self.piece_or(line.word(1), self.buf.empty());
+        if list(&mut self.buf, piece, line)? {
+            Ok(Outcome::Called)
+        } else {
+            Ok(Outcome::Failed("it can't be called now"))
+        }
+    }
+
+    /// Opens a mark, or empties the buffer.
+    #[tactic(auto, using(crate::proofs::Held::held))]
+    fn frame(&mut self, opens: bool) -> Outcome
+        requires holds { Holds self.old }
+        ensures holds { Holds self.new }
+    {
+        if self.mark.is_some() {
+            return Outcome::Failed("a mark is open");
+        }
+        if opens {
+            self.mark = Some(self.buf.open());
+        } else {
+            self.buf.clear();
+            self.a = None;
+            self.b = None;
+            self.c = None;
+        }
+        Outcome::Called
+    }
+
+    /// What is asked of a piece, or of the buffer.
+    fn ask(&self, line: &Line) -> Outcome
+        requires holds { Holds self.now }
+    {
+        let so = match self.piece(line.word(0)) {
+            Some(piece) => match OfPiece::named(line.word(1), line.words_len, line.texts_len) {
+                Some(question) => is_so(&self.buf, piece, line, question),
+                None => return Outcome::Failed("no such question"),
+            },
+            None => is_so_of_all(&self.buf, line),
+        };
+        if so {
+            Outcome::Passed
+        } else {
+            Outcome::Failed("it isn't so")
+        }
+    }
+
+    /// A line that gives a name to what a call makes.
+    fn name(&mut self, line: &Line) -> Result<Outcome, AllocError>
+        requires holds { Holds self.old }
+        ensures holds { OnOk result (Holds self.new) }
+    {
+        match Call::named(line.word(2)) {
+            None => Ok(Outcome::Failed("no such call")),
+            Some(Call::Look(call)) => Ok(self.look(line, call)),
+            Some(Call::Push(call)) => self.push(line, call),
+            Some(Call::SaveAndName) => self.save_and_name(line),
+            Some(Call::Close) => self.close(line),
+            Some(call) => self.edit(line, call),
+        }
+    }
+
+    /// Plays a line.
+    pub fn play(&mut self, line: &Line) -> Result<Outcome, AllocError>
+        requires holds { Holds self.old }
+        ensures holds { OnOk result (Holds self.new) }
+    {
+        if line.word(1) == "=" {
+            return self.name(line);
+        }
+        match line.word(0) {
+            "open" => Ok(self.frame(true)),
+            "clear" => Ok(self.frame(false)),
+            "save" | "unsave" | "open_scope" | "push_arg" | "keep_scopes" => self.list(line),
+            _ => Ok(self.ask(line)),
+        }
+    }
+}
