@@ -33,7 +33,7 @@ const NOT_ASKED: u8 = 2;
 const MOST_FILES: u32 = 2000;
 
 /// So many bytes of an argument are asked for at first.
-const ARGUMENT_LEN: usize = 1024;
+const ARGUMENT_LEN: usize = 128;
 
 /// So many bytes are copied at once.
 const COPIED_LEN: usize = 65536;
