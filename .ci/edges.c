@@ -66,6 +66,15 @@ static void ask_by(int by_handle, const char *symbol, size_t len, size_t room, i
     check(want(symbol, status, answer), got, needed);
 }
 
+/* The signature, by the handle that is asked for names too. */
+static void ask_signature(const char *symbol, size_t len, size_t room, int status, const char *answer) {
+    size_t needed = 99;
+    int got;
+    clear();
+    got = cosvigle_ask_signature(&handle, symbol, len, room_at, room, &needed);
+    check(want(symbol, status, answer), got, needed);
+}
+
 static void ask(const char *symbol, size_t len, size_t room, int status, const char *answer) {
     ask_by(0, symbol, len, room, status, answer);
     ask_by(1, symbol, len, room, status, answer);
@@ -128,6 +137,7 @@ static void makes(enum call call, const char *given, size_t len, const char *tex
     if (call == FILTER) return;
     ask_by(1, "_Z3foo", 6, ROOM, COSVIGLE_WRITTEN, "foo");
     ask_by(1, "_Z1\xff", 4, ROOM, COSVIGLE_NOT_UTF8, NULL);
+    ask_signature("_Z3fooi", 7, ROOM, COSVIGLE_WRITTEN, "foo(int)");
     takes(text);
 }
 
@@ -161,11 +171,16 @@ static void nulls(void) {
     cosvigle_free(NULL);
     holds(cosvigle_demangle(NULL, 0, NULL, 0, &needed) == COSVIGLE_NO_ANSWER && needed == 0, "no symbol");
     holds(cosvigle_ask(&handle, NULL, 0, NULL, 0, NULL) == COSVIGLE_NO_ANSWER, "no symbol for a handle");
+    holds(cosvigle_ask_signature(&handle, NULL, 0, NULL, 0, NULL) == COSVIGLE_NO_ANSWER, "no symbol for a signature");
     holds(cosvigle_filter(NULL, 0, NULL, 0, NULL) == COSVIGLE_WRITTEN, "no line");
     holds(cosvigle_filter_with(&handle, NULL, 0, NULL, 0, NULL) == COSVIGLE_WRITTEN, "no line for a handle");
     holds(cosvigle_replace(&handle, true, NULL, 0, NULL, 0, NULL) == COSVIGLE_WRITTEN, "no text");
     holds(cosvigle_take(&handle, NULL, 0, NULL) == COSVIGLE_NO_ANSWER, "nothing to take");
     holds(cosvigle_demangle("_Z3foo", 6, NULL, 0, &needed) == COSVIGLE_NO_ROOM && needed == 3, "no room");
+    holds(cosvigle_ask_signature(&handle, "_Z3fooi", 7, NULL, 0, &needed) == COSVIGLE_NO_ROOM && needed == 8, "no room");
+    memset(text, '#', sizeof text);
+    holds(cosvigle_ask_signature(&handle, "_Z3fooi", 7, text, ROOM, NULL) == COSVIGLE_WRITTEN, "no needed");
+    holds(memcmp(text, "foo(int)#", 9) == 0, "a signature without needed");
     memset(text, '#', sizeof text);
     holds(cosvigle_demangle("_Z3foo", 6, text, ROOM, NULL) == COSVIGLE_WRITTEN && memcmp(text, "foo#", 4) == 0, "no needed");
     holds(cosvigle_replace(&handle, false, "_Z3foo", 6, NULL, 0, NULL) == COSVIGLE_NO_ROOM, "neither");
@@ -177,6 +192,10 @@ static void nulls(void) {
     holds(cosvigle_ask(NULL, "_Z3foo", 6, text, ROOM, &needed) == COSVIGLE_BAD_CALL, "no handle");
     holds(cosvigle_ask(&handle, NULL, 1, text, ROOM, &needed) == COSVIGLE_BAD_CALL, "a symbol at NULL");
     holds(cosvigle_ask(&handle, "_Z3foo", 6, NULL, 1, &needed) == COSVIGLE_BAD_CALL, "room at NULL");
+    needed = 99;
+    holds(cosvigle_ask_signature(NULL, "_Z3foo", 6, text, ROOM, &needed) == COSVIGLE_BAD_CALL && needed == 0, "no handle");
+    holds(cosvigle_ask_signature(&handle, NULL, 1, text, ROOM, &needed) == COSVIGLE_BAD_CALL, "a symbol at NULL");
+    holds(cosvigle_ask_signature(&handle, "_Z3foo", 6, NULL, 1, &needed) == COSVIGLE_BAD_CALL, "room at NULL");
     holds(cosvigle_filter(NULL, 1, text, ROOM, &needed) == COSVIGLE_BAD_CALL, "lines at NULL");
     holds(cosvigle_filter("", 0, NULL, 1, &needed) == COSVIGLE_BAD_CALL, "room at NULL");
     holds(cosvigle_filter_with(NULL, "", 0, text, ROOM, &needed) == COSVIGLE_BAD_CALL, "no handle");
@@ -221,6 +240,9 @@ static void great(void) {
     memcpy(symbol, "_Z3foo.aa", 9);
     holds(cosvigle_demangle(symbol, GREAT, answer, GREAT, &needed) == COSVIGLE_WRITTEN, "a long rest");
     holds(needed == GREAT - 3 && memcmp(answer, "foo.aaa", 7) == 0 && answer[needed - 1] == 'a', "all of the rest");
+    memset(answer, 0, GREAT);
+    holds(cosvigle_ask_signature(&handle, symbol, GREAT, answer, GREAT, &needed) == COSVIGLE_WRITTEN, "as a signature");
+    holds(needed == GREAT - 3 && memcmp(answer, "foo.aaa", 7) == 0 && answer[needed - 1] == 'a', "all of its rest");
     holds(cosvigle_ask(&handle, symbol, GREAT, answer, 9, &needed) == COSVIGLE_NO_ROOM, "a long answer");
     holds(cosvigle_ask(&handle, symbol, GREAT, answer, GREAT, &needed) == COSVIGLE_WRITTEN, "it again");
     free(symbol);
@@ -266,6 +288,11 @@ static void handles(void) {
     ask_by(1, "_Z3bar", 6, ROOM, COSVIGLE_WRITTEN, "bar");
     holds(handle.at != NULL, "one for a symbol");
     cosvigle_free(&handle);
+    ask_signature("_Z1\xff", 4, ROOM, COSVIGLE_NOT_UTF8, NULL);
+    holds(handle.at == NULL, "none for a signature of what isn't UTF-8");
+    ask_signature("_Z3fooi", 7, ROOM, COSVIGLE_WRITTEN, "foo(int)");
+    holds(handle.at != NULL, "one for a signature");
+    cosvigle_free(&handle);
     makes(REPLACE, "_Z3bar", 6, "bar");
     holds(handle.at != NULL, "one for a text");
 }
@@ -273,7 +300,9 @@ static void handles(void) {
 static const char symbol[] = "_ZNSt6vectorIS_IiEE4sizeEv", answer[] = "std::vector<std::vector<int> >::size";
 static const char block[] = "_Z3foov\nx\n_Z3bar", text_of_block[] = "foo\nx\nbar";
 
-enum { DEMANGLE, NEW, ASK, FILTERS, FILTERS_WITH, REPLACES, TAKES, STRING };
+static const char typed[] = "_Z1fIJicEEvDpRKT_", signature[] = "f<int, char>(int, char const&)";
+
+enum { DEMANGLE, NEW, ASK, SIGNATURE, FILTERS, FILTERS_WITH, REPLACES, TAKES, STRING };
 
 /* Makes the call of this number; its status, or -1 if what it writes or tells isn't right. */
 static int call(int number) {
@@ -281,6 +310,7 @@ static int call(int number) {
     size_t needed = 99;
     const char *right = number == DEMANGLE || number == ASK || number == STRING ? answer : text_of_block;
     int status;
+    if (number == SIGNATURE) right = signature;
     memset(text, '#', sizeof text);
     if (number == NEW) {
         status = cosvigle_new(&handle);
@@ -294,6 +324,8 @@ static int call(int number) {
     }
     if (number == DEMANGLE) status = cosvigle_demangle(symbol, sizeof symbol - 1, text, ROOM, &needed);
     else if (number == ASK) status = cosvigle_ask(&handle, symbol, sizeof symbol - 1, text, ROOM, &needed);
+    else if (number == SIGNATURE)
+        status = cosvigle_ask_signature(&handle, typed, sizeof typed - 1, text, ROOM, &needed);
     else if (number == FILTERS) status = cosvigle_filter(block, sizeof block - 1, text, ROOM, &needed);
     else if (number == FILTERS_WITH) status = cosvigle_filter_with(&handle, block, sizeof block - 1, text, ROOM, &needed);
     else if (number == REPLACES) status = cosvigle_replace(&handle, false, block, sizeof block - 1, text, ROOM, &needed);
@@ -311,8 +343,9 @@ static int call(int number) {
 /* Each call, and again where it had no memory: only one request is refused. The symbol is asked of a handle that has
  * answered, of a new one, and of one without a demangler; so is a text. */
 static int refused(void) {
-    static const int calls[] = {DEMANGLE, NEW, ASK, ASK, NEW, ASK, FILTERS, FILTERS_WITH, REPLACES, TAKES, STRING};
-    static const int without[] = {ASK, FILTERS_WITH, REPLACES, TAKES};
+    static const int calls[] = {DEMANGLE,  NEW, ASK,     ASK,          NEW,      ASK,   SIGNATURE, NEW,
+                                SIGNATURE, ASK, FILTERS, FILTERS_WITH, REPLACES, TAKES, STRING};
+    static const int without[] = {ASK, SIGNATURE, FILTERS_WITH, REPLACES, TAKES};
     int had_none = 0;
     long made;
     size_t at;
@@ -327,7 +360,7 @@ static int refused(void) {
     }
     /* A symbol that needs no more memory than the handle has makes no request. */
     made = refuse_made();
-    if (call(ASK) != COSVIGLE_WRITTEN || refuse_made() != made) return 1;
+    if (call(ASK) != COSVIGLE_WRITTEN || call(SIGNATURE) != COSVIGLE_WRITTEN || refuse_made() != made) return 1;
     for (at = 0; at < sizeof without / sizeof *without; at++) {
         int status;
         cosvigle_free(&handle);
@@ -357,6 +390,18 @@ int main(void) {
     ask("_Z1\xc3\xa9", 5, ROOM, COSVIGLE_NO_ANSWER, NULL);
     ask("_Z2\xc3\xa9", 5, ROOM, COSVIGLE_WRITTEN, "\xc3\xa9");
     ask("_Z1\xff", 4, ROOM, COSVIGLE_NOT_UTF8, NULL);
+    ask_signature("_Z1fIJicEEvDpRKT_", 17, ROOM, COSVIGLE_WRITTEN, "f<int, char>(int, char const&)");
+    ask_signature("_Z3fooi.cold", 12, 13, COSVIGLE_WRITTEN, "foo(int).cold");
+    ask_signature("_Z3fooi.cold", 12, 12, COSVIGLE_NO_ROOM, "foo(int).cold");
+    ask_signature("_Z3fooi.cold", 12, 0, COSVIGLE_NO_ROOM, "foo(int).cold");
+    ask_by(1, "_Z3fooi.cold", 12, ROOM, COSVIGLE_WRITTEN, "foo");
+    ask_signature("_ZNK3Foo3barEv", 14, ROOM, COSVIGLE_WRITTEN, "Foo::bar() const");
+    /* No signature: the demangled name. */
+    ask_signature("_Z3foo_", 7, ROOM, COSVIGLE_WRITTEN, "foo");
+    ask_signature("malloc", 6, ROOM, COSVIGLE_NO_ANSWER, NULL);
+    ask_signature("", 0, ROOM, COSVIGLE_NO_ANSWER, NULL);
+    ask_signature("_Z2\xc3\xa9i", 6, ROOM, COSVIGLE_WRITTEN, "\xc3\xa9(int)");
+    ask_signature("_Z1\xc3\xa9i", 6, ROOM, COSVIGLE_NO_ANSWER, NULL);
     lines("_Z3foov\nx\n_Z3bar", 16, "foo\nx\nbar");
     lines("_Z1\xff\n\n", 6, "_Z1\xff\n\n");
     lines("x _Z3foov\n", 10, "x _Z3foov\n");

@@ -37,13 +37,20 @@ template <class Call> static auto again(const cosvigle::demangler *value, Call c
 #endif
 }
 
-// The value answers the symbol so, or not at all where the answer is null.
-static void answers(cosvigle::demangler &value, cosvigle::string_view symbol, const char *answer) {
-    const auto found = again(&value, [&] { return value.demangle(symbol); });
+// What the value answered, and its status: so, or not at all where the answer is null.
+static void answered(const cosvigle::demangler &value, cosvigle::optional<cosvigle::string_view> found, const char *answer) {
     holds(found.has_value() == (answer != nullptr), "whether there is an answer");
     holds(static_cast<bool>(found) == found.has_value(), "the same as a condition");
     if (answer != nullptr) holds(found.value_or("") == answer && value.status() == COSVIGLE_WRITTEN, answer);
     else holds(value.status() == COSVIGLE_NO_ANSWER || value.status() == COSVIGLE_NOT_UTF8, "the status without one");
+}
+
+static void answers(cosvigle::demangler &value, cosvigle::string_view symbol, const char *answer) {
+    answered(value, again(&value, [&] { return value.demangle(symbol); }), answer);
+}
+
+static void signs(cosvigle::demangler &value, cosvigle::string_view symbol, const char *signature) {
+    answered(value, again(&value, [&] { return value.demangle_signature(symbol); }), signature);
 }
 
 // What needs no std::string.
@@ -55,6 +62,14 @@ static void try_views() {
     holds(first.status() == COSVIGLE_NOT_UTF8, "the status of what isn't UTF-8");
     answers(first, cosvigle::string_view(), nullptr);
     answers(first, cosvigle::string_view("_Z3foo\0bar", 10), "foo");
+
+    // Signatures, and names again. One without a signature has its name.
+    signs(first, "_Z3fooi.cold", "foo(int).cold");
+    answers(first, "_Z3fooi.cold", "foo");
+    signs(first, "_Z1fIJicEEvDpRKT_", "f<int, char>(int, char const&)");
+    signs(first, "_Z3foo_", "foo");
+    signs(first, "malloc", nullptr);
+    signs(first, "_Z1\xff", nullptr);
 
     // A moved value answers on, the one that it was moved from too, and one that is assigned keeps nothing of its
     // own.
@@ -74,6 +89,7 @@ static void try_views() {
     std::memcpy(symbol, "_Z1000", 6);
     std::memset(symbol + 6, 'a', 1000);
     std::memset(name, 'a', 1000);
+    signs(second, symbol, name);
     answers(first, symbol, name);
 }
 
@@ -89,6 +105,8 @@ static void try_strings() {
     is(again(&value, [&] { return cosvigle::demangle(symbol); }), name.c_str());
     is(again(&value, [&] { return cosvigle::demangle("_Z3foo"); }), "foo");
     holds(!again(&value, [] { return cosvigle::demangle("malloc"); }), "no owned answer");
+    is(again(&value, [&] { return cosvigle::demangle_signature("_ZNK3Foo3barEv"); }), "Foo::bar() const");
+    holds(!again(&value, [] { return cosvigle::demangle_signature("malloc"); }), "no owned signature");
     const std::string own(*again(&value, [&] { return value.demangle(symbol); }));
     holds(own == name, "a string of a lent answer");
     is(again(&value, [&] { return value.replace(text); }), ("(" + name + "+0x1) \xff").c_str());

@@ -32,5 +32,6 @@ def tried(method, given, right):
 
 tried("demangle", SYMBOL, NAME)
 tried("demangle", f"_Z1000{LONG}v", LONG)
+tried("demangle_signature", "_Z1fIJicEEvDpRKT_", "f<int, char>(int, char const&)")
 tried("replace", SYMBOL, NAME)
 tried("filter", SYMBOL, NAME)

@@ -1,7 +1,7 @@
 //! Each allocation of each call of the crate fails in turn (refuse.c): the call gives `NoMemory` or the right value, gives
 //! that when it is made again, and frees all memory.
 
-use cosvigle::{demangle, Demangler, Error};
+use cosvigle::{demangle, demangle_signature, Demangler, Error};
 use std::os::raw::c_long;
 
 extern "C" {
@@ -43,6 +43,8 @@ fn main() {
     tried(|value| Ok(value.demangle(SYMBOL)? == Some(NAME)));
     tried(|value| Ok(value.demangle(&symbol)? == Some(long.as_str())));
     tried(|_| Ok(demangle(SYMBOL)?.as_deref() == Some(NAME)));
+    tried(|value| Ok(value.demangle_signature("_Z1fIJicEEvDpRKT_")? == Some("f<int, char>(int, char const&)")));
+    tried(|_| Ok(demangle_signature("_Z1fIJicEEvDpRKT_")?.as_deref() == Some("f<int, char>(int, char const&)")));
     tried(|value| Ok(value.replace(SYMBOL.as_bytes(), false)? == NAME.as_bytes()));
     tried(|value| Ok(value.filter(SYMBOL.as_bytes())? == NAME.as_bytes()));
 }

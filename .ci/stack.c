@@ -1,5 +1,5 @@
 /* How much of its stack a thread needs for the deepest symbols. Each symbol on the standard input, a line each, is asked
- * in a thread whose stack was filled with a pattern; what differs from it afterwards was used. Prints the symbol that
+ * for its name and for its signature in a thread whose stack was filled with a pattern; what differs from it afterwards was used. Prints the symbol that
  * needs most, and how many bytes. The status is 0 where these are at most so many as the argument says. */
 #define _GNU_SOURCE
 #include <cosvigle.h>
@@ -20,9 +20,10 @@ static void *ask(void *unused) {
     cosvigle_handle handle = COSVIGLE_NONE;
     size_t needed;
     const int status = cosvigle_ask(&handle, symbol, length, answer, sizeof answer, &needed);
+    const int as_signature = cosvigle_ask_signature(&handle, symbol, length, answer, sizeof answer, &needed);
     cosvigle_free(&handle);
     (void)unused;
-    return status == COSVIGLE_WRITTEN ? symbol : NULL;
+    return status == COSVIGLE_WRITTEN && as_signature == COSVIGLE_WRITTEN ? symbol : NULL;
 }
 
 /* How many bytes of its stack the thread used that asked the symbol, or 0 where it has no answer. */

@@ -18,6 +18,10 @@ int cosvigle_ask(void *handle, const char *symbol, size_t len, char *answer, siz
     return status(room, needed);
 }
 
+int cosvigle_ask_signature(void *handle, const char *symbol, size_t len, char *answer, size_t room, size_t *needed) {
+    return cosvigle_ask(handle, symbol, len, answer, room, needed);
+}
+
 int cosvigle_filter_with(void *handle, const char *lines, size_t len, char *into, size_t room, size_t *needed) {
     return cosvigle_ask(handle, lines, len, into, room, needed);
 }

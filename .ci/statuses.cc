@@ -28,6 +28,7 @@ int main(int count, char **words) {
     const int status = std::atoi(words[1]);
     cosvigle::demangler value;
     fails(value, status, [&] { return value.demangle("_Z3foo").has_value(); });
+    fails(value, status, [&] { return value.demangle_signature("_Z3foo").has_value(); });
     // The calls over texts know no status that says that there is nothing.
     if (status != COSVIGLE_NO_ANSWER && status != COSVIGLE_NOT_UTF8) {
         fails(value, status, [&] { return value.replace("_Z3foo").has_value(); });

@@ -20,8 +20,11 @@ def fails(call):
 demangler = cosvigle.Demangler()
 if status in (1, 4):
     assert demangler.demangle("_Z3foo") is None
+    assert demangler.demangle_signature("_Z3foo") is None
 else:
     fails(demangler.demangle)
     fails(cosvigle.demangle)
+    fails(demangler.demangle_signature)
+    fails(cosvigle.demangle_signature)
 fails(demangler.replace)
 fails(demangler.filter)

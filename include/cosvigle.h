@@ -70,7 +70,12 @@ typedef struct {
  * handle without a demangler gets one. After COSVIGLE_NO_MEMORY the handle can be used again. */
 int cosvigle_ask(cosvigle_handle *handle, const char *symbol, size_t len, char *answer, size_t room, size_t *needed);
 
-/* The same for one symbol, without a handle. */
+/* Writes the signature of a symbol, that is its demangled name with its parameters: foo(int) for _Z3fooi. Where it has
+ * no signature its demangled name is written. All else is as of cosvigle_ask, and one handle serves both calls. */
+int cosvigle_ask_signature(cosvigle_handle *handle, const char *symbol, size_t len, char *answer, size_t room,
+                           size_t *needed);
+
+/* The demangled name of one symbol, without a handle. */
 int cosvigle_demangle(const char *symbol, size_t len, char *answer, size_t room, size_t *needed);
 
 /* Writes a text with its symbols replaced by their demangled names, as the program cosvigle does. A word is a longest
@@ -138,6 +143,17 @@ COSVIGLE_INLINE int cosvigle_ask_or_null(cosvigle_handle *handle, const char *sy
                         needed == NULL ? &unused : needed);
 }
 
+COSVIGLE_INLINE int cosvigle_ask_signature_or_null(cosvigle_handle *handle, const char *symbol, size_t len,
+                                                   char *answer, size_t room, size_t *needed) {
+    char none = 0;
+    size_t unused;
+    if (handle == NULL || cosvigle_is_bad(symbol, len) || cosvigle_is_bad(answer, room)) {
+        return cosvigle_bad_call(needed);
+    }
+    return cosvigle_ask_signature(handle, symbol == NULL ? "" : symbol, len, answer == NULL ? &none : answer, room,
+                                  needed == NULL ? &unused : needed);
+}
+
 COSVIGLE_INLINE int cosvigle_demangle_or_null(const char *symbol, size_t len, char *answer, size_t room,
                                               size_t *needed) {
     char none = 0;
@@ -189,6 +205,7 @@ COSVIGLE_INLINE void cosvigle_free_or_null(cosvigle_handle *handle) {
 }
 
 #define cosvigle_ask cosvigle_ask_or_null
+#define cosvigle_ask_signature cosvigle_ask_signature_or_null
 #define cosvigle_demangle cosvigle_demangle_or_null
 #define cosvigle_replace cosvigle_replace_or_null
 #define cosvigle_filter_with cosvigle_filter_with_or_null

@@ -136,14 +136,10 @@ class demangler {
 
     // The demangled name of a symbol, lent until the next call, or none if it has none or isn't UTF-8. The symbol may
     // not be a name that this value lends. After a fault the value can be used again.
-    optional<string_view> demangle(string_view symbol) {
-        std::size_t needed = 0;
-        if (text != nullptr || grow(256)) ask(symbol, needed);
-        if (last == COSVIGLE_NO_ROOM && needed > room && grow(needed)) ask(symbol, needed);
-        if (last == COSVIGLE_WRITTEN) return string_view(text, needed);
-        if (last != COSVIGLE_NO_ANSWER && last != COSVIGLE_NOT_UTF8) fault();
-        return nullopt;
-    }
+    optional<string_view> demangle(string_view symbol) { return answer_by(cosvigle_ask, symbol); }
+
+    // The same with the parameters: foo(int) for _Z3fooi. Where the symbol has no signature it is the demangled name.
+    optional<string_view> demangle_signature(string_view symbol) { return answer_by(cosvigle_ask_signature, symbol); }
 
     // The text with the symbols in its words replaced, as the program cosvigle does. With strip one more underscore
     // may stand in front of a symbol. No value after a fault. Here and in filter a std::string that gets no memory
@@ -179,8 +175,18 @@ class demangler {
         std::swap(last, other.last);
     }
 
-    void ask(string_view symbol, std::size_t &needed) noexcept {
-        last = cosvigle_ask(&handle, symbol.data(), symbol.size(), text, room, &needed);
+    // Asks by this call, a second time where there was too little room.
+    optional<string_view> answer_by(decltype(&cosvigle_ask) call, string_view symbol) {
+        std::size_t needed = 0;
+        if (text != nullptr || grow(256)) ask(call, symbol, needed);
+        if (last == COSVIGLE_NO_ROOM && needed > room && grow(needed)) ask(call, symbol, needed);
+        if (last == COSVIGLE_WRITTEN) return string_view(text, needed);
+        if (last != COSVIGLE_NO_ANSWER && last != COSVIGLE_NOT_UTF8) fault();
+        return nullopt;
+    }
+
+    void ask(decltype(&cosvigle_ask) call, string_view symbol, std::size_t &needed) noexcept {
+        last = call(&handle, symbol.data(), symbol.size(), text, room, &needed);
     }
 
     bool grow(std::size_t wanted) noexcept {
@@ -221,6 +227,13 @@ class demangler {
 inline optional<std::string> demangle(string_view symbol) {
     demangler once;
     const auto name = once.demangle(symbol);
+    if (!name) return nullopt;
+    return optional<std::string>(std::string(*name));
+}
+
+inline optional<std::string> demangle_signature(string_view symbol) {
+    demangler once;
+    const auto name = once.demangle_signature(symbol);
     if (!name) return nullopt;
     return optional<std::string>(std::string(*name));
 }

@@ -6,6 +6,8 @@ module is not proved.
     'Foo::bar'
     >>> cosvigle.demangle("malloc") is None
     True
+    >>> cosvigle.demangle_signature("_Z3fooi")
+    'foo(int)'
     >>> cosvigle.replace("at _Z3foov+0x1")
     'at foo+0x1'
 
@@ -15,7 +17,7 @@ import ctypes
 import os
 import threading
 
-__all__ = ["Demangler", "Error", "demangle", "filter", "replace", "version"]
+__all__ = ["Demangler", "Error", "demangle", "demangle_signature", "filter", "replace", "version"]
 __version__ = "0.1.0"
 
 _WRITTEN, _NO_ANSWER, _NO_MEMORY, _NO_ROOM, _NOT_UTF8 = range(5)
@@ -40,6 +42,7 @@ def _load():
     room = [ctypes.c_char_p, ctypes.c_size_t, needed]
     for name, arguments, result in (
         ("ask", [handle, *text, *room], ctypes.c_int),
+        ("ask_signature", [handle, *text, *room], ctypes.c_int),
         ("replace", [handle, ctypes.c_bool, *text, *room], ctypes.c_int),
         ("filter_with", [handle, *text, *room], ctypes.c_int),
         ("take", [handle, *room], ctypes.c_int),
@@ -82,11 +85,18 @@ class Demangler:
 
     def demangle(self, symbol):
         """The demangled name of a symbol, or None if it has none or isn't UTF-8. Bytes give bytes, and a str a str."""
+        return self._asked(_library.cosvigle_ask, symbol)
+
+    def demangle_signature(self, symbol):
+        """The same with the parameters. Where the symbol has no signature it is the demangled name."""
+        return self._asked(_library.cosvigle_ask_signature, symbol)
+
+    def _asked(self, call, symbol):
         given = _bytes_of(symbol)
         needed = ctypes.c_size_t()
         with self._lock:
             for attempt in range(2):
-                status = _library.cosvigle_ask(self._handle, given, len(given), self._room, len(self._room), needed)
+                status = call(self._handle, given, len(given), self._room, len(self._room), needed)
                 if status != _NO_ROOM or needed.value <= len(self._room) or attempt == 1:
                     break
                 self._room = ctypes.create_string_buffer(needed.value)
@@ -148,6 +158,11 @@ def _demangler():
 def demangle(symbol):
     """The demangled name of a symbol, or None if it has none or isn't UTF-8. Bytes give bytes, and a str a str."""
     return _demangler().demangle(symbol)
+
+
+def demangle_signature(symbol):
+    """The same with the parameters. Where the symbol has no signature it is the demangled name."""
+    return _demangler().demangle_signature(symbol)
 
 
 def replace(text, strip=False):

@@ -23,6 +23,19 @@ class Calls(unittest.TestCase):
         with cosvigle.Demangler() as demangler:
             for length in (255, 256, 257, 100000):
                 self.assertEqual(demangler.demangle(f"_Z{length}{'a' * length}v"), "a" * length)
+                self.assertEqual(demangler.demangle_signature(f"_Z{length}{'a' * length}v"), "a" * length + "()")
+
+    def test_signatures(self):
+        self.assertEqual(cosvigle.demangle_signature("_Z3fooi.cold"), "foo(int).cold")
+        self.assertEqual(cosvigle.demangle_signature(b"_Z1fIJicEEvDpRKT_"), b"f<int, char>(int, char const&)")
+        self.assertEqual(cosvigle.demangle_signature("_ZNK3Foo3barEv"), "Foo::bar() const")
+        self.assertEqual(cosvigle.demangle_signature("_Z3foo_"), "foo")
+        for symbol in ("malloc", "", b"_Z1\xff"):
+            self.assertIsNone(cosvigle.demangle_signature(symbol))
+        with cosvigle.Demangler() as demangler:
+            self.assertEqual(demangler.demangle("_Z3fooi"), "foo")
+            self.assertEqual(demangler.demangle_signature("_Z3fooi"), "foo(int)")
+            self.assertEqual(demangler.demangle("_Z3fooi"), "foo")
 
     def test_words(self):
         with cosvigle.Demangler() as demangler:
@@ -69,6 +82,8 @@ class Calls(unittest.TestCase):
         for wrong in (None, 1, ["_Z3foo"]):
             with self.assertRaises(TypeError):
                 cosvigle.demangle(wrong)
+            with self.assertRaises(TypeError):
+                cosvigle.demangle_signature(wrong)
 
     def test_errors(self):
         self.assertEqual(str(cosvigle.Error(9)), "unexpected status 9")

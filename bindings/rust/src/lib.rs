@@ -5,6 +5,7 @@
 //! let mut demangler = cosvigle::Demangler::new();
 //! assert_eq!(demangler.demangle("_ZN3Foo3barEv")?, Some("Foo::bar"));
 //! assert_eq!(demangler.demangle("malloc")?, None);
+//! assert_eq!(demangler.demangle_signature("_Z3fooi")?, Some("foo(int)"));
 //! # Ok::<(), cosvigle::Error>(())
 //! ```
 //!
@@ -23,6 +24,14 @@ struct Handle {
 
 extern "C" {
     fn cosvigle_ask(
+        handle: *mut Handle,
+        symbol: *const u8,
+        len: usize,
+        answer: *mut u8,
+        room: usize,
+        needed: *mut usize,
+    ) -> c_int;
+    fn cosvigle_ask_signature(
         handle: *mut Handle,
         symbol: *const u8,
         len: usize,
@@ -51,6 +60,9 @@ extern "C" {
     fn cosvigle_free(handle: *mut Handle);
     fn cosvigle_version() -> u32;
 }
+
+/// `cosvigle_ask` or `cosvigle_ask_signature`.
+type AskCall = unsafe extern "C" fn(*mut Handle, *const u8, usize, *mut u8, usize, *mut usize) -> c_int;
 
 const WRITTEN: c_int = 0;
 const NO_ANSWER: c_int = 1;
@@ -98,14 +110,30 @@ impl Demangler {
 
     /// The same for bytes. Bytes that aren't UTF-8 have no demangled name.
     pub fn demangle_bytes(&mut self, symbol: &[u8]) -> Result<Option<&str>, Error> {
+        self.answer_by(cosvigle_ask, symbol)
+    }
+
+    /// The signature of a symbol, that is its demangled name with its parameters, lent until the next call. Where it has
+    /// no signature it is the demangled name, or `None` if it has none.
+    pub fn demangle_signature(&mut self, symbol: &str) -> Result<Option<&str>, Error> {
+        self.demangle_signature_bytes(symbol.as_bytes())
+    }
+
+    /// The same for bytes. Bytes that aren't UTF-8 have no signature.
+    pub fn demangle_signature_bytes(&mut self, symbol: &[u8]) -> Result<Option<&str>, Error> {
+        self.answer_by(cosvigle_ask_signature, symbol)
+    }
+
+    /// Asks by this call, a second time where there was too little room.
+    fn answer_by(&mut self, call: AskCall, symbol: &[u8]) -> Result<Option<&str>, Error> {
         if self.room.is_empty() {
             enlarge(&mut self.room, 256)?;
         }
         let mut needed = 0;
-        let mut status = self.ask(symbol, &mut needed);
+        let mut status = self.ask(call, symbol, &mut needed);
         if status == NO_ROOM && needed > self.room.len() {
             enlarge(&mut self.room, needed)?;
-            status = self.ask(symbol, &mut needed);
+            status = self.ask(call, symbol, &mut needed);
         }
         match status {
             WRITTEN => {
@@ -117,11 +145,11 @@ impl Demangler {
         }
     }
 
-    fn ask(&mut self, symbol: &[u8], needed: &mut usize) -> c_int {
+    fn ask(&mut self, call: AskCall, symbol: &[u8], needed: &mut usize) -> c_int {
         // A slice's pointer is valid for its length and never null. The four don't overlap: one is shared, three are
         // borrowed mutably.
         unsafe {
-            cosvigle_ask(
+            call(
                 &mut self.handle,
                 symbol.as_ptr(),
                 symbol.len(),
@@ -228,8 +256,17 @@ impl Drop for Demangler {
 
 /// The demangled name of one symbol, as a text of its own, or `None` if it has none.
 pub fn demangle(symbol: &str) -> Result<Option<String>, Error> {
-    let mut once = Demangler::new();
-    match once.demangle(symbol)? {
+    owned(Demangler::new().demangle(symbol)?)
+}
+
+/// The signature of one symbol, as a text of its own. Where it has none it is the demangled name, or `None` if it has
+/// none.
+pub fn demangle_signature(symbol: &str) -> Result<Option<String>, Error> {
+    owned(Demangler::new().demangle_signature(symbol)?)
+}
+
+fn owned(name: Option<&str>) -> Result<Option<String>, Error> {
+    match name {
         Some(name) => {
             let mut text = String::new();
             text.try_reserve_exact(name.len()).map_err(|_| Error::NoMemory)?;
