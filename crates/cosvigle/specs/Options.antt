@@ -85,7 +85,8 @@ look_at found bytes name letter =
 -- the options whose names begin with the bytes: a whole name counts alone
 abbrev pub find_name : List ℕ → Found
 find_name bytes =
-    look_at (look_at (look_at (look_at (look_at (look_at (look_at (look_at (look_at (look_at (look_at (look_at (look_at (look_at Nothing
+    look_at (look_at (look_at (look_at (look_at (look_at (look_at
+    (look_at (look_at (look_at (look_at (look_at (look_at (look_at Nothing
     bytes (codes "strip-underscore") 95)
     bytes (codes "no-strip-underscores") 110)
     bytes (codes "no-params") 112)
@@ -115,7 +116,8 @@ with_value (Stopping by) value = Stopping stop.Valued
 -- what the option with a letter asks for, where so many bytes are its name, and after a `=` the others are its value
 abbrev pub valued_step : Flags → ℕ → ℕ → List ℕ → Step
 valued_step flags letter len bytes =
-    if len == length bytes then letter_step flags letter else with_value (letter_step flags letter) (drop (len + 1) bytes)
+    if len == length bytes then letter_step flags letter else
+    with_value (letter_step flags letter) (drop (len + 1) bytes)
 
 -- what the option found asks for
 abbrev pub found_step : Flags → Found → ℕ → List ℕ → Step

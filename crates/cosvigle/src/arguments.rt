@@ -38,16 +38,17 @@ pub struct Printed<'a> {
     pub text: &'a [u8],
 }
 
-/// What is printed for an argument: the demangled name or the signature of its symbol, after what stands in front of that, or the argument
-/// itself where it has none or isn't UTF-8. With `strip` the symbol may have one more underscore in front. An error comes
-/// only where memory is refused.
+/// What is printed for an argument: the demangled name or the signature of its symbol, after what stands in front of
+/// that. It is the argument itself where it has none or isn't UTF-8. With `strip` the symbol may have one more
+/// underscore in front. An error comes only if an allocation fails.
 pub fn answer_of<'a>(
     alloc: Global,
     demangler: &'a mut Demangler,
     how: Replacement,
     argument: &'a [u8],
 ) -> Result<Printed<'a>, AllocError>
-    ensures answer { IfOk result (λ printed. IsArgumentAnswer how argument.now (printed.front.now ++ printed.text.now)) }
+    ensures answer { IfOk result (λ printed.
+        IsArgumentAnswer how argument.now (printed.front.now ++ printed.text.now)) }
 {
     let len = import_len(argument);
     let symbol = stripped(how.strip, &argument[len..]);
@@ -73,7 +74,8 @@ pub fn answer_of<'a>(
 
 /// Makes the line of what is printed for an argument. An error comes only where memory is refused.
 pub fn set_line(line: &mut Vec<u8>, printed: Printed<'_>) -> Result<(), AllocError>
-    ensures line { OnOk result (line.new.items ≡ printed.entry.front.now ++ (printed.entry.text.now ++ spec.line_feed ∷ [])) }
+    ensures line { OnOk result (line.new.items
+        ≡ printed.entry.front.now ++ (printed.entry.text.now ++ spec.line_feed ∷ [])) }
 {
     line.clear();
     line.extend_from_slice(printed.front)?;

@@ -1,7 +1,8 @@
-//! Replaces mangled C++ symbols in a text by their demangled names. With symbols as arguments it prints the name of each,
-//! or the argument itself, one a line. Without any it replaces from standard input to standard output. After a fault it
-//! ends with status 1, and with status 2 where the options can't be read: then nothing is written to standard output.
-//! Standard error says which. Where the reader of standard output has gone, it ends with status 0 and says nothing.
+//! Replaces mangled C++ symbols in a text by their demangled names. With symbols as arguments it prints the name of
+//! each, or the argument itself, one a line. Without any it replaces from standard input to standard output. After a
+//! fault it ends with status 1, and with status 2 where the options can't be read: then nothing is written to standard
+//! output. Standard error says which. Where the reader of standard output has gone, it ends with status 0 and says
+//! nothing.
 #![tactic(auto)]
 
 ghost use Rattle.std.specs.Prelude.{◌≡◌};
@@ -33,7 +34,7 @@ const NOT_ASKED: u8 = 2;
 const MOST_FILES: u32 = 2000;
 
 /// So many bytes of an argument are asked for at first.
-const ARGUMENT_LEN: usize = 1024;
+const ARGUMENT_LEN: usize = 128;
 
 /// So many bytes are copied at once.
 const COPIED_LEN: usize = 65536;

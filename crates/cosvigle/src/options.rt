@@ -126,8 +126,8 @@ fn letter_step(flags: Flags, letter: u8) -> Step
     }
 }
 
-/// The options whose letters follow the `-` that an argument begins with. What follows the letter of an option that takes
-/// a value is that value.
+/// The options whose letters follow the `-` that an argument begins with. What follows the letter of an option that
+/// takes a value is that value.
 fn letters_step(flags: Flags, argument: &[u8]) -> Step
     ensures value { result ≡ spec.letters_step flags argument.now }
 {

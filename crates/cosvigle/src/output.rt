@@ -41,7 +41,8 @@ impl<W: Write> Write for Output<W> {
 
     fn write(&mut self, bytes: &[u8]) -> io::Result<usize>
         ensures bound { WritesAtMost result bytes.now }
-        ensures bytes { WriteAppends (W.contents (spec.inner_of self.old)) (W.contents (spec.inner_of self.new)) result bytes.now }
+        ensures bytes { WriteAppends (W.contents (spec.inner_of self.old))
+            (W.contents (spec.inner_of self.new)) result bytes.now }
         ensures closes { IsBroken result → spec.is_closed self.new ≡ true }
         ensures closed { spec.is_closed self.old ≡ true → spec.is_closed self.new ≡ true }
         ensures open { spec.is_closed self.old ≡ false → spec.is_closed self.new ≡ true → IsBroken result }

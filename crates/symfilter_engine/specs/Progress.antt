@@ -125,12 +125,16 @@ IsReplacedIn how false bytes text = IsReplaced how bytes text
 
 -- the replaced text of bytes that come after such a word or none, and whether such a word goes on after them
 pub record Leads (how : Replacement) (inside : Bool) (bytes text : List ℕ) (after : Bool) : Type 0 where
-  pub goes : (rest more : List ℕ) → IsReplacedIn how after rest more → IsReplacedIn how inside (bytes ++ rest) (text ++ more)
+  pub goes :
+      (rest more : List ℕ)
+      → IsReplacedIn how after rest more
+      → IsReplacedIn how inside (bytes ++ rest) (text ++ more)
   pub ended : after ≡ false → ends_word bytes ≡ false
   pub none : after ≡ false → bytes ≡ [] → inside ≡ false
 
 -- of the bytes given the replaced text of all but those left was written
-pub record HasReplaced (how : Replacement) (inside : Bool) (given left : List ℕ) (after : Bool) (before_written after_written : Option (List ℕ)) : Type 0 where
+pub record HasReplaced (how : Replacement) (inside : Bool) (given left : List ℕ) (after : Bool)
+    (before_written after_written : Option (List ℕ)) : Type 0 where
   pub done : List ℕ
   pub text : List ℕ
   pub given_is : given ≡ done ++ left
@@ -144,11 +148,14 @@ ReplacesWhole how inside given before after = (left : List ℕ) × HasReplaced h
 -- a beginning of the replaced text of the bytes was written
 abbrev pub ReplacesBeginning : Replacement → Bool → List ℕ → Option (List ℕ) → Option (List ℕ) → Type 0
 ReplacesBeginning how inside given before after =
-    (written : List ℕ) × ((text : List ℕ) × IsReplacedIn how inside given text × IsFront written text) × Appends before after written
+    (written : List ℕ)
+    × ((text : List ℕ) × IsReplacedIn how inside given text × IsFront written text)
+    × Appends before after written
 
 -- whatever follows these bytes, a beginning of the replaced text of all was written
 abbrev pub ReplacesFront : Replacement → Bool → List ℕ → Option (List ℕ) → Option (List ℕ) → Type 0
-ReplacesFront how inside given before after = (rest : List ℕ) → ReplacesBeginning how inside (given ++ rest) before after
+ReplacesFront how inside given before after =
+    (rest : List ℕ) → ReplacesBeginning how inside (given ++ rest) before after
 
 -- bytes were read, and the replaced text of all but a last word was written; none is left where a word goes on
 pub record HasCopiedWords (how : Replacement) (inside : Bool) (word : List ℕ)
@@ -159,7 +166,8 @@ pub record HasCopiedWords (how : Replacement) (inside : Bool) (word : List ℕ)
   pub replaced : HasReplaced how false read word inside written_before written_after
 
 -- the same, whether a word goes on or not
-abbrev pub CopiesWords : Replacement → List ℕ → Option (List ℕ) → Option (List ℕ) → Option (List ℕ) → Option (List ℕ) → Type 0
+abbrev pub CopiesWords : Replacement → List ℕ → Option (List ℕ) → Option (List ℕ) → Option (List ℕ)
+    → Option (List ℕ) → Type 0
 CopiesWords how word before after written_before written_after =
     (inside : Bool) × HasCopiedWords how inside word before after written_before written_after
 

@@ -63,9 +63,10 @@ pub fn filter<R: Source, W: Sink>(
     filter_by(alloc, Printing::Names, source, sink)
 }
 
-/// Reads to the end, and writes for each line what is printed for it as a symbol: its demangled name, or its signature. A
-/// line that has none, or that isn't UTF-8, is written as it is. A line goes up to the next line feed or the end of the input. Its line feed is written
-/// where there was one. Before each read all whole lines that were read are written.
+/// Reads to the end, and writes for each line what is printed for it as a symbol: its demangled name, or its signature.
+/// A line that has none, or that isn't UTF-8, is written as it is. A line goes up to the next line feed or the end of
+/// the input. Its line feed is written where there was one. Before each read all whole lines that were read are
+/// written.
 ///
 /// It returns at the first fault, and calls neither source nor sink after it. The fault is `Read` if the source has
 /// failed, `Write` if the sink has failed, and `Memory` if an allocation has failed. The sink has then got a beginning

@@ -1,7 +1,6 @@
 //! The engine of the filter and the replacement, which copy text from a source to a sink. `filter` demangles each line
-//! that is a symbol, `filter_by` does so with names or signatures, and `replace` does for each symbol that stands in a word.
-//! Before each read `filter` writes all whole lines,
-//! and `replace` all but a word that may hold a symbol.
+//! that is a symbol. `filter_by` prints names or signatures of such lines, and `replace` of each symbol that stands in
+//! a word. Before each read the filter writes all whole lines, and `replace` all but a word that may hold a symbol.
 #![tactic(auto)]
 
 mod bounds;

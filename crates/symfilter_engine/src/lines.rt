@@ -1,7 +1,7 @@
 //! Writing whole lines or words, and a last line or word.
 //!
-//! Where lines are symbols, what is written at once are whole lines. Where words hold symbols, it is text that ends in a
-//! byte that is in no word, which is called lines here too. What is ordinary is written as it is: a line that doesn't
+//! Where lines are symbols, what is written at once are whole lines. Where words hold symbols, it is text that ends in
+//! a byte that is in no word, which is called lines here too. What is ordinary is written as it is: a line that doesn't
 //! begin with an underscore, or text that has no `_Z`.
 ghost use Rattle.std.specs.Prelude.{◌≡◌, ◌<◌, ◌≤◌, [], false, length, take, IsTrue, IsErrOf, IsUtf8, IfOk, OnOk, OnErr};
 ghost use Rattle.std.specs.Io.KnownBytes.{Keeps};
