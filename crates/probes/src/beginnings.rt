@@ -6,9 +6,9 @@
 //! its record must be the same. After a first field `signature` the record is that of its signature. In a line `\t`
 //! stands for a tab.
 //!
-//! Each symbol is asked for its name, and then for its signature: two questions. Both are asked of a new value and of one
-//! that has answered all before it. A symbol without a signature must have the answer of its name. One line for each
-//! failure is written, then `N passed, M failed`, which counts the questions; with failures it ends with status 1.
+//! Each symbol is asked for its name, and then for its signature: two questions. Both are asked of a new value and of
+//! one that has answered all before it. A symbol without a signature must have the answer of its name. One line for
+//! each failure is written, then `N passed, M failed`, which counts the questions; with failures it ends with status 1.
 
 mod asked;
 mod record;
