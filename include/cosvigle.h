@@ -79,8 +79,8 @@ int cosvigle_ask_signature(cosvigle_handle *handle, const char *symbol, size_t l
 int cosvigle_demangle(const char *symbol, size_t len, char *answer, size_t room, size_t *needed);
 
 /* Writes a text with its symbols replaced by their demangled names, as the program cosvigle does. A word is a longest
- * run of ASCII letters, digits, _, $ and dots. Its symbol stands at its front, after at most one dot or $, which
- * stays, as do the dots at its end. With strip, one more underscore may stand in front of a symbol, and is dropped.
+ * run of ASCII letters, digits, _, $ and dots. Its symbol stands at its front, after at most one dot, one $ or
+ * __imp_, which stays, as do the dots at its end. With strip, one more underscore may stand in front of a symbol, and is dropped.
  * All other bytes stay. WRITTEN, NO_MEMORY or NO_ROOM. A call takes more than 128 KiB of memory while it runs: give it
  * whole texts rather than single lines.
  *

@@ -1,5 +1,5 @@
 //! The words of a file that stands as `@FILE` among the arguments.
-ghost use Rattle.std.specs.Prelude.{◌≡◌, map, option_map, IfOk};
+ghost use Rattle.std.specs.Prelude.{◌≡◌, map, option_map, IfOk, IsTrue, ◌↔◌, EachIndex, slice_index, ◌≢◌};
 ghost use Rattle.cosvigle.specs.Files as spec;
 
 use std::alloc::{AllocError, Global};
@@ -111,11 +111,8 @@ pub fn file_name(argument: &[u8]) -> Option<&[u8]>
 }
 
 /// Whether no byte is a NUL.
-pub fn is_text(bytes: &[u8]) -> bool {
-    for byte in bytes {
-        if *byte == 0 {
-            return false;
-        }
-    }
-    true
+pub fn is_text(bytes: &[u8]) -> bool
+    ensures { IsTrue result ↔ EachIndex bytes.now (λ k. slice_index bytes.now k ≢ 0) }
+{
+    bytes.iter().all(|byte| *byte != 0)
 }

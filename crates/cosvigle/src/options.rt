@@ -55,7 +55,7 @@ pub enum Step {
 /// What is asked.
 #[derive(Drop)]
 pub enum Asked<'a> {
-    /// The demangled names of these arguments, or the replaced text of standard input where there are none.
+    /// What is printed for these arguments, or the replaced text of standard input where there are none.
     Answers(Flags, Vec<&'a [u8]>),
     /// Something else, by this argument.
     Stopped(Stop, &'a [u8]),

@@ -214,8 +214,9 @@ impl Demangler {
     /// type is read and not printed, and a thunk stands for a function with its parameters. The answer is the
     /// printing, and after it all that follows from a dot right after what was read. It nests at most `MAX_DEPTH`
     /// counted productions, itself one of them, within `MAX_TEXT`: so it has at most `MAX_TEXT` bytes, and all that
-    /// follows from the dot. Counts and components are those of the reading that is answered, and of the name's where
-    /// neither is.
+    /// follows from the dot. Counts and components are those of the reading that is answered. Where neither is, the
+    /// counts are at most what `entered` and `most_saved` can be of any symbol. An error comes only where memory is
+    /// refused; then nothing is kept, and the value serves on.
     pub fn prepare_signature(&mut self, alloc: Global, symbol: &str) -> Result<bool, AllocError>
         ensures answer { IfOk result (λ _. IsSignatureOrName self.new.signature symbol.now self.new.text) }
         ensures found { IfOk result (λ found. found ≡ is_some self.new.text) }
@@ -271,7 +272,8 @@ impl Demangler {
     /// How many counted productions the last symbol entered: names, types, argument lists, packs, thunks, expressions
     /// and signatures, also those of a symbol without an answer; 0 before the first, after an error, and of a text
     /// without the prefix of a symbol. A production that is refused because `MAX_DEPTH` are open isn't entered. Where a
-    /// signature was asked for and there is none, they are those of the name.
+    /// signature was asked for and there is none, they are those of the name. It is at most twice as many as the symbol
+    /// has bytes. Where no reading is within the limits nothing more is proved of it.
     pub fn entered(&self) -> usize
         ensures value { result ≡ self.now.entered }
     {
@@ -280,6 +282,7 @@ impl Demangler {
 
     /// The most components for substitutions that were saved at one moment of the last symbol (Itanium C++ ABI 5.1.10),
     /// also of one without an answer; 0 before the first, after an error, and of a text without the prefix of a symbol.
+    /// It is at most as many as the symbol has bytes. Where no reading is within the limits nothing more is proved.
     pub fn most_saved(&self) -> usize
         ensures value { result ≡ self.now.most_saved }
     {

@@ -1,5 +1,6 @@
 //! Where symbols stand, and what is printed for them.
-ghost use Rattle.std.specs.Prelude.{◌≡◌, OnOk};
+ghost use Rattle.std.specs.Prelude.{◌≡◌, OnOk, OnErr};
+ghost use Rattle.itanium_demangle.specs.LastRun.{no_run};
 ghost use Rattle.symfilter_engine.specs.Shown.{IsShown};
 
 use itanium_demangle::Demangler;
@@ -32,7 +33,7 @@ pub(crate) enum Symbols {
     Words(Replacement),
 }
 
-/// Reads a symbol. Afterwards the demangler has the text that is printed for it, or none where it stays as it is.
+/// Reads a symbol. Afterwards the demangler has the text that is printed for it, or none where it stays as it is. After an error it has nothing.
 #[inline(always)]
 pub fn prepare_shown(
     alloc: Global,
@@ -40,7 +41,8 @@ pub fn prepare_shown(
     printing: Printing,
     symbol: &str,
 ) -> Result<(), AllocError>
-    ensures { OnOk result (IsShown printing symbol.now demangler.new.text) }
+    ensures shown { OnOk result (IsShown printing symbol.now demangler.new.text) }
+    ensures err { OnErr result (demangler.new ≡ no_run) }
 {
     match printing {
         Printing::Names => demangler.prepare(alloc, symbol)?,

@@ -26,7 +26,7 @@ returns-in-Some-text-clause-some c =
     let symbol = c.from_utf8_unchecked-symbol.result.now in
     let is = c.in-Some.ensures.value ∙ ap (symbol_at c.args.how.strip) (take_rest word front ∙ ap (λ n. drop n word) c.sign_len-front.ensures.value) in
     let has : IsShown c.args.how.printing c.in-Some.symbol.now (Some answer) =
-    subst (λ s. IsShown c.args.how.printing s (Some answer)) c.from_utf8_unchecked-symbol.ensures (subst (IsShown c.args.how.printing symbol) (sym c.in-Some-text.ensures.value) c.in_ok-prepare_shown.ensures) in
+    subst (λ s. IsShown c.args.how.printing s (Some answer)) c.from_utf8_unchecked-symbol.ensures (subst (IsShown c.args.how.printing symbol) (sym c.in-Some-text.ensures.value) c.in_ok-prepare_shown.ensures.shown) in
     subst (λ l. IsWordAnswer c.args.how word (l ++ answer)) (sym (ap (λ n. take n word) c.sign_len-front.ensures.value)) (answered (sym is) has)
 
 pub returns-in-None-clause-none : goal.returns-in-None-clause-none
@@ -36,4 +36,4 @@ returns-in-None-clause-none c =
     let symbol = c.from_utf8_unchecked-symbol.result.now in
     let is = c.in-Some.ensures.value ∙ ap (symbol_at c.args.how.strip) (take_rest word front ∙ ap (λ n. drop n word) c.sign_len-front.ensures.value) in
     unanswered (sym is)
-    (subst (λ s. IsShown c.args.how.printing s None) c.from_utf8_unchecked-symbol.ensures (subst (IsShown c.args.how.printing symbol) (sym c.in-None.ensures.value) c.in_ok-prepare_shown.ensures))
+    (subst (λ s. IsShown c.args.how.printing s None) c.from_utf8_unchecked-symbol.ensures (subst (IsShown c.args.how.printing symbol) (sym c.in-None.ensures.value) c.in_ok-prepare_shown.ensures.shown))
