@@ -19,7 +19,8 @@ use growing_text::Text;
 use itanium_demangle::Demangler;
 use std::alloc::Global;
 
-/// Reads to the end, and writes the replaced text: each symbol that stands in a word is replaced by what is printed for it, its demangled name or its signature.
+/// Reads to the end, and writes the replaced text: each symbol that stands in a word is replaced by what is printed for
+/// it, its demangled name or its signature.
 /// A word is a maximal run of ASCII letters, digits, `_`, `$` and `.`. Its symbol stands at its front, after at most
 /// one sign: `.`, `$` or `__imp_`. The sign and the dots at the word's end stay. With `strip` one more
 /// underscore may stand in front of the symbol, and is dropped.

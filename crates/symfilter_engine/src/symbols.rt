@@ -33,7 +33,8 @@ pub(crate) enum Symbols {
     Words(Replacement),
 }
 
-/// Reads a symbol. Afterwards the demangler has the text that is printed for it, or none where it stays as it is. After an error it has nothing.
+/// Reads a symbol. Afterwards the demangler has the text that is printed for it, or none where it stays as it is. After
+/// an error it has nothing.
 #[inline(always)]
 pub fn prepare_shown(
     alloc: Global,
