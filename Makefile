@@ -35,7 +35,7 @@ built = $(1:%=crates/%/out/rlib/stamp)
 
 # The toolchain, or a sentence where it isn't there.
 needs_rt = command -v rt >/dev/null || { echo 'make: there is no command rt. Install the Rattle toolchain, which proves \
-    and builds this, and put its folder bin/ on the PATH (README.md, "Try it now")' >&2; exit 1; }
+    and builds this, and put its folder bin/ on the PATH (README.md, "Build it")' >&2; exit 1; }
 
 made = $(BUILD)/libcosvigle.a $(BUILD)/$(SONAME) $(BUILD)/cosvigle.pc $(BUILD)/cosvigle-static.pc \
     $(BUILD)/cosvigleConfig.cmake $(BUILD)/cosvigleConfigVersion.cmake

@@ -12,8 +12,8 @@
  *   size.
  * - No call is made from a signal handler, or in the forked child of a process with threads.
  * - A handle begins as COSVIGLE_NONE, and only the calls change it. It is used in one call at a time, and with one
- *   copy of the library. It may be handed to another thread, as a lock or the start or end of a thread orders that.
- *   After it is copied, only one of the two is used and freed.
+ *   copy of the library. It may be handed to another thread, if the two threads are synchronised by a lock, or by the
+ *   start or the end of a thread. After it is copied, only one of the two is used and freed.
  * Calls share nothing but a handle: threads with handles of their own may call at the same time.
  *
  * NULL: a text or symbol of length 0 and room of 0 bytes may be NULL, and so may needed, and the handle of
@@ -65,7 +65,8 @@ typedef struct {
 #define COSVIGLE_NONE {NULL}
 
 /* Writes the demangled name of a symbol of len bytes to answer, which has room bytes. A symbol begins with _Z or __Z.
- * The parameters of a function aren't read, and all that follows from a dot right after what was read ends the name.
+ * The parameters of a function aren't read. A suffix such as .cold is kept only right after what was read: foo.cold for
+ * _Z3foo.cold, and foo for _Z3fooi.cold. After COSVIGLE_NO_ROOM the symbol has to be asked again with more room.
  * The name is UTF-8. The handle keeps its memory, so that a next symbol that needs no more makes no call of malloc. A
  * handle without a demangler gets one. After COSVIGLE_NO_MEMORY the handle can be used again. */
 int cosvigle_ask(cosvigle_handle *handle, const char *symbol, size_t len, char *answer, size_t room, size_t *needed);
@@ -80,9 +81,9 @@ int cosvigle_demangle(const char *symbol, size_t len, char *answer, size_t room,
 
 /* Writes a text with its symbols replaced by their demangled names, as the program cosvigle does. A word is a longest
  * run of ASCII letters, digits, _, $ and dots. Its symbol stands at its front, after at most one dot, one $ or
- * __imp_, which stays, as do the dots at its end. With strip, one more underscore may stand in front of a symbol, and is dropped.
- * All other bytes stay. WRITTEN, NO_MEMORY or NO_ROOM. A call takes more than 128 KiB of memory while it runs: give it
- * whole texts rather than single lines.
+ * __imp_, which stays, as do the dots at its end. With strip, one more underscore may stand in front of a symbol, and
+ * is dropped. All other bytes stay. WRITTEN, NO_MEMORY or NO_ROOM, and BAD_CALL for a NULL. A call takes more than
+ * 128 KiB of memory while it runs: give it whole texts rather than single lines.
  *
  * With COSVIGLE_NO_ROOM the handle keeps the text that was made: give *needed bytes of room to cosvigle_take. The next
  * call with this handle of cosvigle_replace, cosvigle_filter_with, cosvigle_new or cosvigle_free drops it. */
