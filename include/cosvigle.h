@@ -1,4 +1,4 @@
-/* Cosvigle: a demangler for C++ symbols of the Itanium C++ ABI.
+/* Cosvigle: a demangler for C++ symbols of the Itanium C++ ABI. This header is C99.
  *
  * What is proved: the calls that the library exports. Their contracts are in crates/cosvigle_c of the sources. Two
  * things in this header are C that nothing proves: the functions at its end that take NULL in place of a pointer, and
@@ -66,7 +66,9 @@ typedef struct {
 
 /* Writes the demangled name of a symbol of len bytes to answer, which has room bytes. A symbol begins with _Z or __Z.
  * The parameters of a function aren't read. A suffix such as .cold is kept only right after what was read: foo.cold for
- * _Z3foo.cold, and foo for _Z3fooi.cold. After COSVIGLE_NO_ROOM the symbol has to be asked again with more room.
+ * _Z3foo.cold, and foo for _Z3fooi.cold. Any
+ * other bytes after what was read are dropped: foo for "_Z3foo at main.c". After COSVIGLE_NO_ROOM the symbol has to be
+ * asked again with more room.
  * The name is UTF-8. The handle keeps its memory, so that a next symbol that needs no more makes no call of malloc. A
  * handle without a demangler gets one. After COSVIGLE_NO_MEMORY the handle can be used again. */
 int cosvigle_ask(cosvigle_handle *handle, const char *symbol, size_t len, char *answer, size_t room, size_t *needed);
@@ -90,9 +92,10 @@ int cosvigle_demangle(const char *symbol, size_t len, char *answer, size_t room,
 int cosvigle_replace(cosvigle_handle *handle, bool strip, const char *text, size_t len, char *into, size_t room,
                      size_t *needed);
 
-/* Writes lines with each line that is a symbol replaced by its demangled name, as the program symfilter does. Any
- * other line stays. A line goes up to the next line feed, which is written too, or to the end. The statuses, and what
- * the handle keeps, are those of cosvigle_replace. */
+/* Writes lines with each line that has a demangled name replaced by it, as the program symfilter does. The whole line is
+ * asked, as by cosvigle_ask: so what follows a symbol on its line is dropped. Any other line stays. A line goes up to
+ * the next line feed, which is written too, or to the end. The statuses, and what the handle keeps, are those of
+ * cosvigle_replace. */
 int cosvigle_filter_with(cosvigle_handle *handle, const char *lines, size_t len, char *into, size_t room,
                          size_t *needed);
 

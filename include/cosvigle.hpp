@@ -1,12 +1,12 @@
 // Cosvigle for C++, from C++11 on: a class and functions over cosvigle.h, which says what a caller must keep to.
 // Nothing here is proved.
 //
-// From C++17 on the names optional and string_view below are those of std. Before, they are small classes with the
-// same names of members, and a symbol may be a const char * or a std::string as well.
+// From C++17 on the names optional and string_view below are those of std. Before, they are small classes with some of
+// the members of these, and a symbol may be a const char * (not NULL) or a std::string as well.
 //
 // With exceptions, out of memory is std::bad_alloc, and any other fault a cosvigle::error. Without them (-fno-
 // exceptions) a call returns no value, and demangler::status() says why: COSVIGLE_NO_ANSWER and COSVIGLE_NOT_UTF8 are
-// no faults.
+// no faults. The functions without a demangler have no status.
 #ifndef COSVIGLE_HPP
 #define COSVIGLE_HPP
 
