@@ -66,11 +66,10 @@ typedef struct {
 
 /* Writes the demangled name of a symbol of len bytes to answer, which has room bytes. A symbol begins with _Z or __Z.
  * The parameters of a function aren't read. A suffix such as .cold is kept only right after what was read: foo.cold for
- * _Z3foo.cold, and foo for _Z3fooi.cold. Any
- * other bytes after what was read are dropped: foo for "_Z3foo at main.c". After COSVIGLE_NO_ROOM the symbol has to be
- * asked again with more room.
- * The name is UTF-8. The handle keeps its memory, so that a next symbol that needs no more makes no call of malloc. A
- * handle without a demangler gets one. After COSVIGLE_NO_MEMORY the handle can be used again. */
+ * _Z3foo.cold, and foo for _Z3fooi.cold. Any other bytes after what was read are dropped: foo for "_Z3foo at main.c".
+ * After COSVIGLE_NO_ROOM the symbol has to be asked again with more room. The name is UTF-8. The handle keeps its
+ * memory, so that a next symbol that needs no more makes no call of malloc. A handle without a demangler gets one.
+ * After COSVIGLE_NO_MEMORY the handle can be used again. */
 int cosvigle_ask(cosvigle_handle *handle, const char *symbol, size_t len, char *answer, size_t room, size_t *needed);
 
 /* Writes the signature of a symbol, that is its demangled name with its parameters: foo(int) for _Z3fooi. Where it has
@@ -92,10 +91,10 @@ int cosvigle_demangle(const char *symbol, size_t len, char *answer, size_t room,
 int cosvigle_replace(cosvigle_handle *handle, bool strip, const char *text, size_t len, char *into, size_t room,
                      size_t *needed);
 
-/* Writes lines with each line that has a demangled name replaced by it, as the program symfilter does. The whole line is
- * asked, as by cosvigle_ask: so what follows a symbol on its line is dropped. Any other line stays. A line goes up to
- * the next line feed, which is written too, or to the end. The statuses, and what the handle keeps, are those of
- * cosvigle_replace. */
+/* Writes lines with each line that has a demangled name replaced by it, as the program symfilter does. The whole line
+ * is asked, as by cosvigle_ask: so what follows a symbol on its line is dropped, but for a suffix. Any other line stays.
+ * A line goes up to the next line feed, which is written too, or to the end. The statuses, and what the handle keeps,
+ * are those of cosvigle_replace. */
 int cosvigle_filter_with(cosvigle_handle *handle, const char *lines, size_t len, char *into, size_t room,
                          size_t *needed);
 
