@@ -92,9 +92,9 @@ int cosvigle_replace(cosvigle_handle *handle, bool strip, const char *text, size
                      size_t *needed);
 
 /* Writes lines with each line that has a demangled name replaced by it, as the program symfilter does. The whole line
- * is asked, as by cosvigle_ask: so what follows a symbol on its line is dropped, but for a suffix. Any other line stays.
- * A line goes up to the next line feed, which is written too, or to the end. The statuses, and what the handle keeps,
- * are those of cosvigle_replace. */
+ * is asked, as by cosvigle_ask: so what follows a symbol on its line is dropped, but for a suffix. Any other line
+ * stays. A line goes up to the next line feed, which is written too, or to the end. The statuses, and what the handle
+ * keeps, are those of cosvigle_replace. */
 int cosvigle_filter_with(cosvigle_handle *handle, const char *lines, size_t len, char *into, size_t room,
                          size_t *needed);
 
