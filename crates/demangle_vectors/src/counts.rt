@@ -1,6 +1,6 @@
 //! What the reading of a symbol leaves on a value, and the answer as a text of its own.
 //!
-//! `corpus/patterns.tsv` and `corpus/records.tsv` have symbols with their counts and components, and `.ci/beginnings`
+//! `corpus/patterns.tsv` and `corpus/records.tsv` have symbols with their counts and components, and `tests/limits/beginnings`
 //! asks for them.
 
 use itanium_demangle::{Demangler, demangle_owned};
