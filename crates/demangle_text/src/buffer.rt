@@ -504,7 +504,7 @@ impl Buffer {
         piece.ctor
     }
 
-    /// The shape with these flags. The answer is as old as the piece.
+    /// The shape with these flags. The result is as old as the piece.
     #[inline(always)]
     pub fn with_flags(&self, piece: Piece, templ: bool, ctor: bool) -> Piece
         requires living { IsLiving self.now piece }
@@ -519,7 +519,7 @@ impl Buffer {
     }
 
     /// The shape, which isn't a function's, with these bytes of its text as its base name.
-    /// The answer is as old as the piece.
+    /// The result is as old as the piece.
     #[inline(always)]
     pub fn own_at(&self, piece: Piece, from: usize, to: usize) -> Piece
         requires living { IsLiving self.now piece }
@@ -536,7 +536,7 @@ impl Buffer {
         named
     }
 
-    /// The shape with its whole text as its base name. The answer is as old as the piece.
+    /// The shape with its whole text as its base name. The result is as old as the piece.
     #[inline(always)]
     pub fn whole(&self, piece: Piece) -> Piece
         requires living { IsLiving self.now piece }
@@ -550,7 +550,7 @@ impl Buffer {
         whole
     }
 
-    /// Its text as a plain shape, with the same base name and flags. The answer is as old as the piece.
+    /// Its text as a plain shape, with the same base name and flags. The result is as old as the piece.
     #[inline(always)]
     pub fn plain(&self, piece: Piece) -> Piece
         requires living { IsLiving self.now piece }
@@ -566,7 +566,7 @@ impl Buffer {
         plain
     }
 
-    /// A plain piece of its base name, with both flags off. The answer is as old as the piece.
+    /// A plain piece of its base name, with both flags off. The result is as old as the piece.
     #[inline(always)]
     pub fn own(&self, piece: Piece) -> Piece
         requires living { IsLiving self.now piece }
@@ -582,7 +582,7 @@ impl Buffer {
     }
 
     /// The plain piece as a declarator of this kind, with no group: its `after` begins at the byte `at` of its text. It
-    /// keeps its flags and, but for a function, its base name. The answer is as old as the piece.
+    /// keeps its flags and, but for a function, its base name. The result is as old as the piece.
     #[inline(always)]
     pub fn declare(&self, piece: Piece, kind: Kind, at: usize) -> Piece
         requires living { IsLiving self.now piece }
@@ -596,7 +596,7 @@ impl Buffer {
     }
 
     /// As `declare`, with a group: its `(` stands at the byte `from` of its text, where `before`
-    /// ends, and its `)` right before the byte `at`. The answer is as old as the piece.
+    /// ends, and its `)` right before the byte `at`. The result is as old as the piece.
     #[inline(always)]
     pub fn declare_group(&self, piece: Piece, kind: Kind, from: usize, at: usize) -> Piece
         requires living { IsLiving self.now piece }

@@ -16,7 +16,7 @@ pub(crate) struct Lists {
 }
 
 impl Lists {
-    // Sets aside the texts of all pieces of both lists that a move of the block would tear.
+    // Spills the texts of all pieces of both lists that a move of the block would tear.
     pub(crate) fn set_apart(&mut self, main: &[u8], block: Block) -> Result<(), AllocError>
         requires saved { All (IsPiece main.now self.old.side) self.old.saved }
         requires args { All (IsPiece main.now self.old.side) self.old.args }
@@ -54,7 +54,7 @@ pub(crate) fn torn_len(pieces: &Ranges, block: Block) -> usize
     n
 }
 
-// Sets aside the texts of all pieces of a list that would be torn: none of them lies before the first that a move can
+// Spills the texts of all pieces of a list that would be torn: none of them lies before the first that a move can
 // reach.
 #[inline(always)]
 fn evict(main: &[u8], side: &mut Text, pieces: &mut Ranges, block: Block) -> Result<(), AllocError>

@@ -210,7 +210,7 @@ fn carry_alone(piece: Piece, block: Block, dest: usize) -> Piece
     }
 }
 
-// More room, filled up with pieces of no bytes.
+// A longer list, filled up with pieces of no bytes.
 #[cold]
 #[inline(never)]
 fn more(kept: &mut Vec<Kept>) -> Result<(), AllocError>

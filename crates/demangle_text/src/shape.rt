@@ -26,7 +26,7 @@ pub enum Place {
     End,
 }
 
-/// A value that stands for a shape in a buffer, from the call of the buffer that answers it.
+/// A value that stands for a shape in a buffer, from the call of the buffer that returns it.
 #[derive(Clone, Copy)]
 pub struct Piece {
     // The bytes of the output or of the spill where its text lies.

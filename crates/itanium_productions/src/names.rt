@@ -61,7 +61,7 @@ pub(crate) fn read_free_name(
     ensures saved { SavedBounds 1 result (state reader.old) (state reader.new) }
 {
     match free_case(reader.rest) {
-        // Its callers read a source name themselves.
+        // No caller asks for a source name here: each reads it itself.
         FreeCase::SourceName => reader.read_source_name(),
         FreeCase::UnnamedTypeName => {
             reader.skip(2);
@@ -328,9 +328,10 @@ pub(crate) fn read_unscoped_name(
     }
 }
 
-/// `<name> ::= <nested-name> | <local-name> | <unscoped-name> | <unscoped-template-name> <template-args>`, within
-/// `depth` open productions. The own qualifiers of a bare name are left in `quals` for the caller. Those of any other
-/// are printed after it: a word as ` const` only where the context is `shown` or the name is local, a reference always.
+/// `<name> ::= <nested-name> | <local-name> | <unscoped-name> | <unscoped-template-name> <template-args>`, where
+/// `depth` more counted productions may nest. The own qualifiers of a bare name are left in `quals` for the caller.
+/// Those of any other name are printed after it: a word such as ` const` only if the context is `shown` or the name is
+/// local, a reference always.
 #[tactic(auto, using(crate::proofs::OwnQualifiers::names))]
 #[cycle(reader)]
 #[inline(always)]

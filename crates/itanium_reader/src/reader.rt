@@ -23,8 +23,8 @@ use itanium_syntax::scalar::source_name;
 use itanium_syntax::types::{builtin_text, past_builtin};
 use std::alloc::AllocError;
 
-/// The most bytes that a counted production of a symbol may print, also one that is dropped: a name, a type, an
-/// argument list, a pack, a thunk or an expression.
+/// The most bytes that a counted production of a symbol may print, also one whose text is dropped. Counted are names,
+/// types, argument lists, packs, thunks, expressions and signatures.
 pub const MAX_TEXT: usize = 1_048_576;
 
 /// The limit as a number of bytes.
@@ -37,9 +37,9 @@ pub fn text_limit() -> usize
     MAX_TEXT
 }
 
-/// A reader of mangled bytes. Each production has a function over it, or a method, that answers `Ok` where it was read:
-/// then `found` is the piece of its printing. It answers `Stop::Unread` where it isn't read, and `Stop::Memory` where
-/// memory is refused.
+/// A reader of mangled bytes. Each production has a function over it, or a method, that returns `Ok` if it was read:
+/// then `found` is the piece of its printing. It returns `Stop::Unread` if it isn't read, and `Stop::Memory` if an
+/// allocation fails.
 #[derive(Drop)]
 pub struct Reader<'a> {
     /// The bytes that aren't read yet.
