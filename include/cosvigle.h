@@ -50,7 +50,7 @@ enum {
     COSVIGLE_BAD_CALL = 5   /* a pointer is NULL that must not be */
 };
 /* The parameter room is the capacity in bytes of the memory that the caller gives for a text. A call that returns
- * COSVIGLE_WRITTEN writes the text at the front of that memory, without a NUL at its end, and leaves the bytes after it.
+ * COSVIGLE_WRITTEN writes the text at the front of that memory, without a NUL at its end. It leaves the bytes after it.
  * With any other status nothing is written there, and *needed is 0 unless the status is COSVIGLE_NO_ROOM. */
 
 /* The version of the library: the major version times 1,000,000, the minor times 1,000, and the patch, added up. */
