@@ -390,7 +390,7 @@ pub(crate) fn framed_name(
     requires room { HasRoom 1 (state reader.old) }
     ensures reads { GivesName bare result reader.new depth context (state reader.old) }
     ensures kept { OnOk result (SameFrame reader.old.buffer.value reader.new.buffer.value) }
-    ensures main { OnOk result (main_bytes reader.new.buffer.value
+    ensures output { OnOk result (main_bytes reader.new.buffer.value
         ≡ main_bytes reader.old.buffer.value ++ text (shape reader.new.buffer.value reader.new.found)) }
     ensures bounds { TakesSome 1 result (state reader.old) (state reader.new) }
     ensures saved { SavedBounds 1 result (state reader.old) (state reader.new) }
