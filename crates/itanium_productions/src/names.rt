@@ -24,9 +24,11 @@ use itanium_syntax::names::{
     first_case, free_case, name_case, name_quals, segment_case, unqualified_case, unscoped_case,
 };
 
-/// `<closure-type-name> ::= Ul <lambda-sig> E [<nonnegative number>] _`, after its `Ul`.
+/// `<closure-type-name> ::= Ul <lambda-sig> E [<nonnegative number>] _`, after its `Ul`. It is rare, and isn't inlined:
+/// so other names take less of the stack.
 #[tactic(auto, using(itanium_reader::proofs::Rules::parents))]
 #[cycle(reader)]
+#[inline(never)]
 pub(crate) fn read_closure_type_name(
     reader: &mut Reader,
     depth: usize,

@@ -167,9 +167,11 @@ pub(crate) fn read_pointer(
     Ok(())
 }
 
-/// `<class-enum-type> ::= Ts <name> | Tu <name> | Te <name>`
+/// `<class-enum-type> ::= Ts <name> | Tu <name> | Te <name>`. It is rare, and isn't inlined: so other types take less
+/// of the stack.
 #[tactic(auto, using(itanium_reader::proofs::Rules::words))]
 #[cycle(reader)]
+#[inline(never)]
 pub(crate) fn read_elaborated(
     reader: &mut Reader,
     depth: usize,
