@@ -9,7 +9,7 @@
 enum { ROOM = 64, GREAT = 5000000 };
 static int passed, failed;
 
-/* How many blocks of memory aren't freed, and how many requests were made, where refuse.c counts them. */
+/* How many blocks of memory aren't freed, and how many allocations were made, where refuse.c counts them. */
 extern long refuse_live(void) __attribute__((weak));
 extern long refuse_made(void) __attribute__((weak));
 
@@ -340,8 +340,8 @@ static int call(int number) {
     return needed == strlen(right) && memcmp(text, right, needed) == 0 && text[needed] == '#' ? status : -1;
 }
 
-/* Each call, and again where it had no memory: only one request is refused. The symbol is asked of a handle that has
- * answered, of a new one, and of one without a demangler; so is a text. */
+/* Each call, and again where it was out of memory: only one allocation fails. The symbol is asked of a handle that was
+ * asked before, of a new one, and of one without a demangler; so is a text. */
 static int refused(void) {
     static const int calls[] = {DEMANGLE,  NEW, ASK,     ASK,          NEW,      ASK,   SIGNATURE, NEW,
                                 SIGNATURE, ASK, FILTERS, FILTERS_WITH, REPLACES, TAKES, STRING};
@@ -358,7 +358,7 @@ static int refused(void) {
         }
         if (status != COSVIGLE_WRITTEN) return 1;
     }
-    /* A symbol that needs no more memory than the handle has makes no request. */
+    /* A symbol that needs no more memory than the handle has allocates nothing. */
     made = refuse_made();
     if (call(ASK) != COSVIGLE_WRITTEN || call(SIGNATURE) != COSVIGLE_WRITTEN || refuse_made() != made) return 1;
     for (at = 0; at < sizeof without / sizeof *without; at++) {

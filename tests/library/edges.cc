@@ -18,8 +18,8 @@ static void holds(bool is, const char *what) {
     else failed++, std::printf("edges: not so: %s\n", what);
 }
 
-// A call that may be refused memory, and the same call again if it was. The value tells whether it was where there
-// are no exceptions.
+// A call that may be out of memory, and the same call again if it was. Without exceptions the value tells whether it
+// was.
 template <class Call> static auto again(const cosvigle::demangler *value, Call call) -> decltype(call()) {
 #if COSVIGLE_HAS_EXCEPTIONS
     (void)value;
@@ -121,13 +121,13 @@ static void try_strings() {
 }
 
 int main() {
-    // The standard output has a buffer here, so that it asks for none: what is refused is refused to a value.
+    // The standard output has a buffer here, so that it allocates none: each allocation that fails is that of a value.
     static char room[BUFSIZ];
     std::setvbuf(stdout, room, _IOFBF, sizeof room);
     const long live = refuse_live ? refuse_live() : 0;
     try_views();
 #if COSVIGLE_HAS_EXCEPTIONS
-    // What this function itself makes may be refused memory too.
+    // The strings that this function itself makes may be out of memory too.
     again(nullptr, [] { return try_strings(), 0; });
 #else
     if (!std::getenv("REFUSE")) try_strings();
