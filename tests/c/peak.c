@@ -1,6 +1,6 @@
 /* Runs the program that its argument names, over its own standard input and output, and writes the program's peak of
-   memory to descriptor 3, in KiB. Its status is that of the program. It is small, since the peak of a process counts the
-   memory of the process that started it. */
+   memory to descriptor 3, in KiB. Its status is that of the program. It is small, since the peak of a process counts
+   the memory of the process that started it. */
 #include <stdio.h>
 #include <sys/resource.h>
 #include <sys/wait.h>

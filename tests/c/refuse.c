@@ -1,7 +1,7 @@
 /* Stands in front of malloc, calloc and realloc of the C library, where LD_PRELOAD names it. One allocation fails: the
-   one whose number is REFUSE, counted from 1 at the start of main. Then one line is written to descriptor 3. All others
-   go on to the C library. `refuse_live` counts the blocks that aren't freed, `refuse_made` the allocations. Nothing of
-   the product links this. */
+   one whose number is REFUSE, counted from 1 at the start of main. Then one line is written to descriptor 3. All
+   others go on to the C library. `refuse_live` counts the blocks that aren't freed, `refuse_made` the allocations.
+   Nothing of the product links this. */
 #include <errno.h>
 #include <stdlib.h>
 #include <unistd.h>
@@ -19,8 +19,8 @@ __attribute__((constructor)) static void begin(void) {
     left = number ? atol(number) : 0;
 }
 
-/* From now on the allocation with this number, counted from 1, fails, or none where it is 0. Returns how many were left
-   up to the one that was to fail, or 0. */
+/* From now on the allocation with this number, counted from 1, fails, or none where it is 0. Returns how many were
+   left up to the one that was to fail, or 0. */
 long refuse_at(long number) {
     long old = left;
     left = number;
