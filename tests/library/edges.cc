@@ -38,7 +38,8 @@ template <class Call> static auto again(const cosvigle::demangler *value, Call c
 }
 
 // What the value answered, and its status: so, or not at all where the answer is null.
-static void answered(const cosvigle::demangler &value, cosvigle::optional<cosvigle::string_view> found, const char *answer) {
+static void answered(const cosvigle::demangler &value, cosvigle::optional<cosvigle::string_view> found,
+                     const char *answer) {
     holds(found.has_value() == (answer != nullptr), "whether there is an answer");
     holds(static_cast<bool>(found) == found.has_value(), "the same as a condition");
     if (answer != nullptr) holds(found.value_or("") == answer && value.status() == COSVIGLE_WRITTEN, answer);
@@ -99,7 +100,8 @@ static void is(const cosvigle::optional<std::string> &made, const char *text) {
 
 static void try_strings() {
     cosvigle::demangler value;
-    const std::string symbol("_ZNSt6vectorIS_IS_IiEEE4sizeEv"), name("std::vector<std::vector<std::vector<int> > >::size");
+    const std::string symbol("_ZNSt6vectorIS_IS_IiEEE4sizeEv");
+    const std::string name("std::vector<std::vector<std::vector<int> > >::size");
     const std::string lines = symbol + "\nx " + symbol + "\n", text = "(" + symbol + "+0x1) \xff";
     answers(value, symbol, name.c_str());
     is(again(&value, [&] { return cosvigle::demangle(symbol); }), name.c_str());
