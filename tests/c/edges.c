@@ -253,8 +253,8 @@ static void great(void) {
     free(answer);
 }
 
-/* A block of lines that is longer than what the filter reads at once. It is made, and then taken where the capacity was
- * a byte too small. */
+/* A block of lines that is longer than what the filter reads at once. It is made, and then taken where the capacity
+ * was a byte too small. */
 static void many(void) {
     enum { LINES = 50000, LINE = 8, NAME = 4 };
     char *block = malloc(LINES * LINE), *text = malloc(LINES * NAME);
