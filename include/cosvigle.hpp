@@ -13,6 +13,7 @@
 #include "cosvigle.h"
 
 #include <cstddef>
+#include <cstdint>
 #include <cstdlib>
 #include <cstring>
 #include <new>
@@ -60,6 +61,7 @@ class string_view {
   public:
     string_view() noexcept : at(""), len(0) {}
     string_view(const char *text) : at(text), len(std::strlen(text)) {}
+    string_view(std::nullptr_t) = delete;
     string_view(const char *text, std::size_t length) noexcept : at(text), len(length) {}
     string_view(const std::string &text) noexcept : at(text.data()), len(text.size()) {}
 

@@ -15,7 +15,9 @@ fn folder() -> Result<String, String> {
         .map_err(|error| format!("{program} doesn't run: {error}"))?;
     let folder = String::from_utf8_lossy(&said.stdout).trim().to_string();
     if !said.status.success() || folder.is_empty() {
-        return Err(format!("{program} doesn't know cosvigle: {}", String::from_utf8_lossy(&said.stderr).trim()));
+        let why = String::from_utf8_lossy(&said.stderr).trim().to_string();
+        let why = if why.is_empty() { why } else { format!(": {why}") };
+        return Err(format!("{program} doesn't know cosvigle{why}"));
     }
     Ok(folder)
 }

@@ -40,7 +40,7 @@ pub struct Printed<'a> {
 
 /// What is printed for an argument: the demangled name or the signature of its symbol, after what stands in front of
 /// that. It is the argument itself where it has none or isn't UTF-8. With `strip` the symbol may have one more
-/// underscore in front. An error comes only if an allocation fails.
+/// underscore in front. An error means that an allocation failed.
 pub fn answer_of<'a>(
     alloc: Global,
     demangler: &'a mut Demangler,
@@ -72,7 +72,7 @@ pub fn answer_of<'a>(
     }
 }
 
-/// Makes the line of what is printed for an argument. An error comes only where memory is refused.
+/// Makes the line of what is printed for an argument. An error means that an allocation failed.
 pub fn set_line(line: &mut Vec<u8>, printed: Printed<'_>) -> Result<(), AllocError>
     ensures line { OnOk result (line.new.items
         ≡ printed.entry.front.now ++ (printed.entry.text.now ++ spec.line_feed ∷ [])) }

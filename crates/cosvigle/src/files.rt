@@ -72,7 +72,7 @@ fn effect_of(mode: Mode, byte: u8) -> Effect
 }
 
 /// The words of a text, which space parts. A `'` or `"` goes up to the next one, and what stands between them is of one
-/// word. The byte after a backslash stands for itself. An error comes only where memory is refused.
+/// word. The byte after a backslash stands for itself. An error means that an allocation failed.
 pub fn words_in(alloc: Global, text: &[u8]) -> Result<Vec<Vec<u8>>, AllocError>
     ensures words { IfOk result (λ words. map (λ word. word.items) words.items ≡ spec.words_in text.now) }
 {

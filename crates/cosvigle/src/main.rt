@@ -1,8 +1,13 @@
-//! Replaces mangled C++ symbols in a text by their demangled names. With symbols as arguments it prints the name of
-//! each, or the argument itself, one a line. Without any it replaces from standard input to standard output. After a
-//! fault it ends with status 1, and with status 2 where the options can't be read: then nothing is written to standard
-//! output. Standard error says which. Where the reader of standard output has gone, it ends with status 0 and says
-//! nothing.
+//! Replaces mangled C++ symbols in a text by their demangled names. If symbols are given as arguments it prints the
+//! name of each on a line, or the argument itself if it has no name. Otherwise it copies standard input to standard
+//! output.
+//!
+//! It ends with status 1 after a fault, and with status 2 if the options can't be read, and then it writes nothing to
+//! standard output. Standard error says what failed. If the reader of standard output has gone it ends with status 0
+//! and writes nothing more.
+//!
+//! It stands on `symfilter_engine` for texts and on `itanium_demangle` for arguments. Begin with `main` below, and
+//! `options.rt`: `specs/Options` defines what each command line means.
 #![tactic(auto)]
 
 ghost use Rattle.std.specs.Prelude.{◌≡◌};

@@ -3,7 +3,7 @@ ghost use Rattle.std.specs.Prelude.{◌≡◌};
 ghost use Rattle.itanium_syntax.specs.Bytes.{begins};
 ghost use Rattle.cosvigle.specs.Options as spec;
 
-/// The options whose names begin with some bytes. An option is told by its letter.
+/// The options whose names begin with some bytes. An option is named by its letter.
 #[derive(Clone, Copy, Debug, PartialEq, Eq)]
 pub enum Found {
     /// None does.

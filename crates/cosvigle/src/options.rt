@@ -222,7 +222,7 @@ fn asked_at_end<'a>(step: Step, symbols: Vec<&'a [u8]>, word: &'a [u8]) -> Asked
     }
 }
 
-/// What the arguments ask. An error comes only where memory is refused.
+/// What the arguments ask. An error means that an allocation failed.
 pub fn read_arguments<'a>(alloc: Global, arguments: &[&'a [u8]]) -> Result<Asked<'a>, AllocError>
     ensures asked { IfOk result (IsAsked (texts arguments.now)) }
 {

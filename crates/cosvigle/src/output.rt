@@ -66,7 +66,7 @@ impl<W: Write> Write for Output<W> {
     }
 }
 
-/// The fault that is told: any but a failed write to a reader that has gone.
+/// The fault that is reported: any but a failed write to a reader that has gone.
 pub fn told(fault: FilterFault, closed: bool) -> Option<FilterFault>
     ensures value { result ≡ spec.told fault closed }
 {

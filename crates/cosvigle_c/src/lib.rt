@@ -1,8 +1,11 @@
-//! What C, C++, Rust and Python call: the demangler, the filter and the replacement, over memory that the caller gives.
-//! `cosvigle.h` declares it.
+//! What C, C++, Rust and Python call: the demangler, the filter and the replacement. The caller provides the memory.
+//! `include/cosvigle.h` declares it.
 //!
-//! Each call but `cosvigle_free` and `cosvigle_version` returns a status: 0 if all is done, 1 if there is no demangled
-//! name, 2 if an allocation failed, 3 if there is too little room, 4 if the symbol isn't UTF-8.
+//! Every call but `cosvigle_free` and `cosvigle_version` returns a status: 0 if all is done, 1 if there is no
+//! demangled name, 2 if an allocation failed, 3 if the capacity is too small, 4 if the symbol isn't UTF-8.
+//!
+//! It stands on `itanium_demangle` and `symfilter_engine`. Begin with `cosvigle_ask` below. `texts.rt` has the calls
+//! for whole texts, and `handle.rt` keeps a demangler from one call to the next.
 #![tactic(auto)]
 
 ghost use Rattle.std.specs.Prelude.{◌≡◌, ◌≢◌, ◌↔◌, [], pos, Some, None};
@@ -83,8 +86,8 @@ fn ask(
 
 /// Writes the demangled name of a symbol at the front of `answer`, and returns 0, with its length in bytes in `needed`.
 /// The bytes after it stay. 1 if the symbol has no demangled name, 2 if an allocation fails, 3 if the name is longer
-/// than the room, with its length in `needed`, 4 if the symbol isn't UTF-8. With these nothing is written, and but for
-/// 3 `needed` is 0. The name is that of `Demangler::demangle` (Itanium C++ ABI 5.1.2).
+/// than the capacity, with its length in `needed`, 4 if the symbol isn't UTF-8. With these nothing is written, and but
+/// for 3 `needed` is 0. The name is that of `Demangler::demangle` (Itanium C++ ABI 5.1.2).
 ///
 /// The handle's demangler reads the symbol, and keeps its memory for the next one, or a new one if the handle has none.
 /// The handle has one afterwards; with 2 or 4 one that had none may have none. A text that it keeps stays.

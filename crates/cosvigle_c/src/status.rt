@@ -10,12 +10,13 @@ pub(crate) const WRITTEN: i32 = 0;
 pub(crate) const NO_ANSWER: i32 = 1;
 /// An allocation failed.
 pub(crate) const NO_MEMORY: i32 = 2;
-/// There is too little room, and nothing is written.
+/// The capacity is too small, and nothing is written.
 pub(crate) const NO_ROOM: i32 = 3;
 /// The symbol isn't UTF-8.
 pub(crate) const NOT_UTF8: i32 = 4;
 
-/// Writes the text at the front of the room, where it fits, and tells its length in bytes. `WRITTEN`, or `NO_ROOM`.
+/// Writes the text at the front of the caller's memory, if it fits, and its length in bytes to `needed`. `WRITTEN`, or
+/// `NO_ROOM`.
 pub(crate) fn hand_out(text: &[u8], room: &mut [u8], needed: &mut usize) -> i32
     ensures status { result ≢ pos 0 → result ≡ pos 3 }
     ensures fills { result ≡ pos 0 → Fills text.now room.old room.new needed.new }

@@ -75,8 +75,8 @@ fn replaced(alloc: Global, strip: bool, bytes: &[u8]) -> Result<Vec<u8>, FilterF
 
 /// Writes the filtered text of a block of lines at the front of `into`: each line that is a symbol as its demangled
 /// name, and each other line as it is. Returns 0, with its length in bytes in `needed`; the bytes after it stay. 2 if
-/// an allocation fails, 3 if it is longer than the room, with its length in `needed`. With these nothing is written,
-/// and with 2 `needed` is 0. A line goes up to the next line feed or the end.
+/// an allocation fails, 3 if it is longer than the capacity, with its length in `needed`. With these nothing is
+/// written, and with 2 `needed` is 0. A line goes up to the next line feed or the end.
 #[unsafe(no_mangle)]
 pub extern "C" fn cosvigle_filter(
     alloc: Global,
@@ -117,7 +117,7 @@ fn take_kept(alloc: Global, handle: &mut Handle) -> Result<Box<Kept>, AllocError
     }
 }
 
-/// Writes a text that was made at the front of the room, or keeps it where there is too little: `WRITTEN`, or
+/// Writes a text that was made at the front of the caller's memory, or keeps it if it is too small: `WRITTEN`, or
 /// `NO_ROOM`.
 fn hand_out_or_keep(kept: &mut Kept, made: Vec<u8>, room: &mut [u8], needed: &mut usize) -> i32
     requires no_text { kept.old.text.items ≡ [] }
@@ -170,7 +170,7 @@ pub extern "C" fn cosvigle_filter_with(
 /// Writes the replaced text of a text at the front of `into`: each symbol that stands in a word as its demangled name,
 /// and all other bytes as they are. With `strip` one more underscore may stand in front of a symbol, and is dropped.
 /// Returns 0, with its length in bytes in `needed`; the bytes after it stay. 2 if an allocation fails, 3 if it is
-/// longer than the room, with its length in `needed`. With these nothing is written, and with 2 `needed` is 0.
+/// longer than the capacity, with its length in `needed`. With these nothing is written, and with 2 `needed` is 0.
 ///
 /// With 3 the handle keeps the text for `cosvigle_take`, else it keeps none. Its demangler stays; a handle without one
 /// may get one.
@@ -205,8 +205,8 @@ pub extern "C" fn cosvigle_replace(
 }
 
 /// Writes the text that the handle keeps at the front of `into`, and keeps it no longer. Returns 0, with its length in
-/// bytes in `needed`; the bytes after it stay. 1 if the handle keeps no text, 3 if it is longer than the room, with its
-/// length in `needed`. With these nothing is written, the handle keeps what it kept, and with 1 `needed` is 0.
+/// bytes in `needed`; the bytes after it stay. 1 if the handle keeps no text, 3 if it is longer than the capacity, with
+/// its length in `needed`. With these nothing is written, the handle keeps what it kept, and with 1 `needed` is 0.
 #[unsafe(no_mangle)]
 pub extern "C" fn cosvigle_take(
     alloc: Global,

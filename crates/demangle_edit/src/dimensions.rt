@@ -5,7 +5,7 @@ ghost use Rattle.demangle_edit.specs.Types.{dimension_digits};
 /// The most digits that a number below 2^64 has.
 pub const MOST_DIGITS: usize = 20;
 
-/// The digits of a number, without leading zeros, written into the room.
+/// The digits of a number, without leading zeros, written into these bytes.
 pub fn number_bytes(room: &mut [u8], number: u64) -> &[u8]
     requires room { MOST_DIGITS ≤ length room.old }
     ensures value { result.now ≡ decimal number }
@@ -22,7 +22,7 @@ pub fn number_bytes(room: &mut [u8], number: u64) -> &[u8]
     &room[at..]
 }
 
-/// The digits of a dimension, written into the room, and none where it isn't known.
+/// The digits of a dimension, written into these bytes, and none if it isn't known.
 pub fn dimension_bytes(room: &mut [u8], dimension: Option<u64>) -> &[u8]
     requires room { MOST_DIGITS ≤ length room.old }
     ensures value { result.now ≡ dimension_digits dimension }

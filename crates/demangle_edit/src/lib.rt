@@ -1,20 +1,21 @@
-//! The steps from the shapes of a tree's parts to the shape of the tree, as edits of a buffer's pieces.
+//! The edits of a buffer's pieces, each of which is one step: from the shapes of a tree's parts to the shape of the
+//! tree.
 //!
-//! Each edit ends the pieces that were made since the innermost open mark, but for the one that it answers. What is
-//! older keeps its shape, and so do the saved components and the arguments of the scopes. An error comes only where
-//! memory is refused, and then `clear` of the buffer is the only call that is promised.
+//! An edit ends the pieces that were made since the innermost open mark, except the piece that it returns. Older
+//! pieces keep their shapes, and so do the table of substitutions and the arguments of the scopes. An error comes only
+//! if an allocation fails, and then `clear` of the buffer is the only call that is promised to work.
 //!
-//! Most edits of a piece that stands up to the end of the output, from that mark or later, are done where it stands,
-//! and leave no other byte there (`in_place`). The others put their text at the end (`appends`).
+//! If a piece ends the output, and began at that mark or later, most edits change it where it is and leave no other
+//! byte after the mark (`in_place`). The others put their text at the end of the output (`appends`).
 //!
-//! An entity in a default argument is put together from pieces (`default_arg`), or what opens it is made before the
-//! entity is read, and `close_opened` joins the two after it. Both give the same shape. So do `qualify` of a leaf in
-//! its parent, and `open_parent` before the leaf is read and `close_opened` after it.
+//! Some shapes can be made in two ways, which give the same shape. The first way takes pieces that are all there:
+//! `default_arg`, `qualify`, `attach_template_args`, `format_params`, `function_type`. The second makes the text in
+//! the order in which the symbol is read. What opens it comes first (`open_default_arg`, `open_parent`,
+//! `open_arguments`, `open_function`). Then come the parts, with `, ` before each but the first (`append_piece`). What
+//! closes it comes last (`close_opened`, `close_arguments`, `close_params`, `close_function`).
 //!
-//! A list after a name is put together from pieces (`attach_template_args`, `format_params`), or built as it is
-//! read: what opens it, then `, ` before each text but the first, and each text by `append_piece`, then what closes
-//! it. Template arguments are put at the end of the output in place of that, and `close_arguments` takes them in. Both
-//! give the same shape. So it is with a function type: `function_type`, or `open_function` and `close_function`.
+//! It stands on `demangle_text`. Begin with `specs/` of the same names, and then read `names.rt`, `types.rt`,
+//! `lists.rt`.
 #![tactic(auto)]
 
 mod appends;

@@ -17,9 +17,9 @@ pub record IsBlock (s mid : Store) (text : List ℕ) (at from to : ℕ) : Type 0
   pub has : take at mid.output_text ++ slice_range mid.output_text from to ≡ take at s.output_text ++ text
 
 -- a part of the output, where it stands
-pub IsBlock-here : (s : Store) (aside : Bool) (at from to : ℕ) → IsStore s → s.frame_main ≡ at → aside ≡ false → from ≤ to
-    → to ≤ length (home_bytes s.output_text s.spill_text aside) → IsBlock s s (slice_range (home_bytes s.output_text s.spill_text aside) from to) at from to
-IsBlock-here s aside at from to i mark home ordered within =
+pub IsBlock-here : (s : Store) (spilled : Bool) (at from to : ℕ) → IsStore s → s.frame_main ≡ at → spilled ≡ false → from ≤ to
+    → to ≤ length (home_bytes s.output_text s.spill_text spilled) → IsBlock s s (slice_range (home_bytes s.output_text s.spill_text spilled) from to) at from to
+IsBlock-here s spilled at from to i mark home ordered within =
     let here = ap (home_bytes s.output_text s.spill_text) home in
     record {
       keeps = unchanged s s refl refl refl refl refl refl;
@@ -32,9 +32,9 @@ IsBlock-here s aside at from to i mark home ordered within =
     }
 
 -- a copy of a text at the end
-pub IsBlock-copied : (s : Store) (t main : List ℕ) (at from to : ℕ) → IsStore s → s.frame_main ≡ at
-    → main ≡ s.output_text ++ t → from ≡ length s.output_text → to ≡ length main → IsBlock s (record s { output_text = main }) t at from to
-IsBlock-copied s t main at from to i mark is starts ends =
+pub IsBlock-copied : (s : Store) (t output : List ℕ) (at from to : ℕ) → IsStore s → s.frame_main ≡ at
+    → output ≡ s.output_text ++ t → from ≡ length s.output_text → to ≡ length output → IsBlock s (record s { output_text = output }) t at from to
+IsBlock-copied s t output at from to i mark is starts ends =
     let long = ap length is ∙ length-append s.output_text t in
     record {
       keeps = subst (λ (v : List ℕ). KeepsAll s (record s { output_text = v })) (sym is) (KeepsAll-longer s t i);
@@ -43,5 +43,5 @@ IsBlock-copied s t main at from to i mark is starts ends =
       low = omega (arith, mark, i.main_frame, long);
       ordered = omega (arith, starts, ends, long);
       within = omega (arith, ends);
-      has = kept_only-copy s.output_text main t at from to is (omega (arith, mark, i.main_frame)) starts ends;
+      has = kept_only-copy s.output_text output t at from to is (omega (arith, mark, i.main_frame)) starts ends;
     }

@@ -12,9 +12,9 @@ stays false false from dest at k = absurd (let h : ⊥ = cc (k refl) in h)
 
 one : (low from dest : ℕ) (p : Piece) → EndsBy low p → p ≡ carried low from dest p
 one low from dest p h =
-    let k = (λ (home : p.aside ≡ false). le-leb p.to_byte low (h home)) in
-    let a = stays p.aside (leb p.to_byte low) from dest p.from_byte k in
-    let b = stays p.aside (leb p.to_byte low) from dest p.to_byte k in
+    let k = (λ (home : p.spilled ≡ false). le-leb p.to_byte low (h home)) in
+    let a = stays p.spilled (leb p.to_byte low) from dest p.from_byte k in
+    let b = stays p.spilled (leb p.to_byte low) from dest p.to_byte k in
     λ j. record p { from_byte = a j; to_byte = b j }
 
 pub carried-below : (low from dest : ℕ) (ps : List Piece) → All (EndsBy low) ps → ps ≡ map (carried low from dest) ps

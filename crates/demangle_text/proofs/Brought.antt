@@ -19,44 +19,44 @@ pub is-tail : (s b : Store) (p : Piece) (len : ℕ) → s ≡ b → len ≡ leng
 is-tail s b p len same by h = subst (λ (k : ℕ). IsTailAt s.frame_main k p) (sym by) (subst (λ (v : Store). IsTail v p) (sym same) h)
 
 -- one that ends it already
-pub IsBrought-stays : (main side : List ℕ) (mark : ℕ) (p : Piece) → p.from_byte ≤ p.to_byte → IsTailAt mark (length main) p → IsBrought main side mark p main p.from_byte
-IsBrought-stays main side mark p ordered h = record {
+pub IsBrought-stays : (output spill : List ℕ) (mark : ℕ) (p : Piece) → p.from_byte ≤ p.to_byte → IsTailAt mark (length output) p → IsBrought output spill mark p output p.from_byte
+IsBrought-stays output spill mark p ordered h = record {
   begins = omega (arith, h.ends);
   text =
-      let here = ap (λ (home : Bool). slice_range (home_bytes main side home) p.from_byte p.to_byte) h.in_main in
-      let whole = take_all (p.to_byte - p.from_byte) (drop p.from_byte main) (omega (arith, h.ends, length-drop p.from_byte main)) in
+      let here = ap (λ (home : Bool). slice_range (home_bytes output spill home) p.from_byte p.to_byte) h.in_main in
+      let whole = take_all (p.to_byte - p.from_byte) (drop p.from_byte output) (omega (arith, h.ends, length-drop p.from_byte output)) in
       sym (here ∙ whole);
   inner = h.inner;
   front = refl;
-  longer = Extends-same main;
+  longer = Extends-same output;
   in_place = λ _. (refl, refl);
 }
 
 -- a copy of one that doesn't
-pub IsBrought-copied : (main side new : List ℕ) (mark : ℕ) (p : Piece) (from : ℕ) → (IsTailAt mark (length main) p → ⊥) → mark ≤ length main
-    → length (piece_text main side p) ≡ p.to_byte - p.from_byte → from ≡ length main → new ≡ main ++ piece_text main side p → IsBrought main side mark p new from
-IsBrought-copied main side new mark p from apart inner long starts is = record {
-  begins = omega (arith, starts, long, ap length is, length-append main (piece_text main side p));
-  text = ap (drop from) is ∙ drop_at main (piece_text main side p) from (sym starts);
+pub IsBrought-copied : (output spill new : List ℕ) (mark : ℕ) (p : Piece) (from : ℕ) → (IsTailAt mark (length output) p → ⊥) → mark ≤ length output
+    → length (piece_text output spill p) ≡ p.to_byte - p.from_byte → from ≡ length output → new ≡ output ++ piece_text output spill p → IsBrought output spill mark p new from
+IsBrought-copied output spill new mark p from apart inner long starts is = record {
+  begins = omega (arith, starts, long, ap length is, length-append output (piece_text output spill p));
+  text = ap (drop from) is ∙ drop_at output (piece_text output spill p) from (sym starts);
   inner = omega (arith, inner, starts);
-  front = ap (take from) is ∙ take-append-le from main (piece_text main side p) (omega (arith, starts));
-  longer = record { more = piece_text main side p; all = is };
+  front = ap (take from) is ∙ take-append-le from output (piece_text output spill p) (omega (arith, starts));
+  longer = record { more = piece_text output spill p; all = is };
   in_place = λ h. absurd (apart h);
 }
 
 -- what was added after it goes again
-pub taken-back : (main mid new : List ℕ) (len : ℕ) → len ≡ length main → Extends main mid → new ≡ take len mid → new ≡ main
-taken-back main mid new len long e is = is ∙ ap (take len) e.all ∙ take_at main e.more len (sym long)
+pub taken-back : (output mid new : List ℕ) (len : ℕ) → len ≡ length output → Extends output mid → new ≡ take len mid → new ≡ output
+taken-back output mid new len long e is = is ∙ ap (take len) e.all ∙ take_at output e.more len (sym long)
 
 -- bytes after it
-module _ (s : Store) (mid bytes main : List ℕ) (i : IsStore s) (e : Extends s.output_text mid) (is : main ≡ mid ++ bytes) where
-  all : main ≡ s.output_text ++ (e.more ++ bytes)
+module _ (s : Store) (mid bytes output : List ℕ) (i : IsStore s) (e : Extends s.output_text mid) (is : output ≡ mid ++ bytes) where
+  all : output ≡ s.output_text ++ (e.more ++ bytes)
   all = is ∙ ap (λ (v : List ℕ). v ++ bytes) e.all ∙ append_assoc s.output_text e.more bytes
 
-  pub IsStore-extended : IsStore (record s { output_text = main })
+  pub IsStore-extended : IsStore (record s { output_text = output })
   IsStore-extended = subst (λ (v : List ℕ). IsStore (record s { output_text = v })) (sym all) (IsStore-longer s (e.more ++ bytes) i)
 
-  pub IsEdit-extended : IsEdit s (record s { output_text = main })
+  pub IsEdit-extended : IsEdit s (record s { output_text = output })
   IsEdit-extended = subst (λ (v : List ℕ). IsEdit s (record s { output_text = v })) (sym all) (IsEdit-keeps s _ (KeepsAll-longer s (e.more ++ bytes) i))
 
 pub IsSplice-extended : (s t : Store) (p : Piece) (mid bytes : List ℕ) (from : ℕ) → IsLiving s p → IsBrought s.output_text s.spill_text s.frame_main p mid from
@@ -82,24 +82,24 @@ IsSplice-extended s t p mid bytes from lies b is =
     }
 
 -- a part stays when the output grows
-part-longer : (main side more : List ℕ) (h : Bool) (a b : ℕ) → a ≤ b → b ≤ length (home_bytes main side h)
-    → slice_range (home_bytes (main ++ more) side h) a b ≡ slice_range (home_bytes main side h) a b
-part-longer main side more false a b ordered within = part-append main more a b ordered within
-part-longer main side more true a b ordered within = refl
+part-longer : (output spill more : List ℕ) (h : Bool) (a b : ℕ) → a ≤ b → b ≤ length (home_bytes output spill h)
+    → slice_range (home_bytes (output ++ more) spill h) a b ≡ slice_range (home_bytes output spill h) a b
+part-longer output spill more false a b ordered within = part-append output more a b ordered within
+part-longer output spill more true a b ordered within = refl
 
-within-longer : (main side more : List ℕ) (h : Bool) (b : ℕ) → b ≤ length (home_bytes main side h) → b ≤ length (home_bytes (main ++ more) side h)
-within-longer main side more false b within = omega (arith, length-append main more, within)
-within-longer main side more true b within = within
+within-longer : (output spill more : List ℕ) (h : Bool) (b : ℕ) → b ≤ length (home_bytes output spill h) → b ≤ length (home_bytes (output ++ more) spill h)
+within-longer output spill more false b within = omega (arith, length-append output more, within)
+within-longer output spill more true b within = within
 
 pub text-brought : (s : Store) (mid : List ℕ) (p : Piece) → IsLiving s p → Extends s.output_text mid → piece_text mid s.spill_text p ≡ piece_text s.output_text s.spill_text p
 unfolding IsLiving
 text-brought s mid p lies e =
-    ap (λ (v : List ℕ). piece_text v s.spill_text p) e.all ∙ part-longer s.output_text s.spill_text e.more p.aside p.from_byte p.to_byte lies.ordered lies.within
+    ap (λ (v : List ℕ). piece_text v s.spill_text p) e.all ∙ part-longer s.output_text s.spill_text e.more p.spilled p.from_byte p.to_byte lies.ordered lies.within
 
-pub within-brought : (s : Store) (mid : List ℕ) (p : Piece) → IsLiving s p → Extends s.output_text mid → p.to_byte ≤ length (home_bytes mid s.spill_text p.aside)
+pub within-brought : (s : Store) (mid : List ℕ) (p : Piece) → IsLiving s p → Extends s.output_text mid → p.to_byte ≤ length (home_bytes mid s.spill_text p.spilled)
 unfolding IsLiving
 within-brought s mid p lies e =
-    subst (λ (v : List ℕ). p.to_byte ≤ length (home_bytes v s.spill_text p.aside)) (sym e.all) (within-longer s.output_text s.spill_text e.more p.aside p.to_byte lies.within)
+    subst (λ (v : List ℕ). p.to_byte ≤ length (home_bytes v s.spill_text p.spilled)) (sym e.all) (within-longer s.output_text s.spill_text e.more p.spilled p.to_byte lies.within)
 
 -- bytes and another text after it, put there one after the other
 pub Extends-more : (old mid new bytes : List ℕ) → Extends old mid → new ≡ mid ++ bytes → Extends old new
@@ -137,7 +137,7 @@ IsJoint-spliced s t first bytes second from apart later lies h =
 -- a gap in a text that ends the output
 pub IsOpen-tail : (s t : Store) (p : Piece) (at n : ℕ) → IsTail s p → p.from_byte ≤ p.to_byte → at ≤ p.to_byte - p.from_byte → IsGap s t (p.from_byte + at) n → IsOpen s t p at n p.from_byte
 IsOpen-tail s t p at n h ordered place gap = record {
-  main = s.output_text;
+  output = s.output_text;
   within = omega (arith, h.ends);
   room = gap.room;
   consistent = gap.consistent;
@@ -146,16 +146,16 @@ IsOpen-tail s t p at n h ordered place gap = record {
 }
 
 -- bytes in the copy of a text
-in-copy : (main text bytes : List ℕ) (from at : ℕ) → from ≡ length main → at ≤ length text
-    → take (from + at) (main ++ text) ++ (bytes ++ drop (from + at) (main ++ text)) ≡ main ++ (take at text ++ (bytes ++ drop at text))
-in-copy main text bytes from at starts within =
-    let split : main ++ text ≡ (main ++ take at text) ++ drop at text =
-    ap (λ (v : List ℕ). main ++ v) (sym (take-append-drop at text)) ∙ sym (append_assoc main (take at text) (drop at text)) in
-    let front : length (main ++ take at text) ≡ from + at = omega (arith, length-append main (take at text), length-take-le at text within, starts) in
-    let low = ap (take (from + at)) split ∙ take_at (main ++ take at text) (drop at text) (from + at) front in
-    let high = ap (drop (from + at)) split ∙ drop_at (main ++ take at text) (drop at text) (from + at) front in
-    ap (λ (v : List ℕ). v ++ (bytes ++ drop (from + at) (main ++ text))) low ∙ ap (λ (v : List ℕ). (main ++ take at text) ++ (bytes ++ v)) high
-    ∙ append_assoc main (take at text) (bytes ++ drop at text)
+in-copy : (output text bytes : List ℕ) (from at : ℕ) → from ≡ length output → at ≤ length text
+    → take (from + at) (output ++ text) ++ (bytes ++ drop (from + at) (output ++ text)) ≡ output ++ (take at text ++ (bytes ++ drop at text))
+in-copy output text bytes from at starts within =
+    let split : output ++ text ≡ (output ++ take at text) ++ drop at text =
+    ap (λ (v : List ℕ). output ++ v) (sym (take-append-drop at text)) ∙ sym (append_assoc output (take at text) (drop at text)) in
+    let front : length (output ++ take at text) ≡ from + at = omega (arith, length-append output (take at text), length-take-le at text within, starts) in
+    let low = ap (take (from + at)) split ∙ take_at (output ++ take at text) (drop at text) (from + at) front in
+    let high = ap (drop (from + at)) split ∙ drop_at (output ++ take at text) (drop at text) (from + at) front in
+    ap (λ (v : List ℕ). v ++ (bytes ++ drop (from + at) (output ++ text))) low ∙ ap (λ (v : List ℕ). (output ++ take at text) ++ (bytes ++ v)) high
+    ∙ append_assoc output (take at text) (bytes ++ drop at text)
 
 -- a gap in a copy
 module _ (s : Store) (p : Piece) (mid all : List ℕ) (at n from : ℕ) (i : IsStore s) (lies : IsLiving s p) (apart : IsTail s p → ⊥)
@@ -174,7 +174,7 @@ module _ (s : Store) (p : Piece) (mid all : List ℕ) (at n from : ℕ) (i : IsS
 
   pub IsOpen-copied : IsOpen s (record s { output_text = all }) p at n from
   IsOpen-copied = record {
-    main = mid;
+    output = mid;
     within = omega (arith, ap length copied, length-append s.output_text text, length-text s p lies, starts, place);
     room = room;
     consistent = λ bytes long. subst (λ (v : List ℕ). IsStore (record s { output_text = v })) (sym (filled-is bytes)) (IsStore-longer s _ i);
@@ -192,20 +192,20 @@ pub IsOpen-same : (old s new : Store) (p : Piece) (at n from : ℕ) → s ≡ ne
 IsOpen-same old s new p at n from same open_gap = subst (λ (b : Store). IsOpen old b p at n from) (sym same) open_gap
 
 -- the gap is filled
-module _ (old s : Store) (p : Piece) (at n from : ℕ) (o : IsOpen old s p at n from) (bytes main : List ℕ) (long : length bytes ≡ n)
-    (is : main ≡ take (from + at) o.main ++ (bytes ++ drop (from + at) o.main)) where
-  pub IsStore-put : IsStore (record s { output_text = main })
+module _ (old s : Store) (p : Piece) (at n from : ℕ) (o : IsOpen old s p at n from) (bytes output : List ℕ) (long : length bytes ≡ n)
+    (is : output ≡ take (from + at) o.output ++ (bytes ++ drop (from + at) o.output)) where
+  pub IsStore-put : IsStore (record s { output_text = output })
   IsStore-put = subst (λ (v : List ℕ). IsStore (record s { output_text = v })) (sym is) (o.consistent bytes long)
 
-  pub IsEdit-put : IsEdit old (record s { output_text = main })
+  pub IsEdit-put : IsEdit old (record s { output_text = output })
   IsEdit-put = subst (λ (v : List ℕ). IsEdit old (record s { output_text = v })) (sym is) (o.edit bytes long)
 
-  pub IsSplice-put : IsSplice old (record s { output_text = main }) p at bytes from
+  pub IsSplice-put : IsSplice old (record s { output_text = output }) p at bytes from
   IsSplice-put = subst (λ (v : List ℕ). IsSplice old (record s { output_text = v }) p at bytes from) (sym is) (o.splice bytes long)
 
 -- what failed after it left nothing
-pub nothing-left : (main mid done new : List ℕ) (len : ℕ) → len ≡ length main → Extends main mid → done ≡ mid → new ≡ take len done → new ≡ main
-nothing-left main mid done new len long e failed is = taken-back main mid new len long e (is ∙ ap (take len) failed)
+pub nothing-left : (output mid done new : List ℕ) (len : ℕ) → len ≡ length output → Extends output mid → done ≡ mid → new ≡ take len done → new ≡ output
+nothing-left output mid done new len long e failed is = taken-back output mid new len long e (is ∙ ap (take len) failed)
 
 -- so all is as it was
 pub KeepsAll-left : (s : Store) (mid done new : List ℕ) (len : ℕ) → len ≡ length s.output_text → Extends s.output_text mid → done ≡ mid → new ≡ take len done

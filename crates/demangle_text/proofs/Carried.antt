@@ -5,26 +5,26 @@ use Rattle.std.proofs.lemmas.List.{length-append, length-map, length-take-le, le
 use Rattle.std.proofs.lemmas.List.Edits.{length-between}
 use Rattle.std.proofs.lemmas.List.Elements.{All-head, All-tail, All-nil, All-cons}
 use Rattle.demangle_text.specs.declared.shape.Piece.{Piece}
-use Rattle.demangle_text.specs.Pieces.{Store, IsStore, IsPiece, IsApart, outline_of, shape_of, shape_in, home_bytes, IsAside, carried, carried_from}
+use Rattle.demangle_text.specs.Pieces.{Store, IsStore, IsPiece, IsApart, outline_of, shape_of, shape_in, home_bytes, IsSpilled, carried, carried_from}
 use Rattle.demangle_text.specs.State.{IsLiving, shape, Lives, IsOlder, Frame, frame, frame_start, main_bytes, IsEdit, saved, scopes, parts_at, KeepsAll}
 use Rattle.demangle_text.proofs.States.{KeepsAll-elsewhere}
 use Rattle.demangle_text.proofs.Laws.{IsEdit-trans, IsEdit-keeps}
 use Rattle.demangle_text.proofs.Texts.{Moves, part-below, part-moved, front_below}
 
-module _ (main new side : List ℕ) (low from to dest : ℕ) (m : Moves main new low from to dest) where
+module _ (output new spill : List ℕ) (low from to dest : ℕ) (m : Moves output new low from to dest) where
   -- the text of a range that is carried
-  carried_text : (h : Bool) (e : Bool) (a b : ℕ) → leb b low ≡ e → a ≤ b → b ≤ length (home_bytes main side h) → (h ≡ false → low < b → (from ≤ a) × (b ≤ to))
-      → slice_range (home_bytes new side h) (carried_from h e from dest a) (carried_from h e from dest b) ≡ slice_range (home_bytes main side h) a b
+  carried_text : (h : Bool) (e : Bool) (a b : ℕ) → leb b low ≡ e → a ≤ b → b ≤ length (home_bytes output spill h) → (h ≡ false → low < b → (from ≤ a) × (b ≤ to))
+      → slice_range (home_bytes new spill h) (carried_from h e from dest a) (carried_from h e from dest b) ≡ slice_range (home_bytes output spill h) a b
   carried_text true e a b t ordered within apart = refl
-  carried_text false true a b t ordered within apart = part-below main new low a b ordered (leb-true b low t) m.low_old m.low_new m.below
+  carried_text false true a b t ordered within apart = part-below output new low a b ordered (leb-true b low t) m.low_old m.low_new m.below
   carried_text false false a b t ordered within apart =
       let above : low < b = leb-false b low t in
       let k = apart refl above in
-      part-moved main new low from to dest a b m ordered k.0 k.1
+      part-moved output new low from to dest a b m ordered k.0 k.1
 
   -- and it lies in the text
-  carried_within : (h : Bool) (e : Bool) (a b : ℕ) → leb b low ≡ e → a ≤ b → b ≤ length (home_bytes main side h) → (h ≡ false → low < b → (from ≤ a) × (b ≤ to))
-      → (carried_from h e from dest a ≤ carried_from h e from dest b) × (carried_from h e from dest b ≤ length (home_bytes new side h))
+  carried_within : (h : Bool) (e : Bool) (a b : ℕ) → leb b low ≡ e → a ≤ b → b ≤ length (home_bytes output spill h) → (h ≡ false → low < b → (from ≤ a) × (b ≤ to))
+      → (carried_from h e from dest a ≤ carried_from h e from dest b) × (carried_from h e from dest b ≤ length (home_bytes new spill h))
   carried_within true e a b t ordered within apart = (ordered, within)
   carried_within false true a b t ordered within apart = (ordered, omega (arith, m.low_new, leb-true b low t))
   carried_within false false a b t ordered within apart =
@@ -32,33 +32,33 @@ module _ (main new side : List ℕ) (low from to dest : ℕ) (m : Moves main new
       let k = apart refl above in
       (omega arith, omega (arith, m.within_new, k.1))
 
-  module _ (p : Piece) (h : IsPiece main side p) (a : IsApart low from to p) where
-    shape_in-carried : shape_in new side (carried low from dest p) ≡ shape_in main side p
-    shape_in-carried = ap (λ (t : List ℕ). shape_of t (outline_of p)) (carried_text p.aside (leb p.to_byte low) p.from_byte p.to_byte refl h.ordered h.within a)
+  module _ (p : Piece) (h : IsPiece output spill p) (a : IsApart low from to p) where
+    shape_in-carried : shape_in new spill (carried low from dest p) ≡ shape_in output spill p
+    shape_in-carried = ap (λ (t : List ℕ). shape_of t (outline_of p)) (carried_text p.spilled (leb p.to_byte low) p.from_byte p.to_byte refl h.ordered h.within a)
 
-    IsPiece-carried : IsPiece new side (carried low from dest p)
+    IsPiece-carried : IsPiece new spill (carried low from dest p)
     IsPiece-carried =
-        let w = carried_within p.aside (leb p.to_byte low) p.from_byte p.to_byte refl h.ordered h.within a in
+        let w = carried_within p.spilled (leb p.to_byte low) p.from_byte p.to_byte refl h.ordered h.within a in
         record {
           ordered = w.0;
           within = w.1;
-          outlined = rw (carried_text p.aside (leb p.to_byte low) p.from_byte p.to_byte refl h.ordered h.within a) h.outlined;
+          outlined = rw (carried_text p.spilled (leb p.to_byte low) p.from_byte p.to_byte refl h.ordered h.within a) h.outlined;
         }
 
   -- the same of a list of pieces
-  All-carried : (ps : List Piece) → All (IsPiece main side) ps → All (IsApart low from to) ps → All (IsPiece new side) (map (carried low from dest) ps)
-  All-carried [] h a = All-nil (IsPiece new side)
+  All-carried : (ps : List Piece) → All (IsPiece output spill) ps → All (IsApart low from to) ps → All (IsPiece new spill) (map (carried low from dest) ps)
+  All-carried [] h a = All-nil (IsPiece new spill)
   All-carried (p ∷ ps) h a =
-      All-cons (IsPiece new side) (carried low from dest p) (map (carried low from dest) ps)
-      (IsPiece-carried p (All-head (IsPiece main side) p ps h) (All-head (IsApart low from to) p ps a))
-      (All-carried ps (All-tail (IsPiece main side) p ps h) (All-tail (IsApart low from to) p ps a))
+      All-cons (IsPiece new spill) (carried low from dest p) (map (carried low from dest) ps)
+      (IsPiece-carried p (All-head (IsPiece output spill) p ps h) (All-head (IsApart low from to) p ps a))
+      (All-carried ps (All-tail (IsPiece output spill) p ps h) (All-tail (IsApart low from to) p ps a))
 
-  shapes-carried : (ps : List Piece) → All (IsPiece main side) ps → All (IsApart low from to) ps → map (shape_in new side) (map (carried low from dest) ps) ≡ map (shape_in main side) ps
+  shapes-carried : (ps : List Piece) → All (IsPiece output spill) ps → All (IsApart low from to) ps → map (shape_in new spill) (map (carried low from dest) ps) ≡ map (shape_in output spill) ps
   shapes-carried [] h a = refl
   shapes-carried (p ∷ ps) h a =
       cc (
-        shape_in-carried p (All-head (IsPiece main side) p ps h) (All-head (IsApart low from to) p ps a),
-        shapes-carried ps (All-tail (IsPiece main side) p ps h) (All-tail (IsApart low from to) p ps a),
+        shape_in-carried p (All-head (IsPiece output spill) p ps h) (All-head (IsApart low from to) p ps a),
+        shapes-carried ps (All-tail (IsPiece output spill) p ps h) (All-tail (IsApart low from to) p ps a),
       )
 
 le_trans : (a b c : ℕ) → a ≤ b → b ≤ c → a ≤ c
@@ -87,12 +87,12 @@ module _ (s t : Store) (low from to dest : ℕ) (m : Moves s.output_text t.outpu
   older_within false b within below = let k = below refl in omega (arith, m.low_new)
   older_within true b within below = rw by_side within
 
-  Lives-below : (p : Piece) → IsLiving s p → (p.aside ≡ false → p.to_byte ≤ low) → Lives t p (shape s p)
+  Lives-below : (p : Piece) → IsLiving s p → (p.spilled ≡ false → p.to_byte ≤ low) → Lives t p (shape s p)
   unfolding IsLiving shape
   Lives-below p h below =
-      let same = older_text p.aside p.from_byte p.to_byte h.ordered below in
+      let same = older_text p.spilled p.from_byte p.to_byte h.ordered below in
       record {
-        living = record { ordered = h.ordered; within = older_within p.aside p.to_byte h.within below; outlined = rw same h.outlined };
+        living = record { ordered = h.ordered; within = older_within p.spilled p.to_byte h.within below; outlined = rw same h.outlined };
         shape_is = ap (λ (v : List ℕ). shape_of v (outline_of p)) same;
       }
 
@@ -109,84 +109,84 @@ module _ (s t : Store) (low from to dest : ℕ) (m : Moves s.output_text t.outpu
   }
 
 -- bytes are inserted: all after them moves on
-pub Moves-inserted : (main bytes new : List ℕ) (at len : ℕ) → at ≤ length main → len ≡ length main → new ≡ take at main ++ (bytes ++ drop at main) → Moves main new at at len (at + length bytes)
-Moves-inserted main bytes new at len h by_len by_new = rw (by_new, by_len) moves
+pub Moves-inserted : (output bytes new : List ℕ) (at len : ℕ) → at ≤ length output → len ≡ length output → new ≡ take at output ++ (bytes ++ drop at output) → Moves output new at at len (at + length bytes)
+Moves-inserted output bytes new at len h by_len by_new = rw (by_new, by_len) moves
   where
-    moves : Moves main (take at main ++ (bytes ++ drop at main)) at at (length main) (at + length bytes)
+    moves : Moves output (take at output ++ (bytes ++ drop at output)) at at (length output) (at + length bytes)
     moves =
-        let n = length-take-le at main h in
-        let d = length-drop at main in
-        let a = length-append (take at main) (bytes ++ drop at main) in
-        let b = length-append bytes (drop at main) in
-        let c = length-append (take at main) bytes in
-        let split : take at main ++ (bytes ++ drop at main) ≡ (take at main ++ bytes) ++ drop at main = sym (append_assoc (take at main) bytes (drop at main)) in
-        let front : length (take at main ++ bytes) ≡ at + length bytes = omega arith in
-        let after : drop (at + length bytes) (take at main ++ (bytes ++ drop at main)) ≡ drop at main
+        let n = length-take-le at output h in
+        let d = length-drop at output in
+        let a = length-append (take at output) (bytes ++ drop at output) in
+        let b = length-append bytes (drop at output) in
+        let c = length-append (take at output) bytes in
+        let split : take at output ++ (bytes ++ drop at output) ≡ (take at output ++ bytes) ++ drop at output = sym (append_assoc (take at output) bytes (drop at output)) in
+        let front : length (take at output ++ bytes) ≡ at + length bytes = omega arith in
+        let after : drop (at + length bytes) (take at output ++ (bytes ++ drop at output)) ≡ drop at output
         = ap (drop (at + length bytes)) split
-        ∙ drop_at (take at main ++ bytes) (drop at main) (at + length bytes) front in
+        ∙ drop_at (take at output ++ bytes) (drop at output) (at + length bytes) front in
         record {
           low_old = h;
           low_new = omega arith;
-          below = take_at (take at main) (bytes ++ drop at main) at n;
+          below = take_at (take at output) (bytes ++ drop at output) at n;
           ordered = h;
           within_old = omega arith;
           within_new = omega arith;
-          block = rw after (ap (λ (k : ℕ). take k (drop at main)) (omega arith));
+          block = rw after (ap (λ (k : ℕ). take k (drop at output)) (omega arith));
         }
 
 -- a block is kept, and what stands before it from a place on, and after it, is given up
-pub Moves-kept : (main new : List ℕ) (at from to : ℕ) → at ≤ length main → from ≤ to → to ≤ length main → new ≡ take at main ++ slice_range main from to → Moves main new at from to at
-Moves-kept main new at from to h ordered within by_new = rw by_new moves
+pub Moves-kept : (output new : List ℕ) (at from to : ℕ) → at ≤ length output → from ≤ to → to ≤ length output → new ≡ take at output ++ slice_range output from to → Moves output new at from to at
+Moves-kept output new at from to h ordered within by_new = rw by_new moves
   where
-    moves : Moves main (take at main ++ slice_range main from to) at from to at
+    moves : Moves output (take at output ++ slice_range output from to) at from to at
     moves =
-        let n = length-take-le at main h in
-        let k = length-between main from to within in
-        let a = length-append (take at main) (slice_range main from to) in
-        let after : drop at (take at main ++ slice_range main from to) ≡ slice_range main from to = drop_at (take at main) (slice_range main from to) at n in
+        let n = length-take-le at output h in
+        let k = length-between output from to within in
+        let a = length-append (take at output) (slice_range output from to) in
+        let after : drop at (take at output ++ slice_range output from to) ≡ slice_range output from to = drop_at (take at output) (slice_range output from to) at n in
         record {
           low_old = h;
           low_new = omega arith;
-          below = take_at (take at main) (slice_range main from to) at n;
+          below = take_at (take at output) (slice_range output from to) at n;
           ordered = ordered;
           within_old = within;
           within_new = omega (arith, a, k);
-          block = rw after (take_all (at + (to - from) - at) (slice_range main from to) (omega (arith, k)));
+          block = rw after (take_all (at + (to - from) - at) (slice_range output from to) (omega (arith, k)));
         }
 
 -- texts that would be torn are set aside: m is the output as it was read
-module _ (s : Store) (m side : List ℕ) (saved args : List Piece) (same : m ≡ s.output_text) (a : IsAside m s.spill_text side s.saved_pieces saved s.arg_pieces args) where
-  abbrev pub aside : Store
-  aside = record s { spill_text = side; saved_pieces = saved; arg_pieces = args }
+module _ (s : Store) (m spill : List ℕ) (saved args : List Piece) (same : m ≡ s.output_text) (a : IsSpilled m s.spill_text spill s.saved_pieces saved s.arg_pieces args) where
+  abbrev pub spilled : Store
+  spilled = record s { spill_text = spill; saved_pieces = saved; arg_pieces = args }
 
-  pub KeepsAll-aside : KeepsAll s aside
-  KeepsAll-aside =
-      KeepsAll-elsewhere s aside refl a.side
-      (subst (λ (v : List ℕ). map (shape_in v side) saved ≡ map (shape_in v s.spill_text) s.saved_pieces) same a.saved_shapes)
-      (subst (λ (v : List ℕ). map (shape_in v side) args ≡ map (shape_in v s.spill_text) s.arg_pieces) same a.args_shapes) refl refl
+  pub KeepsAll-spilled : KeepsAll s spilled
+  KeepsAll-spilled =
+      KeepsAll-elsewhere s spilled refl a.spill
+      (subst (λ (v : List ℕ). map (shape_in v spill) saved ≡ map (shape_in v s.spill_text) s.saved_pieces) same a.saved_shapes)
+      (subst (λ (v : List ℕ). map (shape_in v spill) args ≡ map (shape_in v s.spill_text) s.arg_pieces) same a.args_shapes) refl refl
 
-  IsStore-aside : IsStore s → IsStore aside
-  IsStore-aside i =
-      let n = ap length a.side.all ∙ length-append s.spill_text a.side.more in
+  IsStore-spilled : IsStore s → IsStore spilled
+  IsStore-spilled i =
+      let n = ap length a.spill.all ∙ length-append s.spill_text a.spill.more in
       record {
-        saved_lie = subst (λ (v : List ℕ). All (IsPiece v side) saved) same a.saved_lie;
-        args_lie = subst (λ (v : List ℕ). All (IsPiece v side) args) same a.args_lie;
+        saved_lie = subst (λ (v : List ℕ). All (IsPiece v spill) saved) same a.saved_lie;
+        args_lie = subst (λ (v : List ℕ). All (IsPiece v spill) args) same a.args_lie;
         starts_fit = rw a.args_long i.starts_fit;
         main_frame = i.main_frame;
       }
 
   -- and then a block is moved
-  module _ (low from to dest : ℕ) (main : List ℕ) (saved' args' : List Piece) (i : IsStore s)
+  module _ (low from to dest : ℕ) (output : List ℕ) (saved' args' : List Piece) (i : IsStore s)
       (saved_apart : All (IsApart low from to) saved) (args_apart : All (IsApart low from to) args)
       (by_saved : saved' ≡ map (carried low from dest) saved) (by_args : args' ≡ map (carried low from dest) args)
-      (moves : Moves s.output_text main low from to dest) (inner : s.frame_main ≤ low) where
+      (moves : Moves s.output_text output low from to dest) (inner : s.frame_main ≤ low) where
     abbrev after_move : Store
-    after_move = record s { output_text = main; spill_text = side; saved_pieces = saved'; arg_pieces = args' }
+    after_move = record s { output_text = output; spill_text = spill; saved_pieces = saved'; arg_pieces = args' }
 
     pub IsStore-after : IsStore after_move
-    IsStore-after = IsStore-moved aside after_move low from to dest moves inner saved_apart args_apart refl by_saved by_args refl refl (IsStore-aside i)
+    IsStore-after = IsStore-moved spilled after_move low from to dest moves inner saved_apart args_apart refl by_saved by_args refl refl (IsStore-spilled i)
 
     pub IsEdit-after : IsEdit s after_move
     IsEdit-after =
-        IsEdit-trans s aside after_move (IsEdit-keeps s aside KeepsAll-aside)
-        (IsEdit-moved aside after_move low from to dest moves inner saved_apart args_apart refl by_saved by_args refl refl (IsStore-aside i))
+        IsEdit-trans s spilled after_move (IsEdit-keeps s spilled KeepsAll-spilled)
+        (IsEdit-moved spilled after_move low from to dest moves inner saved_apart args_apart refl by_saved by_args refl refl (IsStore-spilled i))

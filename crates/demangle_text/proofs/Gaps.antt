@@ -3,7 +3,7 @@ use Rattle.std.proofs.Common.{◌≡◌, ℕ, ◌+◌, ◌≤◌, Bool, true, fa
 use Rattle.std.proofs.Common.{refl, sym, ap, ◌∙◌, subst, arith, append_assoc}
 use Rattle.std.proofs.lemmas.List.{length-append, length-drop, length-take-le, take_at}
 use Rattle.demangle_text.specs.declared.shape.Piece.{Piece}
-use Rattle.demangle_text.specs.Pieces.{Store, IsStore, IsApart, IsAside, EndsBy, carried}
+use Rattle.demangle_text.specs.Pieces.{Store, IsStore, IsApart, IsSpilled, EndsBy, carried}
 use Rattle.growing_text.specs.Room.{HasRoom}
 use Rattle.demangle_text.specs.Pieces.{home_bytes, piece_text}
 use Rattle.demangle_text.specs.State.{IsLiving, IsEdit}
@@ -20,40 +20,40 @@ length-gap old new at n within h =
     omega (arith, length-HasRoom (take at old) (drop at old) new n h, length-take-le at old within, length-drop at old)
 
 -- what would be torn is set aside, and all after a place moves on by n bytes
-module _ (s : Store) (m side : List ℕ) (saved args saved' args' : List Piece) (at n len dest : ℕ)
-    (same : m ≡ s.output_text) (a : IsAside m s.spill_text side s.saved_pieces saved s.arg_pieces args)
+module _ (s : Store) (m spill : List ℕ) (saved args saved' args' : List Piece) (at n len dest : ℕ)
+    (same : m ≡ s.output_text) (a : IsSpilled m s.spill_text spill s.saved_pieces saved s.arg_pieces args)
     (saved_apart : All (IsApart at at len) saved) (args_apart : All (IsApart at at len) args)
     (by_saved : saved' ≡ map (carried at at dest) saved) (by_args : args' ≡ map (carried at at dest) args)
     (i : IsStore s) (inner : s.frame_main ≤ at) (within : at ≤ length s.output_text)
     (by_len : len ≡ length s.output_text) (by_dest : dest ≡ at + n) where
   abbrev gapped : List ℕ → Store
-  gapped main = record s { output_text = main; spill_text = side; saved_pieces = saved'; arg_pieces = args' }
+  gapped output = record s { output_text = output; spill_text = spill; saved_pieces = saved'; arg_pieces = args' }
 
-  module _ (main bytes : List ℕ) (long : length bytes ≡ n)
-      (is : main ≡ take at s.output_text ++ (bytes ++ drop at s.output_text)) where
-    moves : Moves s.output_text main at at len dest
+  module _ (output bytes : List ℕ) (long : length bytes ≡ n)
+      (is : output ≡ take at s.output_text ++ (bytes ++ drop at s.output_text)) where
+    moves : Moves s.output_text output at at len dest
     moves =
-        subst (λ (d : ℕ). Moves s.output_text main at at len d) (ap (λ (k : ℕ). at + k) long ∙ sym by_dest)
-        (Moves-inserted s.output_text bytes main at len within by_len is)
+        subst (λ (d : ℕ). Moves s.output_text output at at len d) (ap (λ (k : ℕ). at + k) long ∙ sym by_dest)
+        (Moves-inserted s.output_text bytes output at len within by_len is)
 
-    IsStore-gapped : IsStore (gapped main)
+    IsStore-gapped : IsStore (gapped output)
     IsStore-gapped =
-        IsStore-after s m side saved args same a at at len dest main saved' args' i
+        IsStore-after s m spill saved args same a at at len dest output saved' args' i
         saved_apart args_apart by_saved by_args moves inner
 
-    IsEdit-gapped : IsEdit s (gapped main)
+    IsEdit-gapped : IsEdit s (gapped output)
     IsEdit-gapped =
-        IsEdit-after s m side saved args same a at at len dest main saved' args' i
+        IsEdit-after s m spill saved args same a at at len dest output saved' args' i
         saved_apart args_apart by_saved by_args moves inner
 
-  module _ (main : List ℕ) (h : HasRoom (take at s.output_text) (drop at s.output_text) main n) where
-    pub IsStore-opened : IsStore (gapped main)
-    IsStore-opened = IsStore-gapped main h.room h.long h.parts
+  module _ (output : List ℕ) (h : HasRoom (take at s.output_text) (drop at s.output_text) output n) where
+    pub IsStore-opened : IsStore (gapped output)
+    IsStore-opened = IsStore-gapped output h.room h.long h.parts
 
-    pub IsGap-opened : IsGap s (gapped main) at n
+    pub IsGap-opened : IsGap s (gapped output) at n
     IsGap-opened = record {
       room = h;
-      side = a.side;
+      spill = a.spill;
       consistent = λ bytes long. IsStore-gapped _ bytes long refl;
       edit = λ bytes long. IsEdit-gapped _ bytes long refl;
     }
@@ -63,12 +63,12 @@ pub IsGap-same : (old new s : Store) (at n : ℕ) → s ≡ new → IsGap old ne
 IsGap-same old new s at n same gap = subst (λ (b : Store). IsGap old b at n) (sym same) gap
 
 -- the gap is filled
-module _ (old s : Store) (at n : ℕ) (gap : IsGap old s at n) (bytes main : List ℕ) (long : length bytes ≡ n)
-    (is : main ≡ take at old.output_text ++ (bytes ++ drop at old.output_text)) where
-  pub IsStore-filled : IsStore (record s { output_text = main })
+module _ (old s : Store) (at n : ℕ) (gap : IsGap old s at n) (bytes output : List ℕ) (long : length bytes ≡ n)
+    (is : output ≡ take at old.output_text ++ (bytes ++ drop at old.output_text)) where
+  pub IsStore-filled : IsStore (record s { output_text = output })
   IsStore-filled = subst (λ (v : List ℕ). IsStore (record s { output_text = v })) (sym is) (gap.consistent bytes long)
 
-  pub IsEdit-filled : IsEdit old (record s { output_text = main })
+  pub IsEdit-filled : IsEdit old (record s { output_text = output })
   IsEdit-filled = subst (λ (v : List ℕ). IsEdit old (record s { output_text = v })) (sym is) (gap.edit bytes long)
 
 -- by one text
@@ -96,15 +96,15 @@ part-kept : (old new : Store) (at n a b : ℕ) (h : Bool) → IsGap old new at n
 part-kept old new at n a b false gap place ordered within before =
     part-before old.output_text new.output_text at n a b place gap.room ordered (before refl)
 part-kept old new at n a b true gap place ordered within before =
-    ap (λ (v : List ℕ). slice_range v a b) gap.side.all
-    ∙ part-append old.spill_text gap.side.more a b ordered within
+    ap (λ (v : List ℕ). slice_range v a b) gap.spill.all
+    ∙ part-append old.spill_text gap.spill.more a b ordered within
 
 home-longer : (old new : Store) (at n b : ℕ) (h : Bool) → IsGap old new at n → at ≤ length old.output_text
     → b ≤ length (home_bytes old.output_text old.spill_text h) → b ≤ length (home_bytes new.output_text new.spill_text h)
 home-longer old new at n b false gap place within =
     omega (arith, length-gap old.output_text new.output_text at n place gap.room, within)
 home-longer old new at n b true gap place within =
-    omega (arith, ap length gap.side.all, length-append old.spill_text gap.side.more, within)
+    omega (arith, ap length gap.spill.all, length-append old.spill_text gap.spill.more, within)
 
 -- a piece that ends by the place keeps its text
 module _ (old new : Store) (at n : ℕ) (gap : IsGap old new at n) (place : at ≤ length old.output_text)
@@ -112,8 +112,8 @@ module _ (old new : Store) (at n : ℕ) (gap : IsGap old new at n) (place : at �
   pub text-kept : EndsBy at p → piece_text new.output_text new.spill_text p ≡ piece_text old.output_text old.spill_text p
   unfolding IsLiving
   text-kept before =
-      part-kept old new at n p.from_byte p.to_byte p.aside gap place lies.ordered lies.within before
+      part-kept old new at n p.from_byte p.to_byte p.spilled gap place lies.ordered lies.within before
 
-  pub within-kept : p.to_byte ≤ length (home_bytes new.output_text new.spill_text p.aside)
+  pub within-kept : p.to_byte ≤ length (home_bytes new.output_text new.spill_text p.spilled)
   unfolding IsLiving
-  within-kept = home-longer old new at n p.to_byte p.aside gap place lies.within
+  within-kept = home-longer old new at n p.to_byte p.spilled gap place lies.within

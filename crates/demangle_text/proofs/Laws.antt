@@ -143,10 +143,10 @@ SameFrame-closed old mid new m o c = record {
 }
 
 -- all that was there, and then the text of what was closed
-pub main-closed : (old mid new : Store) (m : Mark) (p : Piece) (s : Shape) → IsSince old mid m → Lives new p s
+pub output-closed : (old mid new : Store) (m : Mark) (p : Piece) (s : Shape) → IsSince old mid m → Lives new p s
     → main_bytes new ≡ take (frame_start (inside m)) (main_bytes mid) ++ text s → main_bytes new ≡ main_bytes old ++ text (shape new p)
-main-closed old mid new m p s o h main =
-    main ∙ ap (λ (v : List ℕ). v ++ text s) o.front ∙ ap (λ (t : Shape). main_bytes old ++ text t) (sym h.shape_is)
+output-closed old mid new m p s o h output =
+    output ∙ ap (λ (v : List ℕ). v ++ text s) o.front ∙ ap (λ (t : Shape). main_bytes old ++ text t) (sym h.shape_is)
 
 pub Lives-same : (old new : Store) (p : Piece) (s : Shape) → SameFrame old new → Lives old p s → Lives new p s
 Lives-same old new p s u h = Lives-trans old new p s h (u.pieces p)
@@ -244,8 +244,8 @@ JoinsInPlace-trans old mid new p q r s e a b = record {
 -- a text that is pushed
 pub Appends-push : (old new : Store) (p : Piece) (bytes : List ℕ) → frame_start (frame old) ≤ length (main_bytes old)
     → main_bytes new ≡ main_bytes old ++ bytes → Stands p (length (main_bytes old)) (length (main_bytes new)) → Appends old new p
-Appends-push old new p bytes inner main stands = record {
-  front = ap (take (length (main_bytes old))) main ∙ take_at (main_bytes old) bytes (length (main_bytes old)) refl;
+Appends-push old new p bytes inner output stands = record {
+  front = ap (take (length (main_bytes old))) output ∙ take_at (main_bytes old) bytes (length (main_bytes old)) refl;
   inner = inner;
   stands = stands;
 }
@@ -341,10 +341,10 @@ IsLast-named b p q l as_piece = record { from = l.from; inner = l.inner; stands 
 
 -- it stands last as long as the output stays
 pub IsLast-same : (old new : Store) (p : Piece) → IsLast old p → SameFrame old new → main_bytes new ≡ main_bytes old → IsLast new p
-IsLast-same old new p l k main = record {
+IsLast-same old new p l k output = record {
   from = l.from;
   inner = subst (λ (f : Frame). frame_start f ≤ l.from) (sym k.frame_same) l.inner;
-  stands = subst (λ (t : List ℕ). Stands p l.from (length t)) (sym main) l.stands;
+  stands = subst (λ (t : List ℕ). Stands p l.from (length t)) (sym output) l.stands;
 }
 
 -- and it is inside the innermost mark
@@ -362,11 +362,11 @@ IsInner-same old new p i k = record {
 
 -- after what stood last there is what was put there
 pub text_after-follows : (old new : Store) (p : Piece) (bytes : List ℕ) → IsLiving old p → IsLast old p → main_bytes new ≡ main_bytes old ++ bytes → text_after new p ≡ bytes
-text_after-follows old new p bytes lies l main =
-    text_after-more old new p bytes lies (IsInner-last old p l) main ∙ ap (λ (v : List ℕ). v ++ bytes) (text_after-last old p l)
+text_after-follows old new p bytes lies l output =
+    text_after-more old new p bytes lies (IsInner-last old p l) output ∙ ap (λ (v : List ℕ). v ++ bytes) (text_after-last old p l)
 
 -- the laws for the readers
-pub ruleset runs = (IsRun-edit, IsRun-same, SameFrame-keeps, SameFrame-trans, IsRun-trans, IsSince-opens, IsSince-run, SameFrame-closed, main-closed, Lives-same)
+pub ruleset runs = (IsRun-edit, IsRun-same, SameFrame-keeps, SameFrame-trans, IsRun-trans, IsSince-opens, IsSince-run, SameFrame-closed, output-closed, Lives-same)
 
 -- the laws for what is put after what stands last
 pub ruleset lasts = (IsLast-stays, IsLast-joined, IsLast-push, IsLast-named, IsLast-same, IsInner-last, IsInner-same)

@@ -13,13 +13,13 @@ pub tail-of : (b : Store) (p : Piece) → IsLast b p → IsTail b p
 unfolding Stands frame frame_start main_bytes
 tail-of b p l = record { in_main = l.stands.in_main; inner = omega (arith, l.inner, l.stands.begins); ends = l.stands.ends }
 
-module _ (s : Store) (main : List ℕ) (p : Piece) (between name : List ℕ) (i : IsStore s) (living : IsLiving s p) (last : IsLast s p)
-    (is : main ≡ s.output_text ++ (between ++ name)) where
+module _ (s : Store) (output : List ℕ) (p : Piece) (between name : List ℕ) (i : IsStore s) (living : IsLiving s p) (last : IsLast s p)
+    (is : output ≡ s.output_text ++ (between ++ name)) where
   abbrev new : Store
-  new = record s { output_text = main }
+  new = record s { output_text = output }
 
   pub edit-named : IsEdit s new
-  edit-named = IsEdit-extended s s.output_text (between ++ name) main i (Extends-same s.output_text) is
+  edit-named = IsEdit-extended s s.output_text (between ++ name) output i (Extends-same s.output_text) is
 
   -- the texts stand after the piece
   splice : IsSplice s new p (p.to_byte - p.from_byte) (between ++ name) p.from_byte
@@ -27,7 +27,7 @@ module _ (s : Store) (main : List ℕ) (p : Piece) (between name : List ℕ) (i 
   splice = IsSplice-extended s new p s.output_text (between ++ name) p.from_byte living
       (IsBrought-stays s.output_text s.spill_text s.frame_main p living.ordered (tail-of s p last)) is
 
-  module _ (end : ℕ) (end_is : end ≡ length main) where
+  module _ (end : ℕ) (end_is : end ≡ length output) where
     -- the piece of all of it, whose base name is the name
     abbrev pub renamed : Piece
     renamed = record p {

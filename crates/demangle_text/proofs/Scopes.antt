@@ -120,13 +120,13 @@ parts_at-push (s ∷ t ∷ rest) xs x h some =
     both ∙ sym (with_arg-more x (slice_range xs s t) (parts_at (t ∷ rest) xs) some)
 
 -- a buffer whose arguments or their places change, and nothing else
-module _ (s new : Store) (main : new.output_text ≡ s.output_text) (side : new.spill_text ≡ s.spill_text) (frame_main : new.frame_main ≡ s.frame_main) where
+module _ (s new : Store) (output : new.output_text ≡ s.output_text) (spill : new.spill_text ≡ s.spill_text) (frame_main : new.frame_main ≡ s.frame_main) where
   shape_same : shape new ≡ shape s
   unfolding shape
-  shape_same = ap (λ (ts : List ℕ). λ (p : Piece). shape_in ts new.spill_text p) main ∙ ap (λ (ts : List ℕ). λ (p : Piece). shape_in s.output_text ts p) side
+  shape_same = ap (λ (ts : List ℕ). λ (p : Piece). shape_in ts new.spill_text p) output ∙ ap (λ (ts : List ℕ). λ (p : Piece). shape_in s.output_text ts p) spill
 
   frame_fits : IsStore s → new.frame_main ≤ length new.output_text
-  frame_fits i = rw (frame_main, main) i.main_frame
+  frame_fits i = rw (frame_main, output) i.main_frame
 
   -- the scopes, by the arguments and their places
   scopes_are : (args : List Piece) (starts : List ℕ) → new.arg_pieces ≡ args → new.scope_starts ≡ starts → scopes new ≡ parts_at starts (map (shape s) args)
@@ -142,8 +142,8 @@ module _ (s new : Store) (main : new.output_text ≡ s.output_text) (side : new.
 
   pub IsStore-open : IsStore s → new.saved_pieces ≡ s.saved_pieces → new.arg_pieces ≡ s.arg_pieces → new.scope_starts ≡ s.scope_starts ++ length s.arg_pieces ∷ [] → IsStore new
   IsStore-open i saved args starts = record {
-    saved_lie = rw (main, side, saved) i.saved_lie;
-    args_lie = rw (main, side, args) i.args_lie;
+    saved_lie = rw (output, spill, saved) i.saved_lie;
+    args_lie = rw (output, spill, args) i.args_lie;
     starts_fit = rw (args, starts) (AreStarts-push s.scope_starts (length s.arg_pieces) i.starts_fit);
     main_frame = frame_fits i;
   }
@@ -163,8 +163,8 @@ module _ (s new : Store) (main : new.output_text ≡ s.output_text) (side : new.
   pub IsStore-arg : IsStore s → (p : Piece) → IsLiving s p → new.saved_pieces ≡ s.saved_pieces → new.arg_pieces ≡ s.arg_pieces ++ p ∷ [] → new.scope_starts ≡ s.scope_starts → IsStore new
   unfolding IsLiving
   IsStore-arg i p lies saved args starts = record {
-    saved_lie = rw (main, side, saved) i.saved_lie;
-    args_lie = rw (main, side, args) (All-push (IsPiece s.output_text s.spill_text) s.arg_pieces p i.args_lie lies);
+    saved_lie = rw (output, spill, saved) i.saved_lie;
+    args_lie = rw (output, spill, args) (All-push (IsPiece s.output_text s.spill_text) s.arg_pieces p i.args_lie lies);
     starts_fit = rw (args, starts) (AreStarts-more s.scope_starts (length s.arg_pieces) (length (s.arg_pieces ++ p ∷ [])) (omega (arith, length-append s.arg_pieces (p ∷ []))) i.starts_fit);
     main_frame = frame_fits i;
   }
@@ -186,8 +186,8 @@ module _ (s new : Store) (main : new.output_text ≡ s.output_text) (side : new.
       let within : from ≤ length s.arg_pieces = omega (arith, start_within s.scope_starts (length s.arg_pieces) n i.starts_fit there) in
       let m : length (take from s.arg_pieces) ≡ get_or s.scope_starts n 0 = length-take-le from s.arg_pieces within ∙ e in
       record {
-        saved_lie = rw (main, side, saved) i.saved_lie;
-        args_lie = rw (main, side, args) (All-take (IsPiece s.output_text s.spill_text) from s.arg_pieces i.args_lie);
+        saved_lie = rw (output, spill, saved) i.saved_lie;
+        args_lie = rw (output, spill, args) (All-take (IsPiece s.output_text s.spill_text) from s.arg_pieces i.args_lie);
         starts_fit = rw (args, starts, m) (AreStarts-take s.scope_starts (length s.arg_pieces) n i.starts_fit there);
         main_frame = frame_fits i;
       }

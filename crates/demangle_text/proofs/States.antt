@@ -18,83 +18,83 @@ use Rattle.demangle_text.proofs.Forms.{text-form_of}
 use Rattle.growing_text.proofs.Parts.{part-append}
 use Rattle.demangle_text.proofs.Texts.{map_same}
 
-home-grown : (main side m n : List ℕ) (h : Bool) → home_bytes (main ++ m) (side ++ n) h ≡ home_bytes main side h ++ home_bytes m n h
-home-grown main side m n false = refl
-home-grown main side m n true = refl
+home-grown : (output spill m n : List ℕ) (h : Bool) → home_bytes (output ++ m) (spill ++ n) h ≡ home_bytes output spill h ++ home_bytes m n h
+home-grown output spill m n false = refl
+home-grown output spill m n true = refl
 
 -- the text of a piece stays when both texts grow
-module _ (main side m n : List ℕ) (p : Piece) (h : IsPiece main side p) where
-  piece_text-grown : piece_text (main ++ m) (side ++ n) p ≡ piece_text main side p
+module _ (output spill m n : List ℕ) (p : Piece) (h : IsPiece output spill p) where
+  piece_text-grown : piece_text (output ++ m) (spill ++ n) p ≡ piece_text output spill p
   piece_text-grown =
-      ap (λ (t : List ℕ). slice_range t p.from_byte p.to_byte) (home-grown main side m n p.aside)
-      ∙ part-append (home_bytes main side p.aside) (home_bytes m n p.aside) p.from_byte p.to_byte h.ordered h.within
+      ap (λ (t : List ℕ). slice_range t p.from_byte p.to_byte) (home-grown output spill m n p.spilled)
+      ∙ part-append (home_bytes output spill p.spilled) (home_bytes m n p.spilled) p.from_byte p.to_byte h.ordered h.within
 
-  pub IsPiece-grown : IsPiece (main ++ m) (side ++ n) p
+  pub IsPiece-grown : IsPiece (output ++ m) (spill ++ n) p
   IsPiece-grown = record {
     ordered = h.ordered;
-    within = rw (home-grown main side m n p.aside) (omega (arith, length-append (home_bytes main side p.aside) (home_bytes m n p.aside), h.within));
+    within = rw (home-grown output spill m n p.spilled) (omega (arith, length-append (home_bytes output spill p.spilled) (home_bytes m n p.spilled), h.within));
     outlined = rw piece_text-grown h.outlined;
   }
 
-  pub shape_in-grown : shape_in (main ++ m) (side ++ n) p ≡ shape_in main side p
+  pub shape_in-grown : shape_in (output ++ m) (spill ++ n) p ≡ shape_in output spill p
   shape_in-grown = ap (λ (t : List ℕ). shape_of t (outline_of p)) piece_text-grown
 
 -- the same when the spill goes on
-module _ (main side new : List ℕ) (e : Extends side new) where
-  shape_in-extends : (p : Piece) → IsPiece main side p → shape_in main new p ≡ shape_in main side p
+module _ (output spill new : List ℕ) (e : Extends spill new) where
+  shape_in-extends : (p : Piece) → IsPiece output spill p → shape_in output new p ≡ shape_in output spill p
   shape_in-extends p h =
-      ap (λ (t : List ℕ). shape_in t new p) (sym (append-nil main)) ∙ ap (λ (t : List ℕ). shape_in (main ++ []) t p) e.all
-      ∙ shape_in-grown main side [] e.more p h
+      ap (λ (t : List ℕ). shape_in t new p) (sym (append-nil output)) ∙ ap (λ (t : List ℕ). shape_in (output ++ []) t p) e.all
+      ∙ shape_in-grown output spill [] e.more p h
 
-  pub piece_text-extends : (p : Piece) → IsPiece main side p → piece_text main new p ≡ piece_text main side p
+  pub piece_text-extends : (p : Piece) → IsPiece output spill p → piece_text output new p ≡ piece_text output spill p
   piece_text-extends p h =
-      ap (λ (t : List ℕ). piece_text t new p) (sym (append-nil main)) ∙ ap (λ (t : List ℕ). piece_text (main ++ []) t p) e.all
-      ∙ piece_text-grown main side [] e.more p h
+      ap (λ (t : List ℕ). piece_text t new p) (sym (append-nil output)) ∙ ap (λ (t : List ℕ). piece_text (output ++ []) t p) e.all
+      ∙ piece_text-grown output spill [] e.more p h
 
-  pub IsPiece-extends : (p : Piece) → IsPiece main side p → IsPiece main new p
+  pub IsPiece-extends : (p : Piece) → IsPiece output spill p → IsPiece output new p
   IsPiece-extends p h =
-      let a = IsPiece-grown main side [] e.more p h in
-      subst (λ (t : List ℕ). IsPiece t new p) (append-nil main) (subst (λ (t : List ℕ). IsPiece (main ++ []) t p) (sym e.all) a)
+      let a = IsPiece-grown output spill [] e.more p h in
+      subst (λ (t : List ℕ). IsPiece t new p) (append-nil output) (subst (λ (t : List ℕ). IsPiece (output ++ []) t p) (sym e.all) a)
 
-  pub All-extends : (ps : List Piece) → All (IsPiece main side) ps → All (IsPiece main new) ps
-  All-extends ps h = All-weaker (IsPiece main side) (IsPiece main new) IsPiece-extends ps h
+  pub All-extends : (ps : List Piece) → All (IsPiece output spill) ps → All (IsPiece output new) ps
+  All-extends ps h = All-weaker (IsPiece output spill) (IsPiece output new) IsPiece-extends ps h
 
-  pub shapes-extends : (ps : List Piece) → All (IsPiece main side) ps → map (shape_in main new) ps ≡ map (shape_in main side) ps
-  shapes-extends ps h = map_same (IsPiece main side) (shape_in main new) (shape_in main side) shape_in-extends ps h
+  pub shapes-extends : (ps : List Piece) → All (IsPiece output spill) ps → map (shape_in output new) ps ≡ map (shape_in output spill) ps
+  shapes-extends ps h = map_same (IsPiece output spill) (shape_in output new) (shape_in output spill) shape_in-extends ps h
 
 -- a piece of the output, whose text was put at the end of the spill
-module _ (main side new : List ℕ) (p : Piece) (from to : ℕ) (lies : IsPiece main side p) (home : p.aside ≡ false)
-    (is : new ≡ side ++ slice_range main p.from_byte p.to_byte) (starts : from ≡ length side) (ends : to ≡ length new) where
+module _ (output spill new : List ℕ) (p : Piece) (from to : ℕ) (lies : IsPiece output spill p) (home : p.spilled ≡ false)
+    (is : new ≡ spill ++ slice_range output p.from_byte p.to_byte) (starts : from ≡ length spill) (ends : to ≡ length new) where
   abbrev pub set_aside : Piece
-  set_aside = record p { from_byte = from; to_byte = to; aside = true }
+  set_aside = record p { from_byte = from; to_byte = to; spilled = true }
 
-  text-aside : slice_range new from to ≡ piece_text main side p
-  text-aside =
-      take_all (to - from) (drop from new) (omega (arith, ends, length-drop from new)) ∙ ap (drop from) is ∙ drop_at side (slice_range main p.from_byte p.to_byte) from (sym starts)
-      ∙ sym (ap (λ (h : Bool). slice_range (home_bytes main side h) p.from_byte p.to_byte) home)
+  text-spilled : slice_range new from to ≡ piece_text output spill p
+  text-spilled =
+      take_all (to - from) (drop from new) (omega (arith, ends, length-drop from new)) ∙ ap (drop from) is ∙ drop_at spill (slice_range output p.from_byte p.to_byte) from (sym starts)
+      ∙ sym (ap (λ (h : Bool). slice_range (home_bytes output spill h) p.from_byte p.to_byte) home)
 
-  pub IsPiece-aside : IsPiece main new set_aside
-  IsPiece-aside = record {
-    ordered = omega (arith, starts, ends, ap length is, length-append side (slice_range main p.from_byte p.to_byte));
+  pub IsPiece-spilled : IsPiece output new set_aside
+  IsPiece-spilled = record {
+    ordered = omega (arith, starts, ends, ap length is, length-append spill (slice_range output p.from_byte p.to_byte));
     within = omega (arith, ends);
-    outlined = rw text-aside lies.outlined;
+    outlined = rw text-spilled lies.outlined;
   }
 
-  pub shape-aside : shape_in main new set_aside ≡ shape_in main side p
-  shape-aside = ap (λ (t : List ℕ). shape_of t (outline_of p)) text-aside
+  pub shape-spilled : shape_in output new set_aside ≡ shape_in output spill p
+  shape-spilled = ap (λ (t : List ℕ). shape_of t (outline_of p)) text-spilled
 
 -- one piece is replaced by one of the same shape
-module _ (main side new : List ℕ) (ps : List Piece) (i : ℕ) (d q : Piece) where
-  pub replaced_lie : Extends side new → All (IsPiece main side) ps → IsPiece main new q → All (IsPiece main new) (set ps i q)
+module _ (output spill new : List ℕ) (ps : List Piece) (i : ℕ) (d q : Piece) where
+  pub replaced_lie : Extends spill new → All (IsPiece output spill) ps → IsPiece output new q → All (IsPiece output new) (set ps i q)
   replaced_lie e lie h =
-      All-set (IsPiece main new) ps i q h (All-weaker (IsPiece main side) (IsPiece main new) (IsPiece-extends main side new e) ps lie)
+      All-set (IsPiece output new) ps i q h (All-weaker (IsPiece output spill) (IsPiece output new) (IsPiece-extends output spill new e) ps lie)
 
-  pub replaced_shapes : i < length ps → Extends side new → All (IsPiece main side) ps
-      → shape_in main new q ≡ shape_in main side (get_or ps i d)
-      → map (shape_in main new) (set ps i q) ≡ map (shape_in main side) ps
+  pub replaced_shapes : i < length ps → Extends spill new → All (IsPiece output spill) ps
+      → shape_in output new q ≡ shape_in output spill (get_or ps i d)
+      → map (shape_in output new) (set ps i q) ≡ map (shape_in output spill) ps
   replaced_shapes there e lie same =
-      let at = All-get_or (IsPiece main side) ps i d there lie in
-      map-set_same (shape_in main new) ps i q d (same ∙ sym (shape_in-extends main side new e (get_or ps i d) at)) ∙ shapes-extends main side new e ps lie
+      let at = All-get_or (IsPiece output spill) ps i d there lie in
+      map-set_same (shape_in output new) ps i q d (same ∙ sym (shape_in-extends output spill new e (get_or ps i d) at)) ∙ shapes-extends output spill new e ps lie
 
 pub Extends-trans : (a b c : List ℕ) → Extends a b → Extends b c → Extends a c
 Extends-trans a b c h k = record { more = h.more ++ k.more; all = k.all ∙ ap (λ (v : List ℕ). v ++ k.more) h.all ∙ append_assoc a h.more k.more }
@@ -181,8 +181,8 @@ Lives-grown s t p stands outlined =
     Lives-at_end (longer s t) p t there (omega (arith, stands.begins, length-append s.output_text t)) (drop_at s.output_text t p.from_byte (sym stands.begins)) outlined
 
 -- what lives in the output lies before its end
-below_end : (main side : List ℕ) (end n : ℕ) (h : Bool) → end ≡ length main → n ≤ length (home_bytes main side h) → h ≡ false → n ≤ end
-below_end main side end n h by_main within e = omega (arith, by_main, rw e at within)
+below_end : (output spill : List ℕ) (end n : ℕ) (h : Bool) → end ≡ length output → n ≤ length (home_bytes output spill h) → h ≡ false → n ≤ end
+below_end output spill end n h by_main within e = omega (arith, by_main, rw e at within)
 
 -- a mark is opened at the end of the output
 pub Opens-here : (s : Store) (m : Mark) → IsStore s → m.inside_main ≡ length s.output_text → m.outside_main ≡ s.frame_main
@@ -190,7 +190,7 @@ pub Opens-here : (s : Store) (m : Mark) → IsStore s → m.inside_main ≡ leng
 unfolding IsLiving shape saved scopes main_bytes frame frame_start inside outside IsOlder Frame
 Opens-here s m i by_main outer = record {
   pieces = λ p h. record { living = h; shape_is = refl };
-  older = λ p h. below_end s.output_text s.spill_text m.inside_main p.to_byte p.aside by_main h.within;
+  older = λ p h. below_end s.output_text s.spill_text m.inside_main p.to_byte p.spilled by_main h.within;
   inside_is = refl;
   outside_is = outer;
   lists = record { saved_same = refl; scopes_same = refl };
@@ -224,12 +224,12 @@ Stands-ordered s p from to lies stands = omega (arith, lies.ordered, stands.begi
 pub Stands-tail : (s : Store) (p : Piece) (P : Type 0) → IsLiving s p → ((from : ℕ) → frame_start (frame s) ≤ from → Stands p from (length (main_bytes s)) → P)
     → (StandsBefore s p (length (main_bytes s)) → P) → P
 unfolding IsLiving Stands main_bytes frame frame_start Frame
-Stands-tail s p P lies tail before = by p.aside (leb s.frame_main p.from_byte) (leb (length s.output_text) p.to_byte) refl refl refl
+Stands-tail s p P lies tail before = by p.spilled (leb s.frame_main p.from_byte) (leb (length s.output_text) p.to_byte) refl refl refl
   where
-    within : p.aside ≡ false → p.to_byte ≤ length s.output_text
+    within : p.spilled ≡ false → p.to_byte ≤ length s.output_text
     within home = subst (λ (h : Bool). p.to_byte ≤ length (home_bytes s.output_text s.spill_text h)) home lies.within
 
-    by : (aside inner ends : Bool) → p.aside ≡ aside → leb s.frame_main p.from_byte ≡ inner → leb (length s.output_text) p.to_byte ≡ ends → P
+    by : (spilled inner ends : Bool) → p.spilled ≡ spilled → leb s.frame_main p.from_byte ≡ inner → leb (length s.output_text) p.to_byte ≡ ends → P
     by true inner ends home from to = before (λ a b at. cc)
     by false true true home from to =
         tail p.from_byte (leb-true _ _ from) (record { in_main = home; begins = refl; ends = omega (arith, within home, leb-true _ _ to) })
@@ -240,14 +240,14 @@ Stands-tail s p P lies tail before = by p.aside (leb s.frame_main p.from_byte) (
 -- what stands after a piece grows as the output does
 pub text_after-more : (s t : Store) (p : Piece) (bytes : List ℕ) → IsLiving s p → IsInner s p → main_bytes t ≡ main_bytes s ++ bytes → text_after t p ≡ text_after s p ++ bytes
 unfolding IsLiving Stands main_bytes text_after
-text_after-more s t p bytes lies i main =
+text_after-more s t p bytes lies i output =
     let within : p.to_byte ≤ length s.output_text = subst (λ (h : Bool). p.to_byte ≤ length (home_bytes s.output_text s.spill_text h)) i.stands.in_main lies.within in
-    ap (drop p.to_byte) main ∙ drop-append-le p.to_byte s.output_text bytes within
+    ap (drop p.to_byte) output ∙ drop-append-le p.to_byte s.output_text bytes within
 
 -- and stays with it
 pub text_after-same : (s t : Store) (p : Piece) → main_bytes t ≡ main_bytes s → text_after t p ≡ text_after s p
 unfolding main_bytes text_after
-text_after-same s t p main = ap (drop p.to_byte) main
+text_after-same s t p output = ap (drop p.to_byte) output
 
 -- nothing stands after what ends the output
 pub text_after-last : (s : Store) (p : Piece) → IsLast s p → text_after s p ≡ []
@@ -258,13 +258,13 @@ text_after-last s p l = drop_all p.to_byte s.output_text (omega (arith, l.stands
 pub inner_text : (s : Store) (p : Piece) → IsLiving s p → IsInner s p → drop p.from_byte s.output_text ≡ piece_text s.output_text s.spill_text p ++ drop p.to_byte s.output_text
 unfolding IsLiving Stands
 inner_text s p lies i =
-    let main = s.output_text in
+    let output = s.output_text in
     let at = p.to_byte - p.from_byte in
-    let rest = drop p.from_byte main in
-    let here : piece_text main s.spill_text p ≡ take at rest = ap (λ (h : Bool). slice_range (home_bytes main s.spill_text h) p.from_byte p.to_byte) i.stands.in_main in
+    let rest = drop p.from_byte output in
+    let here : piece_text output s.spill_text p ≡ take at rest = ap (λ (h : Bool). slice_range (home_bytes output s.spill_text h) p.from_byte p.to_byte) i.stands.in_main in
     let split : p.to_byte ≡ p.from_byte + at = omega (arith, lies.ordered) in
-    let after : drop p.to_byte main ≡ drop at rest = ap (λ (k : ℕ). drop k main) split ∙ sym (drop-drop at p.from_byte main) in
-    sym (take-append-drop at rest) ∙ ap (λ (v : List ℕ). v ++ drop at rest) (sym here) ∙ ap (λ (v : List ℕ). piece_text main s.spill_text p ++ v) (sym after)
+    let after : drop p.to_byte output ≡ drop at rest = ap (λ (k : ℕ). drop k output) split ∙ sym (drop-drop at p.from_byte output) in
+    sym (take-append-drop at rest) ∙ ap (λ (v : List ℕ). v ++ drop at rest) (sym here) ∙ ap (λ (v : List ℕ). piece_text output s.spill_text p ++ v) (sym after)
 
 -- a fact at the exit of a `?`
 pub on_err_from : {T E Q : Type 0} (r : Result T E) → Q → OnErr r Q
@@ -280,9 +280,9 @@ text_is s p h = text-form_of (piece_text s.output_text s.spill_text p) (outline_
 pub main_split : (s : Store) (p : Piece) → IsLiving s p → (i : IsInner s p) → main_bytes s ≡ take i.from (main_bytes s) ++ (text (shape s p) ++ text_after s p)
 unfolding Stands main_bytes text_after
 main_split s p lies i =
-    let main = s.output_text in
-    sym (take-append-drop i.from main) ∙ ap (λ (v : List ℕ). take i.from main ++ v)
-    (ap (λ (k : ℕ). drop k main) (sym i.stands.begins) ∙ inner_text s p lies i ∙ ap (λ (v : List ℕ). v ++ drop p.to_byte main) (sym (text_is s p lies)))
+    let output = s.output_text in
+    sym (take-append-drop i.from output) ∙ ap (λ (v : List ℕ). take i.from output ++ v)
+    (ap (λ (k : ℕ). drop k output) (sym i.stands.begins) ∙ inner_text s p lies i ∙ ap (λ (v : List ℕ). v ++ drop p.to_byte output) (sym (text_is s p lies)))
 
 -- the same as it was
 pub unchanged : (s new : Store) → new.output_text ≡ s.output_text → new.spill_text ≡ s.spill_text → new.saved_pieces ≡ s.saved_pieces → new.arg_pieces ≡ s.arg_pieces

@@ -19,25 +19,25 @@ use Rattle.demangle_text.proofs.Texts.{part-part, front_below}
 use Rattle.demangle_text.proofs.States.{Lives-at_end, text_is, inner_text}
 
 -- the text from a place on, with bytes inserted in it
-tail_inserted : (main bytes : List ℕ) (from at : ℕ) → from + at ≤ length main
-    → drop from (take (from + at) main ++ (bytes ++ drop (from + at) main)) ≡ take at
-    (drop from main) ++ (bytes ++ drop at (drop from main))
-tail_inserted main bytes from at h =
-    let n = length-take-le (from + at) main h in
-    let one = drop-append-le from (take (from + at) main) (bytes ++ drop (from + at) main) (omega arith) in
-    let two = drop-take from at main in
-    let three : drop (from + at) main ≡ drop at (drop from main) = sym (drop-drop at from main) in
-    one ∙ ap (λ (v : List ℕ). v ++ (bytes ++ drop (from + at) main)) two ∙ ap (λ (v : List ℕ). take at (drop from main) ++ (bytes ++ v)) three
+tail_inserted : (output bytes : List ℕ) (from at : ℕ) → from + at ≤ length output
+    → drop from (take (from + at) output ++ (bytes ++ drop (from + at) output)) ≡ take at
+    (drop from output) ++ (bytes ++ drop at (drop from output))
+tail_inserted output bytes from at h =
+    let n = length-take-le (from + at) output h in
+    let one = drop-append-le from (take (from + at) output) (bytes ++ drop (from + at) output) (omega arith) in
+    let two = drop-take from at output in
+    let three : drop (from + at) output ≡ drop at (drop from output) = sym (drop-drop at from output) in
+    one ∙ ap (λ (v : List ℕ). v ++ (bytes ++ drop (from + at) output)) two ∙ ap (λ (v : List ℕ). take at (drop from output) ++ (bytes ++ v)) three
 
 -- no byte before an insertion changes
-front_inserted : (main bytes : List ℕ) (low at : ℕ) → low ≤ at → at ≤ length main → take low (take at main ++ (bytes ++ drop at main)) ≡ take low main
-front_inserted main bytes low at below h =
-    let n = length-take-le at main h in
-    take-append-le low (take at main) (bytes ++ drop at main) (omega arith) ∙ take-take low at main below
+front_inserted : (output bytes : List ℕ) (low at : ℕ) → low ≤ at → at ≤ length output → take low (take at output ++ (bytes ++ drop at output)) ≡ take low output
+front_inserted output bytes low at below h =
+    let n = length-take-le at output h in
+    take-append-le low (take at output) (bytes ++ drop at output) (omega arith) ∙ take-take low at output below
 
 -- nor one before the end of a text that grows
-front_longer : (main more : List ℕ) (low : ℕ) → low ≤ length main → take low (main ++ more) ≡ take low main
-front_longer main more low h = take-append-le low main more h
+front_longer : (output more : List ℕ) (low : ℕ) → low ≤ length output → take low (output ++ more) ≡ take low output
+front_longer output more low h = take-append-le low output more h
 
 -- the text of a piece that ends the output
 tail_text : (s : Store) (p : Piece) → IsTail s p → piece_text s.output_text s.spill_text p ≡ drop p.from_byte s.output_text
@@ -49,15 +49,15 @@ tail_text s p h =
 pub IsSplice-inserted : (s t : Store) (p : Piece) (at : ℕ) (bytes : List ℕ) → IsTail s p → p.from_byte ≤ p.to_byte → at ≤ p.to_byte - p.from_byte
     → t.output_text ≡ take (p.from_byte + at) s.output_text ++ (bytes ++ drop (p.from_byte + at) s.output_text) → IsSplice s t p at bytes p.from_byte
 IsSplice-inserted s t p at bytes h ordered within is =
-    let main = s.output_text in
-    let there : p.from_byte + at ≤ length main = omega (arith, h.ends) in
-    let n = ap length is ∙ length-inserted main bytes (p.from_byte + at) in
+    let output = s.output_text in
+    let there : p.from_byte + at ≤ length output = omega (arith, h.ends) in
+    let n = ap length is ∙ length-inserted output bytes (p.from_byte + at) in
     record {
       within = omega (arith, n);
-      text = ap (drop p.from_byte) is ∙ tail_inserted main bytes p.from_byte at there
+      text = ap (drop p.from_byte) is ∙ tail_inserted output bytes p.from_byte at there
           ∙ ap (λ (v : List ℕ). take at v ++ (bytes ++ drop at v)) (sym (tail_text s p h));
       inner = h.inner;
-      front = ap (take p.from_byte) is ∙ front_inserted main bytes p.from_byte (p.from_byte + at) (omega arith) there;
+      front = ap (take p.from_byte) is ∙ front_inserted output bytes p.from_byte (p.from_byte + at) (omega arith) there;
       in_place = λ _. (refl, n);
     }
 
@@ -65,12 +65,12 @@ IsSplice-inserted s t p at bytes h ordered within is =
 pub IsSplice-taken : (s : Store) (p : Piece) → IsLiving s p → IsInner s p → IsSplice s s p (p.to_byte - p.from_byte) (text_after s p) p.from_byte
 unfolding IsLiving frame frame_start Frame Stands text_after
 IsSplice-taken s p lies i =
-    let main = s.output_text in
-    let t = piece_text main s.spill_text p in
+    let output = s.output_text in
+    let t = piece_text output s.spill_text p in
     let at = p.to_byte - p.from_byte in
-    let more = drop p.to_byte main in
-    let within : p.to_byte ≤ length main = subst (λ (h : Bool). p.to_byte ≤ length (home_bytes main s.spill_text h)) i.stands.in_main lies.within in
-    let long : length t ≡ at = length-between (home_bytes main s.spill_text p.aside) p.from_byte p.to_byte lies.within in
+    let more = drop p.to_byte output in
+    let within : p.to_byte ≤ length output = subst (λ (h : Bool). p.to_byte ≤ length (home_bytes output s.spill_text h)) i.stands.in_main lies.within in
+    let long : length t ≡ at = length-between (home_bytes output s.spill_text p.spilled) p.from_byte p.to_byte lies.within in
     let front : take at t ≡ t = take_all at t (omega (arith, long)) in
     let none : drop at t ≡ [] = drop_all at t (omega (arith, long)) in
     record {
@@ -79,7 +79,7 @@ IsSplice-taken s p lies i =
           ∙ ap (λ (v : List ℕ). t ++ (more ++ v)) (sym none) ∙ ap (λ (v : List ℕ). v ++ (more ++ drop at t)) (sym front);
       inner = omega (arith, i.inner, i.stands.begins);
       front = refl;
-      in_place = λ tail. (refl, omega (arith, tail.ends, length-drop p.to_byte main));
+      in_place = λ tail. (refl, omega (arith, tail.ends, length-drop p.to_byte output));
     }
 
 -- an edit that spliced bytes into the text of a piece
@@ -113,40 +113,40 @@ adjacent_text : (s : Store) (first second : Piece) → IsAdjacent s first second
     → (piece_text s.output_text s.spill_text first ≡ take (second.from_byte - first.from_byte) (drop first.from_byte s.output_text))
     × (piece_text s.output_text s.spill_text second ≡ drop (second.from_byte - first.from_byte) (drop first.from_byte s.output_text))
 adjacent_text s first second h ordered after =
-    let main = s.output_text in
+    let output = s.output_text in
     let k = second.from_byte - first.from_byte in
-    let by_first = ap (λ (home : Bool). slice_range (home_bytes main s.spill_text home) first.from_byte first.to_byte) h.first_in_main in
-    let by_second = ap (λ (home : Bool). slice_range (home_bytes main s.spill_text home) second.from_byte second.to_byte) h.second_in_main in
-    let whole = take_all (second.to_byte - second.from_byte) (drop second.from_byte main) (omega (arith, h.ends, length-drop second.from_byte main)) in
+    let by_first = ap (λ (home : Bool). slice_range (home_bytes output s.spill_text home) first.from_byte first.to_byte) h.first_in_main in
+    let by_second = ap (λ (home : Bool). slice_range (home_bytes output s.spill_text home) second.from_byte second.to_byte) h.second_in_main in
+    let whole = take_all (second.to_byte - second.from_byte) (drop second.from_byte output) (omega (arith, h.ends, length-drop second.from_byte output)) in
     let split : second.from_byte ≡ first.from_byte + k = omega (arith, h.meets) in (
-      by_first ∙ ap (λ (i : ℕ). take (i - first.from_byte) (drop first.from_byte main)) h.meets,
-      by_second ∙ whole ∙ ap (λ (i : ℕ). drop i main) split ∙ sym (drop-drop k first.from_byte main),
+      by_first ∙ ap (λ (i : ℕ). take (i - first.from_byte) (drop first.from_byte output)) h.meets,
+      by_second ∙ whole ∙ ap (λ (i : ℕ). drop i output) split ∙ sym (drop-drop k first.from_byte output),
     )
 
 -- an insertion between them
 pub IsJoint-inserted : (s t : Store) (first : Piece) (bytes : List ℕ) (second : Piece) → IsAdjacent s first second → first.from_byte ≤ first.to_byte → second.from_byte ≤ second.to_byte
     → t.output_text ≡ take second.from_byte s.output_text ++ (bytes ++ drop second.from_byte s.output_text) → IsJoint s t first bytes second first.from_byte
 IsJoint-inserted s t first bytes second h ordered after is =
-    let main = s.output_text in
+    let output = s.output_text in
     let k = second.from_byte - first.from_byte in
     let split : second.from_byte ≡ first.from_byte + k = omega (arith, h.meets) in
-    let there : first.from_byte + k ≤ length main = omega (arith, h.ends, h.meets) in
-    let n = ap length is ∙ length-inserted main bytes second.from_byte in
+    let there : first.from_byte + k ≤ length output = omega (arith, h.ends, h.meets) in
+    let n = ap length is ∙ length-inserted output bytes second.from_byte in
     let texts = adjacent_text s first second h ordered after in
     record {
       within = omega (arith, n);
       text = ap (drop first.from_byte) is
-          ∙ ap (λ (i : ℕ). drop first.from_byte (take i main ++ (bytes ++ drop i main))) split
-          ∙ tail_inserted main bytes first.from_byte k there
-          ∙ ap (λ (v : List ℕ). v ++ (bytes ++ drop k (drop first.from_byte main))) (sym texts.0)
-          ∙ ap (λ (v : List ℕ). piece_text main s.spill_text first ++ (bytes ++ v)) (sym texts.1)
-          ∙ sym (append_assoc (piece_text main s.spill_text first) bytes (piece_text main s.spill_text second));
+          ∙ ap (λ (i : ℕ). drop first.from_byte (take i output ++ (bytes ++ drop i output))) split
+          ∙ tail_inserted output bytes first.from_byte k there
+          ∙ ap (λ (v : List ℕ). v ++ (bytes ++ drop k (drop first.from_byte output))) (sym texts.0)
+          ∙ ap (λ (v : List ℕ). piece_text output s.spill_text first ++ (bytes ++ v)) (sym texts.1)
+          ∙ sym (append_assoc (piece_text output s.spill_text first) bytes (piece_text output s.spill_text second));
       inner = h.inner;
-      front = ap (take first.from_byte) is ∙ front_inserted main bytes first.from_byte second.from_byte (omega (arith, h.meets)) (omega (arith, split));
+      front = ap (take first.from_byte) is ∙ front_inserted output bytes first.from_byte second.from_byte (omega (arith, h.meets)) (omega (arith, split));
       in_place = λ _. (refl, n);
       in_front = λ _ _ apart. absurd (apart h);
       -- (the second text is empty then)
-      after = λ tail. (refl, n ∙ omega (arith, tail.ends, h.meets, ap length texts.1, length-drop k (drop first.from_byte main), length-drop first.from_byte main));
+      after = λ tail. (refl, n ∙ omega (arith, tail.ends, h.meets, ap length texts.1, length-drop k (drop first.from_byte output), length-drop first.from_byte output));
     }
 
 -- a first piece and a second one that is there with the first before it meet
@@ -161,18 +161,18 @@ pub IsJoint-moved : (s t : Store) (first : Piece) (bytes : List ℕ) (second : P
     → t.output_text ≡ take second.from_byte s.output_text ++ ((piece_text s.output_text s.spill_text first ++ bytes) ++ drop second.from_byte s.output_text)
     → IsJoint s t first bytes second second.from_byte
 IsJoint-moved s t first bytes second apart h before ordered is =
-    let main = s.output_text in
-    let more = piece_text main s.spill_text first ++ bytes in
+    let output = s.output_text in
+    let more = piece_text output s.spill_text first ++ bytes in
     let at = second.from_byte in
-    let there : at ≤ length main = omega (arith, h.ends) in
-    let low = length-take-le at main there in
+    let there : at ≤ length output = omega (arith, h.ends) in
+    let low = length-take-le at output there in
     record {
-      within = omega (arith, ap length is ∙ length-inserted main more at);
-      text = ap (drop at) is ∙ drop_at (take at main) (more ++ drop at main) at low ∙ ap (λ (v : List ℕ). more ++ v) (sym (tail_text s second h));
+      within = omega (arith, ap length is ∙ length-inserted output more at);
+      text = ap (drop at) is ∙ drop_at (take at output) (more ++ drop at output) at low ∙ ap (λ (v : List ℕ). more ++ v) (sym (tail_text s second h));
       inner = h.inner;
-      front = ap (take at) is ∙ front_inserted main more at at (omega arith) there;
+      front = ap (take at) is ∙ front_inserted output more at at (omega arith) there;
       in_place = λ k. absurd (apart k);
-      in_front = λ _ _ _. (refl, ap length is ∙ length-inserted main more at ∙ ap (λ (k : ℕ). length main + k) (length-append (piece_text main s.spill_text first) bytes));
+      in_front = λ _ _ _. (refl, ap length is ∙ length-inserted output more at ∙ ap (λ (k : ℕ). length output + k) (length-append (piece_text output s.spill_text first) bytes));
       after = λ tail. absurd (apart (tails-meet s first second ordered h before tail));
     }
 
@@ -222,7 +222,7 @@ layout_at_end n (Cut kind group at) = refl
 -- how long the text of a piece is
 pub length-text : (s : Store) (p : Piece) → IsLiving s p → length (piece_text s.output_text s.spill_text p) ≡ p.to_byte - p.from_byte
 unfolding IsLiving
-length-text s p h = length-between (home_bytes s.output_text s.spill_text p.aside) p.from_byte p.to_byte h.within
+length-text s p h = length-between (home_bytes s.output_text s.spill_text p.spilled) p.from_byte p.to_byte h.within
 
 -- a splice of a living piece
 module _ (b n : Store) (p : Piece) (at : ℕ) (bytes : List ℕ) (from : ℕ) (lies : IsLiving b p) (i : IsSplice b n p at bytes from) where
@@ -364,7 +364,7 @@ Lives-kept_only b n p q at lies within is stands outline =
     record { living = lives.living; shape_is = lives.shape_is ∙ ap (shape_of t) outline }
 
 -- a text that stands there already
-pub kept_only-already : (b : Store) (p : Piece) (at : ℕ) → p.aside ≡ false → p.from_byte ≡ at
+pub kept_only-already : (b : Store) (p : Piece) (at : ℕ) → p.spilled ≡ false → p.from_byte ≡ at
     → p.to_byte ≡ length b.output_text → b.output_text ≡ take at b.output_text ++ piece_text b.output_text b.spill_text p
 kept_only-already b p at home begins ends =
     let text : piece_text b.output_text b.spill_text p ≡ drop at b.output_text =
@@ -374,11 +374,11 @@ kept_only-already b p at home begins ends =
     sym (take-append-drop at b.output_text) ∙ ap (λ (v : List ℕ). take at b.output_text ++ v) (sym text)
 
 -- a copy at the end that becomes the block
-pub kept_only-copy : (main mid t : List ℕ) (at from to : ℕ) → mid ≡ main ++ t → at ≤ length main → from ≡ length main → to ≡ length mid → take at mid ++ slice_range mid from to ≡ take at main ++ t
-kept_only-copy main mid t at from to is within starts ends =
-    let low = ap (take at) is ∙ take-append-le at main t within in
-    let block = take_all (to - from) (drop from mid) (omega (arith, ends, length-drop from mid)) ∙ ap (drop from) is ∙ drop_at main t from (sym starts) in
-    ap (λ (v : List ℕ). v ++ slice_range mid from to) low ∙ ap (λ (v : List ℕ). take at main ++ v) block
+pub kept_only-copy : (output mid t : List ℕ) (at from to : ℕ) → mid ≡ output ++ t → at ≤ length output → from ≡ length output → to ≡ length mid → take at mid ++ slice_range mid from to ≡ take at output ++ t
+kept_only-copy output mid t at from to is within starts ends =
+    let low = ap (take at) is ∙ take-append-le at output t within in
+    let block = take_all (to - from) (drop from mid) (omega (arith, ends, length-drop from mid)) ∙ ap (drop from) is ∙ drop_at output t from (sym starts) in
+    ap (λ (v : List ℕ). v ++ slice_range mid from to) low ∙ ap (λ (v : List ℕ). take at output ++ v) block
 
 -- they are the text of the base name
 pub own_text-is : (b : Store) (p : Piece) → IsLiving b p → own_text b.output_text b.spill_text p ≡ text (own_shape (shape b p))
@@ -398,11 +398,11 @@ unfolding IsLiving
 length-own b p lies = length-between (piece_text b.output_text b.spill_text p) p.own_start p.own_end lies.outlined.own_within
 
 -- the base name as a piece of its own
-pub Lives-own : (b : Store) (p q : Piece) → IsLiving b p → q.aside ≡ p.aside → q.from_byte ≡ p.from_byte + p.own_start → q.to_byte ≡ p.from_byte + p.own_end
+pub Lives-own : (b : Store) (p q : Piece) → IsLiving b p → q.spilled ≡ p.spilled → q.from_byte ≡ p.from_byte + p.own_start → q.to_byte ≡ p.from_byte + p.own_end
     → outline_of q ≡ whole_outline (p.from_byte + p.own_end - (p.from_byte + p.own_start)) → Lives b q (own_shape (shape b p))
 unfolding IsLiving shape
 Lives-own b p q lies home begins ends outline =
-    let bytes = home_bytes b.output_text b.spill_text p.aside in
+    let bytes = home_bytes b.output_text b.spill_text p.spilled in
     let t = piece_text b.output_text b.spill_text p in
     let u = slice_range bytes (p.from_byte + p.own_start) (p.from_byte + p.own_end) in
     let n = length-text b p lies in

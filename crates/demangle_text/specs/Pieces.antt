@@ -124,30 +124,30 @@ own_at (Cut kind group at) len own = own_of kind len own
 
 -- the text in which a piece lies
 abbrev pub home_bytes : List ℕ → List ℕ → Bool → List ℕ
-home_bytes main side false = main
-home_bytes main side true = side
+home_bytes output spill false = output
+home_bytes output spill true = spill
 
 -- the text of a piece
 abbrev pub piece_text : List ℕ → List ℕ → Piece → List ℕ
-piece_text main side p = slice_range (home_bytes main side p.aside) p.from_byte p.to_byte
+piece_text output spill p = slice_range (home_bytes output spill p.spilled) p.from_byte p.to_byte
 
 -- the base name of a piece
 abbrev pub own_text : List ℕ → List ℕ → Piece → List ℕ
-own_text main side p = slice_range (piece_text main side p) p.own_start p.own_end
+own_text output spill p = slice_range (piece_text output spill p) p.own_start p.own_end
 
 -- the piece lies in the two texts
-pub record IsPiece (main side : List ℕ) (p : Piece) : Type 0 where
+pub record IsPiece (output spill : List ℕ) (p : Piece) : Type 0 where
   pub ordered : p.from_byte ≤ p.to_byte
-  pub within : p.to_byte ≤ length (home_bytes main side p.aside)
-  pub outlined : IsOutlined (piece_text main side p) (outline_of p)
+  pub within : p.to_byte ≤ length (home_bytes output spill p.spilled)
+  pub outlined : IsOutlined (piece_text output spill p) (outline_of p)
 
 -- the shape of a piece
 abbrev pub shape_in : List ℕ → List ℕ → Piece → Shape
-shape_in main side p = shape_of (piece_text main side p) (outline_of p)
+shape_in output spill p = shape_of (piece_text output spill p) (outline_of p)
 
 -- the piece lies in the output, at these bytes
 pub record IsAt (p : Piece) (from to : ℕ) : Type 0 where
-  pub in_main : p.aside ≡ false
+  pub in_main : p.spilled ≡ false
   pub begins : p.from_byte ≡ from
   pub ends : p.to_byte ≡ to
 
@@ -176,7 +176,7 @@ pub record IsStore (s : Store) : Type 0 where
 
 -- the piece ends a output of this length, from the mark's byte or later
 pub record IsTailAt (mark end : ℕ) (p : Piece) : Type 0 where
-  pub in_main : p.aside ≡ false
+  pub in_main : p.spilled ≡ false
   pub inner : mark ≤ p.from_byte
   pub ends : p.to_byte ≡ end
 
@@ -191,9 +191,9 @@ pub record Extends (old new : List ℕ) : Type 0 where
 
 -- the output ends in the text of the piece, from a byte on, at the mark or later: where the piece ended it, nothing
 -- changed
-pub record IsBrought (old side : List ℕ) (mark : ℕ) (p : Piece) (new : List ℕ) (from : ℕ) : Type 0 where
+pub record IsBrought (old spill : List ℕ) (mark : ℕ) (p : Piece) (new : List ℕ) (from : ℕ) : Type 0 where
   pub begins : from + (p.to_byte - p.from_byte) ≡ length new
-  pub text : drop from new ≡ piece_text old side p
+  pub text : drop from new ≡ piece_text old spill p
   pub inner : mark ≤ from
   pub front : take from new ≡ take from old
   pub longer : Extends old new
@@ -201,20 +201,20 @@ pub record IsBrought (old side : List ℕ) (mark : ℕ) (p : Piece) (new : List 
 
 -- a piece in the output ends by `low`, or lies in the block from `from` to `to`
 abbrev pub IsApart : ℕ → ℕ → ℕ → Piece → Type 0
-IsApart low from to p = p.aside ≡ false → low < p.to_byte → (from ≤ p.from_byte) × (p.to_byte ≤ to)
+IsApart low from to p = p.spilled ≡ false → low < p.to_byte → (from ≤ p.from_byte) × (p.to_byte ≤ to)
 
 -- both lists keep their shapes while texts of theirs are put at the end of the spill
-pub record IsAside (main old_side new_side : List ℕ) (old_saved new_saved old_args new_args : List Piece) : Type 0 where
-  pub side : Extends old_side new_side
-  pub saved_lie : All (IsPiece main new_side) new_saved
-  pub args_lie : All (IsPiece main new_side) new_args
-  pub saved_shapes : map (shape_in main new_side) new_saved ≡ map (shape_in main old_side) old_saved
-  pub args_shapes : map (shape_in main new_side) new_args ≡ map (shape_in main old_side) old_args
+pub record IsSpilled (output old_side new_side : List ℕ) (old_saved new_saved old_args new_args : List Piece) : Type 0 where
+  pub spill : Extends old_side new_side
+  pub saved_lie : All (IsPiece output new_side) new_saved
+  pub args_lie : All (IsPiece output new_side) new_args
+  pub saved_shapes : map (shape_in output new_side) new_saved ≡ map (shape_in output old_side) old_saved
+  pub args_shapes : map (shape_in output new_side) new_args ≡ map (shape_in output old_side) old_args
   pub args_long : length new_args ≡ length old_args
 
 -- the piece lies in the spill, or ends by a byte of the output
 abbrev pub EndsBy : ℕ → Piece → Type 0
-EndsBy end p = p.aside ≡ false → p.to_byte ≤ end
+EndsBy end p = p.spilled ≡ false → p.to_byte ≤ end
 
 -- the pieces of a list
 abbrev pub pieces_of : List Kept → List Piece
@@ -241,14 +241,14 @@ abbrev pub carried : ℕ → ℕ → ℕ → Piece → Piece
 carried low from dest p =
     let ends = nat_le p.to_byte low in
     record p {
-      from_byte = carried_from p.aside ends from dest p.from_byte;
-      to_byte = carried_from p.aside ends from dest p.to_byte;
+      from_byte = carried_from p.spilled ends from dest p.from_byte;
+      to_byte = carried_from p.spilled ends from dest p.to_byte;
     }
 
 -- the second piece begins where the first ends, and both lie in the output, from the innermost mark up to the end
 pub record IsAdjacent (s : Store) (first second : Piece) : Type 0 where
-  pub first_in_main : first.aside ≡ false
-  pub second_in_main : second.aside ≡ false
+  pub first_in_main : first.spilled ≡ false
+  pub second_in_main : second.spilled ≡ false
   pub inner : s.frame_main ≤ first.from_byte
   pub meets : first.to_byte ≡ second.from_byte
   pub ends : second.to_byte ≡ length s.output_text

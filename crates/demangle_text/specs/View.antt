@@ -5,8 +5,8 @@ use Rattle.demangle_text.specs.Pieces.{Store, IsStore}
 -- the storage that the fields hold
 abbrev pub store_of : Inside → Store
 store_of a = record {
-  output_text = a.main;
-  spill_text = a.lists.side;
+  output_text = a.output;
+  spill_text = a.lists.spill;
   saved_pieces = a.lists.saved;
   arg_pieces = a.lists.args;
   scope_starts = a.starts.items;

@@ -15,7 +15,7 @@ use std::marker::Model;
 #[derive(Drop)]
 pub struct Buffer {
     // What is made stands in the output.
-    pub(crate) main: Text,
+    pub(crate) output: Text,
     // What is saved and the arguments of all scopes, with the texts of these that a move would have torn.
     pub(crate) lists: Lists,
     // Where the arguments of each scope begin.
@@ -68,9 +68,9 @@ impl Buffer {
         ensures from_start { frame_start (frame result) ≡ 0 }
     {
         Buffer {
-            main: Text::new(alloc),
+            output: Text::new(alloc),
             lists: Lists {
-                side: Text::new(alloc),
+                spill: Text::new(alloc),
                 saved: Ranges::new(alloc),
                 args: Ranges::new(alloc),
             },
@@ -92,8 +92,8 @@ impl Buffer {
         self.lists.saved.truncate(0);
         self.lists.args.truncate(0);
         self.starts.clear();
-        self.main.clear();
-        self.lists.side.clear();
+        self.output.clear();
+        self.lists.spill.clear();
         self.frame_main = 0;
     }
 
@@ -101,11 +101,11 @@ impl Buffer {
     #[inline(always)]
     pub fn open(&mut self) -> Mark
         ensures opens { Opens self.old self.new result }
-        ensures main { main_bytes self.new ≡ main_bytes self.old }
+        ensures output { main_bytes self.new ≡ main_bytes self.old }
         ensures mark { frame_start (inside result) ≡ length (main_bytes self.old) }
     {
         let mark = Mark {
-            inside_main: self.main.len(),
+            inside_main: self.output.len(),
             outside_main: self.frame_main,
         };
         self.frame_main = mark.inside_main;
@@ -121,7 +121,7 @@ impl Buffer {
         requires living { IsLiving self.old piece }
         ensures shape { IfOk result (λ p. Lives self.new p (shape self.old piece)) }
         ensures closed { OnOk result (Closes self.old self.new mark) }
-        ensures main { OnOk result (main_bytes self.new
+        ensures output { OnOk result (main_bytes self.new
             ≡ take (frame_start (inside mark)) (main_bytes self.old) ++ text (shape self.old piece)) }
         ensures stands { IfOk result (λ p. Stands p (frame_start (inside mark)) (length (main_bytes self.new))) }
     {
@@ -137,7 +137,7 @@ impl Buffer {
         requires living { IsLiving self.old piece.old }
         ensures shape { OnOk result (Lives self.new piece.new (shape self.old piece.old)) }
         ensures closed { OnOk result (Closes self.old self.new mark) }
-        ensures main { OnOk result (main_bytes self.new
+        ensures output { OnOk result (main_bytes self.new
             ≡ take (frame_start (inside mark)) (main_bytes self.old) ++ text (shape self.old piece.old)) }
         ensures stands { OnOk result (Stands piece.new (frame_start (inside mark)) (length (main_bytes self.new))) }
     {
@@ -152,14 +152,14 @@ impl Buffer {
     pub fn push(&mut self, bytes: &[u8]) -> Result<Piece, AllocError>
         ensures shape { IfOk result (λ p. Lives self.new p (plain_shape bytes.now)) }
         ensures kept { KeepsAll self.old self.new }
-        ensures main { OnOk result (main_bytes self.new ≡ main_bytes self.old ++ bytes.now) }
+        ensures output { OnOk result (main_bytes self.new ≡ main_bytes self.old ++ bytes.now) }
         ensures main_err { OnErr result (main_bytes self.new ≡ main_bytes self.old) }
         ensures mark { frame_start (frame self.old) ≤ length (main_bytes self.old) }
         ensures stands { IfOk result (λ p. Stands p (length (main_bytes self.old)) (length (main_bytes self.new))) }
     {
-        let from = self.main.len();
-        self.main.add(bytes)?;
-        Ok(Piece::whole_at(from, self.main.len()))
+        let from = self.output.len();
+        self.output.add(bytes)?;
+        Ok(Piece::whole_at(from, self.output.len()))
     }
 
     /// A plain piece of no bytes, at the start of the output.
@@ -178,7 +178,7 @@ impl Buffer {
         requires living { IsLiving self.old piece }
         ensures shape { IfOk result (λ p. Lives self.new p (shape self.old piece)) }
         ensures kept { KeepsAll self.old self.new }
-        ensures main { OnOk result (main_bytes self.new ≡ main_bytes self.old ++ text (shape self.old piece)) }
+        ensures output { OnOk result (main_bytes self.new ≡ main_bytes self.old ++ text (shape self.old piece)) }
         ensures main_err { OnErr result (main_bytes self.new ≡ main_bytes self.old) }
         ensures mark { frame_start (frame self.old) ≤ length (main_bytes self.old) }
         ensures stands { IfOk result (λ p. Stands p (length (main_bytes self.old)) (length (main_bytes self.new))) }
@@ -195,23 +195,23 @@ impl Buffer {
         requires living { IsLiving self.old piece.old }
         ensures shape { OnOk result (Lives self.new piece.new (shape self.old piece.old)) }
         ensures kept { KeepsAll self.old self.new }
-        ensures main { OnOk result (main_bytes self.new ≡ main_bytes self.old ++ text (shape self.old piece.old)) }
+        ensures output { OnOk result (main_bytes self.new ≡ main_bytes self.old ++ text (shape self.old piece.old)) }
         ensures main_err { OnErr result (main_bytes self.new ≡ main_bytes self.old) }
         ensures mark { frame_start (frame self.old) ≤ length (main_bytes self.old) }
         ensures stands { OnOk result (Stands piece.new (length (main_bytes self.old)) (length (main_bytes self.new))) }
         ensures same { OnErr result (piece.new ≡ piece.old) }
     {
-        let from = self.main.len();
+        let from = self.output.len();
         add_text(
-            &mut self.main,
-            &self.lists.side,
-            piece.aside,
+            &mut self.output,
+            &self.lists.spill,
+            piece.spilled,
             piece.from_byte,
             piece.to_byte,
         )?;
         piece.from_byte = from;
-        piece.to_byte = self.main.len();
-        piece.aside = false;
+        piece.to_byte = self.output.len();
+        piece.spilled = false;
         Ok(())
     }
 
@@ -228,7 +228,7 @@ impl Buffer {
         ensures main_err { OnErr result (main_bytes self.new ≡ main_bytes self.old) }
     {
         let from = self.extend(piece, bytes)?;
-        Ok(piece.extended(bytes.len(), from, self.main.len()))
+        Ok(piece.extended(bytes.len(), from, self.output.len()))
     }
 
     /// The piece, which is changed where it is kept, as a plain one with both texts at the end of its text, one after
@@ -251,9 +251,9 @@ impl Buffer {
             (length between.now + length name.now)) }
         ensures main_err { OnErr result (main_bytes self.new ≡ main_bytes self.old) }
     {
-        self.main.add_pair(between, name)?;
+        self.output.add_pair(between, name)?;
         // A field at a time: a piece that is written whole goes through memory.
-        piece.to_byte = self.main.len();
+        piece.to_byte = self.output.len();
         piece.own_end = piece.to_byte - piece.from_byte;
         piece.own_start = piece.own_end - name.len();
         piece.kind = None;
@@ -277,7 +277,7 @@ impl Buffer {
         ensures main_err { OnErr result (main_bytes self.new ≡ main_bytes self.old) }
     {
         let from = self.extend_by(piece, between, self.own(piece))?;
-        let to = self.main.len();
+        let to = self.output.len();
         let n = between.len() + (piece.own_end - piece.own_start);
         Ok(piece.extended(n, from, to))
     }
@@ -300,8 +300,8 @@ impl Buffer {
         }
         let at = piece.place(place);
         let from = self.open_in(piece, at, bytes.len())?;
-        self.main.put(from + at, bytes);
-        Ok(piece.with_bytes(place, at, bytes.len(), from, self.main.len()))
+        self.output.put(from + at, bytes);
+        Ok(piece.with_bytes(place, at, bytes.len(), from, self.output.len()))
     }
 
     /// What opens a group after a text: a space unless the text is empty or ends in a space, `(` or `*`, and `(`.
@@ -331,10 +331,10 @@ impl Buffer {
         let front = Buffer::group_opening(&self.bytes(piece)[..at]);
         let n = front.len() + bytes.len() + 1;
         let from = self.open_in(piece, at, n)?;
-        let middle = self.main.put(from + at, front);
-        let end = self.main.put(middle, bytes);
-        self.main.put(end, b")");
-        let moved = piece.with_bytes(Place::Suffix, at, n, from, self.main.len());
+        let middle = self.output.put(from + at, front);
+        let end = self.output.put(middle, bytes);
+        self.output.put(end, b")");
+        let moved = piece.with_bytes(Place::Suffix, at, n, from, self.output.len());
         Ok(Piece {
             group_start: moved.after_start - (bytes.len() + 2),
             grouped: true,
@@ -353,7 +353,7 @@ impl Buffer {
         ensures edit { OnOk result (IsEdit self.old self.new) }
         ensures err { OnErr result (KeepsAll self.old self.new) }
         ensures front { KeepsFront self.old self.new }
-        ensures main { OnOk result (main_bytes self.new ≡ main_bytes self.old) }
+        ensures output { OnOk result (main_bytes self.new ≡ main_bytes self.old) }
         ensures stands { IfOk result (λ p. StandsShortened n piece p) }
         ensures main_err { OnErr result (main_bytes self.new ≡ main_bytes self.old) }
     {
@@ -386,16 +386,16 @@ impl Buffer {
     {
         if self.are_adjacent(first, second) {
             self.insert_at(second.from_byte, bytes)?;
-            return Ok(Piece::whole_at(first.from_byte, self.main.len()));
+            return Ok(Piece::whole_at(first.from_byte, self.output.len()));
         }
-        if second.is_tail(self.frame_main, self.main.len())
-            && (first.aside || first.to_byte <= second.from_byte)
+        if second.is_tail(self.frame_main, self.output.len())
+            && (first.spilled || first.to_byte <= second.from_byte)
         {
             self.insert_piece(second.from_byte, first, bytes)?;
-            return Ok(Piece::whole_at(second.from_byte, self.main.len()));
+            return Ok(Piece::whole_at(second.from_byte, self.output.len()));
         }
         let from = self.extend_by(first, bytes, second)?;
-        Ok(Piece::whole_at(from, self.main.len()))
+        Ok(Piece::whole_at(from, self.output.len()))
     }
 
     /// The piece with all that stands after it in the output, up to the end, at the end of its text. The piece has to
@@ -408,7 +408,7 @@ impl Buffer {
         ensures last { IsLast self.now result }
         ensures stands { (from to : ℕ) → Stands piece from to → Stands result from (length (main_bytes self.now)) }
     {
-        let to = self.main.len();
+        let to = self.output.len();
         piece.extended(to - piece.to_byte, piece.from_byte, to)
     }
 
@@ -418,7 +418,7 @@ impl Buffer {
         ensures value { result.now ≡ main_bytes self.now }
         ensures mark { frame_start (frame self.now) ≤ length (main_bytes self.now) }
     {
-        self.main.as_slice()
+        self.output.as_slice()
     }
 
     /// The text of the piece.
@@ -430,10 +430,10 @@ impl Buffer {
         ensures range { (from to : ℕ) → Stands piece from to → (from ≤ to) × (to ≤ length (main_bytes self.now)) }
         ensures older { (f : Frame) (from to : ℕ) → IsOlder piece f → Stands piece from to → to ≤ frame_start f }
     {
-        if piece.aside {
-            self.lists.side.part(piece.from_byte, piece.to_byte)
+        if piece.spilled {
+            self.lists.spill.part(piece.from_byte, piece.to_byte)
         } else {
-            self.main.part(piece.from_byte, piece.to_byte)
+            self.output.part(piece.from_byte, piece.to_byte)
         }
     }
 
@@ -504,7 +504,7 @@ impl Buffer {
         piece.ctor
     }
 
-    /// The shape with these flags. The answer is as old as the piece.
+    /// The shape with these flags. The result is as old as the piece.
     #[inline(always)]
     pub fn with_flags(&self, piece: Piece, templ: bool, ctor: bool) -> Piece
         requires living { IsLiving self.now piece }
@@ -519,7 +519,7 @@ impl Buffer {
     }
 
     /// The shape, which isn't a function's, with these bytes of its text as its base name.
-    /// The answer is as old as the piece.
+    /// The result is as old as the piece.
     #[inline(always)]
     pub fn own_at(&self, piece: Piece, from: usize, to: usize) -> Piece
         requires living { IsLiving self.now piece }
@@ -536,7 +536,7 @@ impl Buffer {
         named
     }
 
-    /// The shape with its whole text as its base name. The answer is as old as the piece.
+    /// The shape with its whole text as its base name. The result is as old as the piece.
     #[inline(always)]
     pub fn whole(&self, piece: Piece) -> Piece
         requires living { IsLiving self.now piece }
@@ -550,7 +550,7 @@ impl Buffer {
         whole
     }
 
-    /// Its text as a plain shape, with the same base name and flags. The answer is as old as the piece.
+    /// Its text as a plain shape, with the same base name and flags. The result is as old as the piece.
     #[inline(always)]
     pub fn plain(&self, piece: Piece) -> Piece
         requires living { IsLiving self.now piece }
@@ -566,7 +566,7 @@ impl Buffer {
         plain
     }
 
-    /// A plain piece of its base name, with both flags off. The answer is as old as the piece.
+    /// A plain piece of its base name, with both flags off. The result is as old as the piece.
     #[inline(always)]
     pub fn own(&self, piece: Piece) -> Piece
         requires living { IsLiving self.now piece }
@@ -576,13 +576,13 @@ impl Buffer {
         let from = piece.from_byte + piece.own_start;
         let to = piece.from_byte + piece.own_end;
         Piece {
-            aside: piece.aside,
+            spilled: piece.spilled,
             ..Piece::whole_at(from, to)
         }
     }
 
     /// The plain piece as a declarator of this kind, with no group: its `after` begins at the byte `at` of its text. It
-    /// keeps its flags and, but for a function, its base name. The answer is as old as the piece.
+    /// keeps its flags and, but for a function, its base name. The result is as old as the piece.
     #[inline(always)]
     pub fn declare(&self, piece: Piece, kind: Kind, at: usize) -> Piece
         requires living { IsLiving self.now piece }
@@ -596,7 +596,7 @@ impl Buffer {
     }
 
     /// As `declare`, with a group: its `(` stands at the byte `from` of its text, where `before`
-    /// ends, and its `)` right before the byte `at`. The answer is as old as the piece.
+    /// ends, and its `)` right before the byte `at`. The result is as old as the piece.
     #[inline(always)]
     pub fn declare_group(&self, piece: Piece, kind: Kind, from: usize, at: usize) -> Piece
         requires living { IsLiving self.now piece }

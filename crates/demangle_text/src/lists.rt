@@ -30,7 +30,7 @@ impl Buffer {
         ensures saved { OnOk result (saved self.new ≡ saved self.old ++ shape self.old piece ∷ []) }
         ensures scopes { scopes self.new ≡ scopes self.old }
         ensures kept { SameFrame self.old self.new }
-        ensures main { main_bytes self.new ≡ main_bytes self.old }
+        ensures output { main_bytes self.new ≡ main_bytes self.old }
         ensures err { OnErr result (KeepsAll self.old self.new) }
     {
         self.save_in_place(&piece)
@@ -43,10 +43,10 @@ impl Buffer {
         ensures saved { OnOk result (saved self.new ≡ saved self.old ++ shape self.old piece.now ∷ []) }
         ensures scopes { scopes self.new ≡ scopes self.old }
         ensures kept { SameFrame self.old self.new }
-        ensures main { main_bytes self.new ≡ main_bytes self.old }
+        ensures output { main_bytes self.new ≡ main_bytes self.old }
         ensures err { OnErr result (KeepsAll self.old self.new) }
     {
-        self.lists.saved.push(piece, self.main.len())?;
+        self.lists.saved.push(piece, self.output.len())?;
         Ok(())
     }
 
@@ -57,7 +57,7 @@ impl Buffer {
         ensures saved { saved self.new ≡ take (length (saved self.old) - 1) (saved self.old) }
         ensures scopes { scopes self.new ≡ scopes self.old }
         ensures kept { SameFrame self.old self.new }
-        ensures main { main_bytes self.new ≡ main_bytes self.old }
+        ensures output { main_bytes self.new ≡ main_bytes self.old }
     {
         let last = self.saved_len() - 1;
         self.lists.saved.truncate(last);
@@ -86,7 +86,7 @@ impl Buffer {
         ensures scopes { OnOk result (scopes self.new ≡ scopes self.old ++ [] ∷ []) }
         ensures saved { saved self.new ≡ saved self.old }
         ensures kept { SameFrame self.old self.new }
-        ensures main { main_bytes self.new ≡ main_bytes self.old }
+        ensures output { main_bytes self.new ≡ main_bytes self.old }
         ensures err { OnErr result (KeepsAll self.old self.new) }
     {
         let start = self.lists.args.len();
@@ -102,10 +102,10 @@ impl Buffer {
         ensures scopes { OnOk result (scopes self.new ≡ with_arg (shape self.old piece) (scopes self.old)) }
         ensures saved { saved self.new ≡ saved self.old }
         ensures kept { SameFrame self.old self.new }
-        ensures main { main_bytes self.new ≡ main_bytes self.old }
+        ensures output { main_bytes self.new ≡ main_bytes self.old }
         ensures err { OnErr result (KeepsAll self.old self.new) }
     {
-        self.lists.args.push(&piece, self.main.len())?;
+        self.lists.args.push(&piece, self.output.len())?;
         Ok(())
     }
 
@@ -143,7 +143,7 @@ impl Buffer {
         ensures scopes { scopes self.new ≡ take n (scopes self.old) }
         ensures saved { saved self.new ≡ saved self.old }
         ensures kept { SameFrame self.old self.new }
-        ensures main { main_bytes self.new ≡ main_bytes self.old }
+        ensures output { main_bytes self.new ≡ main_bytes self.old }
     {
         if n < self.scopes() {
             let start = self.starts[n];

@@ -1,6 +1,6 @@
 //! What a move of bytes in the output does to the pieces that are kept.
 ghost use Rattle.std.specs.Prelude.{◌≡◌, ◌<◌, ◌≤◌, length, All, map, OnOk, true, false};
-ghost use Rattle.demangle_text.specs.Pieces.{IsPiece, IsApart, IsAside, Extends, shape_in};
+ghost use Rattle.demangle_text.specs.Pieces.{IsPiece, IsApart, IsSpilled, Extends, shape_in};
 
 use crate::ranges::{Block, Ranges};
 use crate::shape::Piece;
@@ -10,32 +10,32 @@ use std::alloc::AllocError;
 // The saved pieces, the arguments of all scopes, and the spill, which has the texts of them that a move would tear.
 #[derive(Drop)]
 pub(crate) struct Lists {
-    pub(crate) side: Text,
+    pub(crate) spill: Text,
     pub(crate) saved: Ranges,
     pub(crate) args: Ranges,
 }
 
 impl Lists {
-    // Sets aside the texts of all pieces of both lists that a move of the block would tear.
-    pub(crate) fn set_apart(&mut self, main: &[u8], block: Block) -> Result<(), AllocError>
-        requires saved { All (IsPiece main.now self.old.side) self.old.saved }
-        requires args { All (IsPiece main.now self.old.side) self.old.args }
-        ensures aside { IsAside main.now self.old.side self.new.side self.old.saved self.new.saved
+    // Spills the texts of all pieces of both lists that a move of the block would tear.
+    pub(crate) fn set_apart(&mut self, output: &[u8], block: Block) -> Result<(), AllocError>
+        requires saved { All (IsPiece output.now self.old.spill) self.old.saved }
+        requires args { All (IsPiece output.now self.old.spill) self.old.args }
+        ensures spilled { IsSpilled output.now self.old.spill self.new.spill self.old.saved self.new.saved
             self.old.args self.new.args }
         ensures saved_apart { OnOk result (All (IsApart block.low block.from block.end) self.new.saved) }
         ensures args_apart { OnOk result (All (IsApart block.low block.from block.end) self.new.args) }
     {
-        evict(main, &mut self.side, &mut self.saved, block)?;
-        evict(main, &mut self.side, &mut self.args, block)
+        evict(output, &mut self.spill, &mut self.saved, block)?;
+        evict(output, &mut self.spill, &mut self.args, block)
     }
 }
 
 // Whether a kept piece would be torn by a move of the block.
 fn is_torn(piece: Piece, block: Block) -> bool
-    ensures torn { result ≡ true → piece.aside ≡ false }
+    ensures torn { result ≡ true → piece.spilled ≡ false }
     ensures apart { result ≡ false → IsApart block.low block.from block.end piece }
 {
-    !piece.aside
+    !piece.spilled
         && block.low < piece.to_byte
         && (piece.from_byte < block.from || block.end < piece.to_byte)
 }
@@ -54,14 +54,19 @@ pub(crate) fn torn_len(pieces: &Ranges, block: Block) -> usize
     n
 }
 
-// Sets aside the texts of all pieces of a list that would be torn: none of them lies before the first that a move can
+// Spills the texts of all pieces of a list that would be torn: none of them lies before the first that a move can
 // reach.
 #[inline(always)]
-fn evict(main: &[u8], side: &mut Text, pieces: &mut Ranges, block: Block) -> Result<(), AllocError>
-    requires lie { All (IsPiece main.now side.old) pieces.old }
-    ensures side { Extends side.old side.new }
-    ensures lie { All (IsPiece main.now side.new) pieces.new }
-    ensures shapes { map (shape_in main.now side.new) pieces.new ≡ map (shape_in main.now side.old) pieces.old }
+fn evict(
+    output: &[u8],
+    spill: &mut Text,
+    pieces: &mut Ranges,
+    block: Block,
+) -> Result<(), AllocError>
+    requires lie { All (IsPiece output.now spill.old) pieces.old }
+    ensures spill { Extends spill.old spill.new }
+    ensures lie { All (IsPiece output.now spill.new) pieces.new }
+    ensures shapes { map (shape_in output.now spill.new) pieces.new ≡ map (shape_in output.now spill.old) pieces.old }
     ensures long { length pieces.new ≡ length pieces.old }
     ensures apart { OnOk result (All (IsApart block.low block.from block.end) pieces.new) }
 {
@@ -69,12 +74,12 @@ fn evict(main: &[u8], side: &mut Text, pieces: &mut Ranges, block: Block) -> Res
     for i in first..pieces.len() {
         let piece = pieces.piece_at(i);
         if is_torn(piece, block) {
-            let from = side.len();
-            side.add(&main[piece.from_byte..piece.to_byte])?;
+            let from = spill.len();
+            spill.add(&output[piece.from_byte..piece.to_byte])?;
             let moved = Piece {
                 from_byte: from,
-                to_byte: side.len(),
-                aside: true,
+                to_byte: spill.len(),
+                spilled: true,
                 ..piece
             };
             pieces.set(i, moved);

@@ -9,40 +9,40 @@ use std::alloc::AllocError;
 // Copies a part of the output or of the spill to the end of the output.
 #[inline(always)]
 pub(crate) fn add_text(
-    main: &mut Text,
-    side: &Text,
-    aside: bool,
+    output: &mut Text,
+    spill: &Text,
+    spilled: bool,
     from: usize,
     to: usize,
 ) -> Result<(), AllocError>
     requires ordered { from ≤ to }
-    requires within { to ≤ length (home_bytes main.old side.now aside) }
-    ensures ok { OnOk result (main.new ≡ main.old ++ slice_range (home_bytes main.old side.now aside) from to) }
-    ensures err { OnErr result (main.new ≡ main.old) }
+    requires within { to ≤ length (home_bytes output.old spill.now spilled) }
+    ensures ok { OnOk result (output.new ≡ output.old ++ slice_range (home_bytes output.old spill.now spilled) from to) }
+    ensures err { OnErr result (output.new ≡ output.old) }
 {
-    if aside {
-        main.add(side.part(from, to))
+    if spilled {
+        output.add(spill.part(from, to))
     } else {
-        main.repeat(from, to)
+        output.repeat(from, to)
     }
 }
 
 // Takes back what was added after the first bytes if that failed.
 #[inline(always)]
 pub(crate) fn taken_back(
-    main: &mut Text,
+    output: &mut Text,
     len: usize,
     added: Result<(), AllocError>,
 ) -> Result<(), AllocError>
-    requires within { len ≤ length main.old }
+    requires within { len ≤ length output.old }
     ensures same { result ≡ added }
-    ensures ok { OnOk result (main.new ≡ main.old) }
-    ensures err { OnErr result (main.new ≡ take len main.old) }
+    ensures ok { OnOk result (output.new ≡ output.old) }
+    ensures err { OnErr result (output.new ≡ take len output.old) }
 {
     match added {
         Ok(()) => Ok(()),
         Err(error) => {
-            main.truncate(len);
+            output.truncate(len);
             Err(error)
         }
     }
@@ -52,21 +52,21 @@ pub(crate) fn taken_back(
 // the output already, from the mark's byte on.
 #[inline(always)]
 pub(crate) fn at_end(
-    main: &mut Text,
-    side: &Text,
+    output: &mut Text,
+    spill: &Text,
     mark: usize,
     piece: Piece,
 ) -> Result<usize, AllocError>
     requires ordered { piece.from_byte ≤ piece.to_byte }
-    requires within { piece.to_byte ≤ length (home_bytes main.old side.now piece.aside) }
-    requires mark { mark ≤ length main.old }
-    ensures brought { IfOk result (IsBrought main.old side.now mark piece main.new) }
-    ensures err { OnErr result (main.new ≡ main.old) }
+    requires within { piece.to_byte ≤ length (home_bytes output.old spill.now piece.spilled) }
+    requires mark { mark ≤ length output.old }
+    ensures brought { IfOk result (IsBrought output.old spill.now mark piece output.new) }
+    ensures err { OnErr result (output.new ≡ output.old) }
 {
-    if piece.is_tail(mark, main.len()) {
+    if piece.is_tail(mark, output.len()) {
         return Ok(piece.from_byte);
     }
-    let from = main.len();
-    add_text(main, side, piece.aside, piece.from_byte, piece.to_byte)?;
+    let from = output.len();
+    add_text(output, spill, piece.spilled, piece.from_byte, piece.to_byte)?;
     Ok(from)
 }

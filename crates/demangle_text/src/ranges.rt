@@ -185,7 +185,7 @@ fn carry_each(
     let mut reach = reach;
     for i in first..count {
         let piece = carry_alone(kept[i].piece, block, dest);
-        if !piece.aside {
+        if !piece.spilled {
             reach = reach.max(piece.to_byte);
         }
         kept[i] = Kept { piece, reach };
@@ -200,7 +200,7 @@ fn carry_alone(piece: Piece, block: Block, dest: usize) -> Piece
     requires fits { dest + (block.end - block.from) < 2 ^ 64 }
     ensures value { result ≡ carried block.low block.from dest piece }
 {
-    if piece.aside || piece.to_byte <= block.low {
+    if piece.spilled || piece.to_byte <= block.low {
         return piece;
     }
     Piece {
@@ -210,7 +210,7 @@ fn carry_alone(piece: Piece, block: Block, dest: usize) -> Piece
     }
 }
 
-// More room, filled up with pieces of no bytes.
+// A longer list, filled up with pieces of no bytes.
 #[cold]
 #[inline(never)]
 fn more(kept: &mut Vec<Kept>) -> Result<(), AllocError>

@@ -26,7 +26,7 @@ pub enum Place {
     End,
 }
 
-/// A value that stands for a shape in a buffer, from the call of the buffer that answers it.
+/// A value that stands for a shape in a buffer, from the call of the buffer that returns it.
 #[derive(Clone, Copy)]
 pub struct Piece {
     // The bytes of the output or of the spill where its text lies.
@@ -43,7 +43,7 @@ pub struct Piece {
     // Whether a declarator has a group.
     pub(crate) grouped: bool,
     // Whether its text is spilled.
-    pub(crate) aside: bool,
+    pub(crate) spilled: bool,
     // Whether the shape ends in template arguments.
     pub(crate) templ: bool,
     // Whether it names a constructor, a destructor or a conversion.
@@ -76,7 +76,7 @@ impl Piece {
             after_start: 0,
             kind: None,
             grouped: false,
-            aside: false,
+            spilled: false,
             templ: false,
             ctor: false,
         }
@@ -97,7 +97,7 @@ impl Piece {
         ensures tail { result ≡ true → IsTailAt mark end self }
         ensures other { IsTailAt mark end self → result ≡ true }
     {
-        !self.aside && mark <= self.from_byte && self.to_byte == end
+        !self.spilled && mark <= self.from_byte && self.to_byte == end
     }
 
     // Where a place lies in its text.
@@ -158,7 +158,7 @@ impl Piece {
         let mut longer = self;
         longer.from_byte = from;
         longer.to_byte = to;
-        longer.aside = false;
+        longer.spilled = false;
         longer.own_start = own_start;
         longer.own_end = own_end;
         longer.group_start = group_start;
@@ -190,7 +190,7 @@ impl Piece {
         let mut longer = self;
         longer.from_byte = from;
         longer.to_byte = to;
-        longer.aside = false;
+        longer.spilled = false;
         longer.own_start = own_start;
         longer.own_end = own_end;
         longer
@@ -200,7 +200,7 @@ impl Piece {
     #[inline(always)]
     pub(crate) fn declared(self, kind: Kind, group: Option<usize>, at: usize) -> Piece
         requires ordered { self.from_byte ≤ self.to_byte }
-        ensures home { result.aside ≡ self.aside }
+        ensures home { result.spilled ≡ self.spilled }
         ensures begins { result.from_byte ≡ self.from_byte }
         ensures ends { result.to_byte ≡ self.to_byte }
         ensures layout { (outline_of result).layout ≡ Layout.Cut kind group at }

@@ -33,20 +33,20 @@ impl Buffer {
         requires mark { self.old.frame_main ≡ at }
         requires living { IsLiving self.old piece.old }
         ensures edit { OnOk result (IsEdit self.old self.new) }
-        ensures main { OnOk result (self.new.output_text ≡ take at self.old.output_text
+        ensures output { OnOk result (self.new.output_text ≡ take at self.old.output_text
             ++ piece_text self.old.output_text self.old.spill_text piece.old) }
         ensures stands { OnOk result (IsAt piece.new at (length self.new.output_text)) }
         ensures outline { OnOk result (outline_of piece.new ≡ outline_of piece.old) }
         ensures within { at ≤ length self.old.output_text }
     {
-        let len = self.main.len();
-        if !piece.aside && piece.from_byte == at && piece.to_byte == len {
+        let len = self.output.len();
+        if !piece.spilled && piece.from_byte == at && piece.to_byte == len {
             return Ok(());
         }
-        self.move_down(at, piece.aside, piece.from_byte, piece.to_byte)?;
+        self.move_down(at, piece.spilled, piece.from_byte, piece.to_byte)?;
         piece.from_byte = at;
-        piece.to_byte = self.main.len();
-        piece.aside = false;
+        piece.to_byte = self.output.len();
+        piece.spilled = false;
         Ok(())
     }
 
@@ -56,24 +56,24 @@ impl Buffer {
     fn move_down(
         &mut self,
         at: usize,
-        aside: bool,
+        spilled: bool,
         from: usize,
         to: usize,
     ) -> Result<(), AllocError>
         requires mark { self.old.frame_main ≡ at }
         requires ordered { from ≤ to }
-        requires within { to ≤ length (home_bytes self.old.output_text self.old.spill_text aside) }
+        requires within { to ≤ length (home_bytes self.old.output_text self.old.spill_text spilled) }
         ensures edit { OnOk result (IsEdit self.old self.new) }
-        ensures main { OnOk result (self.new.output_text ≡ take at self.old.output_text
-            ++ slice_range (home_bytes self.old.output_text self.old.spill_text aside) from to) }
+        ensures output { OnOk result (self.new.output_text ≡ take at self.old.output_text
+            ++ slice_range (home_bytes self.old.output_text self.old.spill_text spilled) from to) }
     {
         let mut from = from;
         let mut to = to;
-        if aside || from < at {
-            let copied = self.main.len();
-            add_text(&mut self.main, &self.lists.side, aside, from, to)?;
+        if spilled || from < at {
+            let copied = self.output.len();
+            add_text(&mut self.output, &self.lists.spill, spilled, from, to)?;
             from = copied;
-            to = self.main.len();
+            to = self.output.len();
             if from == at {
                 return Ok(());
             }
@@ -83,8 +83,8 @@ impl Buffer {
             from,
             end: to,
         };
-        self.lists.set_apart(self.main.as_slice(), block)?;
-        self.main.keep(at, from, to);
+        self.lists.set_apart(self.output.as_slice(), block)?;
+        self.output.keep(at, from, to);
         self.lists.saved.carry(block, at);
         self.lists.args.carry(block, at);
         Ok(())
@@ -97,7 +97,7 @@ impl Buffer {
         requires within { at ≤ length self.old.output_text }
         ensures edit { OnOk result (IsEdit self.old self.new) }
         ensures err { OnErr result (KeepsAll self.old self.new) }
-        ensures main { OnOk result (self.new.output_text ≡ take at self.old.output_text
+        ensures output { OnOk result (self.new.output_text ≡ take at self.old.output_text
             ++ (bytes.now ++ drop at self.old.output_text)) }
         ensures main_err { OnErr result (self.new.output_text ≡ self.old.output_text) }
     {
@@ -105,7 +105,7 @@ impl Buffer {
             return Ok(());
         }
         self.open_gap(at, bytes.len())?;
-        self.main.put(at, bytes);
+        self.output.put(at, bytes);
         Ok(())
     }
 
@@ -118,7 +118,7 @@ impl Buffer {
         ensures err { OnErr result (KeepsAll self.old self.new) }
         ensures main_err { OnErr result (self.new.output_text ≡ self.old.output_text) }
     {
-        let len = self.main.len();
+        let len = self.output.len();
         let rest = Block {
             low: at,
             from: at,
@@ -127,11 +127,11 @@ impl Buffer {
         // All memory is reserved before anything changes.
         let torn = torn_len(&self.lists.saved, rest);
         let torn = torn.saturating_add(torn_len(&self.lists.args, rest));
-        self.main.reserve(n)?;
-        self.lists.side.reserve(torn)?;
-        self.lists.set_apart(self.main.as_slice(), rest)?;
-        self.main.open_room(at, n)?;
-        let dest = at + (self.main.len() - len);
+        self.output.reserve(n)?;
+        self.lists.spill.reserve(torn)?;
+        self.lists.set_apart(self.output.as_slice(), rest)?;
+        self.output.open_room(at, n)?;
+        let dest = at + (self.output.len() - len);
         self.lists.saved.carry(rest, dest);
         self.lists.args.carry(rest, dest);
         Ok(())
@@ -147,21 +147,21 @@ impl Buffer {
         ensures err { OnErr result (KeepsAll self.old self.new) }
         ensures main_err { OnErr result (self.new.output_text ≡ self.old.output_text) }
     {
-        if piece.is_tail(self.frame_main, self.main.len()) {
+        if piece.is_tail(self.frame_main, self.output.len()) {
             self.open_gap(piece.from_byte + at, n)?;
             return Ok(piece.from_byte);
         }
-        let from = self.main.len();
+        let from = self.output.len();
         let rest = piece.text_len() - at;
         add_text(
-            &mut self.main,
-            &self.lists.side,
-            piece.aside,
+            &mut self.output,
+            &self.lists.spill,
+            piece.spilled,
             piece.from_byte,
             piece.to_byte,
         )?;
-        let opened = self.main.open_room(self.main.len() - rest, n);
-        taken_back(&mut self.main, from, opened)?;
+        let opened = self.output.open_room(self.output.len() - rest, n);
+        taken_back(&mut self.output, from, opened)?;
         Ok(from)
     }
 
@@ -174,10 +174,10 @@ impl Buffer {
         ensures err { OnErr result (KeepsAll self.old self.new) }
         ensures main_err { OnErr result (self.new.output_text ≡ self.old.output_text) }
     {
-        let len = self.main.len();
-        let from = at_end(&mut self.main, &self.lists.side, self.frame_main, piece)?;
-        let added = self.main.add(bytes);
-        taken_back(&mut self.main, len, added)?;
+        let len = self.output.len();
+        let from = at_end(&mut self.output, &self.lists.spill, self.frame_main, piece)?;
+        let added = self.output.add(bytes);
+        taken_back(&mut self.output, len, added)?;
         Ok(from)
     }
 
@@ -197,18 +197,18 @@ impl Buffer {
         ensures err { OnErr result (KeepsAll self.old self.new) }
         ensures main_err { OnErr result (self.new.output_text ≡ self.old.output_text) }
     {
-        let len = self.main.len();
-        let from = at_end(&mut self.main, &self.lists.side, self.frame_main, piece)?;
-        let added = self.main.add(bytes);
-        taken_back(&mut self.main, len, added)?;
+        let len = self.output.len();
+        let from = at_end(&mut self.output, &self.lists.spill, self.frame_main, piece)?;
+        let added = self.output.add(bytes);
+        taken_back(&mut self.output, len, added)?;
         let added = add_text(
-            &mut self.main,
-            &self.lists.side,
-            other.aside,
+            &mut self.output,
+            &self.lists.spill,
+            other.spilled,
             other.from_byte,
             other.to_byte,
         );
-        taken_back(&mut self.main, len, added)?;
+        taken_back(&mut self.output, len, added)?;
         Ok(from)
     }
 
@@ -226,7 +226,7 @@ impl Buffer {
         requires before { EndsBy at first }
         ensures edit { OnOk result (IsEdit self.old self.new) }
         ensures err { OnErr result (KeepsAll self.old self.new) }
-        ensures main { OnOk result (self.new.output_text ≡ take at self.old.output_text
+        ensures output { OnOk result (self.new.output_text ≡ take at self.old.output_text
             ++ ((piece_text self.old.output_text self.old.spill_text first ++ bytes.now)
             ++ drop at self.old.output_text)) }
         ensures main_err { OnErr result (self.new.output_text ≡ self.old.output_text) }
@@ -235,13 +235,13 @@ impl Buffer {
             return Err(AllocError);
         };
         self.open_gap(at, n)?;
-        let middle = if first.aside {
-            let text = self.lists.side.part(first.from_byte, first.to_byte);
-            self.main.put(at, text)
+        let middle = if first.spilled {
+            let text = self.lists.spill.part(first.from_byte, first.to_byte);
+            self.output.put(at, text)
         } else {
-            self.main.put_part(at, first.from_byte, first.to_byte)
+            self.output.put_part(at, first.from_byte, first.to_byte)
         };
-        self.main.put(middle, bytes);
+        self.output.put(middle, bytes);
         Ok(())
     }
 
@@ -252,10 +252,10 @@ impl Buffer {
         ensures adjacent { result ≡ true → IsAdjacent self.now first second }
         ensures other { IsAdjacent self.now first second → result ≡ true }
     {
-        !first.aside
+        !first.spilled
             && self.frame_main <= first.from_byte
             && first.to_byte == second.from_byte
-            && !second.aside
-            && second.to_byte == self.main.len()
+            && !second.spilled
+            && second.to_byte == self.output.len()
     }
 }

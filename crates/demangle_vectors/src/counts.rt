@@ -1,7 +1,7 @@
 //! What the reading of a symbol leaves on a value, and the answer as a text of its own.
 //!
-//! `corpus/patterns.tsv` and `corpus/records.tsv` have symbols with their counts and components, and `tests/limits/beginnings`
-//! asks for them.
+//! `corpus/patterns.tsv` and `corpus/records.tsv` have symbols with their counts and components, which
+//! `tests/limits/beginnings` compares.
 
 use itanium_demangle::{Demangler, demangle_owned};
 use std::alloc::Global;

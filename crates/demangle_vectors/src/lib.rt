@@ -1,9 +1,10 @@
-//! Tests of the demangler, of what no list can ask: values before and after their symbols, the buffer, the limits, and
-//! the scalars. The lists of `corpus/` have symbols with their answers, counts and components: those that show a rule
-//! each in `rows.tsv`, and those at the limits, those that double and those for one value after another in
-//! `patterns.tsv`.
+//! Tests of the demangler that no list of symbols can express: values before and after their symbols, the buffer, the
+//! limits, and the readers of numbers. They are proved and run by the gate.
 //!
-//! The expected texts come from the grammar's definition, and not from what the demangler answers.
+//! The lists of `corpus/` have symbols with their answers, counts and components. `rows.tsv` has the symbols that show
+//! a rule each. `patterns.tsv` has those at the limits, those that double, and those for one value after another.
+//!
+//! The expected texts come from the grammar's definition, and not from what the demangler returns.
 #![tactic(auto)]
 
 #[cfg(test)]

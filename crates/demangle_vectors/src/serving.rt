@@ -28,7 +28,7 @@ fn assert_printed(rt: &impl Abort, alloc: Global, demangler: &Demangler) {
     assert_text(rt, Some(printed.as_str()), Some("Demangler"));
 }
 
-/// An empty value has no text, and answers.
+/// An empty value has no text, and can be used.
 fn assert_empty(rt: &impl Abort, alloc: Global, demangler: &mut Demangler) {
     assert_text(rt, demangler.text(), None);
     assert_demangled(rt, alloc, demangler, "_ZN3Foo3barEv", "Foo::bar");

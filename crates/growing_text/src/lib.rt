@@ -1,7 +1,10 @@
-//! A text that grows: the front of a vector that is as long as what is reserved.
+//! A text that grows: the first bytes of a vector that is as long as what is reserved.
 //!
-//! Bytes are put at its end, or at a place of it, where what lies after them moves on. Short ones are copied by their
-//! first lanes and their last, which may overlap, and there is no loop.
+//! Bytes are put at its end, or at a place of it, and then what lies after that place moves on. Short texts are copied
+//! by their first lane and their last one, which may overlap, so that no loop is needed.
+//!
+//! It stands on std alone, and knows nothing of symbols. `demangle_text` keeps its output and its spill in such texts,
+//! and `symfilter_engine` its input. Begin with the type `Text` in `text.rt`; `lanes.rt` is the copying.
 #![tactic(auto)]
 
 mod lanes;

@@ -11,7 +11,7 @@ use std::marker::Model;
 const FIRST_ROOM: usize = 64;
 
 /// A text that grows: the front of a vector that is as long as what is reserved, which stays reserved until the text
-/// is dropped. Places and lengths are counted in bytes. A call that answers a `Result` fails where memory is refused,
+/// is dropped. Places and lengths are counted in bytes. A call that returns a `Result` fails if an allocation fails,
 /// and then the text is as it was.
 #[derive(Drop)]
 pub struct Text {
@@ -63,7 +63,7 @@ impl Text {
         self.len = n;
     }
 
-    /// Makes room for n more bytes at the end. The text stays as it is.
+    /// Reserves n more bytes at the end. The text stays as it is.
     #[inline(always)]
     pub fn reserve(&mut self, n: usize) -> Result<(), AllocError>
         ensures same { self.new ≡ self.old }
@@ -150,7 +150,7 @@ impl Text {
         Ok(())
     }
 
-    /// Puts bytes at a place, over those that stood there, and answers where they end.
+    /// Puts bytes at a place, over those that stood there, and returns where they end.
     #[inline(always)]
     pub fn put(&mut self, at: usize, bytes: &[u8]) -> usize
         requires within { at + length bytes.now ≤ length self.old }
@@ -161,7 +161,7 @@ impl Text {
         at + bytes.len()
     }
 
-    /// Puts a part of the text at a place after it, over the bytes that stood there, and answers where it ends.
+    /// Puts a part of the text at a place after it, over the bytes that stood there, and returns where it ends.
     #[inline(always)]
     pub fn put_part(&mut self, at: usize, from: usize, to: usize) -> usize
         requires ordered { from ≤ to }
@@ -189,7 +189,7 @@ impl Text {
     }
 }
 
-// Room for n more bytes after the first ones.
+// Reserves n more bytes after the first ones.
 #[inline(always)]
 fn make_room(bytes: &mut Vec<u8>, len: usize, n: usize) -> Result<(), AllocError>
     requires within { len ≤ length bytes.old.items }
@@ -203,7 +203,7 @@ fn make_room(bytes: &mut Vec<u8>, len: usize, n: usize) -> Result<(), AllocError
     Ok(())
 }
 
-// Room that isn't there yet.
+// Reserves bytes that aren't there yet.
 #[cold]
 #[inline(never)]
 fn grow(bytes: &mut Vec<u8>, len: usize, n: usize) -> Result<(), AllocError>

@@ -178,17 +178,22 @@ impl Demangler {
         Ok(answered)
     }
 
-    /// Reads a symbol and keeps its answer for `text`: true where there is one.
+    /// Reads a symbol and keeps its answer, which `text` returns. The result is true if there is an answer.
     ///
-    /// Any text may be asked. After `_Z` or `__Z` a special name is read where `T` or `G` is next, else a name; the
-    /// parameters of a function aren't (Itanium C++ ABI 5.1.2). The answer is the printing, and after it all that
-    /// follows from a dot right after what was read. There is none exactly where no reading nests at most `MAX_DEPTH`
-    /// counted productions within `MAX_TEXT` or the printing isn't UTF-8. Within it is a reading none of whose counted
-    /// productions, also of those that are dropped, prints more bytes. What follows from the dot isn't measured, nor
-    /// are the words of a special name that is no thunk: so a text has at most 2,097,180 bytes, which are two types of
-    /// `MAX_TEXT` and the 28 of `construction vtable for ` and `-in-`, and all that follows from the dot. Without such
-    /// a prefix there is none either, no memory is taken, and both counts are 0. An error comes only where memory is
-    /// refused; then nothing is kept, and the value serves on.
+    /// The symbol may be any text. After `_Z` or `__Z` a special name is read if `T` or `G` is next, and otherwise a
+    /// name; the parameters of a function aren't read (Itanium C++ ABI 5.1.2). The answer is the printing of what was
+    /// read. If a dot follows right after what was read, all from that dot on is added.
+    ///
+    /// There is no answer in exactly two cases. Either no reading is within the limits: a reading is within them if it
+    /// nests at most `MAX_DEPTH` counted productions, and none of these prints more than `MAX_TEXT` bytes, also none
+    /// whose text is dropped. Or the printing isn't UTF-8. A text without such a prefix has no reading. Then nothing
+    /// is allocated, and both counts are 0.
+    ///
+    /// What follows from the dot isn't measured, nor are the words of a special name that isn't a thunk. So an answer
+    /// has at most 2,097,180 bytes, and those from the dot: two types of `MAX_TEXT` bytes each, and the 28 bytes of
+    /// `construction vtable for ` and `-in-`.
+    ///
+    /// An error means that an allocation failed. Then the value has no answer, and it can be used again.
     #[inline(always)]
     pub fn prepare(&mut self, alloc: Global, symbol: &str) -> Result<bool, AllocError>
         ensures answer { IfOk result (λ _. IsAnswer symbol.now self.new.text) }
@@ -206,17 +211,21 @@ impl Demangler {
         self.read(alloc, symbol, false)
     }
 
-    /// Reads a symbol with its parameters, and keeps that for `text`: true where there is an answer. It is the symbol's
-    /// signature, and where it has none the answer of `prepare`; `is_signature` tells which.
+    /// Reads a symbol with its parameters and keeps the answer, which `text` returns. The result is true if there is
+    /// an answer. It is the symbol's signature. If the symbol has no signature it is the answer of `prepare`, and
+    /// `is_signature` says which of the two it is.
     ///
-    /// A signature is read up to where no ASCII letter, digit or underscore is next: as a special name where `T` or `G`
-    /// is next, else as a name with its parameters, after which the qualifiers of a member function stand. A return
-    /// type is read and not printed, and a thunk stands for a function with its parameters. The answer is the
-    /// printing, and after it all that follows from a dot right after what was read. It nests at most `MAX_DEPTH`
-    /// counted productions, itself one of them, within `MAX_TEXT`: so it has at most `MAX_TEXT` bytes, and all that
-    /// follows from the dot. Counts and components are those of the reading that is answered. Where neither is, the
-    /// counts are at most what `entered` and `most_saved` can be of any symbol. An error comes only where memory is
-    /// refused; then nothing is kept, and the value serves on.
+    /// A signature is read up to a byte that is no ASCII letter, digit or underscore, or up to the end. If `T` or `G`
+    /// is next it is a special name, and otherwise a name with its parameters, followed by the qualifiers of a member
+    /// function. A return type is read and not printed. A thunk's function is printed with its parameters. The answer
+    /// is the printing. If a dot follows right after what was read, all from that dot on is added.
+    ///
+    /// A signature is a counted production itself. It nests at most `MAX_DEPTH` counted productions, none of which
+    /// prints more than `MAX_TEXT` bytes. So it has at most `MAX_TEXT` bytes, and those from the dot. Counts and
+    /// components are those of the reading that is answered. If there is no answer, the counts are at most what
+    /// `entered` and `most_saved` can be for any symbol.
+    ///
+    /// An error means that an allocation failed. Then the value has no answer, and it can be used again.
     pub fn prepare_signature(&mut self, alloc: Global, symbol: &str) -> Result<bool, AllocError>
         ensures answer { IfOk result (λ _. IsSignatureOrName self.new.signature symbol.now self.new.text) }
         ensures found { IfOk result (λ found. found ≡ is_some self.new.text) }
@@ -353,8 +362,8 @@ impl Demangler {
     }
 }
 
-/// The answer of a symbol as a text of its own: what `Demangler::demangle` answers on any value. An error comes only
-/// where memory is refused.
+/// The answer of a symbol as a text of its own: what `Demangler::demangle` returns on any value. An error means that
+/// an allocation failed.
 pub fn demangle_owned(alloc: Global, symbol: &str) -> Result<Option<String>, AllocError>
     ensures answer { IfOk result (λ found. IsAnswer symbol.now (option_map string_bytes found)) }
     ensures no_prefix { spec.after_prefix symbol.now ≡ None → result ≡ Ok None }

@@ -16,19 +16,20 @@
 //!             Ok(()) => ExitCode::SUCCESS,
 //!             Err(_) => ExitCode::FAILURE,
 //!         },
-//!         // It is no symbol, or one that isn't read.
+//!         // It isn't a symbol, or it has no name.
 //!         Ok(None) => ExitCode::SUCCESS,
-//!         // Memory was refused.
+//!         // An allocation failed.
 //!         Err(_) => ExitCode::FAILURE,
 //!     }
 //! }
 //! ```
 //!
-//! The answer is lent until the next call. Keep one value for symbol after symbol: it keeps its buffer. What an answer
-//! is, `itanium_grammar` defines.
+//! The answer is lent until the next call. Keep one value for symbol after symbol, since it keeps its buffer.
+//! `demangle_signature` returns the name with the parameters of the function, as `Foo::bar()`. If a symbol has no
+//! signature it returns what `demangle` returns.
 //!
-//! `demangle_signature` answers a symbol with the parameters of a function, as `Foo::bar()`, and where it isn't read so
-//! what `demangle` answers.
+//! The crate stands on `itanium_productions`, which reads the symbol, and on `itanium_grammar`, which defines what an
+//! answer is. Its proofs show that what is read is what the grammar says. Begin with `demangler.rt`.
 #![tactic(auto)]
 
 mod demangler;

@@ -132,13 +132,11 @@ within_list outer own p = record p { scopes = scopes_inside outer own }
 -- <substitution> after its S
 pub data SubstitutionAs : SubstitutionCase → Position → Tree → Position → Type 0 where
   -- Sa | Sb | Ss | Si | So | Sd
-  abbreviation_substitution :
-      {p : Position} {abbreviated : Abbreviation}
+  abbreviation_substitution : {p : Position} {abbreviated : Abbreviation}
       → abbreviation_of p.rest ≡ Some abbreviated
       → SubstitutionAs AbbreviationSubstitution p (abbreviation abbreviated) (skip 1 p)
   -- S_ is the first saved tree, S <seq-id> _ the one after that number
-  component_substitution :
-      {p : Position} {t : Tree} {i : ℕ} {rest : List ℕ}
+  component_substitution : {p : Position} {t : Tree} {i : ℕ} {rest : List ℕ}
       → index_of Base36 p.rest ≡ Some (i, rest)
       → slice_get p.saved i ≡ Some t
       → SubstitutionAs ComponentSubstitution p t (with_rest rest p)
@@ -150,19 +148,16 @@ Substitution p = SubstitutionAs (substitution_case (drop 1 p.rest)) (skip 1 p)
 -- the argument that a <template-param> names
 pub data ArgumentNamed : Bool → ℕ → Position → Tree → Type 0 where
   -- `auto` in a lambda's signature
-  auto_parameter :
-      {p : Position} {i : ℕ}
+  auto_parameter : {p : Position} {i : ℕ}
       → ArgumentNamed true i p (plain_text (codes "auto"))
   -- an argument of the last scope, among those already read
-  scope_parameter :
-      {p : Position} {t : Tree} {i : ℕ}
+  scope_parameter : {p : Position} {t : Tree} {i : ℕ}
       → slice_get (last_of p.scopes) i ≡ Some t
       → ArgumentNamed false i p t
 
 -- <template-param> ::= T [<number>] _
 pub data Parameter : Context → Position → Tree → Position → Type 0 where
-  parameter :
-      {x : Context} {p : Position} {t : Tree} {i : ℕ} {rest : List ℕ}
+  parameter : {x : Context} {p : Position} {t : Tree} {i : ℕ} {rest : List ℕ}
       → index_of Decimal (drop 1 p.rest) ≡ Some (i, rest)
       → ArgumentNamed x.lambda i p t
       → Parameter x p t (with_rest rest p)
@@ -170,12 +165,10 @@ pub data Parameter : Context → Position → Tree → Position → Type 0 where
 -- <abi-tags> ::= (B <source-name>)* after a name
 pub data TaggedAs : TagCase → Tree → Position → Tree → Position → Type 0 where
   -- no tag
-  no_tag :
-      {p : Position} {t : Tree}
+  no_tag : {p : Position} {t : Tree}
       → TaggedAs NoTag t p t p
   -- B <source-name>, and further tags
-  next_tag :
-      {p q : Position} {t u : Tree} {bytes rest : List ℕ}
+  next_tag : {p q : Position} {t u : Tree} {bytes rest : List ℕ}
       → source_name (drop 1 p.rest) ≡ Some (bytes, rest)
       → TaggedAs (tag_case rest) (tagged_with t (source_text bytes)) (with_rest rest p) u q
       → TaggedAs NextTag t p u q
@@ -184,34 +177,29 @@ mutual
   -- <name> ::= <nested-name> | <local-name> | <unscoped-name> | <unscoped-template-name> <template-args>: counted. The
   -- truth value is true in an <encoding>'s name and its entity: the encoding prints own qualifiers, so they don't count
   pub data Name : Bool → Context → Position → Tree → Position → Cost → Type 0 where
-    name :
-        {waits : Bool} {x : Context} {p q : Position} {t : Tree} {c : Cost}
+    name : {waits : Bool} {x : Context} {p q : Position} {t : Tree} {c : Cost}
         → NameAs (name_case p.rest) waits x p t q c
         → Name waits x p t q (counted (length (name_printing waits t)) c)
 
   -- <name>, by what it begins with
   pub data NameAs : NameCase → Bool → Context → Position → Tree → Position → Cost → Type 0 where
     -- <nested-name>
-    nested_name :
-        {waits : Bool} {x : Context} {p q : Position} {t : Tree} {c : Cost}
+    nested_name : {waits : Bool} {x : Context} {p q : Position} {t : Tree} {c : Cost}
         → Nested x (skip 1 p) t q c
         → NameAs NestedName waits x p t q c
     -- <local-name>
-    local_name :
-        {waits : Bool} {x : Context} {p q : Position} {t : Tree} {c : Cost}
+    local_name : {waits : Bool} {x : Context} {p q : Position} {t : Tree} {c : Cost}
         → Local waits x (skip 1 p) t q c
         → NameAs LocalName waits x p t q c
     -- <unscoped-name>, with <template-args> or without
-    unscoped_name :
-        {waits : Bool} {x : Context} {p q : Position} {t : Tree} {c : Cost}
+    unscoped_name : {waits : Bool} {x : Context} {p q : Position} {t : Tree} {c : Cost}
         → UnscopedAs (unscoped_case p.rest) x p t q c
         → NameAs UnscopedName waits x p t q c
 
   -- <local-name> ::= Z <encoding> E <name> | Z <encoding> E s | Z <encoding> E d [<number>] _ <name>, after its Z: in
   -- the encoding words are shown, and no type is around it
   pub data Local : Bool → Context → Position → Tree → Position → Cost → Type 0 where
-    local :
-        {waits : Bool} {x : Context} {p q r : Position} {t u : Tree} {c d : Cost}
+    local : {waits : Bool} {x : Context} {p q r : Position} {t u : Tree} {c d : Cost}
         → EncodingAs (symbol_case AtE p.rest) AtE (inside_encoding x) p t q c
         → EntityAs (entity_case q.rest) waits (inside_local x) t q u r d
         → Local waits x p u r (both c d)
@@ -219,8 +207,7 @@ mutual
   -- what follows the encoding of a <local-name>, with the E in front of it
   pub data EntityAs : EntityCase → Bool → Context → Tree → Position → Tree → Position → Cost → Type 0 where
     -- E s
-    string_literal_entity :
-        {waits : Bool} {x : Context} {p : Position} {t : Tree}
+    string_literal_entity : {waits : Bool} {x : Context} {p : Position} {t : Tree}
         → EntityAs StringLiteralEntity waits x t p (string_literal_of t) (skip 2 p) nothing
     -- E d [<number>] _ <name>
     default_argument_entity :
@@ -229,26 +216,22 @@ mutual
         → Name waits x (with_rest rest p) u q c
         → EntityAs DefaultArgumentEntity waits x t p (default_argument_of t number u) q c
     -- E <name>
-    name_entity :
-        {waits : Bool} {x : Context} {p q : Position} {t u : Tree} {c : Cost}
+    name_entity : {waits : Bool} {x : Context} {p q : Position} {t u : Tree} {c : Cost}
         → Name waits x (skip 1 p) u q c
         → EntityAs NameEntity waits x t p (local_in t u) q c
 
   -- <encoding> ::= <special-name> | <name> [<return type>] [<parameter types>], by how it ends and what it begins with
   pub data EncodingAs : SymbolCase → EncodingEnd → Context → Position → Tree → Position → Cost → Type 0 where
     -- <special-name>
-    special_encoding :
-        {end : EncodingEnd} {x : Context} {p q : Position} {t : Tree} {c : Cost}
+    special_encoding : {end : EncodingEnd} {x : Context} {p q : Position} {t : Tree} {c : Cost}
         → SpecialAs (special_case p.rest) end x p t q c
         → EncodingAs SpecialSymbol end x p t q c
     -- a <name> that is all of it
-    name_alone :
-        {end : EncodingEnd} {x : Context} {p q : Position} {t : Tree} {c : Cost}
+    name_alone : {end : EncodingEnd} {x : Context} {p q : Position} {t : Tree} {c : Cost}
         → Name false x p t q c
         → EncodingAs NameSymbol end x p t q c
     -- a <name>, whose own qualifiers wait, then its return type and its parameters
-    name_encoding :
-        {end : EncodingEnd} {x : Context} {p q r s : Position} {t u : Tree} {c d e : Cost}
+    name_encoding : {end : EncodingEnd} {x : Context} {p q r s : Position} {t u : Tree} {c d e : Cost}
         → Name true x p t q c
         → ReturnAs (return_case end (shape_of t).templ (shape_of t).ctor q.rest) x q r d
         → SignatureAs (signature_case end r.rest) end x t r u s e
@@ -257,13 +240,11 @@ mutual
   -- <special-name>, by what it begins with
   pub data SpecialAs : SpecialCase → EncodingEnd → Context → Position → Tree → Position → Cost → Type 0 where
     -- TV <type> | TT <type> | TI <type> | TS <type> | TF <type>
-    type_special :
-        {end : EncodingEnd} {x : Context} {p q : Position} {t : Tree} {c : Cost}
+    type_special : {end : EncodingEnd} {x : Context} {p q : Position} {t : Tree} {c : Cost}
         → TypeOf x (skip 2 p) t q c
         → SpecialAs TypeSpecial end x p (worded (special_text p.rest) t (special_close p.rest)) q c
     -- TH <name> | TW <name> | GV <name>
-    name_special :
-        {end : EncodingEnd} {x : Context} {p q : Position} {t : Tree} {c : Cost}
+    name_special : {end : EncodingEnd} {x : Context} {p q : Position} {t : Tree} {c : Cost}
         → Name false x (skip 2 p) t q c
         → SpecialAs NameSpecial end x p (worded (special_text p.rest) t (special_close p.rest)) q c
     -- GR <name> [<seq-id>] _
@@ -280,16 +261,14 @@ mutual
         → TypeOf x (with_rest rest q) u r d
         → SpecialAs ConstructionSpecial end x p (construction_of u t) r (both c d)
     -- a thunk
-    thunk_special :
-        {end : EncodingEnd} {x : Context} {p q : Position} {t : Tree} {c : Cost}
+    thunk_special : {end : EncodingEnd} {x : Context} {p q : Position} {t : Tree} {c : Cost}
         → Thunk end x p t q c
         → SpecialAs ThunkSpecial end x p t q c
 
   -- T <call-offset> <encoding> | T c <call-offset> <call-offset> <encoding>: counted. Its encoding has no parameters,
   -- but in a signature
   pub data Thunk : EncodingEnd → Context → Position → Tree → Position → Cost → Type 0 where
-    thunk :
-        {end : EncodingEnd} {x : Context} {p q : Position} {t : Tree} {c : Cost} {offsets : ThunkOffsets}
+    thunk : {end : EncodingEnd} {x : Context} {p q : Position} {t : Tree} {c : Cost} {offsets : ThunkOffsets}
         {rest : List ℕ}
         → thunk_offsets (drop 1 p.rest) ≡ Some (offsets, rest)
         → EncodingAs (symbol_case (of_thunk end) rest) (of_thunk end) x (with_rest rest p) t q c
@@ -298,12 +277,10 @@ mutual
   -- the return type of an encoding, or none: it isn't printed, and what it saved and the scopes that it left stay
   pub data ReturnAs : ReturnCase → Context → Position → Position → Cost → Type 0 where
     -- no return type
-    no_return_type :
-        {x : Context} {p : Position}
+    no_return_type : {x : Context} {p : Position}
         → ReturnAs NoReturnType x p p nothing
     -- <type>
-    some_return_type :
-        {x : Context} {p q : Position} {t : Tree} {c : Cost}
+    some_return_type : {x : Context} {p q : Position} {t : Tree} {c : Cost}
         → TypeOf x p t q c
         → ReturnAs SomeReturnType x p q c
 
@@ -311,33 +288,28 @@ mutual
   pub data SignatureAs : SignatureCase → EncodingEnd → Context → Tree → Position → Tree → Position → Cost
       → Type 0 where
     -- the end of the encoding after the name or its return type
-    no_signature :
-        {end : EncodingEnd} {x : Context} {p : Position} {t : Tree}
+    no_signature : {end : EncodingEnd} {x : Context} {p : Position} {t : Tree}
         → SignatureAs NoSignature end x t p (encoding_of t) p nothing
     -- <parameter types>
-    some_signature :
-        {end : EncodingEnd} {x : Context} {p q : Position} {t : Tree} {ts : List Tree} {c : Cost}
+    some_signature : {end : EncodingEnd} {x : Context} {p q : Position} {t : Tree} {ts : List Tree} {c : Cost}
         → ParamsAs (params_case end p.rest) end false (inside_params end x) p ts q c
         → SignatureAs SomeSignature end x t p (function_encoding t (trees ts)) q c
 
   -- <unscoped-name> [<template-args>], or a <substitution> with <template-args>
   pub data UnscopedAs : UnscopedCase → Context → Position → Tree → Position → Cost → Type 0 where
     -- St <unqualified-name> [<template-args>]
-    std_name :
-        {x : Context} {p q r : Position} {t u : Tree} {c d : Cost}
+    std_name : {x : Context} {p q r : Position} {t u : Tree} {c d : Cost}
         → Unqualified x (Some (plain_text (codes "std"))) (skip 2 p) t q c
         → AttachedAs (attached_case q.rest) x t q u r d
         → UnscopedAs StdName x p u r (both c d)
     -- <substitution> <template-args>
-    substitution_name :
-        {x : Context} {p q r : Position} {t : Tree} {ts : List Tree} {c : Cost}
+    substitution_name : {x : Context} {p q r : Position} {t : Tree} {ts : List Tree} {c : Cost}
         → Substitution p t q
         → attached_case q.rest ≡ ArgsAttached
         → Args true x q ts r c
         → UnscopedAs SubstitutionName x p (with_args t (trees ts)) r c
     -- <unqualified-name> [<template-args>]
-    global_name :
-        {x : Context} {p q r : Position} {t u : Tree} {c d : Cost}
+    global_name : {x : Context} {p q r : Position} {t u : Tree} {c d : Cost}
         → Unqualified x None p t q c
         → AttachedAs (attached_case q.rest) x t q u r d
         → UnscopedAs PlainName x p u r (both c d)
@@ -345,72 +317,60 @@ mutual
   -- <template-args> after a name, or none
   pub data AttachedAs : AttachedCase → Context → Tree → Position → Tree → Position → Cost → Type 0 where
     -- no <template-args>
-    none_attached :
-        {x : Context} {p : Position} {t : Tree}
+    none_attached : {x : Context} {p : Position} {t : Tree}
         → AttachedAs NoneAttached x t p t p nothing
     -- <template-args>: the name is saved before they are read
-    args_attached :
-        {x : Context} {p q : Position} {t : Tree} {ts : List Tree} {c : Cost}
+    args_attached : {x : Context} {p q : Position} {t : Tree} {ts : List Tree} {c : Cost}
         → Args true x (save t p) ts q c
         → AttachedAs ArgsAttached x t p (with_args t (trees ts)) q (both (saving p) c)
 
   -- <unqualified-name> that asks for no parent, without its tags
   pub data FreeAs : FreeCase → Context → Position → Tree → Position → Cost → Type 0 where
     -- <source-name>
-    source_free :
-        {x : Context} {p : Position} {bytes rest : List ℕ}
+    source_free : {x : Context} {p : Position} {bytes rest : List ℕ}
         → source_name p.rest ≡ Some (bytes, rest)
         → FreeAs SourceName x p (plain_text (source_text bytes)) (with_rest rest p) nothing
     -- <unnamed-type-name> ::= Ut [<nonnegative number>] _
-    unnamed_type_free :
-        {x : Context} {p : Position} {k : ℕ} {rest : List ℕ}
+    unnamed_type_free : {x : Context} {p : Position} {k : ℕ} {rest : List ℕ}
         → ordinal (drop 2 p.rest) ≡ Some (k, rest)
         → FreeAs UnnamedTypeName x p (plain_text (unnamed_text k)) (with_rest rest p) nothing
     -- <closure-type-name> ::= Ul <lambda-sig> E [<nonnegative number>] _
-    lambda_free :
-        {x : Context} {p q : Position} {ts : List Tree} {c : Cost} {k : ℕ} {rest : List ℕ}
+    lambda_free : {x : Context} {p q : Position} {ts : List Tree} {c : Cost} {k : ℕ} {rest : List ℕ}
         → ParamsAs (params_case AtE (drop 2 p.rest)) AtE false (inside_lambda x) (skip 2 p) ts q c
         → ordinal (drop 1 q.rest) ≡ Some (k, rest)
         → FreeAs LambdaName x p (lambda_of (trees ts) k) (with_rest rest q) c
     -- <operator-name> ::= cv <type>
-    conversion_free :
-        {x : Context} {p q : Position} {t : Tree} {c : Cost}
+    conversion_free : {x : Context} {p q : Position} {t : Tree} {c : Cost}
         → TypeOf x (skip 2 p) t q c
         → FreeAs ConversionName x p (conversion_to t) q c
     -- <operator-name> ::= li <source-name>
-    literal_operator_free :
-        {x : Context} {p : Position} {bytes rest : List ℕ}
+    literal_operator_free : {x : Context} {p : Position} {bytes rest : List ℕ}
         → source_name (drop 2 p.rest) ≡ Some (bytes, rest)
         → FreeAs LiteralOperatorName x p (plain_text (literal_operator_text bytes)) (with_rest rest p) nothing
     -- <operator-name>, a code of two letters
-    operator_free :
-        {x : Context} {p : Position} {text : List ℕ}
+    operator_free : {x : Context} {p : Position} {text : List ℕ}
         → operator_here p.rest ≡ Some text
         → FreeAs OperatorName x p (plain_text (codes "operator" ++ text)) (skip 2 p) nothing
 
   -- <unqualified-name>, in the parent that stands in front of it, if one does
   pub data UnqualifiedAs : UnqualifiedCase → Context → Option Tree → Position → Tree → Position → Cost → Type 0 where
     -- <ctor-dtor-name> ::= C1 | .. | C5, and then [<abi-tags>]
-    constructor_unqualified :
-        {x : Context} {p q : Position} {parent t : Tree}
+    constructor_unqualified : {x : Context} {p q : Position} {parent t : Tree}
         → TaggedAs (tag_case (drop 2 p.rest)) (ctor_dtor_of parent false) (skip 2 p) t q
         → UnqualifiedAs ConstructorName x (Some parent) p t q nothing
     -- <ctor-dtor-name> ::= D0 | D1 | D2 | D4 | D5, and then [<abi-tags>]
-    destructor_unqualified :
-        {x : Context} {p q : Position} {parent t : Tree}
+    destructor_unqualified : {x : Context} {p q : Position} {parent t : Tree}
         → TaggedAs (tag_case (drop 2 p.rest)) (ctor_dtor_of parent true) (skip 2 p) t q
         → UnqualifiedAs DestructorName x (Some parent) p t q nothing
     -- another name and [<abi-tags>], and then in its parent
-    free_unqualified :
-        {x : Context} {p q r : Position} {t u : Tree} {parent : Option Tree} {c : Cost}
+    free_unqualified : {x : Context} {p q r : Position} {t u : Tree} {parent : Option Tree} {c : Cost}
         → FreeAs (free_case p.rest) x p t q c
         → TaggedAs (tag_case q.rest) t q u r
         → UnqualifiedAs FreeName x parent p (in_parent parent u) r c
 
   -- [L] and an <unqualified-name>
   pub data Unqualified : Context → Option Tree → Position → Tree → Position → Cost → Type 0 where
-    unqualified :
-        {x : Context} {p q : Position} {t : Tree} {parent : Option Tree} {c : Cost}
+    unqualified : {x : Context} {p q : Position} {t : Tree} {parent : Option Tree} {c : Cost}
         → UnqualifiedAs (unqualified_case (is_some parent) (past_internal p.rest)) x parent
         (with_rest (past_internal p.rest) p) t q c
         → Unqualified x parent p t q c
@@ -418,29 +378,24 @@ mutual
   -- the first segment of a <nested-name>
   pub data FirstAs : FirstCase → Context → Position → Tree → Position → Cost → Type 0 where
     -- <template-param>, which is saved
-    parameter_first :
-        {x : Context} {p q : Position} {t : Tree}
+    parameter_first : {x : Context} {p q : Position} {t : Tree}
         → Parameter x p t q
         → FirstAs ParameterFirst x p t (save t q) (saving q)
     -- St
-    std_first :
-        {x : Context} {p : Position}
+    std_first : {x : Context} {p : Position}
         → FirstAs StdFirst x p (plain_text (codes "std")) (skip 2 p) nothing
     -- <substitution>, which isn't saved again
-    substitution_first :
-        {x : Context} {p q : Position} {t : Tree}
+    substitution_first : {x : Context} {p q : Position} {t : Tree}
         → Substitution p t q
         → FirstAs SubstitutionFirst x p t q nothing
     -- <unqualified-name>, which is saved
-    name_first :
-        {x : Context} {p q : Position} {t : Tree} {c : Cost}
+    name_first : {x : Context} {p q : Position} {t : Tree} {c : Cost}
         → Unqualified x None p t q c
         → FirstAs NameFirst x p t (save t q) (both c (saving q))
 
   -- <nested-name> ::= N [<CV-qualifiers>] [<ref-qualifier>] <prefix> E | N H <prefix> E, after its N
   pub data Nested : Context → Position → Tree → Position → Cost → Type 0 where
-    nested :
-        {x : Context} {p q r : Position} {t u : Tree} {c d : Cost}
+    nested : {x : Context} {p q r : Position} {t u : Tree} {c d : Cost}
         → FirstAs (first_case (past_name_quals p.rest)) x (with_rest (past_name_quals p.rest) p) t q c
         → SegmentsAs (segment_case (past_initializer q).rest) (saves_first (first_case (past_name_quals p.rest))) x t
         (past_initializer q) u r d
@@ -450,27 +405,23 @@ mutual
   -- last saved tree back
   pub data SegmentsAs : SegmentCase → Bool → Context → Tree → Position → Tree → Position → Cost → Type 0 where
     -- E
-    end_of_segments :
-        {takes : Bool} {x : Context} {p : Position} {t : Tree}
+    end_of_segments : {takes : Bool} {x : Context} {p : Position} {t : Tree}
         → SegmentsAs EndOfSegments takes x t p t (taken_back takes (skip 1 p)) nothing
     -- <template-args>: what stands with them is saved
-    args_segment :
-        {takes : Bool} {x : Context} {p q r : Position} {t v : Tree} {ts : List Tree} {c d : Cost}
+    args_segment : {takes : Bool} {x : Context} {p q r : Position} {t v : Tree} {ts : List Tree} {c d : Cost}
         → Args true x p ts q c
         → SegmentsAs (segment_case (past_initializer q).rest) true x (with_args t (trees ts))
         (past_initializer (save (with_args t (trees ts)) q)) v r d
         → SegmentsAs ArgsSegment takes x t p v r (both c (both (saving q) d))
     -- <unqualified-name> in the parent of what stands: both together are saved
-    name_segment :
-        {takes : Bool} {x : Context} {p q r : Position} {t u v : Tree} {c d : Cost}
+    name_segment : {takes : Bool} {x : Context} {p q r : Position} {t u v : Tree} {c d : Cost}
         → Unqualified x (Some t) p u q c
         → SegmentsAs (segment_case (past_initializer q).rest) true x u (past_initializer (save u q)) v r d
         → SegmentsAs NameSegment takes x t p v r (both c (both (saving q) d))
 
   -- <template-args> ::= I <template-arg>* E, of a name or of a type: counted
   pub data Args : Bool → Context → Position → List Tree → Position → Cost → Type 0 where
-    args :
-        {of_name : Bool} {x : Context} {p q : Position} {ts : List Tree} {c : Cost}
+    args : {of_name : Bool} {x : Context} {p q : Position} {ts : List Tree} {c : Cost}
         → ArgumentsAs (args_case (drop 1 p.rest)) x p.scopes (if opens_scope of_name x then Some [] else None)
         (skip 1 p) ts q c
         → Args of_name x p ts q (counted (length (list_printing ts)) c)
@@ -480,8 +431,7 @@ mutual
   pub data ArgumentsAs : ArgsCase → Context → List (List Tree) → Option (List Tree) → Position → List Tree → Position
       → Cost → Type 0 where
     -- E
-    end_of_arguments :
-        {x : Context} {p : Position} {outer : List (List Tree)} {own : Option (List Tree)}
+    end_of_arguments : {x : Context} {p : Position} {outer : List (List Tree)} {own : Option (List Tree)}
         → ArgumentsAs EndOfArguments x outer own p [] (within_list outer own (skip 1 p)) nothing
     -- <template-arg>
     one_more_argument :
@@ -493,20 +443,17 @@ mutual
 
   -- <template-arg> ::= J <template-arg>* E: counted, with the context of a pack inside
   pub data Pack : Context → Position → Tree → Position → Cost → Type 0 where
-    pack :
-        {x : Context} {p q : Position} {ts : List Tree} {c : Cost}
+    pack : {x : Context} {p q : Position} {ts : List Tree} {c : Cost}
         → PackedAs (args_case (drop 1 p.rest)) (inside_pack x) (skip 1 p) ts q c
         → Pack x p (pack_of (trees ts)) q (counted (length (printing (pack_of (trees ts)))) c)
 
   -- one more <template-arg> of a pack, or the E after them; no scope is dropped between them
   pub data PackedAs : ArgsCase → Context → Position → List Tree → Position → Cost → Type 0 where
     -- E
-    end_of_pack :
-        {x : Context} {p : Position}
+    end_of_pack : {x : Context} {p : Position}
         → PackedAs EndOfArguments x p [] (skip 1 p) nothing
     -- <template-arg>
-    one_more_packed :
-        {x : Context} {p q r : Position} {t : Tree} {ts : List Tree} {c d : Cost}
+    one_more_packed : {x : Context} {p q r : Position} {t : Tree} {ts : List Tree} {c d : Cost}
         → ArgumentAs (argument_case p.rest) x p t q c
         → PackedAs (args_case q.rest) x q ts r d
         → PackedAs NextArgument x p (t ∷ ts) r (both c d)
@@ -514,38 +461,32 @@ mutual
   -- <template-arg>
   pub data ArgumentAs : ArgumentCase → Context → Position → Tree → Position → Cost → Type 0 where
     -- X <expression> E
-    expression_argument :
-        {x : Context} {p q : Position} {t : Tree} {c : Cost}
+    expression_argument : {x : Context} {p q : Position} {t : Tree} {c : Cost}
         → Expression x (skip 1 p) t q c
         → begins (codes "E") q.rest ≡ true
         → ArgumentAs ExpressionArgument x p t (skip 1 q) c
     -- J <template-arg>* E
-    pack_argument :
-        {x : Context} {p q : Position} {t : Tree} {c : Cost}
+    pack_argument : {x : Context} {p q : Position} {t : Tree} {c : Cost}
         → Pack x p t q c
         → ArgumentAs PackArgument x p t q c
     -- <expr-primary>
-    literal_argument :
-        {x : Context} {p q : Position} {t : Tree} {c : Cost}
+    literal_argument : {x : Context} {p q : Position} {t : Tree} {c : Cost}
         → LiteralAs (literal_case p.rest) x p t q c
         → ArgumentAs LiteralArgument x p t q c
     -- <type>
-    type_argument :
-        {x : Context} {p q : Position} {t : Tree} {c : Cost}
+    type_argument : {x : Context} {p q : Position} {t : Tree} {c : Cost}
         → TypeOf x p t q c
         → ArgumentAs TypeArgument x p t q c
 
   -- <expr-primary>: a literal, or an external name
   pub data LiteralAs : LiteralCase → Context → Position → Tree → Position → Cost → Type 0 where
     -- L _Z <encoding> E: an external name
-    external_name :
-        {x : Context} {p q : Position} {t : Tree} {c : Cost}
+    external_name : {x : Context} {p q : Position} {t : Tree} {c : Cost}
         → EncodingAs (symbol_case AtE (drop 3 p.rest)) AtE (inside_encoding x) (skip 3 p) t q c
         → begins (codes "E") q.rest ≡ true
         → LiteralAs ExternalName x p t (skip 1 q) c
     -- L <type> <value> E, where the type as it is printed has such a value
-    value_literal :
-        {x : Context} {p q : Position} {t : Tree} {c : Cost} {value rest : List ℕ}
+    value_literal : {x : Context} {p q : Position} {t : Tree} {c : Cost} {value rest : List ℕ}
         → TypeOf x (skip 1 p) t q c
         → literal_value q.rest ≡ Some (value, rest)
         → has_literal (printing t) value ≡ true
@@ -553,165 +494,138 @@ mutual
 
   -- <expression>: counted
   pub data Expression : Context → Position → Tree → Position → Cost → Type 0 where
-    expression :
-        {x : Context} {p q : Position} {t : Tree} {c : Cost}
+    expression : {x : Context} {p q : Position} {t : Tree} {c : Cost}
         → ExpressionAs (expression_case p.rest) x p t q c
         → Expression x p t q (counted (length (printing t)) c)
 
   -- an operand: an <expression>, and whether it is spelled as an external name
   pub data OperandOf : Context → Position → Operand → Position → Cost → Type 0 where
-    operand_of :
-        {x : Context} {p q : Position} {t : Tree} {c : Cost}
+    operand_of : {x : Context} {p q : Position} {t : Tree} {c : Cost}
         → Expression x p t q c
         → OperandOf x p (operand (is_external p.rest) t) q c
 
   -- <expression>, by what it begins with
   pub data ExpressionAs : ExpressionCase → Context → Position → Tree → Position → Cost → Type 0 where
     -- pp_ <expression> | mm_ <expression>
-    pre_expression :
-        {x : Context} {p q : Position} {t : Tree} {c : Cost}
+    pre_expression : {x : Context} {p q : Position} {t : Tree} {c : Cost}
         → Expression x (skip 3 p) t q c
         → ExpressionAs PreExpression x p (pre_of (expression_text p.rest) t) q c
     -- ad L _Z <encoding> E
-    address_expression :
-        {x : Context} {p q : Position} {t : Tree} {c : Cost}
+    address_expression : {x : Context} {p q : Position} {t : Tree} {c : Cost}
         → Expression x (skip 2 p) t q c
         → ExpressionAs AddressExpression x p (address_of t) q c
     -- <unary operator-name> <expression>
-    unary_expression :
-        {x : Context} {p q : Position} {o : Operand} {c : Cost}
+    unary_expression : {x : Context} {p q : Position} {o : Operand} {c : Cost}
         → OperandOf x (skip 2 p) o q c
         → ExpressionAs UnaryExpression x p (unary_of (expression_text p.rest) o) q c
     -- pp <expression> | mm <expression>
-    post_expression :
-        {x : Context} {p q : Position} {o : Operand} {c : Cost}
+    post_expression : {x : Context} {p q : Position} {o : Operand} {c : Cost}
         → OperandOf x (skip 2 p) o q c
         → ExpressionAs PostExpression x p (post_of o (expression_text p.rest)) q c
     -- <binary operator-name> <expression> <expression>
-    binary_expression :
-        {x : Context} {p q r : Position} {o m : Operand} {c d : Cost}
+    binary_expression : {x : Context} {p q r : Position} {o m : Operand} {c d : Cost}
         → OperandOf x (skip 2 p) o q c
         → OperandOf x q m r d
         → ExpressionAs BinaryExpression x p (binary_of o (expression_text p.rest) m) r (both c d)
     -- gt <expression> <expression>
-    greater_expression :
-        {x : Context} {p q r : Position} {t u : Tree} {c d : Cost}
+    greater_expression : {x : Context} {p q r : Position} {t u : Tree} {c d : Cost}
         → Expression x (skip 2 p) t q c
         → Expression x q u r d
         → ExpressionAs GreaterExpression x p (greater_of t u) r (both c d)
     -- qu <expression> <expression> <expression>
-    conditional_expression :
-        {x : Context} {p q r s : Position} {o m n : Operand} {c d e : Cost}
+    conditional_expression : {x : Context} {p q r s : Position} {o m n : Operand} {c d e : Cost}
         → OperandOf x (skip 2 p) o q c
         → OperandOf x q m r d
         → OperandOf x r n s e
         → ExpressionAs ConditionalExpression x p (conditional_of o m n) s (both c (both d e))
     -- <template-param>
-    parameter_expression :
-        {x : Context} {p q : Position} {t : Tree}
+    parameter_expression : {x : Context} {p q : Position} {t : Tree}
         → Parameter x p t q
         → ExpressionAs ParameterExpression x p t q nothing
     -- <expr-primary>
-    literal_expression :
-        {x : Context} {p q : Position} {t : Tree} {c : Cost}
+    literal_expression : {x : Context} {p q : Position} {t : Tree} {c : Cost}
         → LiteralAs (literal_case p.rest) x p t q c
         → ExpressionAs LiteralExpression x p t q c
 
   -- <type>: counted
   pub data TypeOf : Context → Position → Tree → Position → Cost → Type 0 where
-    type :
-        {x : Context} {p q : Position} {t : Tree} {c : Cost}
+    type : {x : Context} {p q : Position} {t : Tree} {c : Cost}
         → TypeAs (type_case p.rest) (inside_type x) p t q c
         → TypeOf x p t q (counted (length (printing t)) c)
 
   -- <type>, by what it begins with
   pub data TypeAs : TypeCase → Context → Position → Tree → Position → Cost → Type 0 where
     -- <builtin-type>: not saved
-    builtin_type :
-        {x : Context} {p : Position}
+    builtin_type : {x : Context} {p : Position}
         → TypeAs BuiltinType x p (plain_text (builtin_text p.rest)) (with_rest (past_builtin p.rest) p) nothing
     -- Dp <type>: saved also in a pack, where no dots are printed
-    expansion_type :
-        {x : Context} {p q : Position} {t : Tree} {c : Cost}
+    expansion_type : {x : Context} {p q : Position} {t : Tree} {c : Cost}
         → TypeOf x (skip 2 p) t q c
         → TypeAs ExpansionType x p (expanded x.pack t) (save (expanded x.pack t) q) (both c (saving q))
     -- u <source-name>, without <template-args>
-    vendor_type :
-        {x : Context} {p : Position} {bytes rest : List ℕ}
+    vendor_type : {x : Context} {p : Position} {bytes rest : List ℕ}
         → source_name (drop 1 p.rest) ≡ Some (bytes, rest)
         → attached_case rest ≡ NoneAttached
         → TypeAs VendorType x p (plain_text (source_text bytes))
         (save (plain_text (source_text bytes)) (with_rest rest p)) (saving p)
     -- <array-type> ::= A [<number>] _ <type>
-    array_type :
-        {x : Context} {p q : Position} {t : Tree} {c : Cost} {dimension : Option ℕ} {rest : List ℕ}
+    array_type : {x : Context} {p q : Position} {t : Tree} {c : Cost} {dimension : Option ℕ} {rest : List ℕ}
         → optional_number (drop 1 p.rest) ≡ Some (dimension, rest)
         → TypeOf x (with_rest rest p) t q c
         → may_be_element (shape_of t).form ≡ true
         → TypeAs ArrayType x p (array_of dimension t) (save (array_of dimension t) q) (both c (saving q))
     -- <function-type>
-    function_type :
-        {x : Context} {p q : Position} {t : Tree} {c : Cost}
+    function_type : {x : Context} {p q : Position} {t : Tree} {c : Cost}
         → Function x no_quals p t q c
         → TypeAs FunctionType x p t (save t q) (both c (saving q))
     -- <pointer-to-member-type> ::= M <type> <type>
-    member_type :
-        {x : Context} {p q r : Position} {t u : Tree} {c d : Cost}
+    member_type : {x : Context} {p q r : Position} {t u : Tree} {c d : Cost}
         → TypeOf x (skip 1 p) t q c
         → TypeOf x q u r d
         → may_be_member (shape_of u).form ≡ true
         → TypeAs MemberType x p (member_of t u) (save (member_of t u) r) (both c (both d (saving r)))
     -- P <type>, R <type> and O <type>
-    pointer_type :
-        {x : Context} {p q : Position} {t : Tree} {c : Cost} {kind : Pointer}
+    pointer_type : {x : Context} {p q : Position} {t : Tree} {c : Cost} {kind : Pointer}
         → TypeOf x (skip 1 p) t q c
         → TypeAs (PointerType kind) x p (pointer_to kind t) (save (pointer_to kind t) q) (both c (saving q))
     -- <qualified-type> ::= <CV-qualifiers> <type>: saved once
-    cv_type :
-        {x : Context} {p q : Position} {t : Tree} {c : Cost}
+    cv_type : {x : Context} {p q : Position} {t : Tree} {c : Cost}
         → CvAs (cv_case (past_cv p.rest)) x (cv_quals p.rest) (with_rest (past_cv p.rest) p) t q c
         → TypeAs CvType x p t (save t q) (both c (saving q))
     -- <class-enum-type> ::= Ts <name> | Tu <name> | Te <name>
-    elaborated_type :
-        {x : Context} {p q : Position} {t : Tree} {c : Cost}
+    elaborated_type : {x : Context} {p q : Position} {t : Tree} {c : Cost}
         → Name false x (skip 2 p) t q c
         → TypeAs ElaboratedType x p (elaborated (elaborated_text p.rest) t)
         (save (elaborated (elaborated_text p.rest) t) q) (both c (saving q))
     -- <template-param> [<template-args>]: saved without and with its arguments
-    parameter_type :
-        {x : Context} {p q r : Position} {t u : Tree} {c : Cost}
+    parameter_type : {x : Context} {p q r : Position} {t u : Tree} {c : Cost}
         → Parameter x p t q
         → TypeAttachedAs (attached_case q.rest) x t (save t q) u r c
         → TypeAs ParameterType x p u r (both (saving q) c)
     -- <substitution> [<template-args>]: saved with its arguments alone
-    substitution_type :
-        {x : Context} {p q r : Position} {t u : Tree} {c : Cost}
+    substitution_type : {x : Context} {p q r : Position} {t u : Tree} {c : Cost}
         → Substitution p t q
         → TypeAttachedAs (attached_case q.rest) x t q u r c
         → TypeAs SubstitutionType x p u r c
     -- <class-enum-type> ::= <name>
-    name_type :
-        {x : Context} {p q : Position} {t : Tree} {c : Cost}
+    name_type : {x : Context} {p q : Position} {t : Tree} {c : Cost}
         → Name false x p t q c
         → TypeAs NameType x p t (save t q) (both c (saving q))
 
   -- what <CV-qualifiers> stand in front of
   pub data CvAs : CvCase → Context → Quals → Position → Tree → Position → Cost → Type 0 where
     -- <function-type>, which takes them in, and whose F is no type of its own
-    cv_function :
-        {x : Context} {p q : Position} {t : Tree} {c : Cost} {quals : Quals}
+    cv_function : {x : Context} {p q : Position} {t : Tree} {c : Cost} {quals : Quals}
         → Function x quals p t q c
         → CvAs CvFunction x quals p t q c
     -- <type>
-    cv_other :
-        {x : Context} {p q : Position} {t : Tree} {c : Cost} {quals : Quals}
+    cv_other : {x : Context} {p q : Position} {t : Tree} {c : Cost} {quals : Quals}
         → TypeOf x p t q c
         → CvAs CvOther x quals p (cv_of quals t) q c
 
   -- <function-type> ::= F <return type> <parameter types> [<ref-qualifier>] E
   pub data Function : Context → Quals → Position → Tree → Position → Cost → Type 0 where
-    function :
-        {x : Context} {p q r : Position} {t : Tree} {ts : List Tree} {c d : Cost} {quals : Quals}
+    function : {x : Context} {p q r : Position} {t : Tree} {ts : List Tree} {c d : Cost} {quals : Quals}
         → function_case p.rest ≡ PlainFunction
         → TypeOf x (skip 1 p) t q c
         → ParamsAs (params_case AtE q.rest) AtE true x q ts r d
@@ -723,12 +637,10 @@ mutual
   pub data ParamsAs : ParamsCase → EncodingEnd → Bool → Context → Position → List Tree → Position → Cost
       → Type 0 where
     -- v, right before the end
-    no_params :
-        {end : EncodingEnd} {of_function : Bool} {x : Context} {p : Position}
+    no_params : {end : EncodingEnd} {of_function : Bool} {x : Context} {p : Position}
         → ParamsAs NoParams end of_function x p [] (skip 1 p) nothing
     -- <type>*
-    some_params :
-        {end : EncodingEnd} {of_function : Bool} {x : Context} {p q : Position} {ts : List Tree} {c : Cost}
+    some_params : {end : EncodingEnd} {of_function : Bool} {x : Context} {p q : Position} {ts : List Tree} {c : Cost}
         → TypesAs (types_case end of_function p.rest) end of_function x p ts q c
         → ParamsAs SomeParams end of_function x p ts q c
 
@@ -736,8 +648,7 @@ mutual
   pub data TypesAs : TypesCase → EncodingEnd → Bool → Context → Position → List Tree → Position → Cost
       → Type 0 where
     -- the end, which isn't taken
-    end_of_types :
-        {end : EncodingEnd} {of_function : Bool} {x : Context} {p : Position}
+    end_of_types : {end : EncodingEnd} {of_function : Bool} {x : Context} {p : Position}
         → TypesAs EndOfTypes end of_function x p [] p nothing
     -- <type>
     one_more_type :
@@ -750,12 +661,10 @@ mutual
   -- <template-args> after a type, or none
   pub data TypeAttachedAs : AttachedCase → Context → Tree → Position → Tree → Position → Cost → Type 0 where
     -- no <template-args>
-    none_attached_to_type :
-        {x : Context} {p : Position} {t : Tree}
+    none_attached_to_type : {x : Context} {p : Position} {t : Tree}
         → TypeAttachedAs NoneAttached x t p t p nothing
     -- <template-args>: the type with them is saved
-    args_attached_to_type :
-        {x : Context} {p q : Position} {t : Tree} {ts : List Tree} {c : Cost}
+    args_attached_to_type : {x : Context} {p q : Position} {t : Tree} {ts : List Tree} {c : Cost}
         → Args false x p ts q c
         → TypeAttachedAs ArgsAttached x t p (with_args t (trees ts))
         (save (with_args t (trees ts)) q) (both c (saving q))
@@ -767,8 +676,7 @@ Symbol x p = EncodingAs (symbol_case AfterName p.rest) AfterName x p
 -- what follows the prefix of a symbol, as a signature, which has its parameters too: an encoding up to where no ASCII
 -- letter, digit or underscore is next, counted
 pub data Signature : Context → Position → Tree → Position → Cost → Type 0 where
-  signature :
-      {x : Context} {p q : Position} {t : Tree} {c : Cost}
+  signature : {x : Context} {p q : Position} {t : Tree} {c : Cost}
       → EncodingAs (symbol_case AtSymbolEnd p.rest) AtSymbolEnd x p t q c
       → is_here AtSymbolEnd q.rest ≡ true
       → Signature x p t q (counted (length (printing t)) c)

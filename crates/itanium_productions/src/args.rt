@@ -156,7 +156,7 @@ pub(crate) fn framed_template_arg(
     ensures reads { Gives result reader.new
         (spec.parse_argument depth context (state reader.old)) }
     ensures kept { OnOk result (SameFrame reader.old.buffer.value reader.new.buffer.value) }
-    ensures main { OnOk result (main_bytes reader.new.buffer.value
+    ensures output { OnOk result (main_bytes reader.new.buffer.value
         ≡ main_bytes reader.old.buffer.value ++ text (shape reader.new.buffer.value reader.new.found)) }
     ensures bounds { TakesSome 2 result (state reader.old) (state reader.new) }
     ensures saved { SavedBounds 0 result (state reader.old) (state reader.new) }

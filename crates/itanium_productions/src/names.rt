@@ -24,9 +24,11 @@ use itanium_syntax::names::{
     first_case, free_case, name_case, name_quals, segment_case, unqualified_case, unscoped_case,
 };
 
-/// `<closure-type-name> ::= Ul <lambda-sig> E [<nonnegative number>] _`, after its `Ul`.
+/// `<closure-type-name> ::= Ul <lambda-sig> E [<nonnegative number>] _`, after its `Ul`. It is rare, and isn't inlined:
+/// so other names take less of the stack.
 #[tactic(auto, using(itanium_reader::proofs::Rules::parents))]
 #[cycle(reader)]
+#[inline(never)]
 pub(crate) fn read_closure_type_name(
     reader: &mut Reader,
     depth: usize,
@@ -61,7 +63,7 @@ pub(crate) fn read_free_name(
     ensures saved { SavedBounds 1 result (state reader.old) (state reader.new) }
 {
     match free_case(reader.rest) {
-        // Its callers read a source name themselves.
+        // No caller asks for a source name here: each reads it itself.
         FreeCase::SourceName => reader.read_source_name(),
         FreeCase::UnnamedTypeName => {
             reader.skip(2);
@@ -328,9 +330,10 @@ pub(crate) fn read_unscoped_name(
     }
 }
 
-/// `<name> ::= <nested-name> | <local-name> | <unscoped-name> | <unscoped-template-name> <template-args>`, within
-/// `depth` open productions. The own qualifiers of a bare name are left in `quals` for the caller. Those of any other
-/// are printed after it: a word as ` const` only where the context is `shown` or the name is local, a reference always.
+/// `<name> ::= <nested-name> | <local-name> | <unscoped-name> | <unscoped-template-name> <template-args>`, where
+/// `depth` more counted productions may nest. The own qualifiers of a bare name are left in `quals` for the caller.
+/// Those of any other name are printed after it: a word such as ` const` only if the context is `shown` or the name is
+/// local, a reference always.
 #[tactic(auto, using(crate::proofs::OwnQualifiers::names))]
 #[cycle(reader)]
 #[inline(always)]
@@ -389,7 +392,7 @@ pub(crate) fn framed_name(
     requires room { HasRoom 1 (state reader.old) }
     ensures reads { GivesName bare result reader.new depth context (state reader.old) }
     ensures kept { OnOk result (SameFrame reader.old.buffer.value reader.new.buffer.value) }
-    ensures main { OnOk result (main_bytes reader.new.buffer.value
+    ensures output { OnOk result (main_bytes reader.new.buffer.value
         ≡ main_bytes reader.old.buffer.value ++ text (shape reader.new.buffer.value reader.new.found)) }
     ensures bounds { TakesSome 1 result (state reader.old) (state reader.new) }
     ensures saved { SavedBounds 1 result (state reader.old) (state reader.new) }

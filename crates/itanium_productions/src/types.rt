@@ -167,9 +167,11 @@ pub(crate) fn read_pointer(
     Ok(())
 }
 
-/// `<class-enum-type> ::= Ts <name> | Tu <name> | Te <name>`
+/// `<class-enum-type> ::= Ts <name> | Tu <name> | Te <name>`. It is rare, and isn't inlined: so other types take less
+/// of the stack.
 #[tactic(auto, using(itanium_reader::proofs::Rules::words))]
 #[cycle(reader)]
+#[inline(never)]
 pub(crate) fn read_elaborated(
     reader: &mut Reader,
     depth: usize,
@@ -197,7 +199,7 @@ pub(crate) fn framed_type(reader: &mut Reader, depth: usize, context: Context) -
     requires room { HasRoom 2 (state reader.old) }
     ensures reads { Gives result reader.new (spec.parse_type depth context (state reader.old)) }
     ensures kept { OnOk result (SameFrame reader.old.buffer.value reader.new.buffer.value) }
-    ensures main { OnOk result (main_bytes reader.new.buffer.value
+    ensures output { OnOk result (main_bytes reader.new.buffer.value
         ≡ main_bytes reader.old.buffer.value ++ text (shape reader.new.buffer.value reader.new.found)) }
     ensures bounds { TakesSome 2 result (state reader.old) (state reader.new) }
     ensures saved { SavedBounds 0 result (state reader.old) (state reader.new) }

@@ -23,8 +23,8 @@ use itanium_syntax::scalar::source_name;
 use itanium_syntax::types::{builtin_text, past_builtin};
 use std::alloc::AllocError;
 
-/// The most bytes that a counted production of a symbol may print, also one that is dropped: a name, a type, an
-/// argument list, a pack, a thunk or an expression.
+/// The most bytes that a counted production of a symbol may print, also one whose text is dropped. Counted are names,
+/// types, argument lists, packs, thunks, expressions and signatures.
 pub const MAX_TEXT: usize = 1_048_576;
 
 /// The limit as a number of bytes.
@@ -37,9 +37,9 @@ pub fn text_limit() -> usize
     MAX_TEXT
 }
 
-/// A reader of mangled bytes. Each production has a function over it, or a method, that answers `Ok` where it was read:
-/// then `found` is the piece of its printing. It answers `Stop::Unread` where it isn't read, and `Stop::Memory` where
-/// memory is refused.
+/// A reader of mangled bytes. Each production has a function over it, or a method, that returns `Ok` if it was read:
+/// then `found` is the piece of its printing. It returns `Stop::Unread` if it isn't read, and `Stop::Memory` if an
+/// allocation fails.
 #[derive(Drop)]
 pub struct Reader<'a> {
     /// The bytes that aren't read yet.
@@ -112,7 +112,7 @@ impl<'a> Reader<'a> {
         ensures longer { OnOk result (length (saved self.new.buffer.value) ≡ length (saved self.old.buffer.value) + 1) }
         ensures most { OnOk result ((state self.new).most_saved
             ≡ max (state self.old).most_saved (length (saved self.old.buffer.value) + 1)) }
-        ensures main { main_bytes self.new.buffer.value ≡ main_bytes self.old.buffer.value }
+        ensures output { main_bytes self.new.buffer.value ≡ main_bytes self.old.buffer.value }
         ensures found { self.new.found ≡ self.old.found }
         ensures kept { OnOk result (SameFrame self.old.buffer.value self.new.buffer.value) }
     {
@@ -145,7 +145,7 @@ impl<'a> Reader<'a> {
         ensures quals { OnOk result (self.new.quals ≡ self.old.quals) }
         ensures entered { self.new.entered ≡ self.old.entered }
         ensures closed { OnOk result (Closes self.old.buffer.value self.new.buffer.value mark) }
-        ensures main { OnOk result (main_bytes self.new.buffer.value
+        ensures output { OnOk result (main_bytes self.new.buffer.value
             ≡ take (frame_start (inside mark)) (main_bytes self.old.buffer.value)
             ++ text (shape self.old.buffer.value self.old.found)) }
         ensures stands { OnOk result (Stands self.new.found (frame_start (inside mark))
@@ -164,7 +164,7 @@ impl<'a> Reader<'a> {
         ensures state { OnOk result (state self.new ≡ spec.save_unsaved unsaved
             (shape self.old.buffer.value self.old.found) (state self.old)) }
         ensures found { OnOk result (self.new.found ≡ self.old.found) }
-        ensures main { main_bytes self.new.buffer.value ≡ main_bytes self.old.buffer.value }
+        ensures output { main_bytes self.new.buffer.value ≡ main_bytes self.old.buffer.value }
         ensures kept { OnOk result (SameFrame self.old.buffer.value self.new.buffer.value) }
     {
         if unsaved {
@@ -363,7 +363,7 @@ impl<'a> Reader<'a> {
     /// first.
     #[inline(always)]
     pub fn separate(&mut self, first: bool) -> Result<(), AllocError>
-        ensures main { OnOk result (main_bytes self.new.buffer.value
+        ensures output { OnOk result (main_bytes self.new.buffer.value
             ≡ main_bytes self.old.buffer.value ++ separator first) }
         ensures state { OnOk result (state self.new ≡ state self.old) }
         ensures kept { OnOk result (SameFrame self.old.buffer.value self.new.buffer.value) }
@@ -398,7 +398,7 @@ impl<'a> Reader<'a> {
         ensures state { OnOk result (state self.new ≡ spec.add_argument opens n
             (shape self.old.buffer.value self.old.found) (state self.old)) }
         ensures stand { OnOk result (length (scopes self.new.buffer.value) ≡ n) }
-        ensures main { OnOk result (main_bytes self.new.buffer.value ≡ main_bytes self.old.buffer.value) }
+        ensures output { OnOk result (main_bytes self.new.buffer.value ≡ main_bytes self.old.buffer.value) }
         ensures found { OnOk result (self.new.found ≡ self.old.found) }
         ensures kept { OnOk result (SameFrame self.old.buffer.value self.new.buffer.value) }
     {

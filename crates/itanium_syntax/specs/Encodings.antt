@@ -8,15 +8,15 @@ use Rattle.itanium_syntax.specs.Cases.{NoSignature, SomeSignature, EntityCase, S
 use Rattle.itanium_syntax.specs.Cases.{DefaultArgumentEntity, NameEntity, NoEntity}
 
 -- an ASCII letter, a digit or an underscore is next
-abbrev pub begins_word : List ℕ → Bool
-begins_word bytes =
+abbrev pub begins_identifier : List ℕ → Bool
+begins_identifier bytes =
     begins_digit bytes || begins_between "A" "Z" bytes || begins (codes "_") bytes || begins_between "a" "z" bytes
 
 -- an encoding that ends so ends here: right after its name, at the E of the name around it, or where a symbol ends
 abbrev pub is_here : EncodingEnd → List ℕ → Bool
 is_here AfterName bytes = true
 is_here AtE bytes = begins (codes "E") bytes
-is_here AtSymbolEnd bytes = not (begins_word bytes)
+is_here AtSymbolEnd bytes = not (begins_identifier bytes)
 
 -- how the encoding of a thunk ends: that of a signature's thunk where the symbol ends, else right after its name
 abbrev pub of_thunk : EncodingEnd → EncodingEnd

@@ -1,11 +1,11 @@
-//! Three programs that try the libraries, in one: the first argument says which of them runs.
+//! Three programs that try the libraries, in one. The first argument says which of them runs:
 //!
-//! - `probes beginnings` asks the demangler symbols that were made to break it, and their beginnings.
-//! - `probes refusals` asks row after row, in each of which one allocation may fail.
+//! - `probes beginnings` demangles symbols that were made to break it, and their beginnings.
+//! - `probes refusals` demangles row after row, in each of which one allocation may fail.
 //! - `probes scripts` plays scripts of calls of a buffer.
 //!
-//! Each reads standard input; its module says what that has and what is written. Without such an argument nothing is
-//! read, and the status is 2.
+//! Each of them reads standard input; its module says what it reads and what it writes. If the argument is missing
+//! nothing is read, and the status is 2. It stands on `itanium_demangle`, `demangle_edit` and `filter_vectors`.
 #![tactic(auto)]
 
 mod beginnings;

@@ -1,5 +1,9 @@
-//! Copies lines from standard input to standard output. A line that is a mangled C++ symbol is written demangled, each
-//! other line as it is. It takes no arguments. After a fault it ends with status 1, and says on standard error which.
+//! Copies lines from standard input to standard output. A line that is a mangled C++ symbol is written demangled, and
+//! every other line as it is.
+//!
+//! It takes no arguments. After a fault it writes to standard error what failed, and ends with status 1.
+//!
+//! It stands on `symfilter_engine`, which does all the work.
 #![tactic(auto)]
 
 use std::process::ExitCode;

@@ -8,7 +8,7 @@ use Rattle.symfilter_engine.specs.declared.symbols.Symbols.{Symbols}
 use Rattle.symfilter_engine.specs.Fault.{IsRunOutcome}
 use Rattle.std.proofs.KnownBytes.{Consumes-nil, Consumes-trans, Consumes-kept, Keeps-refl}
 use Rattle.std.specs.Io.KnownBytes.{Consumes, IsAtEnd, Keeps}
-use Rattle.symfilter_engine.specs.Filtered.{WritesFiltered, WritesBeginning, FiltersFront, FiltersWholeLines}
+use Rattle.symfilter_engine.specs.Filtered.{WritesFiltered, WritesBeginning, FiltersFront, FiltersWhole}
 use Rattle.symfilter_engine.specs.Progress.{WritesLinesFront, WritesWholeLines, HasFiltered, HasCopied, ReadsMore}
 use Rattle.symfilter_engine.proofs.Chunks.{nothing_read}
 use Rattle.symfilter_engine.proofs.FilteredText.{none_filtered, filtered_begins, piece_filtered, piece_begins, next_unwritten, lines_before, WritesFiltered-append, WritesBeginning-append}
@@ -60,7 +60,7 @@ turn_fault symbols kept end n old new lines s s' s'' t t' t'' so_far more begins
     }
 
 -- whole lines of what was read were written
-pub copied_lines : (symbols : Symbols) (left : List ℕ) (s s' t t' : Option (List ℕ)) → HasCopied symbols left s s' t t' → FiltersWholeLines symbols s s' t t'
+pub copied_lines : (symbols : Symbols) (left : List ℕ) (s s' t t' : Option (List ℕ)) → HasCopied symbols left s s' t t' → FiltersWhole symbols s s' t t'
 copied_lines symbols left s s' t t' so_far =
     record {
       lines = so_far.filtered.lines;
@@ -74,7 +74,7 @@ copied_lines symbols left s s' t t' so_far =
 -- memory was refused for a line of the next piece
 pub turn_refused : (symbols : Symbols) (kept end n : ℕ) (old new lines : List ℕ) (s s' s'' t t' t'' : Option (List ℕ))
     → HasCopied symbols (take kept old) s s' t t' → ReadsMore kept end old new s' s'' → WritesWholeLines symbols lines t' t''
-    → lines ≡ take n (take end new) → FiltersWholeLines symbols s s'' t t''
+    → lines ≡ take n (take end new) → FiltersWhole symbols s s'' t t''
 turn_refused symbols kept end n old new lines s s' s'' t t' t'' so_far more (left, filtered) lines_are =
     let all : List ℕ = take end new in
     let rest : List ℕ = drop n all in
@@ -90,7 +90,7 @@ turn_refused symbols kept end n old new lines s s' s'' t t' t'' so_far more (lef
 
 -- memory was refused for the last line
 pub last_refused : (symbols : Symbols) (line : List ℕ) (s s' t t' t'' : Option (List ℕ))
-    → HasCopied symbols line s s' t t' → Keeps t' t'' → FiltersWholeLines symbols s s' t t''
+    → HasCopied symbols line s s' t t' → Keeps t' t'' → FiltersWhole symbols s s' t t''
 last_refused symbols line s s' t t' t'' so_far keeps =
     copied_lines symbols line s s' t t''
     (record {

@@ -9,7 +9,7 @@ use Rattle.std.specs.Io.KnownBytes.{Appends, Consumes, IsAtEnd, Keeps}
 use Rattle.std.specs.Prelude.{All}
 use Rattle.symfilter_engine.specs.declared.symbols.Symbols.TheVariants.{Words}
 use Rattle.symfilter_engine.specs.Replaced.{is_word_byte, IsWordByte, begins_word, ends_word, IsHeld, may_hold_symbol, IsReplaced, no_byte, other, one_word, no_symbol}
-use Rattle.symfilter_engine.specs.Filtered.{IsFront, FiltersFront, FiltersWholeLines, ReplacesAllButHeld, WritesBeginning, WritesFiltered}
+use Rattle.symfilter_engine.specs.Filtered.{IsFront, FiltersFront, FiltersWhole, ReplacesAllButHeld, WritesBeginning, WritesFiltered}
 use Rattle.symfilter_engine.specs.Progress.{GoesOn, HasCopiedWords, HasFiltered, HasReplaced, IsPastWord, IsReplacedIn, Leads, ReadsMore, ReplacesBeginning, ReplacesFront, ReplacesWhole, WritesFront, WritesLinesFront}
 use Rattle.symfilter_engine.proofs.Chunks.{nothing_read}
 use Rattle.symfilter_engine.proofs.Copying.{all_read}
@@ -360,7 +360,7 @@ turn_fault how inside kept end old new s s' s'' t t' t'' so_far more begins =
 
 -- whole words were written of what was read
 whole_words : (how : Replacement) (read left : List ℕ) (s s' t t' : Option (List ℕ)) → Consumes s s' read → HasReplaced how false read left false t t'
-    → FiltersWholeLines (Words how) s s' t t'
+    → FiltersWhole (Words how) s s' t t'
 whole_words how read left s s' t t' consumed replaced =
     let leads = replaced.leads in
     record {
@@ -379,7 +379,7 @@ whole_words how read left s s' t t' consumed replaced =
 -- memory was refused in it
 pub turn_refused : (how : Replacement) (inside : Bool) (kept end : ℕ) (old new : List ℕ) (s s' s'' t t' t'' : Option (List ℕ))
     → HasCopiedWords how inside (take kept old) s s' t t' → ReadsMore kept end old new s' s'' → ReplacesWhole how inside (take end new) t' t''
-    → FiltersWholeLines (Words how) s s'' t t''
+    → FiltersWhole (Words how) s s'' t t''
 turn_refused how inside kept end old new s s' s'' t t' t'' so_far more (left, replaced) =
     let all = read_on how inside (take kept old) more.piece (take end new) s s' s'' t t' so_far more.consumed more.held in
     let read : List ℕ = so_far.read ++ more.piece in
@@ -387,7 +387,7 @@ turn_refused how inside kept end old new s s' s'' t t' t'' so_far more (left, re
 
 -- memory was refused for more room
 pub read_refused : (how : Replacement) (inside : Bool) (kept : ℕ) (old : List ℕ) (s s' s'' t t' : Option (List ℕ)) → HasCopiedWords how inside (take kept old) s s' t t'
-    → Keeps s' s'' → kept ≡ length old → 0 < length old → FiltersWholeLines (Words how) s s'' t t'
+    → Keeps s' s'' → kept ≡ length old → 0 < length old → FiltersWhole (Words how) s s'' t t'
 read_refused how true kept old s s' s'' t t' so_far keeps full some =
     absurd (omega (arith, some, full, length-take-le kept old (omega (arith, full)), ap length (so_far.none refl)))
 read_refused how false kept old s s' s'' t t' so_far keeps full some =
@@ -497,7 +497,7 @@ last_fault how inside word s s' t t' t'' so_far (written, (text, is_replaced, is
 
 -- memory was refused for it
 pub last_refused : (how : Replacement) (inside : Bool) (word : List ℕ) (s s' t t' t'' : Option (List ℕ)) → HasCopiedWords how inside word s s' t t' → 0 < length word → Keeps t' t''
-    → FiltersWholeLines (Words how) s s' t t''
+    → FiltersWhole (Words how) s s' t t''
 last_refused how true word s s' t t' t'' so_far some keeps = absurd (omega (arith, some, ap length (so_far.none refl)))
 last_refused how false word s s' t t' t'' so_far some keeps =
     let replaced = so_far.replaced in

@@ -88,7 +88,7 @@ pub record FiltersFront (symbols : Symbols) (before after written_before written
 
 -- the source gave whole lines or words and then these bytes, where its bytes are known, and the sink got the filtered
 -- text of the former and nothing else
-pub record FiltersWholeLines (symbols : Symbols)
+pub record FiltersWhole (symbols : Symbols)
     (before after written_before written_after : Option (List ℕ)) : Type 0 where
   pub lines : List ℕ
   pub left : List ℕ

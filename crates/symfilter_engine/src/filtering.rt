@@ -4,7 +4,7 @@ ghost use Rattle.std.specs.Io.KnownBytes.{IsAtEnd, Keeps};
 ghost use Rattle.symfilter_engine.specs.declared.symbols.Printing.TheVariants.{Names};
 ghost use Rattle.symfilter_engine.specs.declared.symbols.Symbols.TheVariants.{Lines};
 ghost use Rattle.symfilter_engine.specs.Fault.{IsRunOutcome, IsReadOutcome};
-ghost use Rattle.symfilter_engine.specs.Filtered.{HasNoLineFeed, FiltersFront, FiltersLines, FiltersWholeLines, WritesFiltered};
+ghost use Rattle.symfilter_engine.specs.Filtered.{HasNoLineFeed, FiltersFront, FiltersLines, FiltersWhole, WritesFiltered};
 ghost use Rattle.symfilter_engine.specs.Progress.{HasCopied, ReadsMore};
 
 use super::ends::{Failed, Sink, Source};
@@ -56,7 +56,7 @@ pub fn filter<R: Source, W: Sink>(
         (W.taken sink.old) (W.taken sink.new) }
 
     // After a failed allocation whole lines have been written, and nothing of the next line.
-    ensures memory { IsErrOf result FilterFault.Memory → FiltersWholeLines (Lines Names)
+    ensures memory { IsErrOf result FilterFault.Memory → FiltersWhole (Lines Names)
         (R.remaining source.old) (R.remaining source.new)
         (W.taken sink.old) (W.taken sink.new) }
 {
@@ -102,7 +102,7 @@ pub fn filter_by<R: Source, W: Sink>(
         (W.taken sink.old) (W.taken sink.new) }
 
     // After a failed allocation whole lines have been written, and nothing of the next line.
-    ensures memory { IsErrOf result FilterFault.Memory → FiltersWholeLines (Lines printing)
+    ensures memory { IsErrOf result FilterFault.Memory → FiltersWhole (Lines printing)
         (R.remaining source.old) (R.remaining source.new)
         (W.taken sink.old) (W.taken sink.new) }
 {
@@ -133,7 +133,7 @@ fn filter_by_chunks<R: Source, W: Sink>(
     ensures put { IsErrOf result FilterFault.Read → FiltersLines (Lines printing)
         (R.remaining source.old) (R.remaining source.new)
         (W.taken sink.old) (W.taken sink.new) }
-    ensures memory { IsErrOf result FilterFault.Memory → FiltersWholeLines (Lines printing)
+    ensures memory { IsErrOf result FilterFault.Memory → FiltersWhole (Lines printing)
         (R.remaining source.old) (R.remaining source.new)
         (W.taken sink.old) (W.taken sink.new) }
 {
@@ -175,7 +175,7 @@ fn copy_lines<R: Source, W: Sink>(
     ensures put { IsErrOf result FilterFault.Read → FiltersLines (Lines printing)
         (R.remaining source.old) (R.remaining source.new)
         (W.taken sink.old) (W.taken sink.new) }
-    ensures memory { IsErrOf result FilterFault.Memory → FiltersWholeLines (Lines printing)
+    ensures memory { IsErrOf result FilterFault.Memory → FiltersWhole (Lines printing)
         (R.remaining source.old) (R.remaining source.new)
         (W.taken sink.old) (W.taken sink.new) }
 {

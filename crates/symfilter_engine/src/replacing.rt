@@ -3,7 +3,7 @@ ghost use Rattle.std.specs.Prelude.{◌≡◌, ◌<◌, ◌≤◌, ◌↔◌, Li
 ghost use Rattle.std.specs.Io.KnownBytes.{IsAtEnd};
 ghost use Rattle.symfilter_engine.specs.declared.symbols.Symbols.TheVariants.{Words};
 ghost use Rattle.symfilter_engine.specs.Fault.{IsRunOutcome, IsWriteOutcome};
-ghost use Rattle.symfilter_engine.specs.Filtered.{FiltersFront, FiltersWholeLines, ReplacesAllButHeld, WritesFiltered};
+ghost use Rattle.symfilter_engine.specs.Filtered.{FiltersFront, FiltersWhole, ReplacesAllButHeld, WritesFiltered};
 ghost use Rattle.symfilter_engine.specs.Progress.{CopiesWords, HasReplaced, IsPastWord, ReplacesFront, ReplacesWhole};
 ghost use Rattle.symfilter_engine.specs.Replaced.{IsHeld, IsWordByte};
 
@@ -61,7 +61,7 @@ pub fn replace<R: Source, W: Sink>(
         (W.taken sink.old) (W.taken sink.new) }
 
     // After a failed allocation whole words have been written, and nothing of the next word.
-    ensures memory { IsErrOf result FilterFault.Memory → FiltersWholeLines (Words how)
+    ensures memory { IsErrOf result FilterFault.Memory → FiltersWhole (Words how)
         (R.remaining source.old) (R.remaining source.new)
         (W.taken sink.old) (W.taken sink.new) }
 {
@@ -93,7 +93,7 @@ fn replace_by_chunks<R: Source, W: Sink>(
     ensures put { IsErrOf result FilterFault.Read → ReplacesAllButHeld how
         (R.remaining source.old) (R.remaining source.new)
         (W.taken sink.old) (W.taken sink.new) }
-    ensures memory { IsErrOf result FilterFault.Memory → FiltersWholeLines (Words how)
+    ensures memory { IsErrOf result FilterFault.Memory → FiltersWhole (Words how)
         (R.remaining source.old) (R.remaining source.new)
         (W.taken sink.old) (W.taken sink.new) }
 {
@@ -135,7 +135,7 @@ fn copy_words<R: Source, W: Sink>(
     ensures put { IsErrOf result FilterFault.Read → ReplacesAllButHeld how
         (R.remaining source.old) (R.remaining source.new)
         (W.taken sink.old) (W.taken sink.new) }
-    ensures memory { IsErrOf result FilterFault.Memory → FiltersWholeLines (Words how)
+    ensures memory { IsErrOf result FilterFault.Memory → FiltersWhole (Words how)
         (R.remaining source.old) (R.remaining source.new)
         (W.taken sink.old) (W.taken sink.new) }
 {

@@ -87,10 +87,10 @@ args::read_template_args-returns-then-len-widest-2-clause-reads t c =
     let new = c.add_argument.new.self.buffer.value in
     let next = shape framed.buffer.value framed.found in
     let kept = (c.in_ok-separate-in-NextArgument.ensures {u = tt}).kept in
-    let one = text_after-more old separated list (separator c.loop-reader.first) so_far.begun.living so_far.inner (c.in_ok-separate-in-NextArgument.ensures {u = tt}).main in
+    let one = text_after-more old separated list (separator c.loop-reader.first) so_far.begun.living so_far.inner (c.in_ok-separate-in-NextArgument.ensures {u = tt}).output in
     let two = text_after-more separated framed.buffer.value list (text next) (kept.pieces list so_far.begun.living).living
-    (IsInner-same old separated list so_far.inner kept) (c.in_ok-framed_template_arg-in-NextArgument.ensures {u = tt}).main in
-    let three = text_after-same framed.buffer.value new list (c.in_ok-add_argument-in-NextArgument.ensures {u = tt}).main in
+    (IsInner-same old separated list so_far.inner kept) (c.in_ok-framed_template_arg-in-NextArgument.ensures {u = tt}).output in
+    let three = text_after-same framed.buffer.value new list (c.in_ok-add_argument-in-NextArgument.ensures {u = tt}).output in
     let longer : text_after new list ≡ (text_after old list ++ separator c.loop-reader.first) ++ text next =
     three ∙ two ∙ ap (λ (v : List ℕ). v ++ text next) one in
     let begun = Lives-same _ _ _ _ (c.in_ok-add_argument-in-NextArgument.ensures {u = tt}).kept
@@ -122,10 +122,10 @@ args::read_template_args-loop-reader-preserved t c =
     let new = c.add_argument.new.self.buffer.value in
     let next = shape framed.buffer.value framed.found in
     let kept = (c.in_ok-separate-in-NextArgument.ensures {u = tt}).kept in
-    let one = text_after-more old separated list (separator c.loop-reader.first) so_far.begun.living so_far.inner (c.in_ok-separate-in-NextArgument.ensures {u = tt}).main in
+    let one = text_after-more old separated list (separator c.loop-reader.first) so_far.begun.living so_far.inner (c.in_ok-separate-in-NextArgument.ensures {u = tt}).output in
     let two = text_after-more separated framed.buffer.value list (text next) (kept.pieces list so_far.begun.living).living
-    (IsInner-same old separated list so_far.inner kept) (c.in_ok-framed_template_arg-in-NextArgument.ensures {u = tt}).main in
-    let three = text_after-same framed.buffer.value new list (c.in_ok-add_argument-in-NextArgument.ensures {u = tt}).main in
+    (IsInner-same old separated list so_far.inner kept) (c.in_ok-framed_template_arg-in-NextArgument.ensures {u = tt}).output in
+    let three = text_after-same framed.buffer.value new list (c.in_ok-add_argument-in-NextArgument.ensures {u = tt}).output in
     let longer : text_after new list ≡ (text_after old list ++ separator c.loop-reader.first) ++ text next =
     three ∙ two ∙ ap (λ (v : List ℕ). v ++ text next) one in
     let begun = Lives-same _ _ _ _ (c.in_ok-add_argument-in-NextArgument.ensures {u = tt}).kept
@@ -470,9 +470,9 @@ pub specials::read_thunk-print_worded-requires-clause-after : goal.specials::rea
 specials::read_thunk-print_worded-requires-clause-after t c =
     let opened = c.open_thunk.new.self in
     let symbol = c.close_found.new.self in
-    let main : main_bytes symbol.buffer.value ≡ main_bytes opened.buffer.value ++ text (shape symbol.buffer.value symbol.found) = search (rules, runs) in
+    let output : main_bytes symbol.buffer.value ≡ main_bytes opened.buffer.value ++ text (shape symbol.buffer.value symbol.found) = search (rules, runs) in
     let words = c.in_ok-open_thunk.ensures {u = tt} in
-    text_after-follows opened.buffer.value symbol.buffer.value opened.found _ words.reads.0 words.last main
+    text_after-follows opened.buffer.value symbol.buffer.value opened.found _ words.reads.0 words.last output
 
 pub specials::read_thunk-returns-clause-run : goal.specials::read_thunk-returns-clause-run
 specials::read_thunk-returns-clause-run t c =
@@ -498,13 +498,13 @@ pub expressions::read_pre-print_worded-requires-clause-after : goal.expressions:
 expressions::read_pre-print_worded-requires-clause-after t c =
     let front = c.in_ok-front.ensures {u = tt} in
     text_after-follows c.push.new.self c.framed_expression.new.reader.buffer.value c.in_ok-front.front _ front.shape.living
-    (IsLast-push _ _ _ front.kept front.mark front.stands) (c.in_ok-framed_expression.ensures {u = tt}).main
+    (IsLast-push _ _ _ front.kept front.mark front.stands) (c.in_ok-framed_expression.ensures {u = tt}).output
 
 pub expressions::read_unary-print_worded-requires-clause-after : goal.expressions::read_unary-print_worded-requires-clause-after
 expressions::read_unary-print_worded-requires-clause-after t c =
     let front = c.in_ok-front.ensures {u = tt} in
     text_after-follows c.push.new.self c.framed_operand.new.reader.buffer.value c.in_ok-front.front _ front.shape.living
-    (IsLast-push _ _ _ front.kept front.mark front.stands) (c.in_ok-framed_operand.ensures {u = tt}).main
+    (IsLast-push _ _ _ front.kept front.mark front.stands) (c.in_ok-framed_operand.ensures {u = tt}).output
 
 -- a construction vtable, part by part
 construction_read : (type : spec.Parses Shape) (s : spec.ParserState) {first second found : Shape} {mid after : spec.ParserState} {rest : List ℕ} → type (spec.skip 2 s) ≡ Some (first, mid)
@@ -533,7 +533,7 @@ specials::read_construction-returns-clause-reads t c =
     let class_is : shape b one.found ≡ class = (base_read.kept.pieces one.found first_kept.living).shape_is ∙ first_kept.shape_is in
     let words : shape b begun ≡ plain_shape word = (base_read.kept.pieces begun push.shape.living).shape_is ∙ push.shape.shape_is in
     let after : text_after b begun ≡ text base =
-    text_after-follows pushed b begun _ push.shape.living (IsLast-push _ _ _ push.kept push.mark push.stands) base_read.main in
+    text_after-follows pushed b begun _ push.shape.living (IsLast-push _ _ _ push.kept push.mark push.stands) base_read.output in
     let taken : shape b whole ≡ appended (text_after b begun) (shape b begun) =
     subst (λ (s : Buffer). shape s whole ≡ appended (text_after s begun) (shape s begun)) c.deref.ensures c.up_to_end-whole.ensures.shape.shape_is in
     let printed : text (shape b whole) ≡ word ++ text base =

@@ -4,7 +4,7 @@ use Rattle.demangle_edit.proofs.expressions.push_float.Goals as goal
 -- what is pushed grows at the end
 pub returns-clause-appends : goal.returns-clause-appends
 returns-clause-appends c =
-    let pushed = Appends-push c.args.buf.now c.push.new.self c.in_ok-signed.signed c.sign_bytes.result.now c.push.ensures.mark c.in_ok-signed.ensures.main c.in_ok-signed.ensures.stands in
+    let pushed = Appends-push c.args.buf.now c.push.new.self c.in_ok-signed.signed c.sign_bytes.result.now c.push.ensures.mark c.in_ok-signed.ensures.output c.in_ok-signed.ensures.stands in
     let at_signed = IsEdit-keeps _ _ c.push.ensures.kept in
     let at_opened = IsEdit-trans _ _ _ at_signed c.in_ok-opened.ensures.edit in
     let at_filled = IsEdit-trans _ _ _ at_opened c.in_ok-filled.ensures.edit in

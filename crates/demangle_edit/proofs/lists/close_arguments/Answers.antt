@@ -27,7 +27,7 @@ returns-clause-shape c =
     ∙ ap (λ (v : List ℕ). ends_with nat_eq v (codes ">")) (sym (appended_text more s)) in
     let tested : end ≡ end_at (ends_with nat_eq (main_bytes old) (codes ">")) = search rules in
     let end_is : end ≡ end_at (ends_with nat_eq (text (appended more s)) (codes ">")) = tested ∙ ap end_at last in
-    let after : text_after new list ≡ more ++ end = text_after-more old new list end c.requires.list inner c.in_ok-push.ensures.main in
+    let after : text_after new list ≡ more ++ end = text_after-more old new list end c.requires.list inner c.in_ok-push.ensures.output in
     let same = (c.in_ok-push.ensures.kept.pieces list c.requires.list).shape_is in
     let is : appended (text_after new list) (shape new list) ≡ arguments_closed (appended more s) =
     ap (λ (t : Shape). appended (text_after new list) t) same ∙ ap (λ (v : List ℕ). appended v s) after

@@ -3,14 +3,14 @@ use Rattle.std.proofs.lemmas.List.{length-set, get_or_default}
 use Rattle.std.proofs.lemmas.List.Elements.{AllWithin-more, AllWithin-more_set}
 use Rattle.demangle_text.specs.declared.shape.Piece.{Piece}
 use Rattle.demangle_text.specs.Pieces.{IsApart, IsPiece, Extends, shape_in}
-use Rattle.demangle_text.proofs.States.{IsPiece-aside, shape-aside, replaced_lie, replaced_shapes, Extends-trans}
+use Rattle.demangle_text.proofs.States.{IsPiece-spilled, shape-spilled, replaced_lie, replaced_shapes, Extends-trans}
 use Rattle.demangle_text.proofs.Reaches.{within-apart}
 use Rattle.demangle_text.proofs.moves.evict.Goals as goal
 use Rattle.demangle_text.proofs.moves.evict.Goals.{then-is_torn+in_ok-add, else-is_torn}
 
 pub loop-i-init : goal.loop-i-init
 loop-i-init c = record {
-  side = search rules;
+  spill = search rules;
   lie = c.requires.lie;
   shapes = refl;
   long = refl;
@@ -22,8 +22,8 @@ set-requires-clause-ends c = λ end h home. absurd (cc)
 
 pub loop-i-preserved : goal.loop-i-preserved
 loop-i-preserved c =
-    let main = c.args.main.now in
-    let side = c.loop-i.side in
+    let output = c.args.output.now in
+    let spill = c.loop-i.spill in
     let ps = c.loop-i.pieces in
     let i = c.loop-i.i in
     let so_far = c.loop-i.invariant in
@@ -37,22 +37,22 @@ loop-i-preserved c =
           let added = w.in_ok-add.ensures.ok in
           let from = w.len-from.result in
           let to = w.len.result in
-          let q : Piece = record p { from_byte = from; to_byte = to; aside = true } in
+          let q : Piece = record p { from_byte = from; to_byte = to; spilled = true } in
           let home = c.is_torn.ensures.torn w.if-is_torn.true in
-          let here = subst (IsPiece main side) (sym is) (so_far.lie i p there) in
-          let e : Extends side new = record { more = slice_range main p.from_byte p.to_byte; all = added } in
-          let same = shape-aside main side new p from to here home added w.len-from.ensures.value w.len.ensures.value in
-          rw (w.side-is, w.pieces-is, w.set.ensures.value) (record {
-            side = Extends-trans _ _ _ so_far.side e;
-            lie = replaced_lie main side new ps i q q e so_far.lie (IsPiece-aside main side new p from to here home added w.len-from.ensures.value w.len.ensures.value);
-            shapes = replaced_shapes main side new ps i p q there e so_far.lie (same ∙ ap (shape_in main side) is) ∙ so_far.shapes;
+          let here = subst (IsPiece output spill) (sym is) (so_far.lie i p there) in
+          let e : Extends spill new = record { more = slice_range output p.from_byte p.to_byte; all = added } in
+          let same = shape-spilled output spill new p from to here home added w.len-from.ensures.value w.len.ensures.value in
+          rw (w.spill-is, w.pieces-is, w.set.ensures.value) (record {
+            spill = Extends-trans _ _ _ so_far.spill e;
+            lie = replaced_lie output spill new ps i q q e so_far.lie (IsPiece-spilled output spill new p from to here home added w.len-from.ensures.value w.len.ensures.value);
+            shapes = replaced_shapes output spill new ps i p q there e so_far.lie (same ∙ ap (shape_in output spill) is) ∙ so_far.shapes;
             long = length-set ps i q ∙ so_far.long;
             apart = AllWithin-more_set ps i q there apart so_far.apart (λ h above. let no : ⊥ = cc in absurd no);
           })
       | else-is_torn w ↦
           let stays = c.is_torn.ensures.apart w.if-is_torn.false in
-          rw (w.side-is, w.pieces-is) (record {
-            side = so_far.side;
+          rw (w.spill-is, w.pieces-is) (record {
+            spill = so_far.spill;
             lie = so_far.lie;
             shapes = so_far.shapes;
             long = so_far.long;

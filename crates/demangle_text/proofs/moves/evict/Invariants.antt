@@ -5,9 +5,9 @@ use Rattle.demangle_text.proofs.moves.evict.Given as goal
 
 abbrev pub invariant-loop-i : goal.invariant-loop-i
 invariant-loop-i l = record {
-  side : Extends l.fn.side l.side;
-  lie : All (IsPiece l.main l.side) l.pieces;
-  shapes : map (shape_in l.main l.side) l.pieces ≡ map (shape_in l.fn.main l.fn.side) l.fn.pieces;
+  spill : Extends l.fn.spill l.spill;
+  lie : All (IsPiece l.output l.spill) l.pieces;
+  shapes : map (shape_in l.output l.spill) l.pieces ≡ map (shape_in l.fn.output l.fn.spill) l.fn.pieces;
   long : length l.pieces ≡ length l.fn.pieces;
   apart : AllWithin (IsApart l.block.low l.block.from l.block.end) l.pieces 0 l.i;
 }

@@ -17,6 +17,6 @@ pub returns-clause-shape : goal.returns-clause-shape
 unfolding IsLiving shape main_bytes Stands frame_start frame outermost IsOlder IsAsOld inside outside saved scopes
 returns-clause-shape c = grind (arith, common_steps)
 
-pub returns-clause-main : goal.returns-clause-main
+pub returns-clause-output : goal.returns-clause-output
 unfolding IsLiving shape main_bytes Stands frame_start frame outermost IsOlder IsAsOld inside outside saved scopes
-returns-clause-main c = grind (arith, states)
+returns-clause-output c = grind (arith, states)

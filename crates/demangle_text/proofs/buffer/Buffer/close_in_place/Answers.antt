@@ -6,20 +6,20 @@ use Rattle.demangle_text.proofs.States.{text_is, Closes-edit}
 use Rattle.demangle_text.proofs.Tails.{Lives-kept_only}
 use Rattle.demangle_text.proofs.buffer.Buffer.close_in_place.Goals as goal
 
-pub returns-clause-main : goal.returns-clause-main
+pub returns-clause-output : goal.returns-clause-output
 unfolding main_bytes frame_start inside Frame
-returns-clause-main c =
-    ap (λ (b : Store). b.output_text) c.self.view_is ∙ c.in_ok-keep_only.ensures.main
+returns-clause-output c =
+    ap (λ (b : Store). b.output_text) c.self.view_is ∙ c.in_ok-keep_only.ensures.output
     ∙ ap (λ (v : List ℕ). take c.args.mark.inside_main c.args.self.now.output_text ++ v) (sym (text_is c.args.self.now c.args.piece.now c.requires.living))
 
 pub returns-clause-shape : goal.returns-clause-shape
 returns-clause-shape c =
     let at = c.args.mark.inside_main in
-    let main = ap (λ (b : Store). b.output_text) c.self.view_is in
+    let output = ap (λ (b : Store). b.output_text) c.self.view_is in
     let q = c.keep_only.new.piece in
     Lives-kept_only c.args.self.now _ c.args.piece.now q at c.requires.living c.in_ok-keep_only.ensures.within
-    (main ∙ c.in_ok-keep_only.ensures.main)
-    (subst (IsAt q at) (sym (ap length main)) c.in_ok-keep_only.ensures.stands) c.in_ok-keep_only.ensures.outline
+    (output ∙ c.in_ok-keep_only.ensures.output)
+    (subst (IsAt q at) (sym (ap length output)) c.in_ok-keep_only.ensures.stands) c.in_ok-keep_only.ensures.outline
 
 pub returns-clause-closed : goal.returns-clause-closed
 returns-clause-closed c =

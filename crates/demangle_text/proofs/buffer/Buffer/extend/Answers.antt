@@ -14,15 +14,15 @@ use Rattle.demangle_text.proofs.buffer.Buffer.extend.Goals as goal
 pub returns-in_err-taken_back-clause-err : goal.returns-in_err-taken_back-clause-err
 returns-in_err-taken_back-clause-err c =
     let s = store_of c.self.inside in
-    let mid = c.at_end.new.main in
+    let mid = c.at_end.new.output in
     let done = c.add-added.new.self in
     let failed : done ≡ mid = subst (λ r. OnErr r (done ≡ mid)) (sym c.in_err-taken_back.ensures.same) c.add-added.ensures.err in
     on_err_from c.from_residual-in_err-taken_back.result (rw (← c.self.view_is)
-    (KeepsAll-left s mid done c.taken_back.new.main c.len-len.result c.len-len.ensures.value c.in_ok-from.ensures.brought.longer failed c.in_err-taken_back.ensures.err))
+    (KeepsAll-left s mid done c.taken_back.new.output c.len-len.result c.len-len.ensures.value c.in_ok-from.ensures.brought.longer failed c.in_err-taken_back.ensures.err))
 
 pub invariant_of-self-2 : goal.invariant_of-self-2
 invariant_of-self-2 c =
-    let mid = c.at_end.new.main in
+    let mid = c.at_end.new.output in
     let more = c.args.bytes.now in
     let done = c.add-added.new.self in
     let is = c.in_ok-taken_back.ensures.ok ∙ subst (λ r. OnOk r (done ≡ mid ++ more)) (sym c.in_ok-taken_back.ensures.same) c.add-added.ensures.ok in
@@ -30,7 +30,7 @@ invariant_of-self-2 c =
 
 pub returns-clause-edit : goal.returns-clause-edit
 returns-clause-edit c =
-    let mid = c.at_end.new.main in
+    let mid = c.at_end.new.output in
     let more = c.args.bytes.now in
     let done = c.add-added.new.self in
     let is = c.in_ok-taken_back.ensures.ok ∙ subst (λ r. OnOk r (done ≡ mid ++ more)) (sym c.in_ok-taken_back.ensures.same) c.add-added.ensures.ok in
@@ -40,13 +40,13 @@ pub returns-clause-splice : goal.returns-clause-splice
 returns-clause-splice c =
     let s = store_of c.self.inside in
     let p = c.args.piece in
-    let mid = c.at_end.new.main in
+    let mid = c.at_end.new.output in
     let more = c.args.bytes.now in
     let done = c.add-added.new.self in
     let is = c.in_ok-taken_back.ensures.ok ∙ subst (λ r. OnOk r (done ≡ mid ++ more)) (sym c.in_ok-taken_back.ensures.same) c.add-added.ensures.ok in
     let lies = subst (λ (b : Store). IsLiving b p) (sym c.self.view_is) c.requires.living in
     let brought = c.in_ok-from.ensures.brought in
-    rw (← c.self.view_is) (IsSplice-extended s (record s { output_text = c.taken_back.new.main }) p mid more c.in_ok-from.from lies brought is)
+    rw (← c.self.view_is) (IsSplice-extended s (record s { output_text = c.taken_back.new.output }) p mid more c.in_ok-from.from lies brought is)
 
 pub at_end-requires-clause-ordered : goal.at_end-requires-clause-ordered
 unfolding IsLiving shape main_bytes Stands frame_start frame outermost IsOlder IsAsOld inside outside saved scopes

@@ -14,68 +14,68 @@ use Rattle.demangle_text.proofs.buffer.Buffer.extend_by.Goals as goal
 pub returns-in_err-taken_back-clause-err : goal.returns-in_err-taken_back-clause-err
 returns-in_err-taken_back-clause-err c =
     let s = store_of c.self.inside in
-    let mid = c.at_end.new.main in
+    let mid = c.at_end.new.output in
     let done = c.add-added.new.self in
     let failed : done ≡ mid = subst (λ r. OnErr r (done ≡ mid)) (sym c.in_err-taken_back.ensures.same) c.add-added.ensures.err in
     on_err_from c.from_residual-in_err-taken_back.result (rw (← c.self.view_is)
-    (KeepsAll-left s mid done c.taken_back.new.main c.len-len.result c.len-len.ensures.value c.in_ok-from.ensures.brought.longer failed c.in_err-taken_back.ensures.err))
+    (KeepsAll-left s mid done c.taken_back.new.output c.len-len.result c.len-len.ensures.value c.in_ok-from.ensures.brought.longer failed c.in_err-taken_back.ensures.err))
 
 pub returns-in_err-taken_back-2-clause-err : goal.returns-in_err-taken_back-2-clause-err
 returns-in_err-taken_back-2-clause-err c =
     let s = store_of c.self.inside in
-    let mid = c.at_end.new.main in
+    let mid = c.at_end.new.output in
     let bytes = c.args.bytes.now in
     let longer = c.in_ok-from.ensures.brought.longer in
     let one = c.in_ok-taken_back.ensures.ok ∙ subst (λ r. OnOk r (c.add-added.new.self ≡ mid ++ bytes)) (sym c.in_ok-taken_back.ensures.same) c.add-added.ensures.ok in
-    let mid2 = c.taken_back.new.main in
-    let done = c.add_text-added.new.main in
+    let mid2 = c.taken_back.new.output in
+    let done = c.add_text-added.new.output in
     let failed : done ≡ mid2 = subst (λ r. OnErr r (done ≡ mid2)) (sym c.in_err-taken_back-2.ensures.same) c.add_text-added.ensures.err in
     on_err_from c.from_residual-in_err-taken_back-2.result (rw (← c.self.view_is)
-    (KeepsAll-left s mid2 done c.taken_back-2.new.main c.len-len.result c.len-len.ensures.value
+    (KeepsAll-left s mid2 done c.taken_back-2.new.output c.len-len.result c.len-len.ensures.value
     (Extends-more s.output_text mid mid2 bytes longer one) failed c.in_err-taken_back-2.ensures.err))
 
 pub invariant_of-self-2 : goal.invariant_of-self-2
 invariant_of-self-2 c =
     let s = store_of c.self.inside in
-    let mid = c.at_end.new.main in
+    let mid = c.at_end.new.output in
     let bytes = c.args.bytes.now in
     let longer = c.in_ok-from.ensures.brought.longer in
     let one = c.in_ok-taken_back.ensures.ok ∙ subst (λ r. OnOk r (c.add-added.new.self ≡ mid ++ bytes)) (sym c.in_ok-taken_back.ensures.same) c.add-added.ensures.ok in
     let two = c.in_ok-taken_back-2.ensures.ok
-    ∙ subst (λ r. OnOk r (c.add_text-added.new.main ≡ c.taken_back.new.main ++ piece_text c.taken_back.new.main s.spill_text c.args.other))
+    ∙ subst (λ r. OnOk r (c.add_text-added.new.output ≡ c.taken_back.new.output ++ piece_text c.taken_back.new.output s.spill_text c.args.other))
     (sym c.in_ok-taken_back-2.ensures.same) c.add_text-added.ensures.ok in
     let lies = subst (λ (b : Store). IsLiving b c.args.other) (sym c.self.view_is) c.requires.other_living in
-    let is = both-added s mid bytes c.taken_back.new.main c.taken_back-2.new.main c.args.other lies longer one two in
+    let is = both-added s mid bytes c.taken_back.new.output c.taken_back-2.new.output c.args.other lies longer one two in
     IsStore-extended s mid _ _ c.self.invariant longer is
 
 pub returns-clause-edit : goal.returns-clause-edit
 returns-clause-edit c =
     let s = store_of c.self.inside in
-    let mid = c.at_end.new.main in
+    let mid = c.at_end.new.output in
     let bytes = c.args.bytes.now in
     let longer = c.in_ok-from.ensures.brought.longer in
     let one = c.in_ok-taken_back.ensures.ok ∙ subst (λ r. OnOk r (c.add-added.new.self ≡ mid ++ bytes)) (sym c.in_ok-taken_back.ensures.same) c.add-added.ensures.ok in
     let two = c.in_ok-taken_back-2.ensures.ok
-    ∙ subst (λ r. OnOk r (c.add_text-added.new.main ≡ c.taken_back.new.main ++ piece_text c.taken_back.new.main s.spill_text c.args.other))
+    ∙ subst (λ r. OnOk r (c.add_text-added.new.output ≡ c.taken_back.new.output ++ piece_text c.taken_back.new.output s.spill_text c.args.other))
     (sym c.in_ok-taken_back-2.ensures.same) c.add_text-added.ensures.ok in
     let lies = subst (λ (b : Store). IsLiving b c.args.other) (sym c.self.view_is) c.requires.other_living in
-    let is = both-added s mid bytes c.taken_back.new.main c.taken_back-2.new.main c.args.other lies longer one two in
+    let is = both-added s mid bytes c.taken_back.new.output c.taken_back-2.new.output c.args.other lies longer one two in
     rw (← c.self.view_is) (IsEdit-extended s mid _ _ c.self.invariant longer is)
 
 pub returns-clause-splice : goal.returns-clause-splice
 returns-clause-splice c =
     let s = store_of c.self.inside in
-    let mid = c.at_end.new.main in
+    let mid = c.at_end.new.output in
     let bytes = c.args.bytes.now in
     let longer = c.in_ok-from.ensures.brought.longer in
     let one = c.in_ok-taken_back.ensures.ok ∙ subst (λ r. OnOk r (c.add-added.new.self ≡ mid ++ bytes)) (sym c.in_ok-taken_back.ensures.same) c.add-added.ensures.ok in
     let two = c.in_ok-taken_back-2.ensures.ok
-    ∙ subst (λ r. OnOk r (c.add_text-added.new.main ≡ c.taken_back.new.main ++ piece_text c.taken_back.new.main s.spill_text c.args.other))
+    ∙ subst (λ r. OnOk r (c.add_text-added.new.output ≡ c.taken_back.new.output ++ piece_text c.taken_back.new.output s.spill_text c.args.other))
     (sym c.in_ok-taken_back-2.ensures.same) c.add_text-added.ensures.ok in
     let lies = subst (λ (b : Store). IsLiving b c.args.other) (sym c.self.view_is) c.requires.other_living in
-    let is = both-added s mid bytes c.taken_back.new.main c.taken_back-2.new.main c.args.other lies longer one two in
+    let is = both-added s mid bytes c.taken_back.new.output c.taken_back-2.new.output c.args.other lies longer one two in
     let brought = subst (λ (b : Store). IsLiving b c.args.piece) (sym c.self.view_is) c.requires.living in
-    rw (← c.self.view_is) (IsSplice-extended s (record s { output_text = c.taken_back-2.new.main }) c.args.piece mid _ c.in_ok-from.from brought c.in_ok-from.ensures.brought is)
+    rw (← c.self.view_is) (IsSplice-extended s (record s { output_text = c.taken_back-2.new.output }) c.args.piece mid _ c.in_ok-from.from brought c.in_ok-from.ensures.brought is)
 
 pub invariant_of-self : goal.invariant_of-self
 unfolding IsLiving shape main_bytes Stands frame_start frame outermost IsOlder IsAsOld inside outside saved scopes

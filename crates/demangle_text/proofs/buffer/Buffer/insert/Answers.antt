@@ -20,7 +20,7 @@ put-requires c =
     let bytes = c.args.bytes.now in
     let k = length bytes in
     let o = IsOpen-same b (store_of c.self.inside) _ p at k from c.self.view_is c.in_ok-from.ensures.opened in
-    let n = length-gap o.main c.self.inside.main (from + at) k o.within o.room in
+    let n = length-gap o.output c.self.inside.output (from + at) k o.within o.room in
     record { within = omega (arith, n, o.within) }
 
 pub with_bytes-requires-clause-own_fits : goal.with_bytes-requires-clause-own_fits
@@ -32,8 +32,8 @@ with_bytes-requires-clause-own_fits c =
     let bytes = c.args.bytes.now in
     let k = length bytes in
     let o = IsOpen-same b (store_of c.self.inside) _ p at k from c.self.view_is c.in_ok-from.ensures.opened in
-    let main = one-put o.main c.self.inside.main bytes c.put.new.self (from + at) o.within o.room c.put.ensures.value in
-    let splice = IsSplice-put b (store_of c.self.inside) p at k from o bytes c.put.new.self refl main in
+    let output = one-put o.output c.self.inside.output bytes c.put.new.self (from + at) o.within o.room c.put.ensures.value in
+    let splice = IsSplice-put b (store_of c.self.inside) p at k from o bytes c.put.new.self refl output in
     let fits = own-fits b _ p at bytes from c.requires.living splice in
     omega (arith, fits, c.len.ensures.value, c.len.type_inv)
 
@@ -46,8 +46,8 @@ with_bytes-requires-clause-layout_fits c =
     let bytes = c.args.bytes.now in
     let k = length bytes in
     let o = IsOpen-same b (store_of c.self.inside) _ p at k from c.self.view_is c.in_ok-from.ensures.opened in
-    let main = one-put o.main c.self.inside.main bytes c.put.new.self (from + at) o.within o.room c.put.ensures.value in
-    let splice = IsSplice-put b (store_of c.self.inside) p at k from o bytes c.put.new.self refl main in
+    let output = one-put o.output c.self.inside.output bytes c.put.new.self (from + at) o.within o.room c.put.ensures.value in
+    let splice = IsSplice-put b (store_of c.self.inside) p at k from o bytes c.put.new.self refl output in
     let fits = layout-fits b _ p at bytes from c.requires.living splice in
     omega (arith, fits, c.len.ensures.value, c.len.type_inv)
 
@@ -60,8 +60,8 @@ invariant_of-self c =
     let bytes = c.args.bytes.now in
     let k = length bytes in
     let o = IsOpen-same b (store_of c.self.inside) _ p at k from c.self.view_is c.in_ok-from.ensures.opened in
-    let main = one-put o.main c.self.inside.main bytes c.put.new.self (from + at) o.within o.room c.put.ensures.value in
-    IsStore-put b (store_of c.self.inside) p at k from o bytes c.put.new.self refl main
+    let output = one-put o.output c.self.inside.output bytes c.put.new.self (from + at) o.within o.room c.put.ensures.value in
+    IsStore-put b (store_of c.self.inside) p at k from o bytes c.put.new.self refl output
 
 pub returns-clause-edit : goal.returns-clause-edit
 returns-clause-edit c =
@@ -72,8 +72,8 @@ returns-clause-edit c =
     let bytes = c.args.bytes.now in
     let k = length bytes in
     let o = IsOpen-same b (store_of c.self.inside) _ p at k from c.self.view_is c.in_ok-from.ensures.opened in
-    let main = one-put o.main c.self.inside.main bytes c.put.new.self (from + at) o.within o.room c.put.ensures.value in
-    IsEdit-put b (store_of c.self.inside) p at k from o bytes c.put.new.self refl main
+    let output = one-put o.output c.self.inside.output bytes c.put.new.self (from + at) o.within o.room c.put.ensures.value in
+    IsEdit-put b (store_of c.self.inside) p at k from o bytes c.put.new.self refl output
 
 pub returns-clause-shape : goal.returns-clause-shape
 returns-clause-shape c =
@@ -84,8 +84,8 @@ returns-clause-shape c =
     let bytes = c.args.bytes.now in
     let k = length bytes in
     let o = IsOpen-same b (store_of c.self.inside) _ p at k from c.self.view_is c.in_ok-from.ensures.opened in
-    let main = one-put o.main c.self.inside.main bytes c.put.new.self (from + at) o.within o.room c.put.ensures.value in
-    let splice = IsSplice-put b (store_of c.self.inside) p at k from o bytes c.put.new.self refl main in
+    let output = one-put o.output c.self.inside.output bytes c.put.new.self (from + at) o.within o.room c.put.ensures.value in
+    let splice = IsSplice-put b (store_of c.self.inside) p at k from o bytes c.put.new.self refl output in
     let m = c.with_bytes.ensures in
     Lives-inserted b _ p at bytes from c.requires.living splice c.with_bytes.result (subst (IsAt c.with_bytes.result from) c.len.ensures.value m.stands)
     c.args.place c.requires.fits c.place-at.ensures.value m.layout
@@ -100,8 +100,8 @@ returns-clause-edit_of c =
     let bytes = c.args.bytes.now in
     let k = length bytes in
     let o = IsOpen-same b (store_of c.self.inside) _ p at k from c.self.view_is c.in_ok-from.ensures.opened in
-    let main = one-put o.main c.self.inside.main bytes c.put.new.self (from + at) o.within o.room c.put.ensures.value in
-    let splice = IsSplice-put b (store_of c.self.inside) p at k from o bytes c.put.new.self refl main in
+    let output = one-put o.output c.self.inside.output bytes c.put.new.self (from + at) o.within o.room c.put.ensures.value in
+    let splice = IsSplice-put b (store_of c.self.inside) p at k from o bytes c.put.new.self refl output in
     let q = c.with_bytes.result in
     IsEditOf-spliced b _ p q at from bytes splice (subst (IsAt q from) c.len.ensures.value c.with_bytes.ensures.stands)
 

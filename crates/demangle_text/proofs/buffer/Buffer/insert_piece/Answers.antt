@@ -20,7 +20,7 @@ gap c =
     c.in_ok-open_gap.ensures.gap
 
 -- the text is put from wherever it lies
-same : (c : goal.After-put) → store_of c.if-first.self-inside ≡ record (store_of c.self.inside) { output_text = c.if-first.self-inside.main }
+same : (c : goal.After-put) → store_of c.if-first.self-inside ≡ record (store_of c.self.inside) { output_text = c.if-first.self-inside.output }
 same c = elim c.if-first.branch [
   | then-first w ↦ rw w.self-inside-is refl
   | else-first w ↦ rw w.self-inside-is refl
@@ -32,32 +32,32 @@ module _ (c : goal.After-put) where
   p = c.args.first
 
   abbrev all : List ℕ
-  all = c.self.inside.main
+  all = c.self.inside.output
 
-  abbrev side : List ℕ
-  side = c.self.inside.lists.side
+  abbrev spill : List ℕ
+  spill = c.self.inside.lists.spill
 
-  kept : piece_text all side p ≡ piece_text c.args.self.now.output_text c.args.self.now.spill_text p
+  kept : piece_text all spill p ≡ piece_text c.args.self.now.output_text c.args.self.now.spill_text p
   kept = text-kept c.args.self.now (store_of c.self.inside) c.args.at c.in-Some.n (gap c) c.requires.within p c.requires.living c.requires.before
 
-  aside-is : (text : List ℕ) → text ≡ slice_range side p.from_byte p.to_byte → p.aside ≡ true → (text ≡ piece_text all side p) × (length text ≡ p.to_byte - p.from_byte)
-  aside-is text is home =
-      let part = is ∙ sym (ap (λ (h : Bool). slice_range (home_bytes all side h) p.from_byte p.to_byte) home) in
+  spilled-is : (text : List ℕ) → text ≡ slice_range spill p.from_byte p.to_byte → p.spilled ≡ true → (text ≡ piece_text all spill p) × (length text ≡ p.to_byte - p.from_byte)
+  spilled-is text is home =
+      let part = is ∙ sym (ap (λ (h : Bool). slice_range (home_bytes all spill h) p.from_byte p.to_byte) home) in
       (part, ap length (part ∙ kept) ∙ length-text c.args.self.now p c.requires.living)
 
-  value : c.if-first.self-inside.main ≡ take c.args.at all ++ (piece_text all side p ++ drop (c.args.at + (p.to_byte - p.from_byte)) all)
+  value : c.if-first.self-inside.output ≡ take c.args.at all ++ (piece_text all spill p ++ drop (c.args.at + (p.to_byte - p.from_byte)) all)
   value = elim c.if-first.branch [
     | then-first w ↦
-        let is = aside-is w.part-text.result.now w.part-text.ensures.value w.if-first.true in
-        ap (λ i. i.main) w.self-inside-is ∙ w.put-middle.ensures.value ∙ (λ j. take c.args.at all ++ (is.0 j ++ drop (c.args.at + is.1 j) all))
+        let is = spilled-is w.part-text.result.now w.part-text.ensures.value w.if-first.true in
+        ap (λ i. i.output) w.self-inside-is ∙ w.put-middle.ensures.value ∙ (λ j. take c.args.at all ++ (is.0 j ++ drop (c.args.at + is.1 j) all))
     | else-first w ↦
-        ap (λ i. i.main) w.self-inside-is ∙ w.put_part-middle.ensures.value
-        ∙ ap (λ (h : Bool). take c.args.at all ++ (slice_range (home_bytes all side h) p.from_byte p.to_byte ++ drop (c.args.at + (p.to_byte - p.from_byte)) all)) (sym w.if-first.false)
+        ap (λ i. i.output) w.self-inside-is ∙ w.put_part-middle.ensures.value
+        ∙ ap (λ (h : Bool). take c.args.at all ++ (slice_range (home_bytes all spill h) p.from_byte p.to_byte ++ drop (c.args.at + (p.to_byte - p.from_byte)) all)) (sym w.if-first.false)
   ]
 
   ends : c.if-first.middle ≡ c.args.at + (p.to_byte - p.from_byte)
   ends = elim c.if-first.branch [
-    | then-first w ↦ w.middle-is ∙ w.put-middle.ensures.ends ∙ ap (λ (k : ℕ). c.args.at + k) (aside-is w.part-text.result.now w.part-text.ensures.value w.if-first.true).1
+    | then-first w ↦ w.middle-is ∙ w.put-middle.ensures.ends ∙ ap (λ (k : ℕ). c.args.at + k) (spilled-is w.part-text.result.now w.part-text.ensures.value w.if-first.true).1
     | else-first w ↦ w.middle-is ∙ w.put_part-middle.ensures.ends
   ]
 
@@ -65,15 +65,15 @@ module _ (c : goal.After-put) where
 abbrev added : goal.After-put → List ℕ
 added c = piece_text c.args.self.now.output_text c.args.self.now.spill_text c.args.first ++ c.args.bytes.now
 
-main : (c : goal.After-put) → c.put.new.self
+output : (c : goal.After-put) → c.put.new.self
     ≡ take c.args.at c.args.self.now.output_text ++ (added c ++ drop c.args.at c.args.self.now.output_text)
-main c =
+output c =
     let b = c.args.self.now in
     let at = c.args.at in
     let p = c.args.first in
     let bytes = c.args.bytes.now in
-    let all = c.self.inside.main in
-    let mid = c.if-first.self-inside.main in
+    let all = c.self.inside.output in
+    let mid = c.if-first.self-inside.output in
     let k = p.to_byte - p.from_byte in
     let text = piece_text b.output_text b.spill_text p in
     let long : length text ≡ k = length-text b p c.requires.living in
@@ -93,14 +93,14 @@ long c =
 
 pub invariant_of-self : goal.invariant_of-self
 invariant_of-self c = subst (λ (t : Store). IsStore (record t { output_text = c.put.new.self })) (sym (same c)) (
-    IsStore-filled c.args.self.now (store_of c.self.inside) c.args.at c.in-Some.n (gap c) _ _ (long c) (main c))
+    IsStore-filled c.args.self.now (store_of c.self.inside) c.args.at c.in-Some.n (gap c) _ _ (long c) (output c))
 
 pub returns-clause-edit : goal.returns-clause-edit
 returns-clause-edit c = subst (λ (t : Store). IsEdit c.args.self.now (record t { output_text = c.put.new.self })) (sym (same c)) (
-    IsEdit-filled c.args.self.now (store_of c.self.inside) c.args.at c.in-Some.n (gap c) _ _ (long c) (main c))
+    IsEdit-filled c.args.self.now (store_of c.self.inside) c.args.at c.in-Some.n (gap c) _ _ (long c) (output c))
 
-pub returns-clause-main : goal.returns-clause-main
-returns-clause-main c = main c
+pub returns-clause-output : goal.returns-clause-output
+returns-clause-output c = output c
 
 pub put-middle-requires : goal.put-middle-requires
 unfolding IsLiving shape main_bytes Stands frame_start frame outermost IsOlder IsAsOld inside outside saved scopes

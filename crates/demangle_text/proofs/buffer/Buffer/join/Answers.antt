@@ -15,7 +15,7 @@ adjacent : (c : goal.After-whole_at) → IsJoint c.args.self.now c.insert_at.new
 unfolding IsLiving
 adjacent c =
     IsJoint-inserted c.args.self.now c.insert_at.new.self c.args.first c.args.bytes.now c.args.second (c.are_adjacent.ensures.adjacent c.if-are_adjacent.true)
-    c.requires.first_living.ordered c.requires.second_living.ordered c.in_ok-insert_at.ensures.main
+    c.requires.first_living.ordered c.requires.second_living.ordered c.in_ok-insert_at.ensures.output
 
 pub returns-then-are_adjacent-clause-shape : goal.returns-then-are_adjacent-clause-shape
 returns-then-are_adjacent-clause-shape c =
@@ -37,7 +37,7 @@ moved c =
     let apart = λ (h : IsAdjacent b c.args.first c.args.second). let t = c.are_adjacent.ensures.other h in let f = c.if-are_adjacent.false in let k : ⊥ = cc (t, f) in k in
     let tail = tail-is (store_of c.self.inside) b c.args.second c.len-2.result c.self.view_is c.len-2.ensures.value (c.is_tail.ensures.tail c.if-is_tail.true) in
     let before : EndsBy c.args.second.from_byte c.args.first = search rules in
-    IsJoint-moved b c.insert_piece.new.self c.args.first c.args.bytes.now c.args.second apart tail before c.requires.second_living.ordered c.in_ok-insert_piece.ensures.main
+    IsJoint-moved b c.insert_piece.new.self c.args.first c.args.bytes.now c.args.second apart tail before c.requires.second_living.ordered c.in_ok-insert_piece.ensures.output
 
 pub returns-then-first-second-clause-shape : goal.returns-then-first-second-clause-shape
 returns-then-first-second-clause-shape c =

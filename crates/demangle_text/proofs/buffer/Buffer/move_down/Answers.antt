@@ -11,7 +11,7 @@ use Rattle.demangle_text.proofs.Blocks.{IsBlock, IsBlock-here, IsBlock-copied}
 use Rattle.demangle_text.proofs.Texts.{Moves}
 use Rattle.demangle_text.proofs.Carried.{Moves-kept, IsStore-after, IsEdit-after}
 use Rattle.demangle_text.proofs.buffer.Buffer.move_down.Goals as goal
-use Rattle.demangle_text.proofs.buffer.Buffer.move_down.Goals.{then-aside+in_ok-add_text+else-from-at-2, else-aside+else-from-at}
+use Rattle.demangle_text.proofs.buffer.Buffer.move_down.Goals.{then-spilled+in_ok-add_text+else-from-at-2, else-spilled+else-from-at}
 
 -- a copy at the mark is all that there is since then
 pub invariant_of-self-then-from-at-2 : goal.invariant_of-self-then-from-at-2
@@ -23,44 +23,44 @@ returns-then-from-at-2-clause-edit c =
 
 -- what is kept lies in the texts
 pub set_apart-requires-clause-saved : goal.set_apart-requires-clause-saved
-set_apart-requires-clause-saved c = rw c.as_slice.ensures.value (elim c.if-aside.branch [
-  | then-aside+in_ok-add_text+else-from-at-2 w ↦ rw (w.self-inside-is, w.in_ok-add_text.ensures.ok) ((IsStore-longer (store_of c.self.inside) _ c.self.invariant).saved_lie)
-  | else-aside+else-from-at w ↦ rw w.self-inside-is c.self.invariant.saved_lie
+set_apart-requires-clause-saved c = rw c.as_slice.ensures.value (elim c.if-spilled.branch [
+  | then-spilled+in_ok-add_text+else-from-at-2 w ↦ rw (w.self-inside-is, w.in_ok-add_text.ensures.ok) ((IsStore-longer (store_of c.self.inside) _ c.self.invariant).saved_lie)
+  | else-spilled+else-from-at w ↦ rw w.self-inside-is c.self.invariant.saved_lie
 ])
 
 pub set_apart-requires-clause-args : goal.set_apart-requires-clause-args
-set_apart-requires-clause-args c = rw c.as_slice.ensures.value (elim c.if-aside.branch [
-  | then-aside+in_ok-add_text+else-from-at-2 w ↦ rw (w.self-inside-is, w.in_ok-add_text.ensures.ok) ((IsStore-longer (store_of c.self.inside) _ c.self.invariant).args_lie)
-  | else-aside+else-from-at w ↦ rw w.self-inside-is c.self.invariant.args_lie
+set_apart-requires-clause-args c = rw c.as_slice.ensures.value (elim c.if-spilled.branch [
+  | then-spilled+in_ok-add_text+else-from-at-2 w ↦ rw (w.self-inside-is, w.in_ok-add_text.ensures.ok) ((IsStore-longer (store_of c.self.inside) _ c.self.invariant).args_lie)
+  | else-spilled+else-from-at w ↦ rw w.self-inside-is c.self.invariant.args_lie
 ])
 
 -- the part of a text
 abbrev part : Store → Bool → ℕ → ℕ → List ℕ
-part s aside from to = slice_range (home_bytes s.output_text s.spill_text aside) from to
+part s spilled from to = slice_range (home_bytes s.output_text s.spill_text spilled) from to
 
-block : (c : goal.After-carry-2) → IsBlock (store_of c.self.inside) (store_of c.if-aside.self-inside) (part (store_of c.self.inside) c.args.aside c.args.from c.args.to) c.args.at c.if-aside.from c.if-aside.to
+block : (c : goal.After-carry-2) → IsBlock (store_of c.self.inside) (store_of c.if-spilled.self-inside) (part (store_of c.self.inside) c.args.spilled c.args.from c.args.to) c.args.at c.if-spilled.from c.if-spilled.to
 block c =
     let s = store_of c.self.inside in
     let mark : s.frame_main ≡ c.args.at = ap (λ (b : Store). b.frame_main) c.self.view_is ∙ c.requires.mark in
-    let within = subst (λ (b : Store). c.args.to ≤ length (home_bytes b.output_text b.spill_text c.args.aside)) (sym c.self.view_is) c.requires.within in
-    elim c.if-aside.branch [
-      | then-aside+in_ok-add_text+else-from-at-2 w ↦ rw (w.self-inside-is, w.from-is, w.to-is) (
-          IsBlock-copied s (part s c.args.aside c.args.from c.args.to) w.add_text.new.main c.args.at w.len-copied.result w.len-to.result c.self.invariant mark w.in_ok-add_text.ensures.ok
+    let within = subst (λ (b : Store). c.args.to ≤ length (home_bytes b.output_text b.spill_text c.args.spilled)) (sym c.self.view_is) c.requires.within in
+    elim c.if-spilled.branch [
+      | then-spilled+in_ok-add_text+else-from-at-2 w ↦ rw (w.self-inside-is, w.from-is, w.to-is) (
+          IsBlock-copied s (part s c.args.spilled c.args.from c.args.to) w.add_text.new.output c.args.at w.len-copied.result w.len-to.result c.self.invariant mark w.in_ok-add_text.ensures.ok
           w.len-copied.ensures.value w.len-to.ensures.value)
-      | else-aside+else-from-at w ↦ rw (w.self-inside-is, w.from-is, w.to-is) (
-          IsBlock-here s c.args.aside c.args.at c.args.from c.args.to c.self.invariant mark w.if-aside.false c.requires.ordered within)
+      | else-spilled+else-from-at w ↦ rw (w.self-inside-is, w.from-is, w.to-is) (
+          IsBlock-here s c.args.spilled c.args.at c.args.from c.args.to c.self.invariant mark w.if-spilled.false c.requires.ordered within)
     ]
 
-moves : (c : goal.After-carry-2) → Moves (store_of c.if-aside.self-inside).output_text c.keep.new.self c.args.at c.if-aside.from c.if-aside.to c.args.at
+moves : (c : goal.After-carry-2) → Moves (store_of c.if-spilled.self-inside).output_text c.keep.new.self c.args.at c.if-spilled.from c.if-spilled.to c.args.at
 moves c =
     let b = block c in
-    Moves-kept (store_of c.if-aside.self-inside).output_text c.keep.new.self c.args.at c.if-aside.from c.if-aside.to b.low b.ordered b.within c.keep.ensures.value
+    Moves-kept (store_of c.if-spilled.self-inside).output_text c.keep.new.self c.args.at c.if-spilled.from c.if-spilled.to b.low b.ordered b.within c.keep.ensures.value
 
 pub invariant_of-self-2 : goal.invariant_of-self-2
 invariant_of-self-2 c =
     let a = c.in_ok-set_apart.ensures in
     let b = block c in
-    (IsStore-after (store_of c.if-aside.self-inside) _ _ _ _ c.as_slice.ensures.value c.set_apart.ensures.aside
+    (IsStore-after (store_of c.if-spilled.self-inside) _ _ _ _ c.as_slice.ensures.value c.set_apart.ensures.spilled
     _ _ _ _ _ _ _ b.store a.saved_apart a.args_apart c.carry.ensures.value c.carry-2.ensures.value
     (moves c) b.inner)
 
@@ -70,16 +70,16 @@ returns-clause-edit c =
     let b = block c in
     rw (← c.self.view_is)
     (IsEdit-trans _ _ _ (IsEdit-keeps _ _ b.keeps)
-    (IsEdit-after (store_of c.if-aside.self-inside) _ _ _ _ c.as_slice.ensures.value c.set_apart.ensures.aside
+    (IsEdit-after (store_of c.if-spilled.self-inside) _ _ _ _ c.as_slice.ensures.value c.set_apart.ensures.spilled
     _ _ _ _ _ _ _ b.store a.saved_apart a.args_apart c.carry.ensures.value c.carry-2.ensures.value
     (moves c) b.inner))
 
-pub returns-clause-main : goal.returns-clause-main
-returns-clause-main c = rw (← c.self.view_is) (c.keep.ensures.value ∙ (block c).has)
+pub returns-clause-output : goal.returns-clause-output
+returns-clause-output c = rw (← c.self.view_is) (c.keep.ensures.value ∙ (block c).has)
 
-pub returns-then-from-at-2-clause-main : goal.returns-then-from-at-2-clause-main
+pub returns-then-from-at-2-clause-output : goal.returns-then-from-at-2-clause-output
 unfolding IsLiving shape main_bytes Stands frame_start frame outermost IsOlder IsAsOld inside outside saved scopes
-returns-then-from-at-2-clause-main c = grind (arith, common_steps)
+returns-then-from-at-2-clause-output c = grind (arith, common_steps)
 
 pub invariant_of-self-in_err-set_apart : goal.invariant_of-self-in_err-set_apart
 unfolding IsLiving shape main_bytes Stands frame_start frame outermost IsOlder IsAsOld inside outside saved scopes

@@ -1,34 +1,34 @@
 -- What would be torn is set aside, and then the rest moves on.
 use Rattle.std.proofs.Common.{◌≡◌, ◌≤◌, ◌+◌, ◌-◌, List, ℕ, length, take, drop, ap, ◌∙◌, subst, arith}
 use Rattle.demangle_text.specs.declared.shape.Piece.{Piece}
-use Rattle.demangle_text.specs.Pieces.{Store, IsAside}
+use Rattle.demangle_text.specs.Pieces.{Store, IsSpilled}
 use Rattle.growing_text.specs.Room.{HasRoom}
 use Rattle.demangle_text.specs.View.{store_of}
 use Rattle.demangle_text.specs.State.{KeepsAll}
 use Rattle.demangle_text.proofs.States.{on_err_from}
-use Rattle.demangle_text.proofs.Carried.{KeepsAll-aside}
+use Rattle.demangle_text.proofs.Carried.{KeepsAll-spilled}
 use Rattle.demangle_text.proofs.Gaps.{length-gap, IsStore-opened, IsGap-opened}
 use Rattle.demangle_text.proofs.buffer.Buffer.open_gap.Goals as goal
 
 -- what was reserved changed neither text
-aside : (m side was new : List ℕ) (saved saved' args args' : List Piece) → side ≡ was → IsAside m side new saved saved' args args' → IsAside m was new saved saved' args args'
-aside m side was new saved saved' args args' same a = subst (λ (v : List ℕ). IsAside m v new saved saved' args args') same a
+spilled : (m spill was new : List ℕ) (saved saved' args args' : List Piece) → spill ≡ was → IsSpilled m spill new saved saved' args args' → IsSpilled m was new saved saved' args args'
+spilled m spill was new saved saved' args args' same a = subst (λ (v : List ℕ). IsSpilled m v new saved saved' args args') same a
 
-room : (main was new : List ℕ) (at n : ℕ) → main ≡ was → HasRoom (take at main) (drop at main) new n → HasRoom (take at was) (drop at was) new n
-room main was new at n same h = subst (λ (v : List ℕ). HasRoom (take at v) (drop at v) new n) same h
+room : (output was new : List ℕ) (at n : ℕ) → output ≡ was → HasRoom (take at output) (drop at output) new n → HasRoom (take at was) (drop at was) new n
+room output was new at n same h = subst (λ (v : List ℕ). HasRoom (take at v) (drop at v) new n) same h
 
 pub returns-in_err-set_apart-clause-err : goal.returns-in_err-set_apart-clause-err
 returns-in_err-set_apart-clause-err c =
     let same : KeepsAll c.args.self.now _ =
     rw (← c.self.view_is, c.reserve.ensures.same)
-    (KeepsAll-aside (store_of c.self.inside) _ _ _ _ (c.as_slice.ensures.value ∙ c.reserve.ensures.same) (aside _ _ _ _ _ _ _ _ c.reserve-2.ensures.same c.set_apart.ensures.aside)) in
+    (KeepsAll-spilled (store_of c.self.inside) _ _ _ _ (c.as_slice.ensures.value ∙ c.reserve.ensures.same) (spilled _ _ _ _ _ _ _ _ c.reserve-2.ensures.same c.set_apart.ensures.spilled)) in
     on_err_from c.from_residual-in_err-set_apart.result same
 
 pub returns-in_err-open_room-clause-err : goal.returns-in_err-open_room-clause-err
 returns-in_err-open_room-clause-err c =
     let same : KeepsAll c.args.self.now _ =
     rw (← c.self.view_is, c.in_err-open_room.ensures.err, c.reserve.ensures.same)
-    (KeepsAll-aside (store_of c.self.inside) _ _ _ _ (c.as_slice.ensures.value ∙ c.reserve.ensures.same) (aside _ _ _ _ _ _ _ _ c.reserve-2.ensures.same c.set_apart.ensures.aside)) in
+    (KeepsAll-spilled (store_of c.self.inside) _ _ _ _ (c.as_slice.ensures.value ∙ c.reserve.ensures.same) (spilled _ _ _ _ _ _ _ _ c.reserve-2.ensures.same c.set_apart.ensures.spilled)) in
     on_err_from c.from_residual-in_err-open_room.result same
 
 -- the place lies in the text, and no earlier than the mark
@@ -39,9 +39,9 @@ low : (s b : Store) (at : ℕ) → s ≡ b → b.frame_main ≤ at → s.frame_m
 low s b at same inner = omega (arith, ap (λ (v : Store). v.frame_main) same, inner)
 
 -- the text is longer by the gap
-longer : (s b : Store) (main : List ℕ) (at n : ℕ) → s ≡ b → at ≤ length b.output_text
-    → HasRoom (take at s.output_text) (drop at s.output_text) main n → length main ≡ length s.output_text + n
-longer s b main at n same within room = length-gap s.output_text main at n (place s b at same within) room
+longer : (s b : Store) (output : List ℕ) (at n : ℕ) → s ≡ b → at ≤ length b.output_text
+    → HasRoom (take at s.output_text) (drop at s.output_text) output n → length output ≡ length s.output_text + n
+longer s b output at n same within room = length-gap s.output_text output at n (place s b at same within) room
 
 pub overflow_sub-dest : goal.overflow_sub-dest
 overflow_sub-dest c =
@@ -72,7 +72,7 @@ invariant_of-self-2 c =
     let s = store_of c.self.inside in
     let at = c.args.at in
     let a = c.in_ok-set_apart.ensures in
-    (IsStore-opened s _ _ _ _ _ _ at c.args.n _ _ (c.as_slice.ensures.value ∙ c.reserve.ensures.same) (aside _ _ _ _ _ _ _ _ c.reserve-2.ensures.same c.set_apart.ensures.aside)
+    (IsStore-opened s _ _ _ _ _ _ at c.args.n _ _ (c.as_slice.ensures.value ∙ c.reserve.ensures.same) (spilled _ _ _ _ _ _ _ _ c.reserve-2.ensures.same c.set_apart.ensures.spilled)
     a.saved_apart a.args_apart c.carry.ensures.value c.carry-2.ensures.value
     c.self.invariant (low s _ at c.self.view_is c.requires.inner) (place s _ at c.self.view_is c.requires.within)
     c.len-len.ensures.value (moved_by c) _ (room _ _ _ c.args.at _ c.reserve.ensures.same c.in_ok-open_room.ensures.ok))
@@ -83,7 +83,7 @@ returns-clause-gap c =
     let at = c.args.at in
     let a = c.in_ok-set_apart.ensures in
     rw (← c.self.view_is)
-    (IsGap-opened s _ _ _ _ _ _ at c.args.n _ _ (c.as_slice.ensures.value ∙ c.reserve.ensures.same) (aside _ _ _ _ _ _ _ _ c.reserve-2.ensures.same c.set_apart.ensures.aside)
+    (IsGap-opened s _ _ _ _ _ _ at c.args.n _ _ (c.as_slice.ensures.value ∙ c.reserve.ensures.same) (spilled _ _ _ _ _ _ _ _ c.reserve-2.ensures.same c.set_apart.ensures.spilled)
     a.saved_apart a.args_apart c.carry.ensures.value c.carry-2.ensures.value
     c.self.invariant (low s _ at c.self.view_is c.requires.inner) (place s _ at c.self.view_is c.requires.within)
     c.len-len.ensures.value (moved_by c) _ (room _ _ _ c.args.at _ c.reserve.ensures.same c.in_ok-open_room.ensures.ok))

@@ -43,8 +43,8 @@ put-middle-requires c =
     let bytes = c.args.bytes.now in
     let n = length front + length bytes + 1 in
     let o = IsOpen-same b (store_of c.self.inside) _ p at n from c.self.view_is c.in_ok-from.ensures.opened in
-    let low = sym (length-take-le (from + at) o.main o.within) in
-    record { within = room-fits (take (from + at) o.main) (drop (from + at) o.main) c.self.inside.main n (from + at) (length front) o.room low (omega arith) }
+    let low = sym (length-take-le (from + at) o.output o.within) in
+    record { within = room-fits (take (from + at) o.output) (drop (from + at) o.output) c.self.inside.output n (from + at) (length front) o.room low (omega arith) }
 
 pub put-end-requires : goal.put-end-requires
 put-end-requires c =
@@ -56,10 +56,10 @@ put-end-requires c =
     let bytes = c.args.bytes.now in
     let n = length front + length bytes + 1 in
     let o = IsOpen-same b (store_of c.self.inside) _ p at n from c.self.view_is c.in_ok-from.ensures.opened in
-    let low = sym (length-take-le (from + at) o.main o.within) in
+    let low = sym (length-take-le (from + at) o.output o.within) in
     let one = c.put-middle in
     record {
-      within = fits-first (take (from + at) o.main) (drop (from + at) o.main) c.self.inside.main front bytes (41 ∷ [])
+      within = fits-first (take (from + at) o.output) (drop (from + at) o.output) c.self.inside.output front bytes (41 ∷ [])
           one.new.self one.new.self n (from + at) one.result 0 o.room low (omega arith) one.ensures.value one.ensures.ends;
     }
 
@@ -73,11 +73,11 @@ put-requires c =
     let bytes = c.args.bytes.now in
     let n = length front + length bytes + 1 in
     let o = IsOpen-same b (store_of c.self.inside) _ p at n from c.self.view_is c.in_ok-from.ensures.opened in
-    let low = sym (length-take-le (from + at) o.main o.within) in
+    let low = sym (length-take-le (from + at) o.output o.within) in
     let one = c.put-middle in
     let two = c.put-end in
     record {
-      within = fits-second (take (from + at) o.main) (drop (from + at) o.main) c.self.inside.main front bytes (41 ∷ [])
+      within = fits-second (take (from + at) o.output) (drop (from + at) o.output) c.self.inside.output front bytes (41 ∷ [])
           one.new.self two.new.self n (from + at) one.result two.result o.room low (omega arith)
           one.ensures.value one.ensures.ends two.ensures.value two.ensures.ends;
     }
@@ -92,13 +92,13 @@ with_bytes-moved-requires-clause-own_fits c =
     let bytes = c.args.bytes.now in
     let n = length front + length bytes + 1 in
     let o = IsOpen-same b (store_of c.self.inside) _ p at n from c.self.view_is c.in_ok-from.ensures.opened in
-    let low = sym (length-take-le (from + at) o.main o.within) in
-    let main = three-put (take (from + at) o.main) (drop (from + at) o.main) c.self.inside.main front bytes (41 ∷ [])
+    let low = sym (length-take-le (from + at) o.output o.within) in
+    let output = three-put (take (from + at) o.output) (drop (from + at) o.output) c.self.inside.output front bytes (41 ∷ [])
     c.put-middle.new.self c.put-end.new.self n (from + at) c.put-middle.result c.put-end.result o.room low (omega arith)
     c.put-middle.ensures.value c.put-middle.ensures.ends c.put-end.ensures.value c.put-end.ensures.ends _ c.put.ensures.value in
     let all = front ++ (bytes ++ 41 ∷ []) in
     let long = length-three front bytes in
-    let splice = IsSplice-put b (store_of c.self.inside) p at n from o all c.put.new.self long main in
+    let splice = IsSplice-put b (store_of c.self.inside) p at n from o all c.put.new.self long output in
     let fits = own-fits b _ p at all from c.requires.living splice in
     omega (arith, fits, long, c.len.ensures.value, c.len.type_inv)
 
@@ -112,13 +112,13 @@ with_bytes-moved-requires-clause-layout_fits c =
     let bytes = c.args.bytes.now in
     let n = length front + length bytes + 1 in
     let o = IsOpen-same b (store_of c.self.inside) _ p at n from c.self.view_is c.in_ok-from.ensures.opened in
-    let low = sym (length-take-le (from + at) o.main o.within) in
-    let main = three-put (take (from + at) o.main) (drop (from + at) o.main) c.self.inside.main front bytes (41 ∷ [])
+    let low = sym (length-take-le (from + at) o.output o.within) in
+    let output = three-put (take (from + at) o.output) (drop (from + at) o.output) c.self.inside.output front bytes (41 ∷ [])
     c.put-middle.new.self c.put-end.new.self n (from + at) c.put-middle.result c.put-end.result o.room low (omega arith)
     c.put-middle.ensures.value c.put-middle.ensures.ends c.put-end.ensures.value c.put-end.ensures.ends _ c.put.ensures.value in
     let all = front ++ (bytes ++ 41 ∷ []) in
     let long = length-three front bytes in
-    let splice = IsSplice-put b (store_of c.self.inside) p at n from o all c.put.new.self long main in
+    let splice = IsSplice-put b (store_of c.self.inside) p at n from o all c.put.new.self long output in
     let fits = layout-fits b _ p at all from c.requires.living splice in
     omega (arith, fits, long, c.len.ensures.value, c.len.type_inv)
 
@@ -144,13 +144,13 @@ invariant_of-self c =
     let bytes = c.args.bytes.now in
     let n = length front + length bytes + 1 in
     let o = IsOpen-same b (store_of c.self.inside) _ p at n from c.self.view_is c.in_ok-from.ensures.opened in
-    let low = sym (length-take-le (from + at) o.main o.within) in
-    let main = three-put (take (from + at) o.main) (drop (from + at) o.main) c.self.inside.main front bytes (41 ∷ [])
+    let low = sym (length-take-le (from + at) o.output o.within) in
+    let output = three-put (take (from + at) o.output) (drop (from + at) o.output) c.self.inside.output front bytes (41 ∷ [])
     c.put-middle.new.self c.put-end.new.self n (from + at) c.put-middle.result c.put-end.result o.room low (omega arith)
     c.put-middle.ensures.value c.put-middle.ensures.ends c.put-end.ensures.value c.put-end.ensures.ends _ c.put.ensures.value in
     let all = front ++ (bytes ++ 41 ∷ []) in
     let long = length-three front bytes in
-    IsStore-put b (store_of c.self.inside) p at n from o all c.put.new.self long main
+    IsStore-put b (store_of c.self.inside) p at n from o all c.put.new.self long output
 
 pub returns-clause-edit : goal.returns-clause-edit
 returns-clause-edit c =
@@ -162,13 +162,13 @@ returns-clause-edit c =
     let bytes = c.args.bytes.now in
     let n = length front + length bytes + 1 in
     let o = IsOpen-same b (store_of c.self.inside) _ p at n from c.self.view_is c.in_ok-from.ensures.opened in
-    let low = sym (length-take-le (from + at) o.main o.within) in
-    let main = three-put (take (from + at) o.main) (drop (from + at) o.main) c.self.inside.main front bytes (41 ∷ [])
+    let low = sym (length-take-le (from + at) o.output o.within) in
+    let output = three-put (take (from + at) o.output) (drop (from + at) o.output) c.self.inside.output front bytes (41 ∷ [])
     c.put-middle.new.self c.put-end.new.self n (from + at) c.put-middle.result c.put-end.result o.room low (omega arith)
     c.put-middle.ensures.value c.put-middle.ensures.ends c.put-end.ensures.value c.put-end.ensures.ends _ c.put.ensures.value in
     let all = front ++ (bytes ++ 41 ∷ []) in
     let long = length-three front bytes in
-    IsEdit-put b (store_of c.self.inside) p at n from o all c.put.new.self long main
+    IsEdit-put b (store_of c.self.inside) p at n from o all c.put.new.self long output
 
 pub returns-clause-shape : goal.returns-clause-shape
 unfolding IsLiving shape
@@ -181,13 +181,13 @@ returns-clause-shape c =
     let bytes = c.args.bytes.now in
     let n = length front + length bytes + 1 in
     let o = IsOpen-same b (store_of c.self.inside) _ p at n from c.self.view_is c.in_ok-from.ensures.opened in
-    let low = sym (length-take-le (from + at) o.main o.within) in
-    let main = three-put (take (from + at) o.main) (drop (from + at) o.main) c.self.inside.main front bytes (41 ∷ [])
+    let low = sym (length-take-le (from + at) o.output o.within) in
+    let output = three-put (take (from + at) o.output) (drop (from + at) o.output) c.self.inside.output front bytes (41 ∷ [])
     c.put-middle.new.self c.put-end.new.self n (from + at) c.put-middle.result c.put-end.result o.room low (omega arith)
     c.put-middle.ensures.value c.put-middle.ensures.ends c.put-end.ensures.value c.put-end.ensures.ends _ c.put.ensures.value in
     let all = front ++ (bytes ++ 41 ∷ []) in
     let long = length-three front bytes in
-    let splice = IsSplice-put b (store_of c.self.inside) p at n from o all c.put.new.self long main in
+    let splice = IsSplice-put b (store_of c.self.inside) p at n from o all c.put.new.self long output in
     let with = c.with_bytes-moved.result in
     let m = c.with_bytes-moved.ensures in
     let q : Piece = record with { group_start = with.after_start - (length bytes + 2); grouped = true } in
@@ -216,13 +216,13 @@ returns-clause-edit_of c =
     let bytes = c.args.bytes.now in
     let n = length front + length bytes + 1 in
     let o = IsOpen-same b (store_of c.self.inside) _ p at n from c.self.view_is c.in_ok-from.ensures.opened in
-    let low = sym (length-take-le (from + at) o.main o.within) in
-    let main = three-put (take (from + at) o.main) (drop (from + at) o.main) c.self.inside.main front bytes (41 ∷ [])
+    let low = sym (length-take-le (from + at) o.output o.within) in
+    let output = three-put (take (from + at) o.output) (drop (from + at) o.output) c.self.inside.output front bytes (41 ∷ [])
     c.put-middle.new.self c.put-end.new.self n (from + at) c.put-middle.result c.put-end.result o.room low (omega arith)
     c.put-middle.ensures.value c.put-middle.ensures.ends c.put-end.ensures.value c.put-end.ensures.ends _ c.put.ensures.value in
     let all = front ++ (bytes ++ 41 ∷ []) in
     let long = length-three front bytes in
-    let splice = IsSplice-put b (store_of c.self.inside) p at n from o all c.put.new.self long main in
+    let splice = IsSplice-put b (store_of c.self.inside) p at n from o all c.put.new.self long output in
     let with = c.with_bytes-moved.result in
     let m = c.with_bytes-moved.ensures in
     let q : Piece = record with { group_start = with.after_start - (length bytes + 2); grouped = true } in

@@ -21,11 +21,11 @@ returns-then-is_tail-clause-opened c =
 pub returns-in_err-taken_back-clause-err : goal.returns-in_err-taken_back-clause-err
 returns-in_err-taken_back-clause-err c =
     let s = store_of c.self.inside in
-    let mid = c.add_text.new.main in
+    let mid = c.add_text.new.output in
     let done = c.open_room-opened.new.self in
     let failed : done ≡ mid = subst (λ r. OnErr r (done ≡ mid)) (sym c.in_err-taken_back.ensures.same) c.open_room-opened.ensures.err in
     on_err_from c.from_residual-in_err-taken_back.result (rw (← c.self.view_is)
-    (KeepsAll-left s mid done c.taken_back.new.main c.len-from.result c.len-from.ensures.value
+    (KeepsAll-left s mid done c.taken_back.new.output c.len-from.result c.len-from.ensures.value
     (record { more = piece_text s.output_text s.spill_text c.args.piece; all = c.in_ok-add_text.ensures.ok }) failed c.in_err-taken_back.ensures.err))
 
 pub invariant_of-self-2 : goal.invariant_of-self-2
@@ -34,7 +34,7 @@ invariant_of-self-2 c =
     let p = c.args.piece in
     let at = c.args.at in
     let n = c.args.n in
-    let mid = c.add_text.new.main in
+    let mid = c.add_text.new.output in
     let done = c.open_room-opened.new.self in
     let from = c.len-from.result in
     let text = piece_text s.output_text s.spill_text p in
@@ -49,7 +49,7 @@ invariant_of-self-2 c =
     let opened = subst (λ r. OnOk r (HasRoom (take place mid) (drop place mid) done n)) (sym c.in_ok-taken_back.ensures.same) c.open_room-opened.ensures.ok in
     let moved = subst (λ (i : ℕ). HasRoom (take i mid) (drop i mid) done n) there opened in
     let room = subst (λ (v : List ℕ). HasRoom (take (from + at) mid) (drop (from + at) mid) v n) (sym c.in_ok-taken_back.ensures.ok) moved in
-    IsStore-copied s p mid c.taken_back.new.main at n from c.self.invariant lies apart c.len-from.ensures.value c.requires.within copied room
+    IsStore-copied s p mid c.taken_back.new.output at n from c.self.invariant lies apart c.len-from.ensures.value c.requires.within copied room
 
 pub returns-clause-opened : goal.returns-clause-opened
 returns-clause-opened c =
@@ -57,7 +57,7 @@ returns-clause-opened c =
     let p = c.args.piece in
     let at = c.args.at in
     let n = c.args.n in
-    let mid = c.add_text.new.main in
+    let mid = c.add_text.new.output in
     let done = c.open_room-opened.new.self in
     let from = c.len-from.result in
     let text = piece_text s.output_text s.spill_text p in
@@ -72,7 +72,7 @@ returns-clause-opened c =
     let opened = subst (λ r. OnOk r (HasRoom (take place mid) (drop place mid) done n)) (sym c.in_ok-taken_back.ensures.same) c.open_room-opened.ensures.ok in
     let moved = subst (λ (i : ℕ). HasRoom (take i mid) (drop i mid) done n) there opened in
     let room = subst (λ (v : List ℕ). HasRoom (take (from + at) mid) (drop (from + at) mid) v n) (sym c.in_ok-taken_back.ensures.ok) moved in
-    rw (← c.self.view_is) (IsOpen-copied s p mid c.taken_back.new.main at n from c.self.invariant lies apart c.len-from.ensures.value c.requires.within copied room)
+    rw (← c.self.view_is) (IsOpen-copied s p mid c.taken_back.new.output at n from c.self.invariant lies apart c.len-from.ensures.value c.requires.within copied room)
 
 pub overflow_sub-len : goal.overflow_sub-len
 unfolding IsLiving shape main_bytes Stands frame_start frame outermost IsOlder IsAsOld inside outside saved scopes
