@@ -9,7 +9,7 @@
 enum { ROOM = 64, GREAT = 5000000 };
 static int passed, failed;
 
-/* How many blocks of memory aren't freed, and how many requests were made, where refuse.c counts them. */
+/* How many blocks of memory aren't freed, and how many allocations were made, where refuse.c counts them. */
 extern long refuse_live(void) __attribute__((weak));
 extern long refuse_made(void) __attribute__((weak));
 
@@ -177,12 +177,14 @@ static void nulls(void) {
     holds(cosvigle_replace(&handle, true, NULL, 0, NULL, 0, NULL) == COSVIGLE_WRITTEN, "no text");
     holds(cosvigle_take(&handle, NULL, 0, NULL) == COSVIGLE_NO_ANSWER, "nothing to take");
     holds(cosvigle_demangle("_Z3foo", 6, NULL, 0, &needed) == COSVIGLE_NO_ROOM && needed == 3, "no room");
-    holds(cosvigle_ask_signature(&handle, "_Z3fooi", 7, NULL, 0, &needed) == COSVIGLE_NO_ROOM && needed == 8, "no room");
+    holds(cosvigle_ask_signature(&handle, "_Z3fooi", 7, NULL, 0, &needed) == COSVIGLE_NO_ROOM && needed == 8,
+          "no room");
     memset(text, '#', sizeof text);
     holds(cosvigle_ask_signature(&handle, "_Z3fooi", 7, text, ROOM, NULL) == COSVIGLE_WRITTEN, "no needed");
     holds(memcmp(text, "foo(int)#", 9) == 0, "a signature without needed");
     memset(text, '#', sizeof text);
-    holds(cosvigle_demangle("_Z3foo", 6, text, ROOM, NULL) == COSVIGLE_WRITTEN && memcmp(text, "foo#", 4) == 0, "no needed");
+    holds(cosvigle_demangle("_Z3foo", 6, text, ROOM, NULL) == COSVIGLE_WRITTEN && memcmp(text, "foo#", 4) == 0,
+          "no needed");
     holds(cosvigle_replace(&handle, false, "_Z3foo", 6, NULL, 0, NULL) == COSVIGLE_NO_ROOM, "neither");
     memset(text, '#', sizeof text);
     holds(cosvigle_take(&handle, text, ROOM, NULL) == COSVIGLE_WRITTEN && memcmp(text, "foo#", 4) == 0, "it is taken");
@@ -193,7 +195,8 @@ static void nulls(void) {
     holds(cosvigle_ask(&handle, NULL, 1, text, ROOM, &needed) == COSVIGLE_BAD_CALL, "a symbol at NULL");
     holds(cosvigle_ask(&handle, "_Z3foo", 6, NULL, 1, &needed) == COSVIGLE_BAD_CALL, "room at NULL");
     needed = 99;
-    holds(cosvigle_ask_signature(NULL, "_Z3foo", 6, text, ROOM, &needed) == COSVIGLE_BAD_CALL && needed == 0, "no handle");
+    holds(cosvigle_ask_signature(NULL, "_Z3foo", 6, text, ROOM, &needed) == COSVIGLE_BAD_CALL && needed == 0,
+          "no handle");
     holds(cosvigle_ask_signature(&handle, NULL, 1, text, ROOM, &needed) == COSVIGLE_BAD_CALL, "a symbol at NULL");
     holds(cosvigle_ask_signature(&handle, "_Z3foo", 6, NULL, 1, &needed) == COSVIGLE_BAD_CALL, "room at NULL");
     holds(cosvigle_filter(NULL, 1, text, ROOM, &needed) == COSVIGLE_BAD_CALL, "lines at NULL");
@@ -241,7 +244,8 @@ static void great(void) {
     holds(cosvigle_demangle(symbol, GREAT, answer, GREAT, &needed) == COSVIGLE_WRITTEN, "a long rest");
     holds(needed == GREAT - 3 && memcmp(answer, "foo.aaa", 7) == 0 && answer[needed - 1] == 'a', "all of the rest");
     memset(answer, 0, GREAT);
-    holds(cosvigle_ask_signature(&handle, symbol, GREAT, answer, GREAT, &needed) == COSVIGLE_WRITTEN, "as a signature");
+    holds(cosvigle_ask_signature(&handle, symbol, GREAT, answer, GREAT, &needed) == COSVIGLE_WRITTEN,
+          "as a signature");
     holds(needed == GREAT - 3 && memcmp(answer, "foo.aaa", 7) == 0 && answer[needed - 1] == 'a', "all of its rest");
     holds(cosvigle_ask(&handle, symbol, GREAT, answer, 9, &needed) == COSVIGLE_NO_ROOM, "a long answer");
     holds(cosvigle_ask(&handle, symbol, GREAT, answer, GREAT, &needed) == COSVIGLE_WRITTEN, "it again");
@@ -249,8 +253,8 @@ static void great(void) {
     free(answer);
 }
 
-/* A block of lines that is longer than what the filter reads at once. It is made, and then taken where there was a byte too
- * little room. */
+/* A block of lines that is longer than what the filter reads at once. It is made, and then taken where the capacity
+ * was a byte too small. */
 static void many(void) {
     enum { LINES = 50000, LINE = 8, NAME = 4 };
     char *block = malloc(LINES * LINE), *text = malloc(LINES * NAME);
@@ -327,8 +331,10 @@ static int call(int number) {
     else if (number == SIGNATURE)
         status = cosvigle_ask_signature(&handle, typed, sizeof typed - 1, text, ROOM, &needed);
     else if (number == FILTERS) status = cosvigle_filter(block, sizeof block - 1, text, ROOM, &needed);
-    else if (number == FILTERS_WITH) status = cosvigle_filter_with(&handle, block, sizeof block - 1, text, ROOM, &needed);
-    else if (number == REPLACES) status = cosvigle_replace(&handle, false, block, sizeof block - 1, text, ROOM, &needed);
+    else if (number == FILTERS_WITH)
+        status = cosvigle_filter_with(&handle, block, sizeof block - 1, text, ROOM, &needed);
+    else if (number == REPLACES)
+        status = cosvigle_replace(&handle, false, block, sizeof block - 1, text, ROOM, &needed);
     else {
         status = cosvigle_replace(&handle, false, block, sizeof block - 1, text, strlen(right) - 1, &needed);
         if (status == COSVIGLE_NO_ROOM && needed == strlen(right) && text[0] == '#') {
@@ -340,8 +346,8 @@ static int call(int number) {
     return needed == strlen(right) && memcmp(text, right, needed) == 0 && text[needed] == '#' ? status : -1;
 }
 
-/* Each call, and again where it had no memory: only one request is refused. The symbol is asked of a handle that has
- * answered, of a new one, and of one without a demangler; so is a text. */
+/* Each call, and again where it was out of memory: only one allocation fails. The symbol is asked of a handle that was
+ * asked before, of a new one, and of one without a demangler; so is a text. */
 static int refused(void) {
     static const int calls[] = {DEMANGLE,  NEW, ASK,     ASK,          NEW,      ASK,   SIGNATURE, NEW,
                                 SIGNATURE, ASK, FILTERS, FILTERS_WITH, REPLACES, TAKES, STRING};
@@ -358,7 +364,7 @@ static int refused(void) {
         }
         if (status != COSVIGLE_WRITTEN) return 1;
     }
-    /* A symbol that needs no more memory than the handle has makes no request. */
+    /* A symbol that needs no more memory than the handle has allocates nothing. */
     made = refuse_made();
     if (call(ASK) != COSVIGLE_WRITTEN || call(SIGNATURE) != COSVIGLE_WRITTEN || refuse_made() != made) return 1;
     for (at = 0; at < sizeof without / sizeof *without; at++) {
@@ -421,7 +427,8 @@ int main(void) {
     many();
     /* A NUL in a text is a byte like any other. */
     clear();
-    holds(cosvigle_replace(&handle, false, "a\0_Z3foo\0b", 10, room_at, ROOM, &needed) == COSVIGLE_WRITTEN, "NULs in a text");
+    holds(cosvigle_replace(&handle, false, "a\0_Z3foo\0b", 10, room_at, ROOM, &needed) == COSVIGLE_WRITTEN,
+          "NULs in a text");
     holds(needed == 7 && memcmp(around, "#a\0foo\0b#", 9) == 0, "they stay");
     cosvigle_free(&handle);
     printf("%d passed, %d failed\n", passed, failed);

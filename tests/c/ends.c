@@ -1,9 +1,9 @@
 /* Stands before `read` of standard input and `write` to standard output, where LD_PRELOAD names it. GIVE is how many
    bytes a read gives at most, TAKE how many a write takes; `1-7` means one at the first call, two at the second, and
-   so on up to 7, and then one again. The read whose number FAIL_READ has fails, counted from 1, or the write whose
-   number FAIL_WRITE has: with the error ERROR, and where that is 0 it gives or takes nothing. The calls after it go on.
-   One line for each call is written to descriptor 3, before the call is made: `read` or `write`, how many bytes were
-   given so far, and how many were taken. Nothing of the product links this. */
+   so on up to 7, and then one again. The read whose number is FAIL_READ, counted from 1, fails with the error ERROR,
+   or gives nothing where that is 0; so does the write whose number is FAIL_WRITE. The calls after it go on. Before
+   each call a line is written to descriptor 3: `read` or `write`, how many bytes were given so far, and how many were
+   taken. Nothing of the product links this. */
 #define _GNU_SOURCE
 #include <errno.h>
 #include <stdio.h>

@@ -1,6 +1,7 @@
-/* How much of its stack a thread needs for the deepest symbols. Each symbol on the standard input, a line each, is asked
- * for its name and for its signature in a thread whose stack was filled with a pattern; what differs from it afterwards was used. Prints the symbol that
- * needs most, and how many bytes. The status is 0 where these are at most so many as the argument says. */
+/* How much of its stack a thread needs for the deepest symbols. Standard input has a symbol a line. Each is asked for
+ * its name and for its signature, in a thread whose stack was filled with a pattern: what differs from it afterwards
+ * was used. Prints the symbol that needs most, and how many bytes. The status is 0 where these are at most as many as
+ * the argument says. */
 #define _GNU_SOURCE
 #include <cosvigle.h>
 

@@ -1,6 +1,6 @@
 /* A library in the place of libcosvigle, whose calls return the status that the environment has as STATUS. With
- * COSVIGLE_NO_ROOM they want one byte more than the room that they are given. It shows what the wrappers do with a status that
- * they don't know, and with one that doesn't end. */
+ * COSVIGLE_NO_ROOM they want one byte more than the capacity that they are given. It shows what the wrappers do with a
+ * status that they don't know, and with one that doesn't end. */
 #include <stdbool.h>
 #include <stddef.h>
 #include <stdint.h>

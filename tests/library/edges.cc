@@ -18,8 +18,8 @@ static void holds(bool is, const char *what) {
     else failed++, std::printf("edges: not so: %s\n", what);
 }
 
-// A call that may be refused memory, and the same call again if it was. The value tells whether it was where there
-// are no exceptions.
+// A call that may be out of memory, and the same call again if it was. Without exceptions the value tells whether it
+// was.
 template <class Call> static auto again(const cosvigle::demangler *value, Call call) -> decltype(call()) {
 #if COSVIGLE_HAS_EXCEPTIONS
     (void)value;
@@ -38,7 +38,8 @@ template <class Call> static auto again(const cosvigle::demangler *value, Call c
 }
 
 // What the value answered, and its status: so, or not at all where the answer is null.
-static void answered(const cosvigle::demangler &value, cosvigle::optional<cosvigle::string_view> found, const char *answer) {
+static void answered(const cosvigle::demangler &value, cosvigle::optional<cosvigle::string_view> found,
+                     const char *answer) {
     holds(found.has_value() == (answer != nullptr), "whether there is an answer");
     holds(static_cast<bool>(found) == found.has_value(), "the same as a condition");
     if (answer != nullptr) holds(found.value_or("") == answer && value.status() == COSVIGLE_WRITTEN, answer);
@@ -99,7 +100,8 @@ static void is(const cosvigle::optional<std::string> &made, const char *text) {
 
 static void try_strings() {
     cosvigle::demangler value;
-    const std::string symbol("_ZNSt6vectorIS_IS_IiEEE4sizeEv"), name("std::vector<std::vector<std::vector<int> > >::size");
+    const std::string symbol("_ZNSt6vectorIS_IS_IiEEE4sizeEv");
+    const std::string name("std::vector<std::vector<std::vector<int> > >::size");
     const std::string lines = symbol + "\nx " + symbol + "\n", text = "(" + symbol + "+0x1) \xff";
     answers(value, symbol, name.c_str());
     is(again(&value, [&] { return cosvigle::demangle(symbol); }), name.c_str());
@@ -121,13 +123,13 @@ static void try_strings() {
 }
 
 int main() {
-    // The standard output has a buffer here, so that it asks for none: what is refused is refused to a value.
+    // The standard output has a buffer here, so that it allocates none: each allocation that fails is that of a value.
     static char room[BUFSIZ];
     std::setvbuf(stdout, room, _IOFBF, sizeof room);
     const long live = refuse_live ? refuse_live() : 0;
     try_views();
 #if COSVIGLE_HAS_EXCEPTIONS
-    // What this function itself makes may be refused memory too.
+    // The strings that this function itself makes may be out of memory too.
     again(nullptr, [] { return try_strings(), 0; });
 #else
     if (!std::getenv("REFUSE")) try_strings();

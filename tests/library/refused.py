@@ -12,7 +12,7 @@ LONG = "a" * 1000
 
 
 def tried(method, given, right):
-    """The same call with each of its allocations refused, until none is left."""
+    """The same call where each of its allocations fails, until none does."""
     number, failed, left = 1, 0, 0
     while not left:
         call, found = getattr(cosvigle.Demangler(), method), None

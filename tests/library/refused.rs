@@ -1,5 +1,5 @@
-//! Each allocation of each call of the crate fails in turn (refuse.c): the call gives `NoMemory` or the right value, gives
-//! that when it is made again, and frees all memory.
+//! Each allocation of each call of the crate fails in turn (refuse.c): the call gives `NoMemory` or the right value,
+//! gives that when it is made again, and frees all memory.
 
 use cosvigle::{demangle, demangle_signature, Demangler, Error};
 use std::os::raw::c_long;
@@ -12,7 +12,7 @@ extern "C" {
 const SYMBOL: &str = "_ZNSt6vectorIS_IS_IiEEE4sizeEv";
 const NAME: &str = "std::vector<std::vector<std::vector<int> > >::size";
 
-/// The same call with each of its allocations refused, until none is left. It says whether its value is right.
+/// The same call where each of its allocations fails, until none does. It says whether its value is right.
 fn tried(call: impl Fn(&mut Demangler) -> Result<bool, Error>) {
     let (mut number, mut failed) = (1, 0);
     loop {
