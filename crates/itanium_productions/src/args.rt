@@ -13,8 +13,8 @@ use itanium_reader::{Reader, Stop, text_limit};
 use itanium_syntax::args::{ArgsCase, ArgumentCase, args_case, argument_case};
 use itanium_syntax::context::Context;
 
-/// `<template-args> ::= I <template-arg>* E`, of a name or of a type, after what was found, within `depth` open
-/// productions.
+/// Reads `<template-args> ::= I <template-arg>* E` and appends them to the name or type in `found`. `of_name` is true
+/// for a name. At most `depth` counted productions may nest, this one included.
 #[tactic(auto, using(itanium_reader::proofs::Rules::argument_lists))]
 #[cycle(reader)]
 pub(crate) fn read_template_args(
@@ -37,12 +37,12 @@ pub(crate) fn read_template_args(
 {
     let depth = reader.enter(depth)?;
     reader.skip(1);
-    // A name outside of a type keeps its arguments as a scope, for the template parameters that follow.
+    // The arguments of a name outside of a type become a scope, to which later template parameters refer.
     let opens = context.opens_scope(of_name);
     reader.begin_list(opens)?;
     let scopes = reader.buffer.scopes();
     let list = open_arguments(&mut reader.buffer, reader.found)?;
-    // A list is measured from its `<` on, without the name in front.
+    // The text limit applies to the list from its `<` on, without the name in front.
     let front = reader.buffer.len(list) - 1;
     let widest = front + text_limit();
     let mut first = true;
@@ -69,8 +69,8 @@ pub(crate) fn read_template_args(
     }
 }
 
-/// `<template-arg> ::= J <template-arg>* E`, within `depth` open productions: no scope is dropped between its
-/// arguments.
+/// Reads `<template-arg> ::= J <template-arg>* E`. At most `depth` counted productions may nest, this one included.
+/// Scopes that one argument opens stay for the next.
 #[tactic(auto, using(itanium_reader::proofs::Rules::packs))]
 #[cycle(reader)]
 #[inline(never)]
@@ -113,7 +113,7 @@ pub(crate) fn read_argument_pack(
     }
 }
 
-/// `<template-arg> ::= <type> | X <expression> E | <expr-primary> | J <template-arg>* E`
+/// Reads `<template-arg> ::= <type> | X <expression> E | <expr-primary> | J <template-arg>* E`.
 #[tactic(auto, using(itanium_reader::proofs::Rules::arguments))]
 #[cycle(reader)]
 #[inline(always)]
@@ -142,8 +142,8 @@ pub(crate) fn read_template_arg(
     }
 }
 
-/// A `<template-arg>` in a frame of its own: what lived keeps its shape. The output is all that was
-/// there and then its text.
+/// Reads a `<template-arg>` in its own frame. Pieces that lived before keep their shapes. The output afterwards is the
+/// old output followed by the argument's text.
 #[tactic(auto, using(itanium_reader::proofs::Rules::buffers))]
 #[cycle(reader)]
 #[inline(always)]

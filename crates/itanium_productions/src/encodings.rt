@@ -25,7 +25,8 @@ use itanium_syntax::encodings::{
 use itanium_syntax::names::{SymbolCase, symbol_case};
 use itanium_syntax::numerals::ordinal;
 
-/// A `<type>` that isn't printed: what it saved and the scopes that it left stay, and it leaves no text.
+/// Reads a `<type>` and removes its text from the output. The substitutions that it saved and the scopes that it
+/// opened stay.
 #[tactic(auto, using(itanium_reader::proofs::Rules::buffers))]
 #[cycle(reader)]
 pub(crate) fn drop_type(reader: &mut Reader, depth: usize, context: Context) -> Result<(), Stop>
@@ -42,7 +43,8 @@ pub(crate) fn drop_type(reader: &mut Reader, depth: usize, context: Context) -> 
     Ok(())
 }
 
-/// The return type of an `<encoding>`, after a name with these flags: it isn't printed.
+/// Reads the return type of an `<encoding>`, if there is one, and prints nothing. `templ` and `ctor` are the flags of
+/// the name in front of it.
 #[tactic(auto, using(itanium_reader::proofs::Rules::buffers))]
 #[cycle(reader)]
 pub(crate) fn read_return(
@@ -66,8 +68,9 @@ pub(crate) fn read_return(
     }
 }
 
-/// What is after the name of an `<encoding>`: its return type, its parameters, and then the name's own qualifiers,
-/// which are left in `quals`.
+/// Reads the return type and the parameters of an `<encoding>`, and appends the parameters to `name`. `reader.quals`
+/// holds the name's own qualifiers, which are printed last. If the encoding ends after its name, only the qualifiers
+/// are printed.
 #[tactic(auto, using(itanium_reader::proofs::Rules::buffers))]
 #[cycle(reader)]
 pub(crate) fn end_encoding(
@@ -104,7 +107,8 @@ pub(crate) fn end_encoding(
     }
 }
 
-/// `<encoding> ::= <special-name> | <name> [<return type>] [<parameter types>]`: a name alone where it ends after it.
+/// Reads `<encoding> ::= <special-name> | <name> [<return type>] [<parameter types>]`. If `end` is `AfterName`, reads
+/// no more than the special name or the name.
 #[tactic(auto, using(itanium_reader::proofs::Rules::encodings))]
 #[cycle(reader)]
 pub fn read_encoding(
@@ -129,8 +133,8 @@ pub fn read_encoding(
     }
 }
 
-/// What follows the `<encoding>` of a `<local-name>`: `E s`, `E d [<number>] _ <name>` or `E <name>`. A name's own
-/// qualifiers are left in `quals`.
+/// Reads what follows the `<encoding>` of a `<local-name>`: `E s`, `E d [<number>] _ <name>` or `E <name>`. Leaves the
+/// entity's own qualifiers in `reader.quals`; a string literal has none.
 #[tactic(auto, using(itanium_reader::proofs::Rules::entities))]
 #[cycle(reader)]
 #[inline(never)]
@@ -177,8 +181,8 @@ pub(crate) fn read_entity(
     }
 }
 
-/// `<local-name> ::= Z <encoding> E <name> | Z <encoding> E s | Z <encoding> E d [<number>] _ <name>`, after its
-/// `Z`: the own qualifiers of its entity are left in `quals`.
+/// Reads `<local-name> ::= Z <encoding> E <name> | Z <encoding> E s | Z <encoding> E d [<number>] _ <name>`, after its
+/// `Z`. Leaves the entity's own qualifiers in `reader.quals`.
 #[tactic(auto, using(itanium_reader::proofs::Rules::local_names))]
 #[cycle(reader)]
 pub(crate) fn read_local_name(

@@ -16,7 +16,7 @@ use itanium_syntax::expressions::{
     ExpressionCase, LiteralCase, expression_case, expression_text, is_external, literal_case,
 };
 
-/// `<expr-primary> ::= L <type> <value> E | L _Z <encoding> E`
+/// Reads `<expr-primary> ::= L <type> <value> E | L _Z <encoding> E`.
 #[tactic(auto, using(itanium_reader::proofs::Rules::primaries))]
 #[cycle(reader)]
 pub(crate) fn read_expr_primary(
@@ -45,7 +45,7 @@ pub(crate) fn read_expr_primary(
     }
 }
 
-/// `<type> <value> E`, in a literal.
+/// Reads `<type> <value> E`, the rest of a literal after its `L`.
 #[tactic(auto, using(itanium_reader::proofs::Rules::buffers))]
 #[cycle(reader)]
 #[inline(always)]
@@ -56,13 +56,14 @@ pub(crate) fn read_literal(reader: &mut Reader, depth: usize, context: Context) 
     ensures bounds { TakesSome 2 result (state reader.old) (state reader.new) }
     ensures saved { SavedBounds 0 result (state reader.old) (state reader.new) }
 {
-    // Most literals have their type in parentheses, the first of which goes in front of it.
+    // Most literals print their type in parentheses. The `(` is printed before the type is read, so the type need not
+    // move.
     let paren = reader.buffer.push(b"(")?;
     framed_type(reader, depth, context)?;
     reader.end_literal(paren)
 }
 
-/// `pp_ <expression>` and `mm_ <expression>`
+/// Reads `pp_ <expression>` or `mm_ <expression>`, a prefix increment or decrement.
 #[tactic(auto, using(itanium_reader::proofs::Rules::words))]
 #[cycle(reader)]
 pub(crate) fn read_pre(reader: &mut Reader, depth: usize, context: Context) -> Result<(), Stop>
@@ -74,7 +75,7 @@ pub(crate) fn read_pre(reader: &mut Reader, depth: usize, context: Context) -> R
     ensures bounds { TakesSome 0 result (state reader.old) (state reader.new) }
     ensures saved { SavedBounds 1 result (state reader.old) (state reader.new) }
 {
-    // The operator's text goes in front before the operand is read, so that nothing moves after it.
+    // The operator is printed before the operand is read, so the operand's text need not move.
     let operator = expression_text(reader.rest).as_bytes();
     reader.skip(3);
     let front = reader.buffer.push(operator)?;
@@ -83,7 +84,7 @@ pub(crate) fn read_pre(reader: &mut Reader, depth: usize, context: Context) -> R
     Ok(())
 }
 
-/// `ad` and an external name.
+/// Reads `ad <expression>` for an external name, and prints `&` in front of it.
 #[tactic(auto, using(itanium_reader::proofs::Rules::buffers))]
 #[cycle(reader)]
 pub(crate) fn read_address(reader: &mut Reader, depth: usize, context: Context) -> Result<(), Stop>
@@ -101,7 +102,7 @@ pub(crate) fn read_address(reader: &mut Reader, depth: usize, context: Context) 
     Ok(())
 }
 
-/// An operator in front of its operand.
+/// Reads the two letters of a unary operator and its operand. The operator is printed in front.
 #[tactic(auto, using(itanium_reader::proofs::Rules::words))]
 #[cycle(reader)]
 pub(crate) fn read_unary(reader: &mut Reader, depth: usize, context: Context) -> Result<(), Stop>
@@ -121,7 +122,7 @@ pub(crate) fn read_unary(reader: &mut Reader, depth: usize, context: Context) ->
     Ok(())
 }
 
-/// `pp <expression>` and `mm <expression>`
+/// Reads `pp <expression>` or `mm <expression>`, a postfix increment or decrement.
 #[tactic(auto, using(itanium_reader::proofs::Rules::buffers))]
 #[cycle(reader)]
 pub(crate) fn read_post(reader: &mut Reader, depth: usize, context: Context) -> Result<(), Stop>
@@ -140,7 +141,7 @@ pub(crate) fn read_post(reader: &mut Reader, depth: usize, context: Context) -> 
     Ok(())
 }
 
-/// An operator between its operands.
+/// Reads the two letters of a binary operator and its two operands. The operator is printed between them.
 #[tactic(auto, using(itanium_reader::proofs::Rules::buffers))]
 #[cycle(reader)]
 pub(crate) fn read_binary(reader: &mut Reader, depth: usize, context: Context) -> Result<(), Stop>
@@ -161,7 +162,8 @@ pub(crate) fn read_binary(reader: &mut Reader, depth: usize, context: Context) -
     Ok(())
 }
 
-/// `gt <expression> <expression>`
+/// Reads `gt <expression> <expression>`. The whole is printed in parentheses, so that its `>` doesn't end an argument
+/// list.
 #[tactic(auto, using(itanium_reader::proofs::Rules::buffers))]
 #[cycle(reader)]
 pub(crate) fn read_greater(reader: &mut Reader, depth: usize, context: Context) -> Result<(), Stop>
@@ -181,7 +183,8 @@ pub(crate) fn read_greater(reader: &mut Reader, depth: usize, context: Context) 
     Ok(())
 }
 
-/// The two operands between which a condition chooses.
+/// Reads the second and third operands of a conditional expression, whose first operand is `condition`. Prints `?` and
+/// ` : ` between the three.
 #[tactic(auto, using(itanium_reader::proofs::Rules::buffers))]
 #[cycle(reader)]
 pub(crate) fn read_alternatives(
@@ -208,7 +211,7 @@ pub(crate) fn read_alternatives(
     Ok(())
 }
 
-/// `qu <expression> <expression> <expression>`
+/// Reads `qu <expression> <expression> <expression>`, a conditional expression.
 #[tactic(auto, using(itanium_reader::proofs::Rules::buffers))]
 #[cycle(reader)]
 pub(crate) fn read_conditional(
@@ -229,7 +232,7 @@ pub(crate) fn read_conditional(
     read_alternatives(reader, depth, context, reader.found)
 }
 
-/// `<expression>`, within `depth` open productions.
+/// Reads `<expression>`. At most `depth` counted productions may nest, this one included.
 #[tactic(auto, using(itanium_reader::proofs::Rules::expressions))]
 #[cycle(reader)]
 pub(crate) fn read_expression(
@@ -262,7 +265,7 @@ pub(crate) fn read_expression(
     Ok(())
 }
 
-/// An operand: an `<expression>`, in parentheses but for an external name.
+/// Reads an operand, which is an `<expression>`. The operand is printed in parentheses unless it is an external name.
 #[tactic(auto, using(itanium_reader::proofs::Rules::buffers))]
 #[cycle(reader)]
 pub(crate) fn read_operand(reader: &mut Reader, depth: usize, context: Context) -> Result<(), Stop>
@@ -279,7 +282,8 @@ pub(crate) fn read_operand(reader: &mut Reader, depth: usize, context: Context) 
     Ok(())
 }
 
-/// An operand in a frame of its own: what lived keeps its shape. The output is all that was there and then its text.
+/// Reads an operand in its own frame. Pieces that lived before keep their shapes. The output afterwards is the old
+/// output followed by the operand's text.
 #[tactic(auto, using(itanium_reader::proofs::Rules::buffers))]
 #[cycle(reader)]
 pub(crate) fn framed_operand(
@@ -302,8 +306,8 @@ pub(crate) fn framed_operand(
     Ok(())
 }
 
-/// `<expression>` in a frame of its own: what lived keeps its shape. The output is all that was
-/// there and then its text.
+/// Reads an `<expression>` in its own frame. Pieces that lived before keep their shapes. The output afterwards is the
+/// old output followed by the expression's text.
 #[tactic(auto, using(itanium_reader::proofs::Rules::buffers))]
 #[cycle(reader)]
 pub(crate) fn framed_expression(

@@ -1,11 +1,12 @@
-//! One reader for each production of the grammar, named after it, with the production in the ABI's notation above it.
+//! Each production of the grammar has one reader here. The reader has the production's name, and the production stands
+//! above it in the ABI's notation.
 //!
-//! The readers call one another and are proved together. Each equals its function in `specs/Parser` of
-//! `itanium_reader`. This crate is for `itanium_demangle` alone, which proves that the parser reads what the grammar
-//! says.
+//! The readers call one another, so they are proved together. Each equals its function in `specs/Parser` of
+//! `itanium_reader`. Only `itanium_demangle` uses this crate. `itanium_demangle` proves that the parser agrees with
+//! the grammar.
 //!
-//! It stands on `itanium_reader`, whose methods its readers call. Begin with `read_encoding` in `encodings.rt`, and
-//! follow it to `read_name` in `names.rt` and `read_type` in `types.rt`.
+//! The readers call the methods of `itanium_reader`. Begin with `read_encoding` in `encodings.rt`, and follow it to
+//! `read_name` in `names.rt` and `read_type` in `types.rt`.
 #![tactic(auto)]
 
 mod args;

@@ -24,8 +24,8 @@ use itanium_syntax::names::{
     first_case, free_case, name_case, name_quals, segment_case, unqualified_case, unscoped_case,
 };
 
-/// `<closure-type-name> ::= Ul <lambda-sig> E [<nonnegative number>] _`, after its `Ul`. It is rare, and isn't inlined:
-/// so other names take less of the stack.
+/// Reads `<closure-type-name> ::= Ul <lambda-sig> E [<nonnegative number>] _`, after its `Ul`. The production is rare.
+/// The function isn't inlined, to keep the stack frame of other names small.
 #[tactic(auto, using(itanium_reader::proofs::Rules::parents))]
 #[cycle(reader)]
 #[inline(never)]
@@ -46,7 +46,7 @@ pub(crate) fn read_closure_type_name(
     reader.end_lambda(reader.found)
 }
 
-/// `<unqualified-name>` that asks for no parent, without its tags.
+/// Reads an `<unqualified-name>` that needs no parent, which is any but a `<ctor-dtor-name>`. ABI tags aren't read.
 #[tactic(auto, using(itanium_reader::proofs::Rules::free_names))]
 #[cycle(reader)]
 pub(crate) fn read_free_name(
@@ -63,7 +63,7 @@ pub(crate) fn read_free_name(
     ensures saved { SavedBounds 1 result (state reader.old) (state reader.new) }
 {
     match free_case(reader.rest) {
-        // No caller asks for a source name here: each reads it itself.
+        // No caller comes here with a `<source-name>`: each caller reads that case itself.
         FreeCase::SourceName => reader.read_source_name(),
         FreeCase::UnnamedTypeName => {
             reader.skip(2);
@@ -88,7 +88,7 @@ pub(crate) fn read_free_name(
     }
 }
 
-/// `<unqualified-name>` in no parent.
+/// Reads an `<unqualified-name>` that has no parent, with its ABI tags.
 #[tactic(auto, using(itanium_reader::proofs::Rules::outer_names))]
 #[cycle(reader)]
 #[inline(always)]
@@ -114,7 +114,8 @@ pub(crate) fn read_unqualified_name(
     reader.read_tags()
 }
 
-/// `<unqualified-name>` in the parent that was found.
+/// Reads an `<unqualified-name>`, with its ABI tags, whose parent is `found`. Afterwards `found` is the qualified
+/// name.
 #[tactic(auto, using(itanium_reader::proofs::Rules::unqualified_names))]
 #[cycle(reader)]
 #[inline(never)]
@@ -142,8 +143,8 @@ pub(crate) fn read_segment(reader: &mut Reader, depth: usize, context: Context) 
     reader.read_tags()
 }
 
-/// `<unqualified-name>` that asks for no parent, without its tags, in the parent that was found. The parent is printed
-/// in front of it first, so that nothing moves.
+/// Reads an `<unqualified-name>` that is no `<ctor-dtor-name>`, without its ABI tags, and qualifies it by the parent
+/// in `found`. The parent's text and `::` are printed before the name is read, so the name's text need not move.
 #[tactic(auto, using(itanium_reader::proofs::Rules::parents))]
 #[cycle(reader)]
 pub(crate) fn read_free_segment(
@@ -169,8 +170,9 @@ pub(crate) fn read_free_segment(
     Ok(())
 }
 
-/// The first segment of a `<nested-name>`. The answer says whether it is saved once a further one follows: `St` and a
-/// `<substitution>` aren't.
+/// Reads the first segment of a `<nested-name>`. Returns `true` if the segment isn't saved yet and becomes a
+/// substitution when another segment follows. Returns `false` for `St` and a `<substitution>`, which never become a
+/// new substitution.
 #[tactic(auto, using(itanium_reader::proofs::Rules::first_segments))]
 #[cycle(reader)]
 #[inline(always)]
@@ -212,8 +214,9 @@ pub(crate) fn read_first(reader: &mut Reader, depth: usize, context: Context) ->
     }
 }
 
-/// `<nested-name> ::= N [<CV-qualifiers>] [<ref-qualifier>] <prefix> E | N H <prefix> E`, after its `N`. Names inside
-/// the prefix overwrite `quals`, so its own qualifiers are put there last.
+/// Reads `<nested-name> ::= N [<CV-qualifiers>] [<ref-qualifier>] <prefix> E | N H <prefix> E`, after its `N`. Names
+/// inside the prefix overwrite `reader.quals`, so this name's own qualifiers are stored there after the prefix is
+/// read.
 #[tactic(auto, using(itanium_reader::proofs::Rules::nested_names))]
 #[cycle(reader)]
 #[inline(always)]
@@ -231,7 +234,7 @@ pub(crate) fn read_nested_name(
     ensures saved { SavedBounds 1 result (state reader.old) (state reader.new) }
 {
     match name_quals(reader.rest) {
-        // Most names have none: then nothing is kept while the prefix is read.
+        // Most names have no qualifiers. This arm keeps none on the stack while the prefix is read.
         (None, rest) => {
             reader.rest = rest;
             read_prefix(reader, depth, context)?;
@@ -246,8 +249,9 @@ pub(crate) fn read_nested_name(
     Ok(())
 }
 
-/// `<prefix> E`. In the ABI the last segment stands outside of the `<prefix>`: so each but the last is saved, once a
-/// further one follows. Most segments are `<source-name>`s, so one is asked for first.
+/// Reads `<prefix> E`. Each segment but `St` and a `<substitution>` becomes a substitution when another segment
+/// follows. The last segment doesn't: in the ABI it is outside of the `<prefix>`. Most segments are `<source-name>`s,
+/// so the loop tests that case first.
 #[tactic(auto, using(itanium_reader::proofs::Rules::segments))]
 #[cycle(reader)]
 #[inline(always)]
@@ -288,8 +292,9 @@ pub(crate) fn read_prefix(reader: &mut Reader, depth: usize, context: Context) -
     }
 }
 
-/// `<unscoped-name> ::= [St] <unqualified-name>`, or an `<unscoped-template-name>` with its `<template-args>`: whether
-/// an `I` follows says which. A `<substitution>` has one after it.
+/// Reads `<unscoped-name> ::= [St] <unqualified-name>`, or an `<unscoped-template-name>` with its `<template-args>`.
+/// An `I` after the name selects the second. A `<substitution>` must have `<template-args>` after it; otherwise the
+/// function returns `Stop::Unread`.
 #[tactic(auto, using(itanium_reader::proofs::Rules::segments))]
 #[cycle(reader)]
 pub(crate) fn read_unscoped_name(
@@ -330,10 +335,11 @@ pub(crate) fn read_unscoped_name(
     }
 }
 
-/// `<name> ::= <nested-name> | <local-name> | <unscoped-name> | <unscoped-template-name> <template-args>`, where
-/// `depth` more counted productions may nest. The own qualifiers of a bare name are left in `quals` for the caller.
-/// Those of any other name are printed after it: a word such as ` const` only if the context is `shown` or the name is
-/// local, a reference always.
+/// Reads `<name> ::= <nested-name> | <local-name> | <unscoped-name> | <unscoped-template-name> <template-args>`. At
+/// most `depth` counted productions may nest, this one included.
+///
+/// If `bare` is true, the name's own qualifiers are left in `reader.quals` for the caller. Otherwise they are printed
+/// after the name: a reference always, a word such as ` const` only if `context.shown` is set or the name is local.
 #[tactic(auto, using(crate::proofs::OwnQualifiers::names))]
 #[cycle(reader)]
 #[inline(always)]
@@ -380,7 +386,8 @@ pub fn read_name(
     Ok(())
 }
 
-/// `<name>` in a frame of its own: what lived keeps its shape. The output is all that was there and then its text.
+/// Reads a `<name>` in its own frame. Pieces that lived before keep their shapes. The output afterwards is the old
+/// output followed by the name's text.
 #[tactic(auto, using(itanium_reader::proofs::Rules::buffers))]
 #[cycle(reader)]
 pub(crate) fn framed_name(

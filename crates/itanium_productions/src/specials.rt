@@ -13,7 +13,7 @@ use itanium_syntax::encodings::EncodingEnd;
 use itanium_syntax::offsets::past_base_offset;
 use itanium_syntax::specials::{SpecialCase, special_case, special_close, special_text};
 
-/// `TV <type>`, `TT <type>`, `TI <type>`, `TS <type>` and `TF <type>`
+/// Reads `TV <type>`, `TT <type>`, `TI <type>`, `TS <type>` or `TF <type>`.
 #[tactic(auto, using(itanium_reader::proofs::Rules::words))]
 #[cycle(reader)]
 pub(crate) fn read_type_special(
@@ -38,7 +38,7 @@ pub(crate) fn read_type_special(
     Ok(())
 }
 
-/// `TH <name>`, `TW <name>` and `GV <name>`
+/// Reads `TH <name>`, `TW <name>` or `GV <name>`.
 #[tactic(auto, using(itanium_reader::proofs::Rules::words))]
 #[cycle(reader)]
 pub(crate) fn read_name_special(
@@ -63,7 +63,7 @@ pub(crate) fn read_name_special(
     Ok(())
 }
 
-/// `GR <name> [<seq-id>] _`
+/// Reads `GR <name> [<seq-id>] _`, a reference temporary.
 #[tactic(auto, using(itanium_reader::proofs::Rules::buffers))]
 #[cycle(reader)]
 pub(crate) fn read_temporary(
@@ -84,7 +84,7 @@ pub(crate) fn read_temporary(
     reader.end_temporary()
 }
 
-/// `TC <type> <offset number> _ <base type>`
+/// Reads `TC <type> <offset number> _ <base type>`, a construction vtable.
 #[tactic(auto, using(itanium_reader::proofs::Rules::words))]
 #[cycle(reader)]
 pub(crate) fn read_construction(
@@ -114,7 +114,8 @@ pub(crate) fn read_construction(
     Ok(())
 }
 
-/// `T <call-offset> <encoding>` and `T c <call-offset> <call-offset> <encoding>`, within `depth` open productions.
+/// Reads `T <call-offset> <encoding>` or `T c <call-offset> <call-offset> <encoding>`. At most `depth` counted
+/// productions may nest, this one included.
 #[tactic(auto, using(itanium_reader::proofs::Rules::thunks))]
 #[cycle(reader)]
 pub(crate) fn read_thunk(
@@ -142,7 +143,7 @@ pub(crate) fn read_thunk(
     Ok(())
 }
 
-/// `<special-name>`
+/// Reads `<special-name>`. Returns `Stop::Unread` for a special name that isn't supported.
 #[tactic(auto, using(itanium_reader::proofs::Rules::specials))]
 #[cycle(reader)]
 #[inline(never)]

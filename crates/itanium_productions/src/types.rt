@@ -21,7 +21,8 @@ use itanium_syntax::types::{
     function_case, params_case, type_case, types_case,
 };
 
-/// `<template-args>` after the type that was found, which is saved with them, or none.
+/// Reads `<template-args>` if they follow the type in `found`, and saves the type with its arguments as a
+/// substitution. If no `I` follows, nothing changes.
 #[tactic(auto, using(itanium_reader::proofs::Rules::fronts))]
 #[cycle(reader)]
 #[inline(always)]
@@ -48,7 +49,7 @@ pub(crate) fn read_type_attached(
     }
 }
 
-/// `<type>`, within `depth` open productions.
+/// Reads `<type>`. At most `depth` counted productions may nest, this one included.
 #[tactic(auto, using(itanium_reader::proofs::Rules::types))]
 #[cycle(reader)]
 pub(crate) fn read_type(reader: &mut Reader, depth: usize, context: Context) -> Result<(), Stop>
@@ -63,7 +64,7 @@ pub(crate) fn read_type(reader: &mut Reader, depth: usize, context: Context) -> 
     let context = context.inside_type();
     match type_case(reader.rest) {
         TypeCase::NameType => {
-            // The name was measured.
+            // `read_name` has checked the length of the name.
             read_name(reader, depth, context, false)?;
             reader.save_found()?;
             return Ok(());
@@ -98,7 +99,7 @@ pub(crate) fn read_type(reader: &mut Reader, depth: usize, context: Context) -> 
     Ok(())
 }
 
-/// `Dp <type>`: its dots are printed where no pack is around it.
+/// Reads `Dp <type>`. The `...` is printed unless `context.pack` is set.
 #[tactic(auto, using(itanium_reader::proofs::Rules::buffers))]
 #[cycle(reader)]
 pub(crate) fn read_expansion(
@@ -120,7 +121,7 @@ pub(crate) fn read_expansion(
     Ok(())
 }
 
-/// `<array-type> ::= A [<number>] _ <type>`
+/// Reads `<array-type> ::= A [<number>] _ <type>`. Returns `Stop::Unread` also for an array of functions.
 #[tactic(auto, using(itanium_reader::proofs::Rules::buffers))]
 #[cycle(reader)]
 pub(crate) fn read_array_type(
@@ -144,7 +145,7 @@ pub(crate) fn read_array_type(
     reader.save_array(dimension)
 }
 
-/// `P <type>`, `R <type>` and `O <type>`
+/// Reads `P <type>`, `R <type>` or `O <type>`, and saves the pointer or reference as a substitution.
 #[tactic(auto, using(itanium_reader::proofs::Rules::buffers))]
 #[cycle(reader)]
 pub(crate) fn read_pointer(
@@ -167,8 +168,8 @@ pub(crate) fn read_pointer(
     Ok(())
 }
 
-/// `<class-enum-type> ::= Ts <name> | Tu <name> | Te <name>`. It is rare, and isn't inlined: so other types take less
-/// of the stack.
+/// Reads `<class-enum-type> ::= Ts <name> | Tu <name> | Te <name>`. The production is rare. The function isn't
+/// inlined, to keep the stack frame of other types small.
 #[tactic(auto, using(itanium_reader::proofs::Rules::words))]
 #[cycle(reader)]
 #[inline(never)]
@@ -191,7 +192,8 @@ pub(crate) fn read_elaborated(
     Ok(())
 }
 
-/// A `<type>` in a frame of its own: what lived keeps its shape. The output is all that was there and then its text.
+/// Reads a `<type>` in its own frame. Pieces that lived before keep their shapes. The output afterwards is the old
+/// output followed by the type's text.
 #[tactic(auto, using(itanium_reader::proofs::Rules::buffers))]
 #[cycle(reader)]
 #[inline(always)]
@@ -210,7 +212,7 @@ pub(crate) fn framed_type(reader: &mut Reader, depth: usize, context: Context) -
     Ok(())
 }
 
-/// `<pointer-to-member-type> ::= M <type> <type>`: the class, and the member in a frame of its own.
+/// Reads `<pointer-to-member-type> ::= M <type> <type>`: first the class, then the member's type in its own frame.
 #[tactic(auto, using(itanium_reader::proofs::Rules::buffers))]
 #[cycle(reader)]
 pub(crate) fn read_pointer_to_member_type(
@@ -232,7 +234,7 @@ pub(crate) fn read_pointer_to_member_type(
     reader.save_member(class)
 }
 
-/// `<qualified-type> ::= <CV-qualifiers> <type>`: a function type takes the qualifiers in.
+/// Reads `<qualified-type> ::= <CV-qualifiers> <type>`. The qualifiers of a function type become part of that type.
 #[tactic(auto, using(itanium_reader::proofs::Rules::buffers))]
 #[cycle(reader)]
 pub(crate) fn read_cv(reader: &mut Reader, depth: usize, context: Context) -> Result<(), Stop>
@@ -255,7 +257,8 @@ pub(crate) fn read_cv(reader: &mut Reader, depth: usize, context: Context) -> Re
     }
 }
 
-/// `<function-type> ::= F <return type> <parameter types> [<ref-qualifier>] E`, with qualifiers in front of it.
+/// Reads `<function-type> ::= F <return type> <parameter types> [<ref-qualifier>] E`. `quals` are the qualifiers that
+/// stood in front of the `F`. Returns `Stop::Unread` for a function type with `Y` (extern "C").
 #[tactic(auto, using(itanium_reader::proofs::Rules::buffers))]
 #[cycle(reader)]
 pub(crate) fn read_function_type(
@@ -287,8 +290,9 @@ pub(crate) fn read_function_type(
     }
 }
 
-/// Types up to this end, or of a function type to a `<ref-qualifier>` in front of its `E`, put onto a list as they are
-/// read: `v` right in front of their end stands for none.
+/// Reads parameter types and appends each to `list`, with `, ` between them. Stops in front of `end`. In a function
+/// type (`of_function`) it also stops in front of an `R` or `O` that an `E` follows. A single `v` in front of `end`
+/// means that there are no parameters.
 #[tactic(auto, using(itanium_reader::proofs::Rules::typed_lists))]
 #[cycle(reader)]
 pub(crate) fn read_params(

@@ -1,4 +1,4 @@
-//! The methods for types: each makes a type of those that were found, and saves it.
+//! Methods for types. Most make a type of the one in `found`, and append it to the substitution table.
 ghost use Rattle.std.specs.Prelude.{◌≡◌, OnOk};
 ghost use Rattle.demangle_text.specs.State.{IsLiving, shape, Lives, IsRun, SameFrame, scopes};
 ghost use Rattle.demangle_edit.specs.Types.{pointer_shape, cv_shape};
@@ -17,7 +17,8 @@ use itanium_syntax::types::ref_qualifier;
 use std::alloc::AllocError;
 
 impl<'a> Reader<'a> {
-    /// A pointer or a reference to what was found. It isn't inlined: so a type takes less of the stack.
+    /// Replaces the type in `found` by a pointer or a reference to it, and saves that as a substitution. The method
+    /// isn't inlined, to keep the stack frame of types small.
     #[inline(never)]
     pub fn save_pointer(&mut self, kind: Pointer) -> Result<(), AllocError>
         requires living { IsLiving self.old.buffer.value self.old.found }
@@ -31,7 +32,7 @@ impl<'a> Reader<'a> {
         self.save_found()
     }
 
-    /// What was found with the words of its qualifiers.
+    /// Adds the words of the qualifiers to the type in `found`.
     pub fn wrap_found(&mut self, quals: Quals) -> Result<(), AllocError>
         requires living { IsLiving self.old.buffer.value self.old.found }
         ensures shape { OnOk result (Lives self.new.buffer.value self.new.found (cv_shape quals
@@ -43,7 +44,8 @@ impl<'a> Reader<'a> {
         Ok(())
     }
 
-    /// The expansion of what was found, which prints its dots where it isn't in a pack.
+    /// Replaces the type in `found` by its pack expansion, and saves that as a substitution. `...` is appended unless
+    /// `in_pack` is true.
     pub fn save_expansion(&mut self, in_pack: bool) -> Result<(), AllocError>
         requires living { IsLiving self.old.buffer.value self.old.found }
         ensures shape { OnOk result (Lives self.new.buffer.value self.new.found
@@ -58,7 +60,8 @@ impl<'a> Reader<'a> {
         self.save_found()
     }
 
-    /// The array of what was found, where there is one.
+    /// Replaces the type in `found` by an array of it, and saves that as a substitution. Returns `Stop::Unread` for an
+    /// array of functions.
     pub fn save_array(&mut self, dimension: Option<u64>) -> Result<(), Stop>
         requires living { IsLiving self.old.buffer.value self.old.found }
         ensures reads { Gives result self.new (spec.saved_array dimension
@@ -75,7 +78,8 @@ impl<'a> Reader<'a> {
         Ok(())
     }
 
-    /// The pointer to what was found as a member of the class, where there is one.
+    /// Replaces the type in `found` by a pointer to a member of `class` of that type, and saves the pointer as a
+    /// substitution. Returns `Stop::Unread` if the member's type is an array.
     pub fn save_member(&mut self, class: Piece) -> Result<(), Stop>
         requires class { IsLiving self.old.buffer.value class }
         requires living { IsLiving self.old.buffer.value self.old.found }
@@ -94,8 +98,8 @@ impl<'a> Reader<'a> {
         Ok(())
     }
 
-    /// The function type whose list of parameters was found, and what is after them: `[<ref-qualifier>] E`. What it
-    /// returns has `front` bytes.
+    /// Reads `[<ref-qualifier>] E` and completes the function type. Before the call, `found` is the return type with
+    /// the list of parameters. The return type has `front` bytes.
     #[inline(never)]
     pub fn end_function(&mut self, front: usize, quals: Quals) -> Result<(), Stop>
         requires living { IsLiving self.old.buffer.value self.old.found }
@@ -113,7 +117,7 @@ impl<'a> Reader<'a> {
         Ok(())
     }
 
-    /// `u <source-name>`, which no `<template-args>` follow.
+    /// Reads `u <source-name>`. Returns `Stop::Unread` if `<template-args>` follow.
     pub fn read_vendor_type(&mut self) -> Result<(), Stop>
         ensures reads { Gives result self.new (spec.parse_vendor (state self.old)) }
         ensures run { OnOk result (IsRun self.old.buffer.value self.new.buffer.value) }

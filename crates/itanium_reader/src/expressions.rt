@@ -15,7 +15,7 @@ use itanium_syntax::expressions::literal_value;
 use std::alloc::AllocError;
 
 impl<'a> Reader<'a> {
-    /// The `E` after what was found.
+    /// Reads the `E` after `found`. Returns `Stop::Unread` if another byte is next.
     pub fn read_end(&mut self) -> Result<(), Stop>
         requires living { IsLiving self.old.buffer.value self.old.found }
         ensures reads { Gives result self.new
@@ -33,8 +33,8 @@ impl<'a> Reader<'a> {
         }
     }
 
-    /// The value of a literal of the type that was found, up to the `E` after it. A `(` stands in front of the type,
-    /// for a literal with its type in parentheses.
+    /// Reads the value of a literal and the `E` after it. The literal's type is `found`. The piece `paren` is a `(`,
+    /// with which a literal that prints its type in parentheses begins.
     pub fn end_literal(&mut self, paren: Piece) -> Result<(), Stop>
         requires paren { Lives self.old.buffer.value paren (plain_shape (codes "(")) }
         requires living { IsLiving self.old.buffer.value self.old.found }
@@ -55,7 +55,7 @@ impl<'a> Reader<'a> {
         Ok(())
     }
 
-    /// What was found, as an operand: in parentheses where it is to be.
+    /// Puts `found` in parentheses if `paren` is true.
     #[inline(never)]
     pub fn print_operand(&mut self, paren: bool) -> Result<(), AllocError>
         requires living { IsLiving self.old.buffer.value self.old.found }
@@ -68,7 +68,7 @@ impl<'a> Reader<'a> {
         Ok(())
     }
 
-    /// An operator's text after what was found.
+    /// Appends an operator's text to `found`.
     pub fn print_post(&mut self, text: &str) -> Result<(), AllocError>
         requires living { IsLiving self.old.buffer.value self.old.found }
         ensures shape { OnOk result (Lives self.new.buffer.value self.new.found
@@ -81,7 +81,7 @@ impl<'a> Reader<'a> {
         Ok(())
     }
 
-    /// An operator's text between the left operand and the right one, which was found.
+    /// Joins the left operand, the operator's text and the right operand, which is `found`.
     pub fn print_binary(&mut self, left: Piece, text: &str) -> Result<(), AllocError>
         requires left { IsLiving self.old.buffer.value left }
         requires living { IsLiving self.old.buffer.value self.old.found }
@@ -94,7 +94,8 @@ impl<'a> Reader<'a> {
         Ok(())
     }
 
-    /// `>` between the left expression and the right one, which was found, in parentheses.
+    /// Joins the left expression, `>` and the right expression, which is `found`. Each of the two stands in
+    /// parentheses, and so does the whole.
     pub fn print_greater(&mut self, left: Piece) -> Result<(), AllocError>
         requires left { IsLiving self.old.buffer.value left }
         requires living { IsLiving self.old.buffer.value self.old.found }

@@ -1,10 +1,10 @@
-//! What the readers of productions share: the type `Reader`, with the bytes that are left, the buffer with the table
-//! of substitutions, and the piece that was read last. Its methods do what calls no reader of a production.
+//! The type `Reader`, which the readers of productions share. A `Reader` has the bytes that are left, the buffer with
+//! the substitution table, and the piece that was read last. Its methods call no reader of a production.
 //!
-//! It is for `itanium_demangle` and `itanium_productions` alone. Its `specs/Parser` is the parser as functions over
-//! shapes, without a buffer, which the readers are proved to equal.
+//! Only `itanium_demangle` and `itanium_productions` use this crate. Its `specs/Parser` defines the parser as
+//! functions over shapes, without a buffer. Each reader is proved to equal its function there.
 //!
-//! It stands on `itanium_syntax` for what the next bytes are, on `demangle_edit` for the text, and on
+//! The crate uses `itanium_syntax` to tell what the next bytes are, `demangle_edit` for the text, and
 //! `itanium_grammar` for the limits. Begin with `reader.rt`, and then read `names.rt`.
 #![tactic(auto)]
 

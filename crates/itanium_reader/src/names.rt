@@ -19,7 +19,7 @@ use itanium_syntax::scalar::source_name;
 use std::alloc::AllocError;
 
 impl<'a> Reader<'a> {
-    /// The string literal of an encoding.
+    /// Replaces `found` by the string literal of an encoding: the encoding and `::string literal`.
     pub fn print_string_literal(&mut self, encoding: Piece) -> Result<(), AllocError>
         requires living { IsLiving self.old.buffer.value encoding }
         ensures shape { OnOk result (Lives self.new.buffer.value self.new.found
@@ -31,7 +31,8 @@ impl<'a> Reader<'a> {
         Ok(())
     }
 
-    /// `<source-name>` and its tags, in the parent that was found. The parent is saved first, where it isn't yet.
+    /// Reads a `<source-name>` and its ABI tags, and appends `::` and the name to the parent in `found`. If `unsaved`
+    /// is true, the parent is saved as a substitution first.
     #[inline(always)]
     pub fn read_source_segment(&mut self, unsaved: bool) -> Result<(), Stop>
         requires living { IsLiving self.old.buffer.value self.old.found }
@@ -47,7 +48,7 @@ impl<'a> Reader<'a> {
     {
         let bytes = self.rest;
         let Some((from, to)) = source_name(bytes, 0) else {
-            // The parent counts as saved, although nothing follows it.
+            // The parser saves the parent before it reads the name, also if no name follows.
             self.save_unsaved(unsaved)?;
             return Err(Stop::Unread);
         };
@@ -58,7 +59,8 @@ impl<'a> Reader<'a> {
         self.read_tags()
     }
 
-    /// A constructor or a destructor of what was found, without its tags.
+    /// Skips the two bytes of a `<ctor-dtor-name>` and replaces the class in `found` by its constructor, or by its
+    /// destructor if `destructor` is true. ABI tags aren't read.
     pub fn read_ctor_dtor(&mut self, destructor: bool) -> Result<(), AllocError>
         requires living { IsLiving self.old.buffer.value self.old.found }
         ensures shape { OnOk result (Lives self.new.buffer.value self.new.found
@@ -72,7 +74,7 @@ impl<'a> Reader<'a> {
         Ok(())
     }
 
-    /// `<abi-tags> ::= (B <source-name>)*` after the name that was found. Mostly there is none.
+    /// Reads `<abi-tags> ::= (B <source-name>)*` and appends them to the name in `found`. Most names have none.
     #[tactic(auto, using(crate::proofs::Rules::tagged_names))]
     #[inline(always)]
     pub fn read_tags(&mut self) -> Result<(), Stop>
@@ -91,7 +93,7 @@ impl<'a> Reader<'a> {
         }
     }
 
-    /// `read_tags` where one follows.
+    /// Reads the tags for `read_tags`, if there is at least one.
     #[tactic(auto, using(crate::proofs::Rules::tags))]
     #[cold]
     fn read_some_tags(&mut self) -> Result<(), Stop>
@@ -116,7 +118,7 @@ impl<'a> Reader<'a> {
         Ok(())
     }
 
-    /// `<unnamed-type-name> ::= Ut [<nonnegative number>] _`, after its `Ut`.
+    /// Reads `<unnamed-type-name> ::= Ut [<nonnegative number>] _`, after its `Ut`.
     #[inline(never)]
     pub fn read_unnamed_type(&mut self) -> Result<(), Stop>
         ensures reads { Gives result self.new (spec.parse_unnamed_type (state self.old)) }
@@ -136,7 +138,7 @@ impl<'a> Reader<'a> {
         Ok(())
     }
 
-    /// `<operator-name> ::= li <source-name>`, after its `li`.
+    /// Reads `<operator-name> ::= li <source-name>`, after its `li`.
     #[inline(never)]
     pub fn read_literal_operator_name(&mut self) -> Result<(), Stop>
         ensures reads { Gives result self.new (spec.parse_literal_operator (state self.old)) }
@@ -156,7 +158,7 @@ impl<'a> Reader<'a> {
         Ok(())
     }
 
-    /// `<operator-name>`, a code of two letters.
+    /// Reads an `<operator-name>` that is a code of two letters.
     #[inline(never)]
     pub fn read_operator_name(&mut self) -> Result<(), Stop>
         ensures reads { Gives result self.new (spec.parse_operator (state self.old)) }
@@ -175,7 +177,7 @@ impl<'a> Reader<'a> {
         Ok(())
     }
 
-    /// The end of a lambda's parameters, `E [<nonnegative number>] _`.
+    /// Reads the end of a lambda's parameters, `E [<nonnegative number>] _`.
     #[inline(never)]
     pub fn end_lambda(&mut self, list: Piece) -> Result<(), Stop>
         requires living { IsLiving self.old.buffer.value list }
@@ -194,8 +196,9 @@ impl<'a> Reader<'a> {
         Ok(())
     }
 
-    /// The name that was found with its own qualifiers, words only where they are `shown`; it becomes plain. It isn't
-    /// inlined: so a name takes less of the stack.
+    /// Appends the own qualifiers to the name in `found`: a reference always, words only if `shown` is true. If any
+    /// qualifier is set, `found` becomes a plain piece. The method isn't inlined, to keep the stack frame of names
+    /// small.
     #[inline(never)]
     pub fn print_quals(&mut self, quals: Quals, shown: bool) -> Result<(), AllocError>
         requires living { IsLiving self.old.buffer.value self.old.found }
@@ -215,7 +218,7 @@ impl<'a> Reader<'a> {
         Ok(())
     }
 
-    /// The conversion to the type that was found.
+    /// Replaces the type in `found` by the name of the conversion operator to it: `operator`, a space and the type.
     #[inline(never)]
     pub fn convert_found(&mut self) -> Result<(), AllocError>
         requires living { IsLiving self.old.buffer.value self.old.found }

@@ -1,4 +1,5 @@
-//! What the readers share: the bytes that are left, the buffer with what was saved, and the piece that was found.
+//! The state that the readers share: the bytes that are left, the buffer with the substitution table, and the last
+//! piece.
 ghost use Rattle.std.specs.Prelude.{◌≡◌, ◌<◌, ◌≤◌, ◌+◌, ◌^◌, ◌++◌, IfOk, OnOk, length, take, max, true, false};
 ghost use Rattle.demangle_text.specs.Shape.{plain_shape, text};
 ghost use Rattle.demangle_text.specs.State.{Closes, Stands, frame_start, inside};
@@ -23,11 +24,11 @@ use itanium_syntax::scalar::source_name;
 use itanium_syntax::types::{builtin_text, past_builtin};
 use std::alloc::AllocError;
 
-/// The most bytes that a counted production of a symbol may print, also one whose text is dropped. Counted are names,
-/// types, argument lists, packs, thunks, expressions and signatures.
+/// The most bytes that a counted production of a symbol may print, also if its text is dropped later. The counted
+/// productions are names, types, argument lists, packs, thunks, expressions and signatures.
 pub const MAX_TEXT: usize = 1_048_576;
 
-/// The limit as a number of bytes.
+/// Returns `MAX_TEXT`, in bytes.
 #[inline(always)]
 #[tactic(auto, using(crate::proofs::Texts::max_text_is))]
 pub fn text_limit() -> usize
@@ -37,29 +38,30 @@ pub fn text_limit() -> usize
     MAX_TEXT
 }
 
-/// A reader of mangled bytes. Each production has a function over it, or a method, that returns `Ok` if it was read:
-/// then `found` is the piece of its printing. It returns `Stop::Unread` if it isn't read, and `Stop::Memory` if an
-/// allocation fails.
+/// Reads mangled bytes. Each production has a function over a `Reader`, or a method. It returns `Ok` if the production
+/// was read; then `found` is the piece of its printing. It returns `Stop::Unread` if the bytes aren't read as the
+/// production, and `Stop::Memory` if an allocation fails.
 #[derive(Drop)]
 pub struct Reader<'a> {
     /// The bytes that aren't read yet.
     pub rest: &'a [u8],
-    /// The texts, the saved components and the scopes.
+    /// The output and the spill, the substitution table and the scopes.
     pub buffer: Box<Buffer>,
-    /// What was read last, as it is printed.
+    /// The printing of what was read last. The comments of the methods call this piece `found`.
     pub found: Piece,
-    /// The own qualifiers of the last name that was read, or `None`: any name overwrites them. The caller of a bare
-    /// name prints them, of any other `read_name` has done so.
+    /// The own qualifiers of the last name that was read, or `None`. Each further name overwrites them. `read_name`
+    /// prints them, unless it reads a bare name; then its caller does.
     pub quals: Option<Quals>,
-    /// How many counted productions were entered.
+    /// The number of counted productions that were entered.
     pub entered: usize,
-    /// The most components that would be saved at the `E` of a nested name, were its last segment saved: `most_saved`
-    /// is the most at any moment.
+    /// The most entries of the substitution table at the `E` of a nested name, if its last segment were saved. The
+    /// grammar saves that segment and removes it at the `E`; this code never saves it. The method `most_saved` returns
+    /// the maximum of this field and the length of the table.
     pub most_noted: usize,
 }
 
 impl<'a> Reader<'a> {
-    /// Goes past n bytes, or to the end.
+    /// Skips n bytes, or all if fewer are left.
     #[inline(always)]
     pub fn skip(&mut self, n: usize)
         ensures state { state self.new ≡ spec.skip n (state self.old) }
@@ -73,7 +75,7 @@ impl<'a> Reader<'a> {
         };
     }
 
-    /// Goes past the `M` of a data member's initializer, where one stands.
+    /// Skips the `M` of a data member's initializer, if it is next.
     pub fn skip_initializer(&mut self)
         ensures state { state self.new ≡ spec.past_initializer (state self.old) }
         ensures within { length self.new.rest.now ≤ length self.old.rest.now }
@@ -81,13 +83,13 @@ impl<'a> Reader<'a> {
         ensures found { self.new.found ≡ self.old.found }
         ensures buffer { self.new.buffer.value ≡ self.old.buffer.value }
     {
-        // Mostly there is none, and then nothing is written.
+        // Mostly no `M` is next. Then this method writes nothing.
         if let [b'M', rest @ ..] = self.rest {
             self.rest = rest;
         }
     }
 
-    /// Goes past the `L` of an internal name, where a digit follows it.
+    /// Skips the `L` of an internal name, if it is next and a digit follows it.
     #[inline(always)]
     pub fn skip_internal(&mut self)
         ensures state { state self.new ≡ spec.with_rest (past_internal self.old.rest.now) (state self.old) }
@@ -101,7 +103,7 @@ impl<'a> Reader<'a> {
         }
     }
 
-    /// Saves what was found for substitutions: it stays found, and the output stays.
+    /// Appends `found` to the substitution table. Neither `found` nor the output changes.
     #[inline(always)]
     pub fn save_found(&mut self) -> Result<(), AllocError>
         requires living { IsLiving self.old.buffer.value self.old.found }
@@ -120,7 +122,7 @@ impl<'a> Reader<'a> {
         Ok(())
     }
 
-    /// Copies what was found to the end of the output: what follows it in a name goes right after it.
+    /// Brings `found` to the end of the output, so that the rest of a name can be appended right after it.
     #[inline(always)]
     pub fn copy_found(&mut self) -> Result<(), AllocError>
         requires living { IsLiving self.old.buffer.value self.old.found }
@@ -134,7 +136,7 @@ impl<'a> Reader<'a> {
         Ok(())
     }
 
-    /// Takes the innermost mark back: what was found becomes all of the output since then.
+    /// Closes the innermost mark. Afterwards the output since that mark is the text of `found`.
     #[inline(always)]
     pub fn close_found(&mut self, mark: Mark) -> Result<(), AllocError>
         requires innermost { frame self.old.buffer.value ≡ inside mark }
@@ -155,7 +157,7 @@ impl<'a> Reader<'a> {
         Ok(())
     }
 
-    /// Saves what was found, where it isn't saved yet.
+    /// Appends `found` to the substitution table if `unsaved` is true.
     #[inline(always)]
     pub fn save_unsaved(&mut self, unsaved: bool) -> Result<(), AllocError>
         requires living { IsLiving self.old.buffer.value self.old.found }
@@ -173,8 +175,8 @@ impl<'a> Reader<'a> {
         Ok(())
     }
 
-    /// Goes past the `E` of a `<nested-name>`. The grammar saves the last segment and takes it back at the `E`. Here it
-    /// is never saved: it only counts among the most that were saved.
+    /// Skips the `E` of a `<nested-name>`. The grammar saves the last segment and removes it at the `E`. This code
+    /// never saves that segment, and only notes in `most_noted` how long the table would have been.
     #[inline(always)]
     pub fn end_nested_name(&mut self, unsaved: bool)
         requires living { IsLiving self.old.buffer.value self.old.found }
@@ -189,7 +191,7 @@ impl<'a> Reader<'a> {
         }
     }
 
-    /// Whether the piece is longer than `MAX_TEXT`.
+    /// Returns whether the piece is longer than `MAX_TEXT` bytes.
     #[inline(always)]
     pub fn is_wide(&self, piece: Piece) -> bool
         requires living { IsLiving self.now.buffer.value piece }
@@ -198,7 +200,7 @@ impl<'a> Reader<'a> {
         self.buffer.len(piece) > text_limit()
     }
 
-    /// Refuses what was found where it is longer than `MAX_TEXT`.
+    /// Returns `Stop::Unread` if `found` is longer than `MAX_TEXT` bytes.
     #[inline(always)]
     pub fn measure(&self) -> Result<(), Stop>
         requires living { IsLiving self.now.buffer.value self.now.found }
@@ -210,7 +212,8 @@ impl<'a> Reader<'a> {
         Ok(())
     }
 
-    /// Enters a counted production where at most `depth` may be open: how many may still be open in it.
+    /// Enters a counted production. At most `depth` counted productions may nest, this one included. Returns how many
+    /// may nest inside it, or `Stop::Unread` if `depth` is 0.
     #[inline(always)]
     pub fn enter(&mut self, depth: usize) -> Result<usize, Stop>
         requires room { HasRoom 1 (state self.old) }
@@ -225,7 +228,7 @@ impl<'a> Reader<'a> {
         Ok(depth - 1)
     }
 
-    /// The most components that were saved at one moment.
+    /// Returns the most entries that the substitution table had at one moment.
     #[inline(always)]
     pub fn most_saved(&self) -> usize
         ensures value { result ≡ (state self.now).most_saved }
@@ -233,7 +236,7 @@ impl<'a> Reader<'a> {
         self.most_noted.max(self.buffer.saved_len())
     }
 
-    /// `<source-name> ::= <positive length number> <identifier>`
+    /// Reads `<source-name> ::= <positive length number> <identifier>`.
     #[inline(always)]
     pub fn read_source_name(&mut self) -> Result<(), Stop>
         ensures reads { Gives result self.new (spec.parse_source (state self.old)) }
@@ -252,7 +255,7 @@ impl<'a> Reader<'a> {
         Ok(())
     }
 
-    /// `<substitution> ::= S [<seq-id>] _ | Sa | Sb | Ss | Si | So | Sd`
+    /// Reads `<substitution> ::= S [<seq-id>] _ | Sa | Sb | Ss | Si | So | Sd`.
     #[tactic(auto, using(crate::proofs::Rules::substitutions))]
     #[inline(always)]
     pub fn read_substitution(&mut self) -> Result<(), Stop>
@@ -268,7 +271,7 @@ impl<'a> Reader<'a> {
         }
     }
 
-    /// A `<substitution>` for a name of std, after its `S`.
+    /// Reads a `<substitution>` that abbreviates a name of std, after its `S`.
     #[inline(never)]
     fn read_abbreviation(&mut self) -> Result<(), Stop>
         ensures reads { Gives result self.new (spec.parse_abbreviation (state self.old)) }
@@ -285,7 +288,8 @@ impl<'a> Reader<'a> {
         Ok(())
     }
 
-    /// `<substitution> ::= S [<seq-id>] _`, after its `S`: a component.
+    /// Reads `<substitution> ::= S [<seq-id>] _`, after its `S`. Afterwards `found` is the component of that index.
+    /// Returns `Stop::Unread` if the table has no such entry.
     #[inline(always)]
     fn read_component(&mut self) -> Result<(), Stop>
         ensures reads { Gives result self.new (spec.parse_component (state self.old)) }
@@ -303,7 +307,8 @@ impl<'a> Reader<'a> {
         Ok(())
     }
 
-    /// `<template-param> ::= T [<number>] _`: an argument of the last scope, or `auto` in a lambda's signature.
+    /// Reads `<template-param> ::= T [<number>] _`. Afterwards `found` is the argument of that index in the last
+    /// scope, or `auto` in a lambda's signature. Returns `Stop::Unread` if there is no such argument.
     #[tactic(auto, using(crate::proofs::Rules::parameters))]
     pub fn read_template_param(&mut self, context: Context) -> Result<(), Stop>
         ensures reads { Gives result self.new (spec.parse_parameter context (state self.old)) }
@@ -327,7 +332,7 @@ impl<'a> Reader<'a> {
         Ok(())
     }
 
-    /// `<builtin-type>`, which stands there.
+    /// Reads the `<builtin-type>` that is next.
     pub fn read_builtin_type(&mut self) -> Result<(), AllocError>
         ensures shape { OnOk result
             (Lives self.new.buffer.value self.new.found (plain_shape (builtin_text self.old.rest.now))) }
@@ -340,8 +345,8 @@ impl<'a> Reader<'a> {
         Ok(())
     }
 
-    /// What stands in front of a list's next text: nothing in front of the first. A list that stands up to the end of
-    /// the output, from the innermost mark or later, stays there.
+    /// Appends `, ` to the list in front of its next text, and nothing if that is the `first`. If the list ends the
+    /// output, and began at the innermost mark or later, it stays in place.
     #[inline(always)]
     pub fn separate_list(&mut self, list: Piece, first: bool) -> Result<Piece, AllocError>
         requires living { IsLiving self.old.buffer.value list }
@@ -359,8 +364,7 @@ impl<'a> Reader<'a> {
         Ok(separated)
     }
 
-    /// Puts what stands in front of a list's next text at the end of the output: `, `, or nothing in front of the
-    /// first.
+    /// Appends `, ` to the output in front of a list's next text, and nothing if that is the `first`.
     #[inline(always)]
     pub fn separate(&mut self, first: bool) -> Result<(), AllocError>
         ensures output { OnOk result (main_bytes self.new.buffer.value
@@ -374,7 +378,7 @@ impl<'a> Reader<'a> {
         Ok(())
     }
 
-    /// A list begins, and opens a scope where it is to.
+    /// Begins a list of template arguments, and opens a scope if `opens` is true.
     pub fn begin_list(&mut self, opens: bool) -> Result<(), AllocError>
         ensures state { OnOk result (state self.new ≡ spec.begin_list opens (state self.old)) }
         ensures more { OnOk result (length (scopes self.old.buffer.value) ≤ length (scopes self.new.buffer.value)) }
@@ -388,8 +392,8 @@ impl<'a> Reader<'a> {
         Ok(())
     }
 
-    /// Drops the scopes past the first n, which an argument opened, and adds what was found to the scope that its
-    /// list opened.
+    /// Drops the scopes past the first n, which the argument in `found` opened. If `opens` is true, appends the
+    /// argument to the scope that its list opened.
     #[inline(always)]
     pub fn add_argument(&mut self, opens: bool, n: usize) -> Result<(), AllocError>
         requires living { IsLiving self.old.buffer.value self.old.found }

@@ -16,14 +16,14 @@ use itanium_syntax::numerals::{Radix, index_of};
 use itanium_syntax::offsets::{CallOffset, Signed, ThunkOffsets, thunk_offsets};
 use std::alloc::AllocError;
 
-/// The sign of a number, `-` or nothing.
+/// Returns the sign of a number: `-` or nothing.
 fn offset_sign_bytes(number: Signed) -> &'static [u8]
     ensures value { result.now ≡ offset_sign number }
 {
     if number.negative { b"-" } else { b"" }
 }
 
-/// The words with bytes after them, and then a number with its sign.
+/// Appends the bytes to the words, and then the number with its sign.
 fn append_signed(
     buf: &mut Buffer,
     words: Piece,
@@ -41,7 +41,7 @@ fn append_signed(
     Ok(numbered)
 }
 
-/// The words with `<call-offset>` after them as it is printed, and `, `.
+/// Appends the printing of a `<call-offset>` to the words, and then `, `.
 fn append_offset(buf: &mut Buffer, words: Piece, offset: CallOffset) -> Result<Piece, AllocError>
     requires words { IsLiving buf.old words }
     ensures shape { IfOk result (λ p. Lives buf.new p
@@ -65,8 +65,8 @@ fn append_offset(buf: &mut Buffer, words: Piece, offset: CallOffset) -> Result<P
 }
 
 impl<'a> Reader<'a> {
-    /// The words with what was found, whose text stands after them up to the end of the output, and the words that
-    /// close it.
+    /// Makes one piece of the words, the text of `found`, and the bytes of `close`. The text of `found` must follow
+    /// the words in the output and end it.
     #[inline(always)]
     pub fn print_worded(&mut self, words: Piece, close: &[u8]) -> Result<(), AllocError>
         requires words { IsLiving self.old.buffer.value words }
@@ -85,8 +85,8 @@ impl<'a> Reader<'a> {
         Ok(())
     }
 
-    /// `T <call-offset>` or `T c <call-offset> <call-offset>`: what stands in front of the encoding of a thunk with
-    /// these offsets, at the end of the output.
+    /// Reads `T <call-offset>` or `T c <call-offset> <call-offset>`, and pushes the text that a thunk with these
+    /// offsets has in front of its encoding.
     #[tactic(auto, unfolding(crate::specs::Parser::thunk_front))]
     #[cold]
     pub fn open_thunk(&mut self) -> Result<(), Stop>
@@ -120,7 +120,7 @@ impl<'a> Reader<'a> {
         }
     }
 
-    /// `[<seq-id>] _` of a reference temporary, after its name, which was found.
+    /// Reads the `[<seq-id>] _` of a reference temporary whose name is `found`.
     pub fn end_temporary(&mut self) -> Result<(), Stop>
         requires living { IsLiving self.old.buffer.value self.old.found }
         ensures reads { Gives result self.new

@@ -9,7 +9,7 @@ use std::alloc::{AllocError, AllocFailed};
 pub enum Stop {
     /// The bytes aren't read as the production.
     Unread,
-    /// Memory was refused.
+    /// An allocation failed.
     Memory,
 }
 
