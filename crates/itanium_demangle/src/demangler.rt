@@ -1,4 +1,4 @@
-//! One value that answers symbol after symbol.
+//! `Demangler`, which demangles symbol after symbol.
 ghost use Rattle.std.specs.Prelude.{◌≡◌, IfOk, OnOk, OnErr, IfSome, MatchResult, ⊤, option_map, is_some, slice_get, map, [], length, Bool, true, false, Some, None};
 ghost use Rattle.std.specs.Borrow.{sem};
 ghost use Rattle.std.specs.String.{string_bytes};
@@ -23,16 +23,16 @@ use std::fmt::{self, Debug, Formatter, Write};
 use std::marker::Model;
 use std::str::from_utf8_unchecked;
 
-/// Most counted productions that may nest in a symbol: names, types, argument lists, packs, thunks, expressions and
-/// signatures.
+/// The most counted productions that may nest in a symbol. The counted productions are names, types, argument lists,
+/// packs, thunks, expressions and signatures.
 pub const MAX_DEPTH: usize = 128;
 
-/// Answers symbol after symbol from the same buffer, and keeps the last answer.
+/// Demangles symbol after symbol in the same buffer, and keeps the last result.
 #[derive(Drop)]
 pub struct Demangler {
-    // Where there is an answer, it is all of the buffer's output.
+    // Whether the last symbol had a result. The result is all of the buffer's output.
     answered: bool,
-    // Whether that is a signature.
+    // Whether that result is a signature.
     signature: bool,
     entered: usize,
     most_saved: usize,
@@ -50,7 +50,7 @@ impl Model for Demangler {
     ghost invariant = { KeepsAnswer };
 }
 
-/// Clears the buffer, and opens the mark of an answer in it.
+/// Clears the buffer and opens the mark under which the result is built.
 #[inline(always)]
 fn begin_answer(buffer: &mut Buffer) -> Mark
     ensures saved { saved buffer.new ≡ [] }
@@ -63,8 +63,9 @@ fn begin_answer(buffer: &mut Buffer) -> Mark
     buffer.open()
 }
 
-/// Makes the printing that was found the output of the buffer, with all from a dot on that is right after what was
-/// read, and drops its scopes first, so that `close` moves no argument. False where the printing isn't UTF-8.
+/// Completes the result. Tests the printing in `found` for UTF-8, and returns `false` if it isn't. Then drops the
+/// scopes, so that closing the mark moves no argument. Then appends the suffix, which is all from a dot on if a dot is
+/// next. At last closes the mark, so that the output is the result alone.
 #[inline(always)]
 fn end_answer(reader: &mut Reader, mark: Mark) -> Result<bool, AllocError>
     requires innermost { frame reader.old.buffer.value ≡ inside mark }
@@ -97,7 +98,7 @@ impl Demangler {
     ghost use denote.Follow.{follows_so};
     ghost use Rattle.itanium_demangle.specs.contracts.demangler.Demangler.{the_row};
 
-    /// An empty value. It takes no memory.
+    /// Returns a value that has read no symbol. Allocates nothing.
     pub fn new() -> Self
         ensures empty { result ≡ no_run }
     {
@@ -110,7 +111,8 @@ impl Demangler {
         }
     }
 
-    /// Keeps the counts of a reader that has ended, and its buffer, whose output is the answer where there is one.
+    /// Takes over the counts and the buffer of a reader that has ended. If `answered` is true, the buffer's output is
+    /// the result.
     #[inline(always)]
     fn keep(&mut self, reader: Reader, answered: bool)
         requires text { IsText (answer_text answered (Some reader.buffer)) }
@@ -128,7 +130,8 @@ impl Demangler {
         self.buffer = Some(reader.buffer);
     }
 
-    /// Reads a symbol, as a signature or else as a name, and keeps its answer: true where there is one.
+    /// Reads a symbol as a signature if `signature` is true, and as a name otherwise, and keeps the result. Returns
+    /// whether there is one.
     #[tactic(auto, using(crate::proofs::Rules::answers))]
     #[inline(always)]
     fn read(&mut self, alloc: Global, symbol: &str, signature: bool) -> Result<bool, AllocError>
@@ -178,22 +181,23 @@ impl Demangler {
         Ok(answered)
     }
 
-    /// Reads a symbol and keeps its answer, which `text` returns. The result is true if there is an answer.
+    /// Reads a symbol and keeps its name, which `text` returns afterwards. Returns `true` if the symbol has a name.
     ///
-    /// The symbol may be any text. After `_Z` or `__Z` a special name is read if `T` or `G` is next, and otherwise a
-    /// name; the parameters of a function aren't read (Itanium C++ ABI 5.1.2). The answer is the printing of what was
-    /// read. If a dot follows right after what was read, all from that dot on is added.
+    /// The symbol may be any text. If `T` or `G` follows the prefix `_Z` or `__Z`, a special name is read, and
+    /// otherwise a name; the parameters of a function aren't read (Itanium C++ ABI 5.1.2). The result is the printing
+    /// of what was read. If the next byte is a dot, all from that dot on is appended.
     ///
-    /// There is no answer in exactly two cases. Either no reading is within the limits: a reading is within them if it
-    /// nests at most `MAX_DEPTH` counted productions, and none of these prints more than `MAX_TEXT` bytes, also none
-    /// whose text is dropped. Or the printing isn't UTF-8. A text without such a prefix has no reading. Then nothing
-    /// is allocated, and both counts are 0.
+    /// A symbol has no name in exactly two cases. In the first, no reading is within the limits. A reading is within
+    /// the limits if at most `MAX_DEPTH` counted productions nest and none of them prints more than `MAX_TEXT` bytes,
+    /// also none whose text is dropped. In the second case the printing isn't UTF-8.
     ///
-    /// What follows from the dot isn't measured, nor are the words of a special name that isn't a thunk. So an answer
-    /// has at most 2,097,180 bytes, and those from the dot: two types of `MAX_TEXT` bytes each, and the 28 bytes of
-    /// `construction vtable for ` and `-in-`.
+    /// A text without such a prefix has no reading. For such a text nothing is allocated, and both counts are 0.
     ///
-    /// An error means that an allocation failed. Then the value has no answer, and it can be used again.
+    /// No limit applies to the bytes from the dot on, nor to the words of a special name that isn't a thunk. The
+    /// result has at most 2,097,180 bytes, and those from the dot on: two types of `MAX_TEXT` bytes each, and the 28
+    /// bytes of `construction vtable for ` and `-in-`.
+    ///
+    /// Returns an error if an allocation fails. Then the value has no result, and it can be used again.
     #[inline(always)]
     pub fn prepare(&mut self, alloc: Global, symbol: &str) -> Result<bool, AllocError>
         ensures answer { IfOk result (λ _. IsAnswer symbol.now self.new.text) }
@@ -211,21 +215,22 @@ impl Demangler {
         self.read(alloc, symbol, false)
     }
 
-    /// Reads a symbol with its parameters and keeps the answer, which `text` returns. The result is true if there is
-    /// an answer. It is the symbol's signature. If the symbol has no signature it is the answer of `prepare`, and
-    /// `is_signature` says which of the two it is.
+    /// Reads a symbol with its parameters and keeps its signature, which `text` returns afterwards. If the symbol has
+    /// no signature, reads its name as `prepare` does and keeps that. `is_signature` says which of the two was kept.
+    /// Returns `true` if there is one.
     ///
-    /// A signature is read up to a byte that is no ASCII letter, digit or underscore, or up to the end. If `T` or `G`
-    /// is next it is a special name, and otherwise a name with its parameters, followed by the qualifiers of a member
-    /// function. A return type is read and not printed. A thunk's function is printed with its parameters. The answer
-    /// is the printing. If a dot follows right after what was read, all from that dot on is added.
+    /// A signature is read up to a byte that is no ASCII letter, digit or underscore, or up to the end of the symbol.
+    /// If `T` or `G` follows the prefix, a special name is read, and otherwise a name with its parameters. The
+    /// qualifiers of a member function are printed after the parameters. A return type is read and not printed. The
+    /// function of a thunk is printed with its parameters. If the byte after the signature is a dot, all from that dot
+    /// on is appended.
     ///
-    /// A signature is a counted production itself. It nests at most `MAX_DEPTH` counted productions, none of which
-    /// prints more than `MAX_TEXT` bytes. So it has at most `MAX_TEXT` bytes, and those from the dot. Counts and
-    /// components are those of the reading that is answered. If there is no answer, the counts are at most what
-    /// `entered` and `most_saved` can be for any symbol.
+    /// A signature is a counted production itself: at most `MAX_DEPTH` counted productions nest, the signature
+    /// included, and none of them prints more than `MAX_TEXT` bytes. The result has at most `MAX_TEXT` bytes and those
+    /// from the dot on, if it is a signature. Counts and components are those of the reading whose printing was kept.
+    /// If there is no result, the counts are at most what `entered` and `most_saved` can be for any symbol.
     ///
-    /// An error means that an allocation failed. Then the value has no answer, and it can be used again.
+    /// Returns an error if an allocation fails. Then the value has no result, and it can be used again.
     pub fn prepare_signature(&mut self, alloc: Global, symbol: &str) -> Result<bool, AllocError>
         ensures answer { IfOk result (λ _. IsSignatureOrName self.new.signature symbol.now self.new.text) }
         ensures found { IfOk result (λ found. found ≡ is_some self.new.text) }
@@ -248,8 +253,8 @@ impl Demangler {
         Ok(true)
     }
 
-    /// The answer of the last symbol that was asked, lent until the next call. `None` where it
-    /// had none, after an error, and before the first.
+    /// Returns the result of the last symbol, lent until the next call. Returns `None` if that symbol had none, after
+    /// an error, and before the first symbol.
     pub fn text(&self) -> Option<&str>
         ensures value { option_map (λ text. text.now) result ≡ self.now.text }
     {
@@ -259,9 +264,11 @@ impl Demangler {
         }
     }
 
-    /// Where the last symbol had an answer, the buffer that it stands in, lent until the next call:
-    /// the answer is its output, and nothing else is in that; its saved shapes are those of the trees that the
-    /// symbol leaves saved, and their texts are the components; no scope and no mark is open. Elsewhere `None`.
+    /// Returns the buffer that holds the result of the last symbol, lent until the next call. Returns `None` if there
+    /// is no result.
+    ///
+    /// The result is all of the buffer's output. The buffer's saved shapes are those of the trees that the symbol
+    /// leaves in the substitution table, and their texts are the components. No scope and no mark is open.
     pub fn buffer(&self) -> Option<&Buffer>
         ensures value { option_map (λ buffer. main_bytes buffer.now) result ≡ self.now.text }
         ensures components { IfSome result (λ buffer. map text (saved buffer.now) ≡ self.now.components) }
@@ -278,29 +285,32 @@ impl Demangler {
         }
     }
 
-    /// How many counted productions the last symbol entered: names, types, argument lists, packs, thunks, expressions
-    /// and signatures, also those of a symbol without an answer; 0 before the first, after an error, and of a text
-    /// without the prefix of a symbol. A production that is refused because `MAX_DEPTH` are open isn't entered. Where a
-    /// signature was asked for and there is none, they are those of the name. It is at most twice as many as the symbol
-    /// has bytes. Where no reading is within the limits nothing more is proved of it.
+    /// Returns how many counted productions the last symbol entered, also if it had no result. The counted productions
+    /// are names, types, argument lists, packs, thunks, expressions and signatures. Returns 0 before the first symbol,
+    /// after an error, and for a text without the prefix of a symbol.
+    ///
+    /// A production that is refused because `MAX_DEPTH` are open isn't entered. If a signature was asked for and there
+    /// is none, the productions are those of the name. Their number is at most twice the number of the symbol's bytes.
+    /// If no reading is within the limits, nothing more is proved of the number.
     pub fn entered(&self) -> usize
         ensures value { result ≡ self.now.entered }
     {
         self.entered
     }
 
-    /// The most components for substitutions that were saved at one moment of the last symbol (Itanium C++ ABI 5.1.10),
-    /// also of one without an answer; 0 before the first, after an error, and of a text without the prefix of a symbol.
-    /// It is at most as many as the symbol has bytes. Where no reading is within the limits nothing more is proved.
+    /// Returns the most entries that the substitution table had at one moment of the last symbol (Itanium C++ ABI
+    /// 5.1.10), also if that symbol had no result. Returns 0 before the first symbol, after an error, and for a text
+    /// without the prefix of a symbol. The number is at most the number of the symbol's bytes. If no reading is within
+    /// the limits, nothing more is proved of the number.
     pub fn most_saved(&self) -> usize
         ensures value { result ≡ self.now.most_saved }
     {
         self.most_saved
     }
 
-    /// Where the last symbol had an answer, the text of the component with this index, from 0 on, of those that the
-    /// symbol leaves saved (Itanium C++ ABI 5.1.10): bytes, since a component needn't be UTF-8. Past the last one, and
-    /// where there is no answer, `None`.
+    /// Returns the text of the component with the index `i`, from 0 on, of those that the last symbol leaves in the
+    /// substitution table (Itanium C++ ABI 5.1.10). The text is bytes, since a component need not be UTF-8. Returns
+    /// `None` past the last component, and if the symbol had no result.
     pub fn component(&self, i: usize) -> Option<&[u8]>
         ensures value { option_map (λ text. text.now) result ≡ slice_get self.now.components i }
     {
@@ -313,16 +323,18 @@ impl Demangler {
         }
     }
 
-    /// Whether the answer of the last symbol is its signature, which `prepare_signature` or `demangle_signature` found.
-    /// False where it is that of its name, where there is none, and before the first.
+    /// Returns whether the result of the last symbol is its signature, which `prepare_signature` or
+    /// `demangle_signature` found. Returns `false` if the result is the symbol's name, if there is none, and before
+    /// the first symbol.
     pub fn is_signature(&self) -> bool
         ensures value { result ≡ self.now.signature }
     {
         self.signature
     }
 
-    /// The answer of a symbol, as `prepare` says, lent until the next call. It is kept for `text`; after an error
-    /// nothing is. A text without the prefix of a symbol is never an error.
+    /// Returns the name of a symbol as `prepare` reads it, lent until the next call, or `None` if it has none. The
+    /// value keeps the name for `text`. Returns an error if an allocation fails; then the value keeps nothing. A text
+    /// without the prefix of a symbol is never an error.
     pub fn demangle<'a>(
         &'a mut self,
         alloc: Global,
@@ -330,8 +342,8 @@ impl Demangler {
     ) -> Result<Option<&'a str>, AllocError>
         ensures answer { IfOk result (λ found. IsAnswer symbol.now (option_map (λ text. text.now) found)) }
         ensures no_prefix { spec.after_prefix symbol.now ≡ None → result ≡ Ok None }
-        // `last` is the value once the answer is no longer lent: it keeps the text that was answered, with the counts,
-        // components and shapes of `prepare`, and after an error nothing.
+        // `last` is the value after the loan. It keeps the text that was returned, with the counts, components and
+        // shapes of `prepare`. After an error it keeps nothing.
         ensures* kept { sem 𝓛 (follows_so the_row the_row self.entry.ghost_name none (λ _ _. ⊤)
             (λ last. MatchResult result
             (λ found. (last.text ≡ option_map (λ text. text.now) found) × IsPrepared symbol.now last)
@@ -341,8 +353,9 @@ impl Demangler {
         Ok(self.text())
     }
 
-    /// The signature of a symbol, or the answer of its name where it has none, as `prepare_signature` says, lent until
-    /// the next call. It is kept for `text`; after an error nothing is.
+    /// Returns the signature of a symbol as `prepare_signature` reads it, lent until the next call. Returns the
+    /// symbol's name if it has no signature, and `None` if it has neither. The value keeps the result for `text`.
+    /// Returns an error if an allocation fails; then the value keeps nothing.
     pub fn demangle_signature<'a>(
         &'a mut self,
         alloc: Global,
@@ -351,7 +364,7 @@ impl Demangler {
         ensures answer { IfOk result (λ found. (signature : Bool) × IsSignatureOrName signature symbol.now
             (option_map (λ text. text.now) found)) }
         ensures no_prefix { spec.after_prefix symbol.now ≡ None → result ≡ Ok None }
-        // As of `demangle`: after the loan the value keeps what was answered, and which of the two it is.
+        // `last` is the value after the loan, as for `demangle`. It also keeps which of the two was returned.
         ensures* kept { sem 𝓛 (follows_so the_row the_row self.entry.ghost_name none (λ _ _. ⊤)
             (λ last. MatchResult result
             (λ found. (last.text ≡ option_map (λ text. text.now) found) × IsPreparedSignature symbol.now last)
@@ -362,8 +375,8 @@ impl Demangler {
     }
 }
 
-/// The answer of a symbol as a text of its own: what `Demangler::demangle` returns on any value. An error means that
-/// an allocation failed.
+/// Returns the name of a symbol as a new string, or `None` if it has none. The name is the one that
+/// `Demangler::demangle` returns. Returns an error if an allocation fails.
 pub fn demangle_owned(alloc: Global, symbol: &str) -> Result<Option<String>, AllocError>
     ensures answer { IfOk result (λ found. IsAnswer symbol.now (option_map string_bytes found)) }
     ensures no_prefix { spec.after_prefix symbol.now ≡ None → result ≡ Ok None }

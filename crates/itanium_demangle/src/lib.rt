@@ -1,8 +1,8 @@
-//! Demangles C++ symbols of the Itanium C++ ABI: a symbol's name, with its template arguments and without the
-//! parameters of a function, or the special name, as of a virtual table.
+//! Demangles C++ symbols of the Itanium C++ ABI. The result is the symbol's name, with its template arguments and
+//! without the parameters of a function; or a special name, such as that of a virtual table.
 //!
-//! A crate that uses this one has it in its line of `crates.txt`, as `names: itanium_demangle`. The allocator comes
-//! from the `HostRuntime` that `main` and each test are given.
+//! A crate that uses this one names it in its line of `crates.txt`, as in `names: itanium_demangle`. The allocator
+//! comes from the `HostRuntime` that `main` and each test are given.
 //!
 //! ```rust
 //! use itanium_demangle::Demangler;
@@ -11,12 +11,12 @@
 //! fn main(rt: HostRuntime) -> ExitCode {
 //!     let mut demangler = Demangler::new();
 //!     match demangler.demangle(rt.alloc(), "_ZN3Foo3barEv") {
-//!         // It prints Foo::bar.
+//!         // Prints Foo::bar.
 //!         Ok(Some(name)) => match println!(rt; "{name}") {
 //!             Ok(()) => ExitCode::SUCCESS,
 //!             Err(_) => ExitCode::FAILURE,
 //!         },
-//!         // It isn't a symbol, or it has no name.
+//!         // The text isn't a symbol, or the symbol has no name.
 //!         Ok(None) => ExitCode::SUCCESS,
 //!         // An allocation failed.
 //!         Err(_) => ExitCode::FAILURE,
@@ -24,12 +24,12 @@
 //! }
 //! ```
 //!
-//! The answer is lent until the next call. Keep one value for symbol after symbol, since it keeps its buffer.
-//! `demangle_signature` returns the name with the parameters of the function, as `Foo::bar()`. If a symbol has no
-//! signature it returns what `demangle` returns.
+//! The name is lent until the next call. Use one `Demangler` for many symbols: each keeps its buffer from one symbol
+//! to the next. `demangle_signature` returns the name with the parameters of the function, such as `Foo::bar()`. If a
+//! symbol has no signature, it returns what `demangle` returns.
 //!
-//! The crate stands on `itanium_productions`, which reads the symbol, and on `itanium_grammar`, which defines what an
-//! answer is. Its proofs show that what is read is what the grammar says. Begin with `demangler.rt`.
+//! `itanium_productions` reads the symbol, and `itanium_grammar` defines its result. The proofs of this crate show
+//! that the readers agree with the grammar. Begin with `demangler.rt`.
 #![tactic(auto)]
 
 mod demangler;

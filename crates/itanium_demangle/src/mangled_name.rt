@@ -1,4 +1,4 @@
-//! What follows the prefix of a symbol (Itanium C++ ABI 5.1.2).
+//! Reads what follows the prefix of a symbol (Itanium C++ ABI 5.1.2).
 ghost use Rattle.std.specs.Prelude.{OnOk};
 ghost use Rattle.demangle_text.specs.State.{IsRun};
 ghost use Rattle.itanium_grammar.specs.Cases.{AfterName};
@@ -12,8 +12,8 @@ use itanium_syntax::context::{Context, INITIAL};
 use itanium_syntax::encodings::EncodingEnd;
 use itanium_syntax::names::begins_special;
 
-/// What follows the prefix, as a name, within `depth` open productions: an encoding that ends right after its name. To
-/// call `read_encoding` for it would take 43 instructions more a name.
+/// Reads what follows the prefix of a symbol as a name: an encoding that ends right after its name. At most `depth`
+/// counted productions may nest. A call of `read_encoding` would give the same and take 43 instructions more a name.
 #[tactic(auto, using(itanium_reader::proofs::Rules::symbols))]
 #[inline(always)]
 fn read_symbol(reader: &mut Reader, depth: usize, context: Context) -> Result<(), Stop>
@@ -30,8 +30,8 @@ fn read_symbol(reader: &mut Reader, depth: usize, context: Context) -> Result<()
     }
 }
 
-/// What follows the prefix, as a signature, within `depth` open productions: an encoding up to where no ASCII letter,
-/// digit or underscore is next.
+/// Reads what follows the prefix of a symbol as a signature: an encoding that ends where no ASCII letter, digit or
+/// underscore is next. At most `depth` counted productions may nest, the signature included.
 #[tactic(auto, using(itanium_reader::proofs::Rules::signatures))]
 fn read_signature(reader: &mut Reader, depth: usize, context: Context) -> Result<(), Stop>
     requires room { HasRoom 2 (state reader.old) }
@@ -48,7 +48,8 @@ fn read_signature(reader: &mut Reader, depth: usize, context: Context) -> Result
     reader.measure()
 }
 
-/// `<mangled-name>` after its prefix, within `depth` open productions: as a signature, or else as a name.
+/// Reads `<mangled-name>` after its prefix: as a signature if `signature` is true, and as a name otherwise. At most
+/// `depth` counted productions may nest.
 #[tactic(auto, using(crate::proofs::Rules::readings))]
 #[inline(always)]
 pub(crate) fn read_mangled_name(
@@ -58,7 +59,8 @@ pub(crate) fn read_mangled_name(
 ) -> Result<(), Stop>
     requires room { HasRoom 2 (state reader.old) }
     ensures reads { Gives result reader.new (parse_mangled depth signature (state reader.old)) }
-    // Of trees: a reading of the bytes, with which every other agrees, or none.
+    // In terms of trees: `Ok` is a reading of the bytes, with which every other agrees. `Stop::Unread` means that no
+    // reading is within the limits.
     ensures reading { ReadsAs result signature depth reader.old reader.new }
     ensures run { OnOk result (IsRun reader.old.buffer.value reader.new.buffer.value) }
     ensures bounds { TakesSome 2 result (state reader.old) (state reader.new) }

@@ -1,4 +1,4 @@
-//! Whether bytes are UTF-8, which those of most symbols and answers are: ASCII bytes are looked at by lanes.
+//! Tests whether bytes are UTF-8. Most symbols and results are ASCII, so ASCII is tested first, several bytes at once.
 ghost use Rattle.std.specs.Prelude.{◌≡◌, ◌<◌, ◌+◌, ◌≤◌, length, true, false};
 ghost use Rattle.std.specs.Str.{IsUtf8};
 ghost use Rattle.itanium_demangle.specs.Ascii.{AreAscii};
@@ -6,13 +6,13 @@ ghost use Rattle.itanium_demangle.specs.Ascii.{AreAscii};
 use std::simd::prelude::*;
 use std::str::from_utf8;
 
-/// Most bytes that are looked at at once.
+/// The most bytes that are compared at once.
 const LANES: usize = 32;
 
 /// The greatest ASCII byte.
 const LAST_ASCII: u8 = 127;
 
-/// Whether a byte of the N from `at` on isn't ASCII.
+/// Returns whether any of the N bytes from `at` on isn't ASCII.
 #[inline(always)]
 fn has_non_ascii<const N: usize>(bytes: &[u8], at: usize) -> bool
     requires lanes { N ≤ 64 }
@@ -25,8 +25,8 @@ fn has_non_ascii<const N: usize>(bytes: &[u8], at: usize) -> bool
     found != 0
 }
 
-/// Whether all bytes are ASCII, where two windows of N cover them: one begins with the bytes, and one ends with them.
-/// Both are looked at, and tested at once: `|`, and not `||`.
+/// Returns whether all bytes are ASCII. There must be N to 2N bytes, so two windows of N bytes cover them: one begins
+/// with the bytes, and one ends with them. `|` tests both windows without a branch between them.
 #[inline(always)]
 fn is_ascii_by_two<const N: usize>(bytes: &[u8]) -> bool
     requires lanes { N ≤ 64 }
@@ -37,7 +37,7 @@ fn is_ascii_by_two<const N: usize>(bytes: &[u8]) -> bool
     !(has_non_ascii::<N>(bytes, 0) | has_non_ascii::<N>(bytes, bytes.len() - N))
 }
 
-/// Whether all bytes are known to be ASCII: of fewer than 8 it isn't known.
+/// Returns `true` only if all bytes are ASCII. Fewer than 8 bytes aren't tested, and the result is `false`.
 #[inline(always)]
 fn is_ascii(bytes: &[u8]) -> bool
     ensures all { result ≡ true → AreAscii bytes.now 0 (length bytes.now) }
@@ -55,7 +55,8 @@ fn is_ascii(bytes: &[u8]) -> bool
     n >= 8 && is_ascii_by_two::<8>(bytes)
 }
 
-/// `is_ascii` of more than 64 bytes: two windows at a time. The last two end with the bytes.
+/// Returns whether all bytes are ASCII, of which there must be more than 64. Tests two windows of 32 bytes at a time.
+/// The last two windows end with the bytes.
 #[inline(always)]
 fn is_long_ascii(bytes: &[u8]) -> bool
     requires long { 64 < length bytes.now }
@@ -72,7 +73,7 @@ fn is_long_ascii(bytes: &[u8]) -> bool
     !(has_non_ascii::<LANES>(bytes, last) | has_non_ascii::<LANES>(bytes, last + LANES))
 }
 
-/// Whether the bytes are UTF-8, as those of a symbol have to be.
+/// Returns whether the bytes are UTF-8, as the bytes of a symbol must be.
 pub fn is_utf8(bytes: &[u8]) -> bool
     ensures yes { result ≡ true → IsUtf8 bytes.now }
     ensures no { result ≡ false → ¬ (IsUtf8 bytes.now) }

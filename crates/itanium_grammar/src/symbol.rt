@@ -1,9 +1,9 @@
-//! The parts of a symbol around its encoding.
+//! The parts of a symbol in front of its encoding and after it.
 ghost use Rattle.std.specs.Prelude.{◌≡◌, option_map};
 ghost use Rattle.itanium_grammar.specs.Answer as spec;
 
-/// `<mangled-name> ::= _Z <encoding>`, and the same after a further underscore: what follows the prefix of a symbol,
-/// or `None` where it has neither prefix (Itanium C++ ABI 5.1.2).
+/// Returns what follows the prefix of a symbol, or `None` if it has no prefix (Itanium C++ ABI 5.1.2). The prefix is
+/// that of `<mangled-name> ::= _Z <encoding>`, or the same after one more underscore.
 pub fn after_prefix(symbol: &[u8]) -> Option<&[u8]>
     ensures value { option_map (λ rest. rest.now) result ≡ spec.after_prefix symbol.now }
 {
@@ -14,7 +14,7 @@ pub fn after_prefix(symbol: &[u8]) -> Option<&[u8]>
     }
 }
 
-/// What ends an answer: all from the dot on that is right after the bytes that were read, or nothing.
+/// Returns what is appended to the printing: all of `rest` if it begins with a dot, and nothing otherwise.
 pub fn suffix(rest: &[u8]) -> &[u8]
     ensures value { result.now ≡ spec.suffix rest.now }
 {
