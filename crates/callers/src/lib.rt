@@ -1,7 +1,7 @@
-//! Callers of `Demangler`, each a few lines over it alone. `demangle` lends its answer, so what it says of the value
-//! afterwards stands in the clause `kept` on its borrow. Each function here says as a plain clause what follows for its
-//! own caller: `ask` and `entered_by` let the answer go, `answer_after` lends it on, and `component_of` lets it go and
-//! lends a component.
+//! Four short callers of `Demangler`, as examples of how its contract is used. `demangle` lends its result, so its
+//! clause `kept` says what the value has after the loan. From that clause each function here gets a plain clause for
+//! its own caller. `ask` and `entered_by` end the loan. `answer_after` passes the loan on. `component_of` ends the
+//! loan and lends a component.
 #![tactic(auto)]
 
 ghost use Rattle.std.specs.Prelude.{◌≡◌, ◌≤◌, ◌*◌, IfOk, OnOk, OnErr, MatchResult, ⊤, option_map, length};
@@ -21,8 +21,8 @@ use std::alloc::{AllocError, Global};
 #[cfg(test)]
 mod tests;
 
-/// Asks for a symbol and lets its answer go: the value keeps it, with the symbol's counts and components. After an
-/// error it keeps nothing: no text and no component, and both counts are 0.
+/// Demangles a symbol and ends the loan of the result. The value keeps the result, with the symbol's counts and
+/// components. After an error the value keeps nothing: no text and no component, and both counts are 0.
 pub fn ask(demangler: &mut Demangler, alloc: Global, symbol: &str) -> Result<(), AllocError>
     ensures answer { OnOk result (IsAnswer symbol.now demangler.new.text) }
     ensures prepared { OnOk result (IsPrepared symbol.now demangler.new) }
@@ -32,8 +32,8 @@ pub fn ask(demangler: &mut Demangler, alloc: Global, symbol: &str) -> Result<(),
     Ok(())
 }
 
-/// How many counted productions a symbol enters: at most two for each of its bytes. It is what the value's `entered`
-/// returns afterwards. After an error the value keeps nothing.
+/// Returns how many counted productions a symbol enters, which is at most two for each of its bytes. The value's
+/// `entered` returns the same afterwards. After an error the value keeps nothing.
 pub fn entered_by(
     demangler: &mut Demangler,
     alloc: Global,
@@ -48,8 +48,8 @@ pub fn entered_by(
     Ok(demangler.entered())
 }
 
-/// How many bytes the answer of one symbol has, and then the answer of another by the same value: it is that symbol's
-/// own, whatever became of the one before, an error too.
+/// Demangles two symbols with the same value. Returns the length of the first result in bytes, and then the second
+/// result. The second result is that of its symbol, whatever the first was, also after an error.
 pub fn answer_after<'a>(
     demangler: &'a mut Demangler,
     alloc: Global,
@@ -61,7 +61,7 @@ pub fn answer_after<'a>(
 )
     ensures before { IfOk result.0 (IsAnswerLen before.now) }
     ensures answer { IfOk result.1 (λ found. IsAnswer symbol.now (option_map (λ text. text.now) found)) }
-    // `last` is the value once the answer is no longer lent.
+    // `last` is the value after the loan of the result.
     ensures* kept { sem 𝓛 (follows_so the_row the_row demangler.entry.ghost_name none (λ _ _. ⊤)
         (λ last. MatchResult result.1
         (λ found. (last.text ≡ option_map (λ text. text.now) found) × IsPrepared symbol.now last)
@@ -74,8 +74,9 @@ pub fn answer_after<'a>(
     (len, demangler.demangle(alloc, symbol))
 }
 
-/// The component of a symbol with this index, from 0 on, lent until the next call: where the symbol has an answer, the
-/// printing of that one of the trees that its reading leaves saved. Past the last one, and without an answer, `None`.
+/// Returns the component of a symbol with the index `i`, from 0 on, lent until the next call. A component is the
+/// printing of a tree that the symbol's reading leaves in the substitution table. Returns `None` past the last
+/// component, and if the symbol has no result.
 pub fn component_of<'a>(
     demangler: &'a mut Demangler,
     alloc: Global,
@@ -83,7 +84,7 @@ pub fn component_of<'a>(
     i: usize,
 ) -> Result<Option<&'a [u8]>, AllocError>
     ensures component { IfOk result (λ found. IsComponent symbol.now i (option_map (λ text. text.now) found)) }
-    // `last` is the value once the component is no longer lent.
+    // `last` is the value after the loan of the component.
     ensures* kept { sem 𝓛 (follows_so the_row the_row demangler.entry.ghost_name none (λ _ _. ⊤)
         (λ last. MatchResult result
         (λ _. IsAnswer symbol.now last.text × IsPrepared symbol.now last)

@@ -1,4 +1,4 @@
-//! Each caller once, on a symbol with an answer.
+//! Calls each caller once, on a symbol that has a name.
 
 use crate::{answer_after, ask, component_of, entered_by};
 use itanium_demangle::Demangler;

@@ -1,4 +1,4 @@
-//! Symbols that are arguments.
+//! Demangles symbols that are arguments.
 ghost use Rattle.std.specs.Prelude.{◌≡◌, [], ◌∷◌, ◌++◌, ◌≤◌, length, IfOk, OnOk};
 ghost use Rattle.cosvigle.specs.Arguments as spec;
 ghost use Rattle.cosvigle.specs.Arguments.{IsArgumentAnswer};
@@ -8,7 +8,8 @@ use std::alloc::{AllocError, Global};
 use std::str;
 use symfilter_engine::{Replacement, prepare_shown};
 
-/// How many bytes stand in front of the symbol, and stay.
+/// Returns how many bytes are in front of the symbol in an argument: 6 for `__imp_`, and otherwise 0. They are printed
+/// unchanged.
 fn import_len(argument: &[u8]) -> usize
     ensures bound { result ≤ length argument.now }
     ensures value { result ≡ spec.import_len argument.now }
@@ -19,7 +20,8 @@ fn import_len(argument: &[u8]) -> usize
     }
 }
 
-/// The bytes without an underscore that is stripped.
+/// Returns the bytes without their first underscore, if they begin with `___Z` and `strip` is true. Otherwise returns
+/// the bytes.
 fn stripped(strip: bool, bytes: &[u8]) -> &[u8]
     ensures value { result.now ≡ spec.stripped strip bytes.now }
 {
@@ -29,18 +31,18 @@ fn stripped(strip: bool, bytes: &[u8]) -> &[u8]
     }
 }
 
-/// What is printed for an argument: one text, and then the other.
+/// What is printed for an argument: `front`, and then `text`.
 #[derive(Clone, Copy)]
 pub struct Printed<'a> {
-    /// What stands in front of its symbol.
+    /// The bytes in front of the symbol.
     pub front: &'a [u8],
     /// The demangled name, the signature, or the argument.
     pub text: &'a [u8],
 }
 
-/// What is printed for an argument: the demangled name or the signature of its symbol, after what stands in front of
-/// that. It is the argument itself where it has none or isn't UTF-8. With `strip` the symbol may have one more
-/// underscore in front. An error means that an allocation failed.
+/// Returns what is printed for an argument: the bytes in front of its symbol, and then the symbol's demangled name or
+/// signature. If there is none, or the symbol isn't UTF-8, the argument itself is printed. If `how.strip` is set, the
+/// symbol may have one more underscore in front. Returns an error if an allocation fails.
 pub fn answer_of<'a>(
     alloc: Global,
     demangler: &'a mut Demangler,
@@ -72,7 +74,7 @@ pub fn answer_of<'a>(
     }
 }
 
-/// Makes the line of what is printed for an argument. An error means that an allocation failed.
+/// Sets `line` to what is printed for an argument, and a line feed. Returns an error if an allocation fails.
 pub fn set_line(line: &mut Vec<u8>, printed: Printed<'_>) -> Result<(), AllocError>
     ensures line { OnOk result (line.new.items
         ≡ printed.entry.front.now ++ (printed.entry.text.now ++ spec.line_feed ∷ [])) }

@@ -1,50 +1,50 @@
-//! The words of a file that stands as `@FILE` among the arguments.
+//! Splits the text of an `@FILE` into words.
 ghost use Rattle.std.specs.Prelude.{◌≡◌, map, option_map, IfOk, IsTrue, ◌↔◌, EachIndex, slice_index, ◌≢◌};
 ghost use Rattle.cosvigle.specs.Files as spec;
 
 use std::alloc::{AllocError, Global};
 
-/// What a byte is quoted by.
+/// The quote in which a byte is.
 #[derive(Clone, Copy, Debug, PartialEq, Eq)]
 pub enum Quote {
-    /// Nothing.
+    /// Not in quotes.
     Nothing,
-    /// A `'` in front.
+    /// Between two `'`.
     Single,
-    /// A `"` in front.
+    /// Between two `"`.
     Double,
 }
 
-/// How the next byte is read.
+/// The state in which the next byte is read.
 #[derive(Clone, Copy, Debug, PartialEq, Eq)]
 pub enum Mode {
-    /// It stands between words, or begins one.
+    /// The byte is between words, or begins one.
     Between,
-    /// It stands in a word.
+    /// The byte is in a word.
     In(Quote),
-    /// It stands in a word, after a backslash.
+    /// The byte is in a word, after a backslash.
     Escaped(Quote),
 }
 
-/// What a byte does.
+/// The effect of a byte.
 #[derive(Clone, Copy, Debug, PartialEq, Eq)]
 pub enum Effect {
-    /// Nothing.
+    /// Skips the byte.
     Skip(Mode),
-    /// It is a byte of the word.
+    /// Appends the byte to the word.
     Put(Mode),
-    /// It ends the word.
+    /// Ends the word, and drops the byte.
     End,
 }
 
-/// Whether the byte stands between words.
+/// Returns whether the byte separates words.
 fn is_space(byte: u8) -> bool
     ensures value { result ≡ spec.is_space byte }
 {
     matches!(byte, b' ' | b'\t' | b'\n' | 11 | 12 | b'\r')
 }
 
-/// What a byte of a word does.
+/// Returns the effect of a byte of a word.
 fn inside(quote: Quote, byte: u8) -> Effect
     ensures value { result ≡ spec.inside quote byte }
 {
@@ -59,7 +59,7 @@ fn inside(quote: Quote, byte: u8) -> Effect
     }
 }
 
-/// What a byte does.
+/// Returns the effect of a byte in this state.
 fn effect_of(mode: Mode, byte: u8) -> Effect
     ensures value { result ≡ spec.effect_of mode byte }
 {
@@ -71,8 +71,8 @@ fn effect_of(mode: Mode, byte: u8) -> Effect
     }
 }
 
-/// The words of a text, which space parts. A `'` or `"` goes up to the next one, and what stands between them is of one
-/// word. The byte after a backslash stands for itself. An error means that an allocation failed.
+/// Splits a text at spaces into words. A part between two `'` or two `"` is of one word, with its spaces. The byte
+/// after a backslash stands for itself. Returns an error if an allocation fails.
 pub fn words_in(alloc: Global, text: &[u8]) -> Result<Vec<Vec<u8>>, AllocError>
     ensures words { IfOk result (λ words. map (λ word. word.items) words.items ≡ spec.words_in text.now) }
 {
@@ -100,7 +100,8 @@ pub fn words_in(alloc: Global, text: &[u8]) -> Result<Vec<Vec<u8>>, AllocError>
     Ok(words)
 }
 
-/// The name of the file that an argument names: what follows a `@` that it begins with.
+/// Returns the name of the file that an argument names, which is what follows its first byte `@`. Returns `None` if
+/// the argument doesn't begin with `@`.
 pub fn file_name(argument: &[u8]) -> Option<&[u8]>
     ensures value { option_map (λ name. name.now) result ≡ spec.file_name argument.now }
 {
@@ -110,7 +111,7 @@ pub fn file_name(argument: &[u8]) -> Option<&[u8]>
     }
 }
 
-/// Whether no byte is a NUL.
+/// Returns whether no byte is a NUL.
 pub fn is_text(bytes: &[u8]) -> bool
     ensures { IsTrue result ↔ EachIndex bytes.now (λ k. slice_index bytes.now k ≢ 0) }
 {

@@ -1,6 +1,6 @@
-//! What the program prints of itself.
+//! The texts that the program prints about itself.
 
-/// What `--help` prints.
+/// The text that `--help` prints.
 pub const HELP: &str = "\
 usage: cosvigle [OPTION].. [SYMBOL]..
 
@@ -26,5 +26,5 @@ examples:
   cosvigle < trace.txt       prints a stack trace with names
 ";
 
-/// What `--version` prints.
+/// The text that `--version` prints.
 pub const VERSION: &str = "cosvigle 0.1.0\n";

@@ -1,13 +1,13 @@
-//! Replaces mangled C++ symbols in a text by their demangled names. If symbols are given as arguments it prints the
-//! name of each on a line, or the argument itself if it has no name. Otherwise it copies standard input to standard
-//! output.
+//! Replaces mangled C++ symbols in a text by their demangled names. If symbols are given as arguments, the program
+//! prints the name of each on a line, or the argument itself if it has no name. Otherwise the program copies standard
+//! input to standard output.
 //!
-//! It ends with status 1 after a fault, and with status 2 if the options can't be read, and then it writes nothing to
-//! standard output. Standard error says what failed. If the reader of standard output has gone it ends with status 0
-//! and writes nothing more.
+//! The exit status is 1 after a fault. The status is 2 if the options can't be read, and then nothing is written to
+//! standard output. In both cases standard error says what failed. If the reader of standard output has gone, the
+//! status is 0 and nothing more is written.
 //!
-//! It stands on `symfilter_engine` for texts and on `itanium_demangle` for arguments. Begin with `main` below, and
-//! `options.rt`: `specs/Options` defines what each command line means.
+//! `symfilter_engine` replaces the symbols in a text, and `itanium_demangle` reads those in arguments. Begin with
+//! `main` below, and with `options.rt`: `specs/Options` defines what each command line means.
 #![tactic(auto)]
 
 ghost use Rattle.std.specs.Prelude.{◌≡◌};
@@ -32,16 +32,16 @@ use std::process::ExitCode;
 use std::{fs, str};
 use symfilter_engine::{FilterFault, Replacement, Tally, filter_by, replace};
 
-/// Nothing is done, since what is asked isn't understood.
+/// The exit status if the arguments can't be read, and nothing is done.
 const NOT_ASKED: u8 = 2;
 
-/// So many files may stand as `@FILE`.
+/// The most files that arguments may name as `@FILE`.
 const MOST_FILES: u32 = 2000;
 
-/// So many bytes of an argument are asked for at first.
+/// The bytes that are reserved for an argument at first.
 const ARGUMENT_LEN: usize = 128;
 
-/// So many bytes are copied at once.
+/// The most bytes that are copied at once.
 const COPIED_LEN: usize = 65536;
 
 /// Writes the bytes to standard output.
@@ -52,7 +52,7 @@ fn put(output: &mut Output<Stdout>, bytes: &[u8]) -> Result<(), FilterFault> {
     }
 }
 
-/// How symbols are replaced.
+/// Returns how the flags say that symbols are replaced.
 fn replacement(flags: Flags) -> Replacement
     ensures strip { result.strip ≡ flags.strip }
     ensures printing { result.printing ≡ flags.printing }
@@ -63,7 +63,7 @@ fn replacement(flags: Flags) -> Replacement
     }
 }
 
-/// What is printed for an argument. With `plain` no symbol is read.
+/// Returns what is printed for an argument. If `plain` is set, that is the argument itself.
 fn printed<'a>(
     rt: &HostRuntime,
     demangler: &'a mut Demangler,
@@ -79,7 +79,7 @@ fn printed<'a>(
     answer_of(rt.alloc(), demangler, replacement(flags), argument)
 }
 
-/// Prints the name of each symbol, or the symbol itself, one a line.
+/// Prints the name of each symbol, or the symbol itself if it has no name, one a line.
 fn print_answers(
     rt: &HostRuntime,
     output: &mut Output<Stdout>,
@@ -96,7 +96,7 @@ fn print_answers(
     Ok(())
 }
 
-/// Copies standard input to standard output as it is.
+/// Copies standard input to standard output unchanged.
 fn copy_plain(rt: &HostRuntime, output: &mut Output<Stdout>) -> Result<(), FilterFault> {
     let mut chunk = vec![in rt.alloc(); 0u8; COPIED_LEN]?;
     let mut input = rt.stdin();
@@ -110,12 +110,12 @@ fn copy_plain(rt: &HostRuntime, output: &mut Output<Stdout>) -> Result<(), Filte
     Err(FilterFault::Read)
 }
 
-/// Copies standard input to standard output, with names in the place of symbols.
+/// Copies standard input to standard output, and replaces symbols by names. If `plain` is set, nothing is replaced.
 fn copy(rt: &HostRuntime, output: &mut Output<Stdout>, flags: Flags) -> Result<(), FilterFault> {
     if flags.plain {
         return copy_plain(rt, output);
     }
-    // Neither end has a buffer of its own: the engine reads and writes whole chunks.
+    // Neither the source nor the sink has a buffer: the engine reads and writes whole chunks.
     let mut source = Tally::new(rt.stdin());
     let mut sink = Tally::new(output);
     if flags.lines {
@@ -124,7 +124,7 @@ fn copy(rt: &HostRuntime, output: &mut Output<Stdout>, flags: Flags) -> Result<(
     replace(rt.alloc(), replacement(flags), &mut source, &mut sink)
 }
 
-/// Says on standard error why nothing is done.
+/// Writes to standard error why nothing is done, and the help. Returns the exit status.
 fn refuse(rt: &HostRuntime, before: &str, argument: &[u8], after: &str) -> u8 {
     let mut errors = rt.stderr();
     for part in [
@@ -140,7 +140,7 @@ fn refuse(rt: &HostRuntime, before: &str, argument: &[u8], after: &str) -> u8 {
     NOT_ASKED
 }
 
-/// Does what is asked in place of reading symbols, and returns the status.
+/// Does what an option asks instead of reading symbols, and returns the exit status.
 fn stop(
     rt: &HostRuntime,
     output: &mut Output<Stdout>,
@@ -166,7 +166,7 @@ fn stop(
     Ok(status)
 }
 
-/// Does what is asked, and returns the status.
+/// Does what the arguments ask, and returns the exit status.
 fn answer(rt: &HostRuntime, output: &mut Output<Stdout>, asked: &Asked) -> Result<u8, FilterFault> {
     match asked {
         Asked::Stopped(by, argument) => return stop(rt, output, *by, argument),
@@ -176,7 +176,7 @@ fn answer(rt: &HostRuntime, output: &mut Output<Stdout>, asked: &Asked) -> Resul
     Ok(0)
 }
 
-/// The argument at this place, or `None` past the last one.
+/// Returns the argument with the index `at`, or `None` past the last argument.
 fn argument_at(rt: &HostRuntime, at: usize) -> Result<Option<Vec<u8>>, AllocError> {
     let mut len = ARGUMENT_LEN;
     for _ in 0..64 {
@@ -194,7 +194,7 @@ fn argument_at(rt: &HostRuntime, at: usize) -> Result<Option<Vec<u8>>, AllocErro
     Err(AllocError)
 }
 
-/// The arguments, without the program's name.
+/// Returns the arguments, without the program's name.
 fn given_arguments(rt: &HostRuntime) -> Result<Vec<Vec<u8>>, AllocError> {
     let mut all = Vec::new(rt.alloc());
     for at in 1..usize::MAX {
@@ -206,8 +206,8 @@ fn given_arguments(rt: &HostRuntime) -> Result<Vec<Vec<u8>>, AllocError> {
     Ok(all)
 }
 
-/// The words of the file that an argument names as `@FILE`. `None` where it names none, or one that can't be read or
-/// isn't text.
+/// Returns the words of the file that an argument names as `@FILE`. Returns `None` if the argument names no file, or
+/// one that can't be read, or one with a NUL byte.
 fn file_words(rt: &HostRuntime, argument: &[u8]) -> Result<Option<Vec<Vec<u8>>>, AllocError> {
     let Some(name) = file_name(argument) else {
         return Ok(None);
@@ -222,8 +222,8 @@ fn file_words(rt: &HostRuntime, argument: &[u8]) -> Result<Option<Vec<Vec<u8>>>,
     }
 }
 
-/// The arguments, with the words of a file in place of each that names one, also among those words. `None` where these
-/// are too many files, as where one names itself.
+/// Replaces each `@FILE` by the words of that file, and does the same with an `@FILE` among these words. Returns
+/// `None` if there are more than `MOST_FILES` files, for example if a file names itself.
 fn expanded(rt: &HostRuntime, arguments: Vec<Vec<u8>>) -> Result<Option<Vec<Vec<u8>>>, AllocError> {
     let mut left = arguments;
     left.reverse();
@@ -247,7 +247,7 @@ fn expanded(rt: &HostRuntime, arguments: Vec<Vec<u8>>) -> Result<Option<Vec<Vec<
     Ok(Some(all))
 }
 
-/// The arguments as slices.
+/// Returns the arguments as slices.
 fn slices_of<'a>(rt: &HostRuntime, words: &'a [Vec<u8>]) -> Result<Vec<&'a [u8]>, AllocError> {
     let mut slices = Vec::new(rt.alloc());
     for word in words {
@@ -256,7 +256,7 @@ fn slices_of<'a>(rt: &HostRuntime, words: &'a [Vec<u8>]) -> Result<Vec<&'a [u8]>
     Ok(slices)
 }
 
-/// Does what the arguments ask, and returns the status.
+/// Reads the arguments, does what they ask, and returns the exit status.
 fn run(rt: &HostRuntime, output: &mut Output<Stdout>) -> Result<u8, FilterFault> {
     let Some(words) = expanded(rt, given_arguments(rt)?)? else {
         return Ok(refuse(rt, "too many files stand as @FILE", b"", ""));

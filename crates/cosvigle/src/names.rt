@@ -1,22 +1,22 @@
-//! The names of options, and what they are shortened to.
+//! The names of options, and how they may be shortened.
 ghost use Rattle.std.specs.Prelude.{◌≡◌};
 ghost use Rattle.itanium_syntax.specs.Bytes.{begins};
 ghost use Rattle.cosvigle.specs.Options as spec;
 
-/// The options whose names begin with some bytes. An option is named by its letter.
+/// The options whose names begin with the given bytes. An option is identified by its letter.
 #[derive(Clone, Copy, Debug, PartialEq, Eq)]
 pub enum Found {
-    /// None does.
+    /// No option.
     Nothing,
-    /// This one's names alone do.
+    /// One option, one or more of whose names begin with the bytes.
     Front(u8),
-    /// Those of more than one do.
+    /// Several options.
     Several,
-    /// The bytes are this one's name.
+    /// One option, whose whole name the bytes are.
     Whole(u8),
 }
 
-/// The options found, and one more, whose name begins with the bytes.
+/// Adds an option whose name begins with the bytes to the options found.
 fn one_more(found: Found, letter: u8) -> Found
     ensures value { result ≡ spec.one_more found letter }
 {
@@ -27,7 +27,7 @@ fn one_more(found: Found, letter: u8) -> Found
     }
 }
 
-/// Whether the bytes begin with the front.
+/// Returns whether the bytes begin with `front`.
 fn begins(bytes: &[u8], front: &[u8]) -> bool
     ensures value { result ≡ begins front.now bytes.now }
 {
@@ -42,7 +42,7 @@ fn begins(bytes: &[u8], front: &[u8]) -> bool
     true
 }
 
-/// The options found, and the one with this name and letter if its name begins with the bytes.
+/// Adds the option with this name and letter to the options found, if its name begins with the bytes.
 fn look_at(found: Found, bytes: &[u8], name: &[u8], letter: u8) -> Found
     ensures value { result ≡ spec.look_at found bytes.now name.now letter }
 {
@@ -55,7 +55,7 @@ fn look_at(found: Found, bytes: &[u8], name: &[u8], letter: u8) -> Found
     one_more(found, letter)
 }
 
-/// The options whose names begin with the bytes.
+/// Returns the options whose names begin with the bytes.
 pub fn find_name(bytes: &[u8]) -> Found
     ensures value { result ≡ spec.find_name bytes.now }
 {

@@ -1,4 +1,4 @@
-//! What the arguments ask.
+//! Reads what the arguments ask.
 ghost use Rattle.std.specs.Prelude.{◌≡◌, ◌≤◌, length, IfOk};
 ghost use Rattle.cosvigle.specs.Options as spec;
 ghost use Rattle.cosvigle.specs.Options.{reading, texts, Asks, IsAsked};
@@ -7,61 +7,61 @@ use super::names::{Found, find_name};
 use std::alloc::{AllocError, Global};
 use symfilter_engine::Printing;
 
-/// What options choose.
+/// The choices that options make.
 #[derive(Clone, Copy, Debug, PartialEq, Eq)]
 pub struct Flags {
-    /// One more underscore may stand in front of a symbol.
+    /// Whether one more underscore may stand in front of a symbol.
     pub strip: bool,
-    /// Of standard input each line is a symbol.
+    /// Whether each line of standard input is a symbol, rather than a text with symbols in it.
     pub lines: bool,
-    /// No symbol is read: all stays as it is.
+    /// Whether no symbol is read, and all stays as it is.
     pub plain: bool,
     /// What is printed for a symbol.
     pub printing: Printing,
 }
 
-/// What is done in place of reading symbols.
+/// What the program does instead of reading symbols.
 #[derive(Clone, Copy, Debug, PartialEq, Eq)]
 pub enum Stop {
-    /// The help is printed.
+    /// Prints the help.
     Help,
-    /// The version is printed.
+    /// Prints the version.
     Version,
-    /// No option has this letter or name.
+    /// Reports that no option has this letter or name.
     Unknown,
-    /// More than one option has a name that begins so.
+    /// Reports that the names of several options begin with the given bytes.
     Several,
-    /// The option takes no value, and is given one.
+    /// Reports that an option has a value and takes none.
     Valued,
-    /// The option takes a value, and is given none.
+    /// Reports that an option has no value and takes one.
     Unvalued,
-    /// Types alone aren't read.
+    /// Reports that types alone aren't read.
     Types,
-    /// The format isn't known.
+    /// Reports that no format has this name.
     Format,
 }
 
-/// What has been read of the options.
+/// The state after the options that have been read.
 #[derive(Clone, Copy, Debug, PartialEq, Eq)]
 pub enum Step {
-    /// They choose this.
+    /// The options choose these flags.
     Go(Flags),
-    /// They choose this, and what follows is the format.
+    /// The options choose these flags, and the next argument is the format.
     Value(Flags),
     /// No further option is read.
     Stop(Stop),
 }
 
-/// What is asked.
+/// What the arguments ask.
 #[derive(Drop)]
 pub enum Asked<'a> {
-    /// What is printed for these arguments, or the replaced text of standard input where there are none.
+    /// Print the names of these symbols. If there are none, replace the symbols of standard input.
     Answers(Flags, Vec<&'a [u8]>),
-    /// Something else, by this argument.
+    /// Stop, because of this argument.
     Stopped(Stop, &'a [u8]),
 }
 
-/// The format that the bytes name.
+/// Returns the state after the format that the bytes name.
 fn format_step(flags: Flags, format: &[u8]) -> Step
     ensures value { result ≡ spec.format_step flags format.now }
 {
@@ -82,7 +82,7 @@ fn format_step(flags: Flags, format: &[u8]) -> Step
     }
 }
 
-/// The option with this letter.
+/// Returns the state after the option with this letter.
 fn letter_step(flags: Flags, letter: u8) -> Step
     ensures value { result ≡ spec.letter_step flags letter }
 {
@@ -126,8 +126,8 @@ fn letter_step(flags: Flags, letter: u8) -> Step
     }
 }
 
-/// The options whose letters follow the `-` that an argument begins with. What follows the letter of an option that
-/// takes a value is that value.
+/// Returns the state after the options whose letters follow the `-` of an argument. What follows the letter of an
+/// option that takes a value is that value.
 fn letters_step(flags: Flags, argument: &[u8]) -> Step
     ensures value { result ≡ spec.letters_step flags argument.now }
 {
@@ -144,7 +144,7 @@ fn letters_step(flags: Flags, argument: &[u8]) -> Step
     Step::Go(flags)
 }
 
-/// How many bytes stand before the first `=`, or how many there are.
+/// Returns how many bytes are in front of the first `=`, or the number of all bytes if there is no `=`.
 fn name_len(bytes: &[u8]) -> usize
     ensures bound { result ≤ length bytes.now }
     ensures value { result ≡ spec.name_len bytes.now }
@@ -157,7 +157,8 @@ fn name_len(bytes: &[u8]) -> usize
     bytes.len()
 }
 
-/// The option with this letter. The first `len` bytes are its name, and what follows a `=` after them is its value.
+/// Returns the state after the option with this letter. The first `len` bytes are the option's name, and what follows
+/// a `=` after them is its value.
 fn valued_step(flags: Flags, letter: u8, len: usize, bytes: &[u8]) -> Step
     requires { len ≤ length bytes.now }
     ensures value { result ≡ spec.valued_step flags letter len bytes.now }
@@ -172,8 +173,8 @@ fn valued_step(flags: Flags, letter: u8, len: usize, bytes: &[u8]) -> Step
     }
 }
 
-/// The option whose name stands after `--`, or a beginning of its name that no other has. What follows a `=` is its
-/// value.
+/// Returns the state after the option whose name follows `--`. The name may be shortened to a beginning that no other
+/// option has. What follows a `=` is the option's value.
 fn name_step(flags: Flags, bytes: &[u8]) -> Step
     ensures value { result ≡ spec.name_step flags bytes.now }
 {
@@ -186,20 +187,20 @@ fn name_step(flags: Flags, bytes: &[u8]) -> Step
     }
 }
 
-/// What an argument is.
+/// The kinds of arguments.
 #[derive(Clone, Copy, Debug, PartialEq, Eq)]
 pub enum Kind {
-    /// All arguments after it are symbols.
+    /// `--`: all further arguments are symbols.
     End,
-    /// It has the name of an option.
+    /// The name of an option.
     Name,
-    /// It has letters of options.
+    /// The letters of options.
     Letters,
-    /// It is a symbol.
+    /// A symbol.
     Symbol,
 }
 
-/// What an argument is that is no value of an option.
+/// Returns the kind of an argument that isn't the value of an option.
 fn kind_of(argument: &[u8]) -> Kind
     ensures value { result ≡ spec.kind_of argument.now }
 {
@@ -211,7 +212,8 @@ fn kind_of(argument: &[u8]) -> Kind
     }
 }
 
-/// What is asked where so much has been read, and no argument is left.
+/// Returns what the arguments ask after the last of them. `step` is the state, and `word` the argument that was read
+/// last.
 fn asked_at_end<'a>(step: Step, symbols: Vec<&'a [u8]>, word: &'a [u8]) -> Asked<'a>
     ensures asked { Asks (reading step (texts symbols.entry.items) word.now) result }
 {
@@ -222,7 +224,7 @@ fn asked_at_end<'a>(step: Step, symbols: Vec<&'a [u8]>, word: &'a [u8]) -> Asked
     }
 }
 
-/// What the arguments ask. An error means that an allocation failed.
+/// Returns what the arguments ask. Returns an error if an allocation fails.
 pub fn read_arguments<'a>(alloc: Global, arguments: &[&'a [u8]]) -> Result<Asked<'a>, AllocError>
     ensures asked { IfOk result (IsAsked (texts arguments.now)) }
 {
@@ -233,7 +235,7 @@ pub fn read_arguments<'a>(alloc: Global, arguments: &[&'a [u8]]) -> Result<Asked
         printing: Printing::Names,
     });
     let mut symbols = Vec::new(alloc);
-    // The argument that was read last, if it was an option or its value.
+    // The last argument that was an option or the value of one.
     let mut word: &'a [u8] = b"";
     for at in 0..arguments.len() {
         let argument = arguments[at];

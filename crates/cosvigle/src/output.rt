@@ -9,7 +9,7 @@ use std::io;
 use std::io::{ErrorKind, Write};
 use symfilter_engine::FilterFault;
 
-/// A writer, and whether a write to it has failed since its reader has gone.
+/// A writer, and whether a write to it has failed because its reader has gone.
 #[derive(Drop)]
 pub struct Output<W> {
     inner: W,
@@ -17,7 +17,7 @@ pub struct Output<W> {
 }
 
 impl<W> Output<W> {
-    /// No write has failed.
+    /// Wraps a writer. No write has failed yet.
     pub fn new(inner: W) -> Self
         ensures inner { spec.inner_of result ≡ inner }
         ensures closed { spec.is_closed result ≡ false }
@@ -28,7 +28,7 @@ impl<W> Output<W> {
         }
     }
 
-    /// Whether a write has failed since its reader has gone.
+    /// Returns whether a write has failed because the reader has gone.
     pub fn is_closed(&self) -> bool
         ensures value { result ≡ spec.is_closed self.now }
     {
@@ -66,7 +66,7 @@ impl<W: Write> Write for Output<W> {
     }
 }
 
-/// The fault that is reported: any but a failed write to a reader that has gone.
+/// Returns the fault to report. Returns `None` for a failed write to a reader that has gone.
 pub fn told(fault: FilterFault, closed: bool) -> Option<FilterFault>
     ensures value { result ≡ spec.told fault closed }
 {

@@ -1,16 +1,16 @@
 //! Copies lines from standard input to standard output. A line that is a mangled C++ symbol is written demangled, and
 //! every other line as it is.
 //!
-//! It takes no arguments. After a fault it writes to standard error what failed, and ends with status 1.
+//! The program takes no arguments. After a fault it writes to standard error what failed, and ends with status 1.
 //!
-//! It stands on `symfilter_engine`, which does all the work.
+//! `symfilter_engine` does all the work.
 #![tactic(auto)]
 
 use std::process::ExitCode;
 use symfilter_engine::{Tally, filter};
 
 fn main(rt: HostRuntime) -> ExitCode {
-    // Neither end has a buffer of its own: the filter reads and writes whole chunks.
+    // Neither the source nor the sink has a buffer: the filter reads and writes whole chunks.
     let mut source = Tally::new(rt.stdin());
     let mut sink = Tally::new(rt.stdout());
     match filter(rt.alloc(), &mut source, &mut sink) {

@@ -1,4 +1,4 @@
-//! Where words begin and end.
+//! Finds where words begin and end.
 ghost use Rattle.std.specs.Prelude.{◌≡◌, ◌+◌, ◌<◌, ◌≤◌, false, length, take, drop, slice_index, All, IfSome, IfNone};
 ghost use Rattle.symfilter_engine.specs.Replaced as spec;
 ghost use Rattle.symfilter_engine.specs.Replaced.{IsWordByte, ends_word};
@@ -9,16 +9,16 @@ use std::simd::prelude::*;
 /// The number of bytes that are tested at once.
 const LANES: usize = 16;
 
-/// Each kind of word bytes has a bit: 1 for `$` and `.`, 2 for the digits, 4 for `A` to `O` and `a` to `o`, 8 for `P`
-/// to `Z` and `_`, 16 for `p` to `z`. This table has the bit of the kind by the high nibble of its bytes, their four
-/// high bits.
+/// Gives, for the four high bits of a byte, the bit of the kind of word bytes that have them. The kinds are: 1 for `$`
+/// and `.`, 2 for the digits, 4 for `A` to `O` and `a` to `o`, 8 for `P` to `Z` and `_`, 16 for `p` to `z`. No kind is
+/// 0.
 const BY_HIGH_NIBBLE: [u8; 16] = [0, 0, 1, 2, 4, 8, 4, 16, 0, 0, 0, 0, 0, 0, 0, 0];
 
-/// By the low nibble, the bits of all kinds that have a byte with it. A byte is one of words if its two entries have a
-/// bit in common.
+/// Gives, for the four low bits of a byte, the bits of all kinds that have a byte with them. A byte is a word byte if
+/// its entries in both tables have a bit in common.
 const BY_LOW_NIBBLE: [u8; 16] = [26, 30, 30, 30, 31, 30, 30, 30, 30, 30, 28, 4, 4, 4, 5, 12];
 
-/// Whether the byte is one of words.
+/// Returns whether the byte is a word byte: an ASCII letter, a digit, `_`, `$` or `.`.
 #[inline(always)]
 fn is_word_byte(byte: u8) -> bool
     ensures value { result ≡ spec.is_word_byte byte }
@@ -26,7 +26,7 @@ fn is_word_byte(byte: u8) -> bool
     matches!(byte, b'A'..=b'Z' | b'a'..=b'z' | b'0'..=b'9' | b'_' | b'$' | b'.')
 }
 
-/// Where the word begins whose bytes stand before `place`. It begins at `low` at the earliest.
+/// Returns where the word begins whose bytes are in front of `place`. The search goes back to `low` at most.
 #[inline(always)]
 pub(crate) fn word_start(text: &[u8], low: usize, place: usize) -> usize
     requires ordered { low ≤ place }
@@ -44,7 +44,8 @@ pub(crate) fn word_start(text: &[u8], low: usize, place: usize) -> usize
     start
 }
 
-/// Where the word ends whose bytes stand before `at`, where that is among the 16 bytes from there on.
+/// Returns the place of the first byte from `at` on that is no word byte, if it is among the 16 bytes there, and
+/// `None` otherwise.
 #[inline(always)]
 fn word_end_among(text: &[u8], at: usize) -> Option<usize>
     requires inside { at + 16 ≤ length text.now }
@@ -64,7 +65,8 @@ fn word_end_among(text: &[u8], at: usize) -> Option<usize>
     Some(at + others.trailing_zeros() as usize)
 }
 
-/// Where the word ends whose bytes stand from `place` on, byte by byte.
+/// Returns the place of the first byte from `place` on that is no word byte, or the length of the text if there is
+/// none. Searches byte by byte.
 #[inline(always)]
 fn word_end_from(text: &[u8], place: usize) -> usize
     requires inside { place ≤ length text.now }
@@ -81,7 +83,8 @@ fn word_end_from(text: &[u8], place: usize) -> usize
     text.len()
 }
 
-/// Where the word ends whose bytes stand from `place` on.
+/// Returns the place of the first byte from `place` on that is no word byte, or the length of the text if there is
+/// none.
 #[inline(always)]
 pub(crate) fn word_end(text: &[u8], place: usize) -> usize
     requires inside { place ≤ length text.now }
@@ -103,7 +106,8 @@ pub(crate) fn word_end(text: &[u8], place: usize) -> usize
     word_end_from(text, at)
 }
 
-/// The length in bytes up to the last byte that is in no word, with that byte. The first `seen` bytes are all of words.
+/// Returns the length in bytes up to the last byte that is no word byte, that byte included. The first `seen` bytes
+/// are all word bytes.
 pub(crate) fn whole_words_len(bytes: &[u8], seen: usize) -> usize
     requires inside { seen ≤ length bytes.now }
     requires before { All IsWordByte (take seen bytes.now) }

@@ -1,28 +1,28 @@
-//! The source that bytes are read from, and the sink that they are written to.
+//! The source from which bytes are read, and the sink to which they are written.
 ghost use Rattle.std.specs.Prelude.{◌≡◌, ℕ, List, Bool, true, false, Option, None, ◌<◌, ◌≤◌, length, take, IsTrue, IfOk, IfSome, OnOk, OnErr};
 ghost use Rattle.std.specs.Io.KnownBytes.{Appends, Consumes, IsAtEnd, Keeps};
 
-/// A source or a sink has failed. The cause is not kept.
+/// A source or a sink has failed. The cause isn't kept.
 #[derive(Clone, Copy, Debug, PartialEq, Eq)]
 pub struct Failed;
 
-/// Where bytes are read from.
+/// Bytes are read from a source.
 pub trait Source {
-    // The bytes that are left, where they are known.
+    // The bytes that are left, if they are known.
     ghost remaining: { Self → Option (List ℕ) } = { λ _. None };
 
-    // Whether a read has failed. It stays true.
+    // Whether a read has failed. Once true, it stays true.
     ghost failed: { Self → Bool };
-    // Whether a call was made after a failure, where that is recorded.
+    // Whether a call was made after a failure, if that is recorded.
     ghost called_late: { Self → Option Bool } = { λ _. None };
-    // At most so many further calls give a byte.
+    // The most further calls that give a byte.
     ghost calls_left: { Self → ℕ };
 
-    /// Whether a call has failed. A failed call sets this for good.
+    /// Returns whether a call has failed. Once true, the result stays true.
     fn failed(&self) -> bool
         ensures value { result ≡ failed self.now };
 
-    /// Puts the next bytes at the front of the slice, and returns their number. For a slice that isn't empty, 0 means
+    /// Reads the next bytes into the front of the slice, and returns their number. If the slice isn't empty, 0 means
     /// the end. A failed call gives no byte.
     fn take(&mut self, into: &mut [u8]) -> Result<usize, Failed>
         ensures bound { IfOk result (λ count. count ≤ length into.new) }
@@ -39,23 +39,23 @@ pub trait Source {
         ensures late { failed self.old ≡ true → IfSome (called_late self.new) IsTrue };
 }
 
-/// Where bytes are written to.
+/// Bytes are written to a sink.
 pub trait Sink {
-    // The bytes taken so far, where they are known.
+    // The bytes taken so far, if they are known.
     ghost taken: { Self → Option (List ℕ) } = { λ _. None };
 
-    // Whether a write has failed. It stays true.
+    // Whether a write has failed. Once true, it stays true.
     ghost failed: { Self → Bool };
 
-    // Whether a call was made after a failure, where that is recorded.
+    // Whether a call was made after a failure, if that is recorded.
     ghost called_late: { Self → Option Bool } = { λ _. None };
 
-    /// Whether a call has failed. A failed call sets this for good.
+    /// Returns whether a call has failed. Once true, the result stays true.
     fn failed(&self) -> bool
         ensures value { result ≡ failed self.now };
 
-    /// Takes a beginning of the bytes, and returns its length. It takes at least one byte if there is one. A failed
-    /// call takes no byte.
+    /// Writes some of the first bytes, and returns their number. Writes at least one byte if there is one. A failed
+    /// call writes no byte.
     fn put(&mut self, bytes: &[u8]) -> Result<usize, Failed>
         ensures bound { IfOk result (λ count. count ≤ length bytes.now) }
         ensures some { IfOk result (λ count. 0 < length bytes.now → 0 < count) }

@@ -1,10 +1,10 @@
-//! What ends a run of the filter early.
+//! The reasons why a filter ends early.
 ghost use Rattle.std.specs.Prelude.{◌≡◌};
 ghost use Rattle.symfilter_engine.specs.declared.fault.FilterFault.TheVariants.{Memory};
 
 use std::alloc::AllocError;
 
-/// What ended a run of the filter early.
+/// The reason why a filter ended early.
 #[derive(Clone, Copy, Debug, PartialEq, Eq)]
 pub enum FilterFault {
     /// The source has failed.
@@ -15,20 +15,21 @@ pub enum FilterFault {
     Memory = 3,
 }
 
-/// What stands in front of the words of a fault.
+/// The front of the line for a fault.
 const NAME: &str = "symfilter: ";
 
 impl FilterFault {
     ghost use Rattle.symfilter_engine.specs.Fault.{reason_of, words_of};
 
-    /// The words for the fault, without a program's name in front: `read failed`, `write failed` or `out of memory`.
+    /// Returns the words for the fault, without a program's name in front: `read failed`, `write failed` or
+    /// `out of memory`.
     pub fn reason(&self) -> &'static str
         ensures words { result.now ≡ reason_of self.now }
     {
         &self.line()[NAME.len()..]
     }
 
-    /// The line that the program `symfilter` prints for the fault: its name, and the words.
+    /// Returns the line that the program `symfilter` prints for the fault: the program's name, and the words.
     pub fn line(&self) -> &'static str
         ensures words { result.now ≡ words_of self.now }
     {

@@ -1,4 +1,4 @@
-//! The filter, its loop over chunks of the input, and how more is read into a chunk.
+//! The filter, its loop over chunks of the input, and the function that reads more into a chunk.
 ghost use Rattle.std.specs.Prelude.{◌≡◌, ◌≤◌, ◌↔◌, ◌<◌, false, [], length, take, IsTrue, IsErrOf, IfOk, IfSome, Some, OnOk, OnErr};
 ghost use Rattle.std.specs.Io.KnownBytes.{IsAtEnd, Keeps};
 ghost use Rattle.symfilter_engine.specs.declared.symbols.Printing.TheVariants.{Names};
@@ -16,17 +16,18 @@ use growing_text::Text;
 use itanium_demangle::Demangler;
 use std::alloc::Global;
 
-/// The length in bytes of a chunk, and of the bytes by which it grows where what it has to keep is longer.
+/// The length of a chunk in bytes. A chunk grows by as many bytes if a longer line must be kept.
 pub(crate) const CHUNK_LEN: usize = 131072;
 
-/// Reads to the end, and writes each line demangled. A line that `Demangler::demangle` has no result for, or that isn't
-/// UTF-8, is written as it is. A line goes up to the next line feed or the end of the input. Its line feed is written
-/// where there was one. Before each read all whole lines that were read are written.
+/// Reads to the end, and writes each line demangled. A line is written as it is if `Demangler::demangle` has no result
+/// for it, or if it isn't UTF-8. A line goes up to the next line feed or the end of the input. If it has a line feed,
+/// that is written too. Before each read, all whole lines that were read are written.
 ///
-/// It returns at the first fault, and calls neither source nor sink after it. The fault is `Read` if the source has
-/// failed, `Write` if the sink has failed, and `Memory` if an allocation has failed. The sink has then got a beginning
-/// of the filtered text: after `Read` the text of all whole lines that were read, and after `Memory` that of some whole
-/// lines. By the code the next line is then the one that the allocation was for; no clause says so.
+/// Returns at the first fault, and calls neither source nor sink after it. The fault is `Read` if the source has
+/// failed, `Write` if the sink has failed, and `Memory` if an allocation has failed. What was written is then a
+/// beginning of the filtered text: after `Read` the text of all whole lines that were read, and after `Memory` that of
+/// some whole lines. In the code, the next line after `Memory` is the one that the allocation was for; no clause says
+/// so.
 pub fn filter<R: Source, W: Sink>(
     alloc: Global,
     source: &mut R,
@@ -41,7 +42,7 @@ pub fn filter<R: Source, W: Sink>(
     ensures source_in_time { R.called_late source.new ≡ R.called_late source.old }
     ensures sink_in_time { W.called_late sink.new ≡ W.called_late sink.old }
 
-    // These clauses hold where the bytes of the source and of the sink are known.
+    // These clauses hold if the bytes of the source and of the sink are known.
     ensures used_up { OnOk result (IfSome (R.remaining source.old) (λ _.
         R.remaining source.new ≡ Some [])) }
     ensures ok { OnOk result (IfSome (R.remaining source.old) (λ given.
@@ -50,7 +51,7 @@ pub fn filter<R: Source, W: Sink>(
         (R.remaining source.old) (R.remaining source.new)
         (W.taken sink.old) (W.taken sink.new)) }
 
-    // Any call of the source may fail. So all whole lines that it gave are written before each call.
+    // Any call of the source may fail. All whole lines that the source gave are written before each call.
     ensures put { IsErrOf result FilterFault.Read → FiltersLines (Lines Names)
         (R.remaining source.old) (R.remaining source.new)
         (W.taken sink.old) (W.taken sink.new) }
@@ -63,15 +64,16 @@ pub fn filter<R: Source, W: Sink>(
     filter_by(alloc, Printing::Names, source, sink)
 }
 
-/// Reads to the end, and writes for each line what is printed for it as a symbol: its demangled name, or its signature.
-/// A line that has none, or that isn't UTF-8, is written as it is. A line goes up to the next line feed or the end of
-/// the input. Its line feed is written where there was one. Before each read all whole lines that were read are
-/// written.
+/// Reads to the end, and writes for each line what is printed for it as a symbol: its demangled name, or its
+/// signature. A line is written as it is if it has neither, or if it isn't UTF-8. A line goes up to the next line feed
+/// or the end of the input. If it has a line feed, that is written too. Before each read, all whole lines that were
+/// read are written.
 ///
-/// It returns at the first fault, and calls neither source nor sink after it. The fault is `Read` if the source has
-/// failed, `Write` if the sink has failed, and `Memory` if an allocation has failed. The sink has then got a beginning
-/// of the filtered text: after `Read` the text of all whole lines that were read, and after `Memory` that of some whole
-/// lines. By the code the next line is then the one that the allocation was for; no clause says so.
+/// Returns at the first fault, and calls neither source nor sink after it. The fault is `Read` if the source has
+/// failed, `Write` if the sink has failed, and `Memory` if an allocation has failed. What was written is then a
+/// beginning of the filtered text: after `Read` the text of all whole lines that were read, and after `Memory` that of
+/// some whole lines. In the code, the next line after `Memory` is the one that the allocation was for; no clause says
+/// so.
 pub fn filter_by<R: Source, W: Sink>(
     alloc: Global,
     printing: Printing,
@@ -87,7 +89,7 @@ pub fn filter_by<R: Source, W: Sink>(
     ensures source_in_time { R.called_late source.new ≡ R.called_late source.old }
     ensures sink_in_time { W.called_late sink.new ≡ W.called_late sink.old }
 
-    // These clauses hold where the bytes of the source and of the sink are known.
+    // These clauses hold if the bytes of the source and of the sink are known.
     ensures used_up { OnOk result (IfSome (R.remaining source.old) (λ _.
         R.remaining source.new ≡ Some [])) }
     ensures ok { OnOk result (IfSome (R.remaining source.old) (λ given.
@@ -96,7 +98,7 @@ pub fn filter_by<R: Source, W: Sink>(
         (R.remaining source.old) (R.remaining source.new)
         (W.taken sink.old) (W.taken sink.new)) }
 
-    // Any call of the source may fail. So all whole lines that it gave are written before each call.
+    // Any call of the source may fail. All whole lines that the source gave are written before each call.
     ensures put { IsErrOf result FilterFault.Read → FiltersLines (Lines printing)
         (R.remaining source.old) (R.remaining source.new)
         (W.taken sink.old) (W.taken sink.new) }
@@ -148,8 +150,8 @@ fn filter_by_chunks<R: Source, W: Sink>(
     )
 }
 
-/// Reads to the end, and writes each line that ends in a line feed. It returns the length in bytes of a last line
-/// without one, which the front of the chunk holds.
+/// Reads to the end, and writes each line that ends in a line feed. Returns the length in bytes of a last line without
+/// one. The front of the chunk holds that line.
 fn copy_lines<R: Source, W: Sink>(
     alloc: Global,
     demangler: &mut Demangler,
@@ -203,8 +205,8 @@ fn copy_lines<R: Source, W: Sink>(
     }
 }
 
-/// Reads more bytes after the first `kept` bytes of the chunk, and returns the number of both. The chunk grows if it is
-/// full. The number is `kept` only at the end of the input.
+/// Reads more bytes after the first `kept` bytes of the chunk, and returns the number of both. If the chunk is full,
+/// it grows first. The number is `kept` only at the end of the input.
 pub(crate) fn read_more<R: Source>(
     source: &mut R,
     chunk: &mut Vec<u8>,

@@ -1,13 +1,14 @@
-//! The engine of the programs: it copies text from a source to a sink, and demangles on the way.
+//! The engine of the programs: copies text from a source to a sink, and demangles symbols on the way.
 //!
-//! `filter` demangles each line that is a symbol. `filter_by` does that too, and prints either names or signatures.
-//! `replace` demangles each symbol that stands in a word. Before each read `filter` has written all whole lines, and
-//! `replace` has written all but a word that may hold a symbol.
+//! `filter` demangles each line that is a symbol. `filter_by` does the same, and prints either names or signatures.
+//! `replace` demangles each symbol in a word. Before each read, `filter` has written all whole lines. `replace` has
+//! written all but a last word that may hold a symbol.
 //!
-//! `ByteSource` and `ByteSink` are the traits of what is read and written. A `Tally` makes one of a reader or a writer
-//! of std. A `FilterFault` says why the copying ended early.
+//! `Source` and `Sink` are the traits of what is read and written. A `Tally` makes one of a reader or a writer of std.
+//! A `FilterFault` says why the copying ended early.
 //!
-//! It stands on `itanium_demangle`, and on `growing_text` for the input. Begin with `filtering.rt` and `replacing.rt`.
+//! `itanium_demangle` reads the symbols, and `growing_text` holds the output. Begin with `filtering.rt` and
+//! `replacing.rt`.
 #![tactic(auto)]
 
 mod bounds;

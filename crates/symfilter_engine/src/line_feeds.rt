@@ -1,4 +1,4 @@
-//! Line feeds in a chunk.
+//! Finds line feeds in a chunk.
 ghost use Rattle.std.specs.Prelude.{◌+◌, ◌≤◌, length, take, drop, IfSome, IfNone};
 ghost use Rattle.symfilter_engine.specs.Filtered.{HasNoLineFeed, EndsInLineFeed};
 ghost use Rattle.symfilter_engine.specs.Progress.{EndsAt};
@@ -7,7 +7,7 @@ use super::places::first_place;
 
 const LINE_FEED: u8 = b'\n';
 
-/// The place of the first line feed, or `None` where there is none.
+/// Returns the place of the first line feed, or `None` if there is none.
 #[inline(always)]
 pub(crate) fn line_end(bytes: &[u8]) -> Option<usize>
     ensures found { IfSome result (EndsAt bytes.now) }
@@ -16,7 +16,8 @@ pub(crate) fn line_end(bytes: &[u8]) -> Option<usize>
     first_place(bytes, LINE_FEED)
 }
 
-/// The length in bytes of the whole lines, with the last line feed. The first `seen` bytes have no line feed.
+/// Returns the length in bytes of the whole lines, up to the last line feed and with it. The first `seen` bytes have
+/// no line feed.
 pub(crate) fn ended_len(bytes: &[u8], seen: usize) -> usize
     requires inside { seen ≤ length bytes.now }
     requires before { HasNoLineFeed (take seen bytes.now) }

@@ -1,8 +1,8 @@
-//! Writing whole lines or words, and a last line or word.
+//! Writes whole lines or words, and a last line or word.
 //!
-//! Where lines are symbols, what is written at once are whole lines. Where words hold symbols, it is text that ends in
-//! a byte that is in no word, which is called lines here too. What is ordinary is written as it is: a line that doesn't
-//! begin with an underscore, or text that has no `_Z`.
+//! If lines are symbols, each call takes whole lines. If words hold symbols, each call takes text that ends in a byte
+//! that is no word byte; the names here call that text lines too. Ordinary text is written as it is: a line that
+//! doesn't begin with an underscore, or text that has no `_Z`.
 ghost use Rattle.std.specs.Prelude.{◌≡◌, ◌<◌, ◌≤◌, [], false, length, take, IsTrue, IsErrOf, IsUtf8, IfOk, OnOk, OnErr};
 ghost use Rattle.std.specs.Io.KnownBytes.{Keeps};
 ghost use Rattle.symfilter_engine.specs.Fault.{IsWriteOutcome};
@@ -25,22 +25,22 @@ use itanium_demangle::{Demangler, is_utf8};
 use std::alloc::{AllocError, Global};
 use std::str;
 
-/// The output is written once it has so many bytes.
+/// The length in bytes at which the output is written.
 const OUTPUT_LEN: usize = 32768;
 
-/// The capacity that is reserved for the output, in bytes. It is more than `OUTPUT_LEN`.
+/// The capacity that is reserved for the output, in bytes. The capacity is more than `OUTPUT_LEN`.
 const OUTPUT_CAPACITY: usize = 36864;
 
-/// So many bytes of ordinary lines are written without a copy.
+/// The least bytes of ordinary lines that are written without a copy.
 const LONG_LEN: usize = 16384;
 
-/// The words of at most so many bytes are replaced at once.
+/// The most bytes whose words are replaced at once.
 const BLOCK_LEN: usize = 4096;
 
 /// The first byte of each symbol.
 const UNDERSCORE: u8 = b'_';
 
-/// The length in bytes of the first whole lines or words, up to one that is not ordinary.
+/// Returns the length in bytes of the first whole lines or words, up to one that isn't ordinary.
 #[inline(always)]
 fn ordinary_len(symbols: Symbols, lines: &[u8]) -> usize
     ensures bound { result ≤ length lines.now }
@@ -52,7 +52,7 @@ fn ordinary_len(symbols: Symbols, lines: &[u8]) -> usize
     }
 }
 
-/// The length in bytes of the first whole lines, up to one that begins with an underscore.
+/// Returns the length in bytes of the first whole lines, up to one that begins with an underscore.
 fn unmangled_len(lines: &[u8]) -> usize
     ensures bound { result ≤ length lines.now }
     ensures ordinary { (printing : Printing) →
@@ -68,8 +68,9 @@ fn unmangled_len(lines: &[u8]) -> usize
     len
 }
 
-/// What is written for a line without its line feed: the name or signature of its symbol, or the line itself where it
-/// has none or isn't UTF-8. Where `known_utf8` is true the line is UTF-8 and isn't tested again.
+/// Returns what is written for a line, which has no line feed here: the name or signature of its symbol. Returns the
+/// line itself if there is none, or if the line isn't UTF-8. If `known_utf8` is true, the line is UTF-8 and isn't
+/// tested again.
 #[inline(always)]
 fn line_answer<'a>(
     alloc: Global,
@@ -92,8 +93,8 @@ fn line_answer<'a>(
     }
 }
 
-/// Appends what is written for the first line, where lines are symbols, and returns the line's length with its line
-/// feed. After an error nothing is appended.
+/// Appends what is written for the first line, and returns the length in bytes of that line with its line feed. Lines
+/// are symbols here. After an error nothing is appended.
 #[inline(always)]
 fn append_line(
     alloc: Global,
@@ -119,7 +120,7 @@ fn append_line(
     Ok(end + 1)
 }
 
-/// The length in bytes of the first block of whole words: as many as fit in `most` bytes, and at least one.
+/// Returns the length in bytes of the first block of whole words: as many as fit in `most` bytes, and at least one.
 fn block_len(text: &[u8], most: usize) -> usize
     requires some { 0 < length text.now }
     requires whole { ends_word text.now ≡ false }
@@ -137,8 +138,8 @@ fn block_len(text: &[u8], most: usize) -> usize
     word_end(text, 0) + 1
 }
 
-/// Appends the replaced text of a block of words, or of one word if there is no memory for a block, and returns their
-/// length in bytes. After an error nothing is appended.
+/// Appends a block of words with its symbols replaced, or one word if the allocation for the block fails. Returns the
+/// length in bytes of the text that was replaced. After an error nothing is appended.
 fn append_block(
     alloc: Global,
     demangler: &mut Demangler,
@@ -162,8 +163,8 @@ fn append_block(
     Ok(first)
 }
 
-/// Appends what is written for the first lines, ordinary ones or others, and returns their length in bytes. After an
-/// error nothing is appended.
+/// Appends what is written for the first lines, ordinary or not, and returns their length in bytes. After an error
+/// nothing is appended.
 #[inline(always)]
 fn append_next(
     alloc: Global,
@@ -194,9 +195,9 @@ fn append_next(
     }
 }
 
-/// Appends what is written for the first lines to an empty output, and returns their length in bytes. It stops once
-/// the output has `OUTPUT_LEN` bytes, and at a line for which an allocation fails. It returns an error if that is the
-/// first one.
+/// Appends what is written for the first lines to an empty output, and returns their length in bytes. Stops once the
+/// output has `OUTPUT_LEN` bytes, and in front of a line for which an allocation fails. Returns an error if that is
+/// the first line.
 fn gather_lines(
     alloc: Global,
     demangler: &mut Demangler,
@@ -224,8 +225,8 @@ fn gather_lines(
     Ok(lines.len() - rest.len())
 }
 
-/// Writes what is written for the first lines, and returns their length in bytes. A long run of ordinary lines is
-/// written without a copy; other lines are gathered in the output.
+/// Writes the text for the first lines, and returns their length in bytes. Ordinary lines of at least `LONG_LEN` bytes
+/// are written without a copy. Other lines are gathered in the output first.
 fn write_next<W: Sink>(
     alloc: Global,
     demangler: &mut Demangler,
@@ -261,7 +262,7 @@ fn write_next<W: Sink>(
     Ok(len)
 }
 
-/// Writes what is written for these whole lines or words.
+/// Writes the text for these whole lines or words.
 pub(crate) fn write_lines<W: Sink>(
     alloc: Global,
     demangler: &mut Demangler,
@@ -288,7 +289,7 @@ pub(crate) fn write_lines<W: Sink>(
     Ok(())
 }
 
-/// Writes what is written for a last line, which has no line feed, or a last word. It may be empty.
+/// Writes the text for a last line, which has no line feed, or for a last word. The line or word may be empty.
 pub(crate) fn write_last<W: Sink>(
     alloc: Global,
     demangler: &mut Demangler,

@@ -1,4 +1,4 @@
-//! Writing to a sink.
+//! Writes to a sink.
 ghost use Rattle.std.specs.Prelude.{◌≡◌, true, false, ◌<◌, OnOk, OnErr};
 ghost use Rattle.std.specs.Io.KnownBytes.{Appends};
 ghost use Rattle.symfilter_engine.specs.Fault.{IsWriteOutcome};
@@ -7,7 +7,7 @@ ghost use Rattle.symfilter_engine.specs.Progress.{WritesFront};
 use super::ends::{Failed, Sink};
 use super::fault::FilterFault;
 
-/// Writes all the bytes.
+/// Writes all the bytes. Returns `FilterFault::Write` if the sink fails.
 pub(crate) fn write_all<W: Sink>(sink: &mut W, bytes: &[u8]) -> Result<(), FilterFault>
     requires not_failed { W.failed sink.old ≡ false }
     ensures outcome { IsWriteOutcome result (W.failed sink.new) }

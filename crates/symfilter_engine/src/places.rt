@@ -1,4 +1,4 @@
-//! Where a byte stands.
+//! Finds the first place of a byte.
 ghost use Rattle.std.specs.Prelude.{◌+◌, ◌^◌, ◌<◌, ◌≤◌, length, take, IfSome, IfNone};
 ghost use Rattle.symfilter_engine.specs.Progress.{HasNone, IsFirst};
 
@@ -7,7 +7,8 @@ use std::simd::prelude::*;
 /// The number of bytes that are compared at once.
 const LANES: usize = 32;
 
-/// The place of the first such byte, where it is among the 32 bytes from `at` on; none is before them.
+/// Returns the first place of the byte `wanted` if it is among the 32 bytes from `at` on, and `None` otherwise. The
+/// byte isn't in front of `at`.
 #[inline(always)]
 fn place_among(bytes: &[u8], at: usize, wanted: u8) -> Option<usize>
     requires inside { at + 32 ≤ length bytes.now }
@@ -24,7 +25,8 @@ fn place_among(bytes: &[u8], at: usize, wanted: u8) -> Option<usize>
     Some(at + found.trailing_zeros() as usize)
 }
 
-/// The place of the first such byte from `start` on, byte by byte; none is before it.
+/// Returns the first place of the byte `wanted`, or `None` if it isn't there. Searches byte by byte from `start` on;
+/// the byte isn't in front of `start`.
 fn place_from(bytes: &[u8], start: usize, wanted: u8) -> Option<usize>
     requires inside { start ≤ length bytes.now }
     requires before { HasNone wanted (take start bytes.now) }
@@ -39,7 +41,7 @@ fn place_from(bytes: &[u8], start: usize, wanted: u8) -> Option<usize>
     None
 }
 
-/// The place of the first such byte, or `None` where there is none.
+/// Returns the first place of the byte `wanted`, or `None` if it isn't there.
 #[inline(always)]
 pub(crate) fn first_place(bytes: &[u8], wanted: u8) -> Option<usize>
     ensures found { IfSome result (IsFirst wanted bytes.now) }

@@ -1,4 +1,4 @@
-//! Where the prefix of a symbol, `_Z`, stands in bytes.
+//! Finds the prefix of a symbol, `_Z`, in bytes.
 ghost use Rattle.std.specs.Prelude.{◌≡◌, ◌+◌, ◌≤◌, false, length, take, IfSome, IfNone};
 ghost use Rattle.symfilter_engine.specs.Replaced.{ends_word};
 ghost use Rattle.symfilter_engine.specs.Progress.{HasNoPrefix, IsFirstPrefix};
@@ -8,10 +8,10 @@ use super::places::first_place;
 
 const UNDERSCORE: u8 = b'_';
 
-/// The second byte of the prefix. The search looks for it, since it is the rarer one.
+/// The second byte of the prefix. The search looks for this byte, since it is rarer than `_`.
 const PREFIX_END: u8 = b'Z';
 
-/// The place of the first `_Z`, or `None` where there is none.
+/// Returns the place of the first `_Z`, or `None` if there is none.
 pub(crate) fn first_prefix(bytes: &[u8]) -> Option<usize>
     ensures found { IfSome result (IsFirstPrefix bytes.now) }
     ensures none { IfNone result (HasNoPrefix bytes.now) }
@@ -27,7 +27,7 @@ pub(crate) fn first_prefix(bytes: &[u8]) -> Option<usize>
     None
 }
 
-/// The length in bytes of the first whole words, up to one that has a `_Z`.
+/// Returns the length in bytes of the first whole words, up to a word that has a `_Z`.
 pub(crate) fn unprefixed_len(text: &[u8]) -> usize
     ensures bound { result ≤ length text.now }
     ensures whole { ends_word (take result text.now) ≡ false }

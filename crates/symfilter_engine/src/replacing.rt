@@ -19,17 +19,16 @@ use growing_text::Text;
 use itanium_demangle::Demangler;
 use std::alloc::Global;
 
-/// Reads to the end, and writes the replaced text: each symbol that stands in a word is replaced by what is printed for
-/// it, its demangled name or its signature.
-/// A word is a maximal run of ASCII letters, digits, `_`, `$` and `.`. Its symbol stands at its front, after at most
-/// one sign: `.`, `$` or `__imp_`. The sign and the dots at the word's end stay. With `strip` one more
-/// underscore may stand in front of the symbol, and is dropped.
+/// Reads to the end, and writes the replaced text: each symbol in a word is replaced by its demangled name or its
+/// signature. A word is a maximal run of ASCII letters, digits, `_`, `$` and `.`. Its symbol is at its front, after at
+/// most one prefix character or group: `.`, `$` or `__imp_`. The prefix and the dots at the word's end stay. With
+/// `strip`, one more underscore may be in front of the symbol, and is dropped.
 ///
-/// Before each read all is written that was read, up to a last word that may hold a symbol: it begins with one, or has
-/// fewer than ten bytes. A line may have any length, and only such a word is kept.
+/// Before each read, all that was read is written, except a last word that may hold a symbol. Such a word begins with
+/// a symbol, or has fewer than ten bytes. A line may have any length, since only such a word is kept.
 ///
-/// Its faults are those of `filter`, and what was written is a beginning of the replaced text. After `Read` that is the
-/// text of all but the word that is kept, and after `Memory` that of some whole words.
+/// The faults are those of `filter`, and what was written is a beginning of the replaced text. After `Read` that is
+/// the text of all but the word that is kept, and after `Memory` that of some whole words.
 pub fn replace<R: Source, W: Sink>(
     alloc: Global,
     how: Replacement,
@@ -45,7 +44,7 @@ pub fn replace<R: Source, W: Sink>(
     ensures source_in_time { R.called_late source.new ≡ R.called_late source.old }
     ensures sink_in_time { W.called_late sink.new ≡ W.called_late sink.old }
 
-    // These clauses hold where the bytes of the source and of the sink are known.
+    // These clauses hold if the bytes of the source and of the sink are known.
     ensures used_up { OnOk result (IfSome (R.remaining source.old) (λ _.
         R.remaining source.new ≡ Some [])) }
     ensures ok { OnOk result (IfSome (R.remaining source.old) (λ given.
@@ -54,8 +53,8 @@ pub fn replace<R: Source, W: Sink>(
         (R.remaining source.old) (R.remaining source.new)
         (W.taken sink.old) (W.taken sink.new)) }
 
-    // Any call of the source may fail. So all that it gave is written before each call, but for a word that may hold a
-    // symbol.
+    // Any call of the source may fail. All that the source gave is written before each call, except a word that may
+    // hold a symbol.
     ensures put { IsErrOf result FilterFault.Read → ReplacesAllButHeld how
         (R.remaining source.old) (R.remaining source.new)
         (W.taken sink.old) (W.taken sink.new) }
@@ -108,8 +107,8 @@ fn replace_by_chunks<R: Source, W: Sink>(
     )
 }
 
-/// Reads to the end, and writes all but a last word that may hold a symbol. It returns that word's length in bytes; the
-/// front of the chunk holds it.
+/// Reads to the end, and writes all but a last word that may hold a symbol. Returns the length in bytes of that word.
+/// The front of the chunk holds the word.
 fn copy_words<R: Source, W: Sink>(
     alloc: Global,
     demangler: &mut Demangler,
@@ -169,14 +168,14 @@ fn copy_words<R: Source, W: Sink>(
 /// What was written of a chunk.
 #[derive(Clone, Copy)]
 struct Turn {
-    /// So many bytes were written.
+    /// The number of bytes that were written.
     done: usize,
-    /// The last word holds no symbol, and may go on in the next chunk.
+    /// Whether the last word holds no symbol and may go on in the next chunk.
     inside: bool,
 }
 
-/// Writes what is written for these bytes, up to a last word that may hold a symbol. If `inside` is true, a word that
-/// holds no symbol goes on in them. The first `seen` bytes are of a word that was kept.
+/// Writes the text for these bytes, up to a last word that may hold a symbol. If `inside` is true, the bytes begin
+/// inside a word that holds no symbol. The first `seen` bytes are of a word that was kept.
 fn write_turn<W: Sink>(
     alloc: Global,
     demangler: &mut Demangler,
@@ -223,7 +222,7 @@ fn write_turn<W: Sink>(
     }
 }
 
-/// The length in bytes of a word with the byte after it, or `None` where all bytes are of the word.
+/// Returns the length in bytes of the first word with the byte after it, or `None` if all bytes are of the word.
 fn past_word(bytes: &[u8]) -> Option<usize>
     ensures some { IfSome result (IsPastWord bytes.now) }
     ensures none { IfNone result (All IsWordByte bytes.now) }
@@ -235,8 +234,7 @@ fn past_word(bytes: &[u8]) -> Option<usize>
     Some(end + 1)
 }
 
-/// Writes what is written for these bytes, up to a last word that may hold a symbol. The first `seen` bytes are of a
-/// word.
+/// Writes the text for these bytes, up to a last word that may hold a symbol. The first `seen` bytes are word bytes.
 fn write_words<W: Sink>(
     alloc: Global,
     demangler: &mut Demangler,

@@ -1,4 +1,4 @@
-//! Where symbols stand, and what is printed for them.
+//! Where symbols may be, and what is printed for them.
 ghost use Rattle.std.specs.Prelude.{◌≡◌, OnOk, OnErr};
 ghost use Rattle.itanium_demangle.specs.LastRun.{no_run};
 ghost use Rattle.symfilter_engine.specs.Shown.{IsShown};
@@ -11,7 +11,8 @@ use std::alloc::{AllocError, Global};
 pub enum Printing {
     /// Its demangled name.
     Names,
-    /// Its signature, which is its demangled name with its parameters. Where it has none, its demangled name.
+    /// Its signature, which is its demangled name with its parameters. If a symbol has no signature, its demangled
+    /// name.
     Signatures,
 }
 
@@ -20,21 +21,21 @@ pub enum Printing {
 pub struct Replacement {
     /// Whether one more underscore may stand in front of a symbol, and is dropped.
     pub strip: bool,
-    /// What stands in place of a symbol.
+    /// What replaces a symbol.
     pub printing: Printing,
 }
 
-/// What may be a symbol.
+/// Where a symbol may be.
 #[derive(Clone, Copy, Debug, PartialEq, Eq)]
 pub(crate) enum Symbols {
-    /// Whole lines.
+    /// A whole line may be a symbol.
     Lines(Printing),
-    /// The front of words.
+    /// A symbol may be in a word, after the word's prefix characters.
     Words(Replacement),
 }
 
-/// Reads a symbol. Afterwards the demangler has the text that is printed for it, or none where it stays as it is. After
-/// an error it has nothing.
+/// Reads a symbol. Afterwards the demangler has the text that is printed for the symbol, or no text if the symbol is
+/// printed as it is. Returns an error if an allocation fails; then the demangler has no text.
 #[inline(always)]
 pub fn prepare_shown(
     alloc: Global,

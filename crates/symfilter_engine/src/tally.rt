@@ -1,4 +1,4 @@
-//! Adapts std's readers and writers: a source over a reader, and a sink over a writer.
+//! Makes a source of a reader of std, and a sink of a writer of std.
 ghost use Rattle.std.specs.Prelude.{◌≡◌, ◌≤◌, ◌<◌, true, false, ◌+◌, ◌-◌, ◌^◌, length, take, IfOk, OnOk, OnErr};
 ghost use Rattle.std.specs.Io.{ReadsAtMost};
 ghost use Rattle.std.specs.Io.KnownBytes.{Appends, Keeps, ReadConsumes};
@@ -6,8 +6,8 @@ ghost use Rattle.std.specs.Io.KnownBytes.{Appends, Keeps, ReadConsumes};
 use super::ends::{Failed, Sink, Source};
 use std::io::{Read, Write};
 
-/// Adapts a reader or a writer of std, and keeps whether a call has failed. Any error is a failure, and so is a
-/// write of 0 bytes where some were offered, and each read after 2^64 - 1 of them.
+/// Adapts a reader or a writer of std, and keeps whether a call has failed. A call fails if the inner call returns an
+/// error. A write also fails if it takes 0 bytes of some. Each read after the first 2^64 - 1 fails.
 #[derive(Drop)]
 pub struct Tally<D> {
     inner: D,
@@ -18,7 +18,7 @@ pub struct Tally<D> {
 impl<D> Tally<D> {
     ghost use Rattle.symfilter_engine.specs.Tally.{inner_of, has_failed, reads_left};
 
-    /// It hasn't failed, and 2^64 - 1 reads are left.
+    /// Wraps a reader or a writer. No call has failed, and 2^64 - 1 reads are left.
     pub fn new(inner: D) -> Self
         ensures inner { inner_of result ≡ inner }
         ensures not_failed { has_failed result ≡ false }
@@ -32,7 +32,7 @@ impl<D> Tally<D> {
     }
 }
 
-/// Any error of the reader is a failure, and so is each read after 2^64 - 1 of them.
+/// A read fails if the reader returns an error, and after 2^64 - 1 reads.
 impl<D: Read> Source for Tally<D> {
     ghost use Rattle.symfilter_engine.specs.Tally.{inner_of, has_failed, reads_left};
 
@@ -71,7 +71,7 @@ impl<D: Read> Source for Tally<D> {
     }
 }
 
-/// Any error of the writer is a failure, and so is a write of 0 bytes where some were offered.
+/// A write fails if the writer returns an error, or takes 0 bytes of some.
 impl<D: Write> Sink for Tally<D> {
     ghost use Rattle.symfilter_engine.specs.Tally.{inner_of, has_failed, reads_left};
 

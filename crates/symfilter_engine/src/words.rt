@@ -1,4 +1,4 @@
-//! Replacing the symbols in words.
+//! Replaces the symbols in words.
 ghost use Rattle.std.specs.Prelude.{◌≡◌, ◌≤◌, ◌++◌, false, length, take, drop, All, IfOk, IfSome, IfNone, OnOk, OnErr, option_map};
 ghost use Rattle.symfilter_engine.specs.Replaced as spec;
 ghost use Rattle.symfilter_engine.specs.Replaced.{IsWordByte, IsDot, ends_in_dot, IsWordAnswer};
@@ -12,7 +12,7 @@ use itanium_demangle::Demangler;
 use std::alloc::{AllocError, Global};
 use std::str;
 
-/// The length of the word in bytes, without the dots at its end.
+/// Returns the length of the word in bytes, without the dots at its end.
 #[inline(always)]
 fn stem_len(word: &[u8]) -> usize
     ensures bound { result ≤ length word.now }
@@ -26,7 +26,8 @@ fn stem_len(word: &[u8]) -> usize
     len
 }
 
-/// The length of the sign of a word, which stands in front of its symbol: a `.`, a `$` or `__imp_`, or nothing.
+/// Returns the length in bytes of the prefix characters of a word, which are in front of its symbol: `.`, `$`,
+/// `__imp_` or nothing.
 #[inline(always)]
 fn sign_len(word: &[u8]) -> usize
     ensures bound { result ≤ length word.now }
@@ -39,7 +40,8 @@ fn sign_len(word: &[u8]) -> usize
     }
 }
 
-/// The symbol that the bytes are, or `None` where they are none.
+/// Returns the bytes if they begin as a symbol does, with `_Z` or `__Z`. If `strip` is true and they begin with
+/// `___Z`, returns them without the first underscore. Otherwise returns `None`.
 #[inline(always)]
 fn symbol_at(strip: bool, bytes: &[u8]) -> Option<&[u8]>
     ensures value { option_map (λ symbol. symbol.now) result ≡ spec.symbol_at strip bytes.now }
@@ -51,18 +53,18 @@ fn symbol_at(strip: bool, bytes: &[u8]) -> Option<&[u8]>
     }
 }
 
-/// So many bytes of a word show whether it holds a symbol: six of its sign, and `___Z`.
+/// The number of bytes of a word that show whether it may hold a symbol: six of its prefix characters, and `___Z`.
 const SHOWN_LEN: usize = 10;
 
-/// Whether a word that begins with these bytes may hold a symbol.
+/// Returns whether a word that begins with these bytes may hold a symbol.
 pub(crate) fn may_hold_symbol(strip: bool, bytes: &[u8]) -> bool
     ensures value { result ≡ spec.may_hold_symbol strip bytes.now }
 {
     bytes.len() < SHOWN_LEN || symbol_at(strip, &bytes[sign_len(bytes)..]).is_some()
 }
 
-/// What is printed for the symbol in a word without the dots at its end, and the length of what stays before it.
-/// `None` where the word stays as it is.
+/// Returns what is printed for the symbol in a word, and the length in bytes of the prefix characters, which stay. The
+/// word has no dots at its end. Returns `None` if the word is printed as it is, and an error if an allocation fails.
 #[inline(always)]
 fn word_answer<'a>(
     alloc: Global,
@@ -88,7 +90,7 @@ fn word_answer<'a>(
     }
 }
 
-/// Appends the replaced text. After an error a part of it may be appended.
+/// Appends the text with its symbols replaced. Returns an error if an allocation fails; then a part may be appended.
 fn append_each_word(
     alloc: Global,
     demangler: &mut Demangler,
@@ -116,7 +118,7 @@ fn append_each_word(
     output.add(&text[done..])
 }
 
-/// Appends the replaced text. After an error nothing is appended.
+/// Appends the text with its symbols replaced. Returns an error if an allocation fails; then nothing is appended.
 pub(crate) fn append_words(
     alloc: Global,
     demangler: &mut Demangler,
