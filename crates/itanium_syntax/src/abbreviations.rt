@@ -2,7 +2,7 @@
 ghost use Rattle.std.specs.Prelude.{◌≡◌, ◌+◌, ◌≤◌, length};
 ghost use Rattle.itanium_syntax.specs.Abbreviations as spec;
 
-/// A `<substitution>` that stands for a name of std.
+/// The names of std that a `<substitution>` may stand for.
 #[derive(Clone, Copy)]
 pub enum Abbreviation {
     Allocator,
@@ -13,7 +13,7 @@ pub enum Abbreviation {
     Iostream,
 }
 
-/// Which name of std the letter after `S` stands for, or `None` where it stands for none.
+/// Returns which name of std the letter after `S` stands for, or `None` if it stands for none.
 pub fn abbreviation_of(bytes: &[u8]) -> Option<Abbreviation>
     ensures value { result ≡ spec.abbreviation_of bytes.now }
 {
@@ -28,7 +28,7 @@ pub fn abbreviation_of(bytes: &[u8]) -> Option<Abbreviation>
     }
 }
 
-/// What is printed for a name of std.
+/// Returns the text that is printed for a name of std.
 pub fn abbreviation_text(abbreviation: Abbreviation) -> &'static [u8]
     ensures text { result.now ≡ spec.abbreviation_text abbreviation }
 {
@@ -42,7 +42,7 @@ pub fn abbreviation_text(abbreviation: Abbreviation) -> &'static [u8]
     }
 }
 
-/// How long the base name of a name of std is, in bytes: it stands after `std::`.
+/// Returns the length in bytes of the base name of a name of std. The base name begins after `std::`.
 pub fn abbreviation_own_len(abbreviation: Abbreviation) -> usize
     ensures value { result ≡ length (spec.abbreviation_own abbreviation) }
     ensures within { 5 + result ≤ length (spec.abbreviation_text abbreviation) }

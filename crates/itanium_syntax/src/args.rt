@@ -1,4 +1,4 @@
-//! The cases of template arguments (Itanium C++ ABI 5.1.5): which one the next bytes begin.
+//! The cases of template arguments (Itanium C++ ABI 5.1.5): which one the next bytes select.
 ghost use Rattle.std.specs.Prelude.{◌≡◌};
 ghost use Rattle.itanium_syntax.specs.Args as spec;
 
@@ -9,14 +9,14 @@ pub enum AttachedCase {
     ArgsAttached,
 }
 
-/// The end of `<template-args>`, or one more argument.
+/// Whether one more template argument is next, or the end of `<template-args>`.
 #[derive(Clone, Copy)]
 pub enum ArgsCase {
     EndOfArguments,
     NextArgument,
 }
 
-/// `<template-arg>`
+/// The cases of `<template-arg>`.
 #[derive(Clone, Copy)]
 pub enum ArgumentCase {
     ExpressionArgument,
@@ -26,7 +26,7 @@ pub enum ArgumentCase {
     TypeArgument,
 }
 
-/// Whether `<template-args>` stand there.
+/// Returns whether `<template-args>` are next.
 pub fn attached_case(bytes: &[u8]) -> AttachedCase
     ensures case { result ≡ spec.attached_case bytes.now }
 {
@@ -36,7 +36,7 @@ pub fn attached_case(bytes: &[u8]) -> AttachedCase
     }
 }
 
-/// Whether one more `<template-arg>` stands there, or the `E` after them.
+/// Returns whether one more `<template-arg>` is next, or the `E` after them.
 pub fn args_case(bytes: &[u8]) -> ArgsCase
     ensures case { result ≡ spec.args_case bytes.now }
 {
@@ -46,7 +46,7 @@ pub fn args_case(bytes: &[u8]) -> ArgsCase
     }
 }
 
-/// Which `<template-arg>` stands there.
+/// Returns which `<template-arg>` is next.
 pub fn argument_case(bytes: &[u8]) -> ArgumentCase
     ensures case { result ≡ spec.argument_case bytes.now }
 {

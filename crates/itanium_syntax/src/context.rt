@@ -4,20 +4,21 @@ ghost use Rattle.itanium_syntax.specs.Context as spec;
 
 use crate::encodings::EncodingEnd;
 
-/// Four truth values that a reading hands down. All are off at the start of a symbol.
+/// Four flags that each reader passes to the readers inside it. All are off at the start of a symbol's name. At the
+/// start of a signature `shown` is on.
 #[derive(Clone, Copy)]
 pub struct Context {
-    /// Inside a local name or an external name: the words of a name's qualifiers are printed.
+    /// Set inside a local or an external name, and in a signature: words such as ` const` after a name are printed.
     pub shown: bool,
-    /// Inside an argument pack: a pack expansion adds no dots.
+    /// Set inside an argument pack, and in the parameters of a signature: a pack expansion prints no `...`.
     pub pack: bool,
-    /// Inside a lambda's signature: a template parameter is `auto`.
+    /// Set inside a lambda's parameters: a template parameter is printed as `auto`.
     pub lambda: bool,
-    /// Inside a type, and not in an encoding inside it: a name's argument list opens no scope.
+    /// Set inside a type, except in an encoding inside that type: the template arguments of a name open no scope.
     pub in_type: bool,
 }
 
-/// The context at the start of a symbol.
+/// The context at the start of a symbol's name. A signature starts with `INITIAL.inside_local()`.
 pub const INITIAL: Context = Context {
     shown: false,
     pack: false,
@@ -26,7 +27,7 @@ pub const INITIAL: Context = Context {
 };
 
 impl Context {
-    /// The context inside a type.
+    /// Returns the context inside a type.
     pub fn inside_type(self) -> Context
         ensures context { result ≡ spec.inside_type self }
     {
@@ -36,14 +37,14 @@ impl Context {
         }
     }
 
-    /// The context inside an argument pack.
+    /// Returns the context inside an argument pack.
     pub fn inside_pack(self) -> Context
         ensures context { result ≡ spec.inside_pack self }
     {
         Context { pack: true, ..self }
     }
 
-    /// The context inside a lambda's signature.
+    /// Returns the context inside a lambda's parameters.
     pub fn inside_lambda(self) -> Context
         ensures context { result ≡ spec.inside_lambda self }
     {
@@ -53,7 +54,7 @@ impl Context {
         }
     }
 
-    /// The context inside a local name: of its entity too.
+    /// Returns the context inside a local name, also for its entity.
     pub fn inside_local(self) -> Context
         ensures context { result ≡ spec.inside_local self }
     {
@@ -63,7 +64,7 @@ impl Context {
         }
     }
 
-    /// The context inside the encoding of a local or an external name.
+    /// Returns the context inside the encoding of a local or an external name.
     pub fn inside_encoding(self) -> Context
         ensures context { result ≡ spec.inside_encoding self }
     {
@@ -74,8 +75,8 @@ impl Context {
         }
     }
 
-    /// The context of the parameters of an encoding that ends so: in a signature, where a pack expansion prints the
-    /// arguments of its pack, it adds no dots.
+    /// Returns the context for the parameters of an encoding with this `end`. In a signature `pack` is set, so an
+    /// expansion prints its arguments without `...`.
     pub fn inside_params(self, end: EncodingEnd) -> Context
         ensures context { result ≡ spec.inside_params end self }
     {
@@ -85,7 +86,8 @@ impl Context {
         }
     }
 
-    /// Whether an argument list opens a scope: a name's does, where no type is around it.
+    /// Returns whether a list of template arguments opens a scope. A name's list does, unless a type is around the
+    /// name.
     pub fn opens_scope(self, of_name: bool) -> bool
         ensures value { result ≡ spec.opens_scope of_name self }
     {

@@ -1,21 +1,22 @@
 //! The cases of encodings and of local names (Itanium C++ ABI 5.1, "General Structure" and "Scope Encoding"): which
-//! one the next bytes begin. Of several cases the first one that fits holds.
+//! one the next bytes select. If several fit, the first one counts.
 ghost use Rattle.std.specs.Prelude.{◌≡◌};
 ghost use Rattle.itanium_syntax.specs.Encodings as spec;
 
-/// How an `<encoding>` ends.
+/// Where an `<encoding>` ends.
 #[derive(Clone, Copy)]
 pub enum EncodingEnd {
-    /// Right after its name, which alone is read of it: that of a symbol's name, or of a thunk in one.
+    /// Right after its name: neither return type nor parameters are read. The encoding of a symbol that is read as a
+    /// name ends so, and the encoding of a thunk in it.
     AfterName,
     /// At the `E` of the local or external name around it.
     AtE,
-    /// Where a symbol ends: that of a signature, or of a thunk in one.
+    /// Where the symbol ends. The encoding of a signature ends so, and the encoding of a thunk in it.
     AtSymbolEnd,
 }
 
 impl EncodingEnd {
-    /// How the encoding of a thunk ends, where that of the special name around it ends so.
+    /// Returns where the encoding of a thunk ends. `self` is where the special name ends whose thunk it is.
     pub fn of_thunk(self) -> EncodingEnd
         ensures end { result ≡ spec.of_thunk self }
     {
@@ -25,7 +26,8 @@ impl EncodingEnd {
         }
     }
 
-    /// Whether an encoding that ends so ends there. A symbol ends where no ASCII letter, digit or underscore is next.
+    /// Returns whether an encoding with this end stops in front of these bytes. A symbol ends if no ASCII letter,
+    /// digit or underscore is next.
     pub fn is_here(self, bytes: &[u8]) -> bool
         ensures value { result ≡ spec.is_here self bytes.now }
     {
@@ -62,8 +64,8 @@ pub enum EntityCase {
     NoEntity,
 }
 
-/// Whether a return type stands there, after a name with these flags: a template has one, unless it is a constructor or
-/// a conversion, or its name is all of the encoding.
+/// Returns whether a return type is next, after a name with these flags. A template has one, unless it is a
+/// constructor, a destructor or a conversion, or the encoding ends here.
 pub fn return_case(end: EncodingEnd, templ: bool, ctor: bool, bytes: &[u8]) -> ReturnCase
     ensures case { result ≡ spec.return_case end templ ctor bytes.now }
 {
@@ -74,7 +76,7 @@ pub fn return_case(end: EncodingEnd, templ: bool, ctor: bool, bytes: &[u8]) -> R
     }
 }
 
-/// Whether parameters stand there.
+/// Returns whether parameters are next. There are none if the encoding ends here.
 pub fn signature_case(end: EncodingEnd, bytes: &[u8]) -> SignatureCase
     ensures case { result ≡ spec.signature_case end bytes.now }
 {
@@ -85,7 +87,7 @@ pub fn signature_case(end: EncodingEnd, bytes: &[u8]) -> SignatureCase
     }
 }
 
-/// Which entity of a `<local-name>` stands there, with the `E` in front of it.
+/// Returns which entity of a `<local-name>` is next, with the `E` in front of it.
 pub fn entity_case(bytes: &[u8]) -> EntityCase
     ensures case { result ≡ spec.entity_case bytes.now }
 {

@@ -1,12 +1,12 @@
-//! The cases of literals and of expressions (Itanium C++ ABI 5.1, "Expressions"): which one the next bytes begin. Of
-//! several cases the first one that fits holds.
+//! The cases of literals and of expressions (Itanium C++ ABI 5.1, "Expressions"): which one the next bytes select. If
+//! several fit, the first one counts.
 ghost use Rattle.std.specs.Prelude.{◌≡◌, ◌<◌, ◌≤◌, IfSome, option_map, length};
 ghost use Rattle.itanium_syntax.specs.Expressions as spec;
 
 use crate::operators::{operator_arity, operator_here};
 use std::str::from_utf8;
 
-/// What an `L` begins among template arguments and expressions.
+/// The cases of what begins with an `L` among template arguments and expressions.
 #[derive(Clone, Copy)]
 pub enum LiteralCase {
     ExternalName,
@@ -14,7 +14,7 @@ pub enum LiteralCase {
     NoLiteral,
 }
 
-/// `<expression>`, by how it is printed.
+/// The cases of `<expression>`, by how each is printed.
 #[derive(Clone, Copy)]
 pub enum ExpressionCase {
     /// `++` or `--` in front of the operand.
@@ -36,14 +36,14 @@ pub enum ExpressionCase {
     NoExpression,
 }
 
-/// Whether an external name stands there.
+/// Returns whether an external name is next.
 pub fn is_external(bytes: &[u8]) -> bool
     ensures value { result ≡ spec.is_external bytes.now }
 {
     matches!(bytes, [b'L', b'_', b'Z', ..])
 }
 
-/// Which literal stands there, from its `L` on.
+/// Returns which literal is next, with its `L`.
 pub fn literal_case(bytes: &[u8]) -> LiteralCase
     ensures case { result ≡ spec.literal_case bytes.now }
 {
@@ -54,7 +54,7 @@ pub fn literal_case(bytes: &[u8]) -> LiteralCase
     }
 }
 
-/// How many bytes come before the first `E`: all where there is none.
+/// Returns how many bytes are in front of the first `E`, or the number of all bytes if there is none.
 fn value_len(bytes: &[u8]) -> usize
     ensures value { result ≡ spec.value_len bytes.now }
     ensures within { result ≤ length bytes.now }
@@ -67,8 +67,8 @@ fn value_len(bytes: &[u8]) -> usize
     bytes.len()
 }
 
-/// The value of a literal, all bytes up to the first `E`, and what is after the `E`; `None` where there is no `E` or
-/// the value isn't UTF-8.
+/// Reads the value of a literal, which is all bytes up to the first `E`. Returns the value and the bytes after the
+/// `E`. Returns `None` if there is no `E` or the value isn't UTF-8.
 #[tactic(auto, unfolding(crate::specs::Expressions::literal_value))]
 pub fn literal_value(bytes: &[u8]) -> Option<(&str, &[u8])>
     ensures value { option_map (λ found. (found.0.now, found.1.now)) result ≡ spec.literal_value bytes.now }
@@ -84,7 +84,7 @@ pub fn literal_value(bytes: &[u8]) -> Option<(&str, &[u8])>
     }
 }
 
-/// Whether an expression with this code isn't read (Itanium C++ ABI 5.1, "Expressions").
+/// Returns whether expressions with this code aren't read (Itanium C++ ABI 5.1, "Expressions").
 pub fn expression_refused(first: u8, second: u8) -> bool
     ensures value { result ≡ spec.expression_refused first second }
 {
@@ -103,14 +103,14 @@ pub fn expression_refused(first: u8, second: u8) -> bool
     )
 }
 
-/// The text of the operator whose code is next; no text where none is.
+/// Returns the text of the operator whose code is next, or no text if there is none.
 pub fn expression_text(bytes: &[u8]) -> &'static str
     ensures text { result.now ≡ spec.expression_text bytes.now }
 {
     operator_here(bytes).unwrap_or("")
 }
 
-/// Which `<expression>` stands there.
+/// Returns which `<expression>` is next.
 pub fn expression_case(bytes: &[u8]) -> ExpressionCase
     ensures case { result ≡ spec.expression_case bytes.now }
 {

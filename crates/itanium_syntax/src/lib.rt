@@ -1,10 +1,11 @@
-//! What the next bytes of a mangled C++ symbol are (Itanium C++ ABI 5.1).
+//! Tells what the next bytes of a mangled C++ symbol are (Itanium C++ ABI 5.1).
 //!
-//! For each production a function `.._case` says which of its alternatives the next bytes begin. If several fit, the
-//! first one counts. Other functions read numbers, source names, the abbreviations of std, operators and call offsets.
-//! Nothing here makes text or calls a reader, and each contract is an equation with a definition of `specs/`.
+//! Each production with several alternatives has a function `.._case`, which returns the alternative that the next
+//! bytes select. If several fit, the first one counts. Other functions read numbers, source names, the abbreviations
+//! of std, operators and call offsets. Nothing here makes text or calls a reader. Each contract is an equation with a
+//! definition of `specs/`.
 //!
-//! It stands on `demangle_quals`. Begin with `scalar.rt` and `names.rt`.
+//! The qualifiers are those of `demangle_quals`. Begin with `scalar.rt` and `names.rt`.
 #![tactic(auto)]
 
 pub mod abbreviations;

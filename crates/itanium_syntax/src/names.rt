@@ -1,5 +1,4 @@
-//! The cases of names (Itanium C++ ABI 5.1.2): which one the next bytes begin. Of several cases the first one that
-//! fits holds.
+//! The cases of names (Itanium C++ ABI 5.1.2): which one the next bytes select. If several fit, the first one counts.
 ghost use Rattle.std.specs.Prelude.{◌≡◌, ◌≤◌, ◌+◌, length, IfSome, Some, None, true};
 ghost use Rattle.std.specs.Option.{unwrap_or};
 ghost use Rattle.demangle_quals.specs.Quals.{no_quals};
@@ -13,7 +12,8 @@ use crate::scalar::source_name;
 use crate::types::{cv_quals, ref_qualifier};
 use demangle_quals::Quals;
 
-/// `<encoding>`: a special name, a name that is all of it, or a name that its return type and parameters may follow.
+/// The cases of `<encoding>`: a special name; a name that is the whole encoding; a name that a return type and
+/// parameters may follow.
 #[derive(Clone, Copy)]
 pub enum SymbolCase {
     SpecialSymbol,
@@ -21,7 +21,7 @@ pub enum SymbolCase {
     FullSymbol,
 }
 
-/// `<name>`
+/// The cases of `<name>`.
 #[derive(Clone, Copy)]
 pub enum NameCase {
     NestedName,
@@ -29,7 +29,7 @@ pub enum NameCase {
     UnscopedName,
 }
 
-/// `<unscoped-name>`, and `<substitution>` as a template name.
+/// The cases of `<unscoped-name>`, and `<substitution>` as a template name.
 #[derive(Clone, Copy)]
 pub enum UnscopedCase {
     StdName,
@@ -37,7 +37,7 @@ pub enum UnscopedCase {
     PlainName,
 }
 
-/// The first segment of a `<nested-name>`.
+/// The cases of the first segment of a `<nested-name>`.
 #[derive(Clone, Copy)]
 pub enum FirstCase {
     ParameterFirst,
@@ -46,7 +46,7 @@ pub enum FirstCase {
     NameFirst,
 }
 
-/// A later segment of a `<nested-name>`, or its end.
+/// The cases of a later segment of a `<nested-name>`, or the end of that name.
 #[derive(Clone, Copy)]
 pub enum SegmentCase {
     EndOfSegments,
@@ -54,7 +54,7 @@ pub enum SegmentCase {
     NameSegment,
 }
 
-/// `<unqualified-name>`
+/// The cases of `<unqualified-name>`.
 #[derive(Clone, Copy)]
 pub enum UnqualifiedCase {
     ConstructorName,
@@ -62,7 +62,7 @@ pub enum UnqualifiedCase {
     FreeName,
 }
 
-/// An `<unqualified-name>` that asks for no parent: it is no `<ctor-dtor-name>`.
+/// The cases of an `<unqualified-name>` that needs no parent, which is any but a `<ctor-dtor-name>`.
 #[derive(Clone, Copy)]
 pub enum FreeCase {
     SourceName,
@@ -81,14 +81,14 @@ pub enum TagCase {
     NextTag,
 }
 
-/// `<substitution>`: an abbreviation of std, or a number.
+/// The cases of `<substitution>`: an abbreviation of std, or an index in the substitution table.
 #[derive(Clone, Copy)]
 pub enum SubstitutionCase {
     AbbreviationSubstitution,
     ComponentSubstitution,
 }
 
-/// Whether a `<special-name>` stands there: it begins with `T` or `G`, and no other name does.
+/// Returns whether a `<special-name>` is next. A special name begins with `T` or `G`, and no other name does.
 #[inline(always)]
 pub fn begins_special(bytes: &[u8]) -> bool
     ensures value { result ≡ spec.begins_special bytes.now }
@@ -96,7 +96,7 @@ pub fn begins_special(bytes: &[u8]) -> bool
     matches!(bytes, [b'T' | b'G', ..])
 }
 
-/// Which `<encoding>` that ends so stands there.
+/// Returns which `<encoding>` with this end is next.
 pub fn symbol_case(end: EncodingEnd, bytes: &[u8]) -> SymbolCase
     ensures case { result ≡ spec.symbol_case end bytes.now }
 {
@@ -109,7 +109,7 @@ pub fn symbol_case(end: EncodingEnd, bytes: &[u8]) -> SymbolCase
     }
 }
 
-/// Which `<name>` stands there.
+/// Returns which `<name>` is next.
 pub fn name_case(bytes: &[u8]) -> NameCase
     ensures case { result ≡ spec.name_case bytes.now }
 {
@@ -120,7 +120,7 @@ pub fn name_case(bytes: &[u8]) -> NameCase
     }
 }
 
-/// Which `<unscoped-name>` stands there.
+/// Returns which `<unscoped-name>` is next.
 pub fn unscoped_case(bytes: &[u8]) -> UnscopedCase
     ensures case { result ≡ spec.unscoped_case bytes.now }
 {
@@ -131,7 +131,7 @@ pub fn unscoped_case(bytes: &[u8]) -> UnscopedCase
     }
 }
 
-/// Which first segment of a `<nested-name>` stands there.
+/// Returns which first segment of a `<nested-name>` is next.
 pub fn first_case(bytes: &[u8]) -> FirstCase
     ensures case { result ≡ spec.first_case bytes.now }
 {
@@ -144,7 +144,7 @@ pub fn first_case(bytes: &[u8]) -> FirstCase
     }
 }
 
-/// Which later segment of a `<nested-name>` stands there, or its `E`.
+/// Returns which later segment of a `<nested-name>` is next, or that its `E` is.
 pub fn segment_case(bytes: &[u8]) -> SegmentCase
     ensures case { result ≡ spec.segment_case bytes.now }
 {
@@ -155,7 +155,7 @@ pub fn segment_case(bytes: &[u8]) -> SegmentCase
     }
 }
 
-/// Which `<unqualified-name>` stands there: one of a constructor or destructor only in a parent.
+/// Returns which `<unqualified-name>` is next. A constructor or destructor needs a parent.
 pub fn unqualified_case(in_parent: bool, bytes: &[u8]) -> UnqualifiedCase
     ensures case { result ≡ spec.unqualified_case in_parent bytes.now }
 {
@@ -166,7 +166,7 @@ pub fn unqualified_case(in_parent: bool, bytes: &[u8]) -> UnqualifiedCase
     }
 }
 
-/// Which `<unqualified-name>` that asks for no parent stands there.
+/// Returns which `<unqualified-name>` that needs no parent is next.
 pub fn free_case(bytes: &[u8]) -> FreeCase
     ensures case { result ≡ spec.free_case bytes.now }
 {
@@ -183,7 +183,7 @@ pub fn free_case(bytes: &[u8]) -> FreeCase
     }
 }
 
-/// Whether a `<source-name>` stands there: a digit from `1` to `9`.
+/// Returns whether a `<source-name>` is next, that is a digit from `1` to `9`.
 #[inline(always)]
 pub fn begins_source(bytes: &[u8]) -> bool
     ensures value { result ≡ call_spec.begins_source bytes.now }
@@ -191,7 +191,7 @@ pub fn begins_source(bytes: &[u8]) -> bool
     matches!(bytes, [b'1'..=b'9', ..])
 }
 
-/// Whether an `<abi-tag>` stands there: `B`, which a digit follows.
+/// Returns whether an `<abi-tag>` is next, that is a `B` that a digit follows.
 pub fn tag_case(bytes: &[u8]) -> TagCase
     ensures case { result ≡ spec.tag_case bytes.now }
 {
@@ -201,7 +201,7 @@ pub fn tag_case(bytes: &[u8]) -> TagCase
     }
 }
 
-/// Which `<substitution>` stands there, after its `S`.
+/// Returns which `<substitution>` is next, after its `S`.
 pub fn substitution_case(bytes: &[u8]) -> SubstitutionCase
     ensures case { result ≡ spec.substitution_case bytes.now }
 {
@@ -211,7 +211,8 @@ pub fn substitution_case(bytes: &[u8]) -> SubstitutionCase
     }
 }
 
-/// The text of a source name: an unnamed namespace has a text of its own.
+/// Returns the text of a source name: `(anonymous namespace)` for a name that begins with `_GLOBAL__N`, and otherwise
+/// the name itself.
 pub fn source_text(name: &[u8]) -> &[u8]
     ensures text { result.now ≡ spec.source_text name.now }
 {
@@ -233,8 +234,8 @@ pub fn source_text(name: &[u8]) -> &[u8]
     }
 }
 
-/// The qualifiers of a `<nested-name>`, `<CV-qualifiers>` and a `<ref-qualifier>`, or `None` where none stand there or
-/// an `H`; and what follows them.
+/// Reads the qualifiers of a `<nested-name>`: `<CV-qualifiers>` and a `<ref-qualifier>`, or an `H`. Returns the
+/// qualifiers and the bytes after them. The qualifiers are `None` if there are none or an `H`.
 #[inline(always)]
 pub fn name_quals(bytes: &[u8]) -> (Option<Quals>, &[u8])
     ensures quals { unwrap_or result.0 no_quals ≡ spec.name_quals bytes.now }

@@ -2,14 +2,14 @@
 ghost use Rattle.std.specs.Prelude.{◌≡◌, ◌<◌, ◌≤◌, IfSome, option_map, length, drop};
 ghost use Rattle.itanium_syntax.specs.Scalars as spec;
 
-/// The digits that a numeral is written in.
+/// The base in which a numeral is written.
 #[derive(Clone, Copy)]
 pub enum Radix {
     Decimal,
     Base36,
 }
 
-/// What a byte is worth as a digit.
+/// Returns the value of a byte as a digit, or `None` if it is no digit of this base.
 #[inline(always)]
 fn digit(radix: Radix, byte: u8) -> Option<u64>
     ensures value { result ≡ spec.digit_of radix byte }
@@ -21,7 +21,7 @@ fn digit(radix: Radix, byte: u8) -> Option<u64>
     }
 }
 
-/// How many digits there are.
+/// Returns the number of digits of this base.
 fn base(radix: Radix) -> u64
     ensures value { result ≡ spec.base radix }
 {
@@ -31,7 +31,7 @@ fn base(radix: Radix) -> u64
     }
 }
 
-/// How many digits stand in front, so bytes.
+/// Returns how many of the first bytes are digits.
 #[tactic(auto, unfolding(crate::specs::Scalars::front_digits))]
 #[cold]
 #[inline(never)]
@@ -47,7 +47,8 @@ fn digits_len(radix: Radix, bytes: &[u8]) -> usize
     bytes.len()
 }
 
-/// The number that the digits in front write. `None` where none stands there or the number is past 2^64 - 1.
+/// Returns the number that the first digits write. Returns `None` if the first byte is no digit, or the number is past
+/// 2^64 - 1.
 #[cold]
 #[inline(never)]
 fn digits_value(radix: Radix, bytes: &[u8]) -> Option<u64>
@@ -67,8 +68,8 @@ fn digits_value(radix: Radix, bytes: &[u8]) -> Option<u64>
     Some(value)
 }
 
-/// The number that the digits in front write, and how many digits, so bytes, there are. `None` where none stands there
-/// or the number is past 2^64 - 1.
+/// Returns the number that the first digits write, and how many digits there are, in bytes. Returns `None` if the
+/// first byte is no digit, or the number is past 2^64 - 1.
 #[inline(always)]
 pub fn numeral(radix: Radix, bytes: &[u8]) -> Option<(u64, usize)>
     ensures value { option_map (λ found. (found.0, drop found.1 bytes.now)) result ≡ spec.numeral radix bytes.now }
@@ -79,8 +80,9 @@ pub fn numeral(radix: Radix, bytes: &[u8]) -> Option<(u64, usize)>
     Some((value, digits_len(radix, bytes)))
 }
 
-/// The number that the decimal digits in front write, and how many digits there are. `None` where none stands there or
-/// the number is past 2^64 - 1. One digit or two, as most lengths have, are read here.
+/// Returns the number that the first decimal digits write, and how many digits there are, in bytes. Returns `None` if
+/// the first byte is no digit, or the number is past 2^64 - 1. A number of one or two digits, as most lengths are, is
+/// read here without a loop.
 #[tactic(auto, unfolding(crate::specs::Scalars::front_digits, crate::specs::Scalars::weighted))]
 #[inline(always)]
 pub fn short_numeral(bytes: &[u8]) -> Option<(u64, usize)>
@@ -101,8 +103,8 @@ pub fn short_numeral(bytes: &[u8]) -> Option<(u64, usize)>
     numeral(Radix::Decimal, bytes)
 }
 
-/// `[<numeral>] _`: 0 where the numeral is left out, else the number that follows it, and what is after the `_`. `None`
-/// where no `_` ends it or the result is past 2^64 - 1.
+/// Reads `[<numeral>] _`. Returns an index and the bytes after the `_`. The index is 0 if the numeral is left out, and
+/// otherwise the numeral plus 1. Returns `None` if no `_` follows, or the index is past 2^64 - 1.
 #[tactic(auto, unfolding(
 // The index, and the digits that write it.
 crate::specs::Scalars::index_of, crate::specs::Scalars::front_digits, crate::specs::Scalars::weighted))]
@@ -124,8 +126,8 @@ pub fn index_of(radix: Radix, bytes: &[u8]) -> Option<(usize, &[u8])>
     }
 }
 
-/// `[<number>] _`: the number, which may be left out, and what is after the `_`. So an array has its dimension. `None`
-/// where no `_` ends it or the number is past 2^64 - 1.
+/// Reads `[<number>] _`, the dimension of an array. Returns the number, if there is one, and the bytes after the `_`.
+/// Returns `None` if no `_` follows, or the number is past 2^64 - 1.
 #[tactic(auto, unfolding(crate::specs::Scalars::optional_number, crate::specs::Scalars::number))]
 pub fn optional_number(bytes: &[u8]) -> Option<(Option<u64>, &[u8])>
     ensures value { option_map (λ found. (found.0, found.1.now)) result ≡ spec.optional_number bytes.now }
@@ -141,9 +143,9 @@ pub fn optional_number(bytes: &[u8]) -> Option<(Option<u64>, &[u8])>
     }
 }
 
-/// `[<nonnegative number>] _` of an `<unnamed-type-name>`, a `<closure-type-name>` or a default argument: 1 where the
-/// number is left out, else the second number after it, and what is after the `_`. `None` where no `_` ends it or the
-/// result is past 2^64 - 1.
+/// Reads the `[<nonnegative number>] _` of an `<unnamed-type-name>`, a `<closure-type-name>` or a default argument.
+/// Returns an ordinal and the bytes after the `_`. The ordinal is 1 if the number is left out, and otherwise the
+/// number plus 2. Returns `None` if no `_` follows, or the ordinal is past 2^64 - 1.
 #[tactic(auto, unfolding(crate::specs::Scalars::ordinal))]
 pub fn ordinal(bytes: &[u8]) -> Option<(u64, &[u8])>
     ensures value { option_map (λ found. (found.0, found.1.now)) result ≡ spec.ordinal bytes.now }

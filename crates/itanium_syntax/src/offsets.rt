@@ -1,5 +1,5 @@
-//! Call offsets of thunks, and the offset of a construction vtable (Itanium C++ ABI 5.1.4, "Other Special Functions and
-//! Entities").
+//! Call offsets of thunks, and the offset of a construction vtable (Itanium C++ ABI 5.1.4, "Other Special Functions
+//! and Entities").
 ghost use Rattle.std.specs.Prelude.{◌≡◌, ◌<◌, ◌≤◌, IfSome, option_map, length};
 ghost use Rattle.itanium_syntax.specs.Offsets as spec;
 
@@ -8,18 +8,18 @@ use crate::numerals::{Radix, numeral};
 /// A number with a sign. Zero is never negative.
 #[derive(Clone, Copy, Debug, PartialEq, Eq)]
 pub struct Signed {
-    /// Whether it is below zero.
+    /// Whether the number is below zero.
     pub negative: bool,
     /// The number without its sign.
     pub magnitude: u64,
 }
 
-/// `<call-offset>`
+/// The cases of `<call-offset>`.
 #[derive(Clone, Copy, Debug, PartialEq, Eq)]
 pub enum CallOffset {
     /// `h <number> _`: how far a pointer is moved.
     Plain(Signed),
-    /// `v <number> _ <number> _`: how far a pointer is moved, and where in the virtual table a further offset stands.
+    /// `v <number> _ <number> _`: how far a pointer is moved, and where in the virtual table a further offset is.
     Virtual(Signed, Signed),
 }
 
@@ -28,12 +28,12 @@ pub enum CallOffset {
 pub enum ThunkOffsets {
     /// `T <call-offset>`
     Single(CallOffset),
-    /// `T c <call-offset> <call-offset>`: of `this`, and of what is returned.
+    /// `T c <call-offset> <call-offset>`: the offset of `this`, and that of the return value.
     Covariant(CallOffset, CallOffset),
 }
 
-/// `[n] <nonnegative number> _`: the number, which `n` makes negative, and what is after the `_`. `None` where none
-/// stands there or the number is past 2^64 - 1.
+/// Reads `[n] <nonnegative number> _`. Returns the number, which `n` makes negative, and the bytes after the `_`.
+/// Returns `None` if the bytes don't begin so, or the number is past 2^64 - 1.
 fn signed_part(bytes: &[u8]) -> Option<(Signed, &[u8])>
     ensures value { option_map (λ found. (found.0, found.1.now)) result ≡ spec.signed_part bytes.now }
     ensures shorter { IfSome result (λ found. length found.1.now < length bytes.now) }
@@ -53,8 +53,8 @@ fn signed_part(bytes: &[u8]) -> Option<(Signed, &[u8])>
     }
 }
 
-/// `<call-offset> ::= h <number> _ | v <number> _ <number> _`, and what is after it. `None` where none stands there or
-/// a number is past 2^64 - 1.
+/// Reads `<call-offset> ::= h <number> _ | v <number> _ <number> _`. Returns the offset and the bytes after it.
+/// Returns `None` if the bytes don't begin so, or a number is past 2^64 - 1.
 pub fn offset_here(bytes: &[u8]) -> Option<(CallOffset, &[u8])>
     ensures value { option_map (λ found. (found.0, found.1.now)) result ≡ spec.call_offset bytes.now }
     ensures shorter { IfSome result (λ found. length found.1.now < length bytes.now) }
@@ -73,8 +73,8 @@ pub fn offset_here(bytes: &[u8]) -> Option<(CallOffset, &[u8])>
     }
 }
 
-/// The offsets of a thunk, `<call-offset>` or `c <call-offset> <call-offset>` after its `T`, and what is after them.
-/// `None` where they don't stand there or a number is past 2^64 - 1.
+/// Reads the offsets of a thunk, after its `T`: `<call-offset>` or `c <call-offset> <call-offset>`. Returns them and
+/// the bytes after them. Returns `None` if the bytes don't begin so, or a number is past 2^64 - 1.
 #[tactic(auto, unfolding(crate::specs::Offsets::thunk_offsets))]
 pub fn thunk_offsets(bytes: &[u8]) -> Option<(ThunkOffsets, &[u8])>
     ensures value { option_map (λ found. (found.0, found.1.now)) result ≡ spec.thunk_offsets bytes.now }
@@ -93,8 +93,8 @@ pub fn thunk_offsets(bytes: &[u8]) -> Option<(ThunkOffsets, &[u8])>
     }
 }
 
-/// `<offset number> _` of a construction vtable: what is after it. `None` where it doesn't stand there or the number is
-/// past 2^64 - 1 on either side of 0.
+/// Reads the `<offset number> _` of a construction vtable, and returns the bytes after it. Returns `None` if the bytes
+/// don't begin so, or the number is past 2^64 - 1 on either side of 0.
 #[tactic(auto, unfolding(crate::specs::Offsets::past_base_offset))]
 pub fn past_base_offset(bytes: &[u8]) -> Option<&[u8]>
     ensures value { option_map (λ rest. rest.now) result ≡ spec.past_base_offset bytes.now }

@@ -1,10 +1,11 @@
-//! Operators (Itanium C++ ABI 5.1.3, "Operator Encodings"): what follows `operator` in a name, and how many operands an
-//! expression of the code has.
+//! Operators (Itanium C++ ABI 5.1.3, "Operator Encodings"): the text after `operator` in a name, and the number of
+//! operands of an expression.
 ghost use Rattle.std.specs.Prelude.{◌≡◌, option_map};
 ghost use Rattle.itanium_syntax.specs.Operators as spec;
 ghost use Rattle.itanium_syntax.specs.Calls as call_spec;
 
-/// What follows `operator` in the name of a code's assignment, or `None` where the code is none of an assignment.
+/// Returns the text after `operator` in the name of the assignment with this code, or `None` if the code is none of an
+/// assignment.
 fn assignment_text(first: u8, second: u8) -> Option<&'static str>
     ensures value { option_map (λ text. text.now) result ≡ call_spec.assignment_text first second }
 {
@@ -24,8 +25,8 @@ fn assignment_text(first: u8, second: u8) -> Option<&'static str>
     }
 }
 
-/// What follows `operator` in the name of a code's operator, or `None` where the code is none of `<operator-name>`
-/// (Itanium C++ ABI 5.1.3, "Operator Encodings").
+/// Returns the text after `operator` in the name of the operator with this code, or `None` if no `<operator-name>` has
+/// the code (Itanium C++ ABI 5.1.3, "Operator Encodings").
 pub fn operator_text(first: u8, second: u8) -> Option<&'static str>
     ensures value { option_map (λ text. text.now) result ≡ spec.operator_text first second }
 {
@@ -71,7 +72,7 @@ pub fn operator_text(first: u8, second: u8) -> Option<&'static str>
     }
 }
 
-/// How many operands an expression of an operator's code has, or `None` where the code is none of `<operator-name>`
+/// Returns how many operands an expression with this operator code has, or `None` if no `<operator-name>` has the code
 /// (Itanium C++ ABI 5.1.3, "Operator Encodings").
 pub fn operator_arity(first: u8, second: u8) -> Option<u8>
     ensures value { result ≡ spec.operator_arity first second }
@@ -89,7 +90,7 @@ pub fn operator_arity(first: u8, second: u8) -> Option<u8>
     }
 }
 
-/// What follows `operator` in the name of the operator whose code is next, or `None` where none is.
+/// Returns the text after `operator` in the name of the operator whose code is next, or `None` if there is none.
 pub fn operator_here(bytes: &[u8]) -> Option<&'static str>
     ensures value { option_map (λ text. text.now) result ≡ spec.operator_here bytes.now }
 {

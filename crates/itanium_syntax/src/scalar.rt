@@ -1,5 +1,5 @@
-//! What stands in the bytes by itself: numbers and source names (Itanium C++ ABI 5.1.2), and the codes of operators
-//! (5.1.3), and call offsets (5.1.4).
+//! Readers of single items: numbers and source names (Itanium C++ ABI 5.1.2), the codes of operators (5.1.3), and call
+//! offsets (5.1.4).
 ghost use Rattle.std.specs.Prelude.{◌≡◌, ◌<◌, ◌≤◌, IfSome, option_map, length, drop, slice_range};
 ghost use Rattle.itanium_syntax.specs.Scalars as spec;
 ghost use Rattle.itanium_syntax.specs.Offsets as offset_spec;
@@ -11,9 +11,9 @@ use crate::offsets::offset_here;
 pub use crate::offsets::{CallOffset, Signed};
 pub use crate::operators::{operator_arity, operator_text};
 
-/// `<number>` without a sign: as many decimal digits as stand at `place`, at least one. The value, and the place after
-/// the digits, in bytes; `None` where no digit stands there or the value is past 2^64 - 1. (Itanium C++ ABI 5.1.2,
-/// "General Structure")
+/// Reads `<number>` without a sign: all decimal digits from `place` on, at least one. Returns the value and the place
+/// after the digits, in bytes. Returns `None` if no digit is at `place`, or the value is past 2^64 - 1. (Itanium C++
+/// ABI 5.1.2, "General Structure")
 #[inline(always)]
 #[tactic(auto, using(crate::proofs::Digits::dropped), unfolding(crate::specs::Scalars::number))]
 pub fn number(input: &[u8], place: usize) -> Option<(u64, usize)>
@@ -27,9 +27,9 @@ pub fn number(input: &[u8], place: usize) -> Option<(u64, usize)>
     Some((value, place + count))
 }
 
-/// `<seq-id>`: as many digits in base 36, `0` to `9` and `A` to `Z`, as stand at `place`, at least one. The value, and
-/// the place after the digits, in bytes; `None` where no digit stands there or the value is past 2^64 - 1.
-/// (Itanium C++ ABI 5.1.10, "Compression")
+/// Reads `<seq-id>`: all digits in base 36, `0` to `9` and `A` to `Z`, from `place` on, at least one. Returns the
+/// value and the place after the digits, in bytes. Returns `None` if no digit is at `place`, or the value is past 2^64
+/// - 1. (Itanium C++ ABI 5.1.10, "Compression")
 #[tactic(auto, using(crate::proofs::Digits::dropped), unfolding(crate::specs::Calls::sequence_id))]
 pub fn sequence_id(input: &[u8], place: usize) -> Option<(u64, usize)>
     requires place { place ≤ length input.now }
@@ -42,9 +42,9 @@ pub fn sequence_id(input: &[u8], place: usize) -> Option<(u64, usize)>
     Some((value, place + count))
 }
 
-/// `<source-name> ::= <positive length number> <identifier>`: the place of the identifier's first byte, and the place
-/// after its last, in bytes. `None` where no number stands at `place`, it is 0 or past 2^64 - 1, or fewer bytes follow
-/// it. (Itanium C++ ABI 5.1.2, "General Structure")
+/// Reads `<source-name> ::= <positive length number> <identifier>`. Returns the place of the identifier's first byte
+/// and the place after its last, in bytes. Returns `None` if no number is at `place`, if it is 0 or past 2^64 - 1, or
+/// if fewer bytes follow it. (Itanium C++ ABI 5.1.2, "General Structure")
 #[inline(always)]
 #[tactic(auto, using(crate::proofs::Digits::dropped), unfolding(crate::specs::Scalars::source_name))]
 pub fn source_name(input: &[u8], place: usize) -> Option<(usize, usize)>
@@ -62,9 +62,10 @@ pub fn source_name(input: &[u8], place: usize) -> Option<(usize, usize)>
     Some((first, first + len as usize))
 }
 
-/// `<call-offset> ::= h <number> _ | v <number> _ <number> _`, where each number may have `n` in front for a minus: the
-/// offset, and the place after its last `_`, in bytes. Zero is never negative. `None` where none stands at `place` or a
-/// number is past 2^64 - 1. (Itanium C++ ABI 5.1.4, "Other Special Functions and Entities")
+/// Reads `<call-offset> ::= h <number> _ | v <number> _ <number> _`, where each number may have `n` in front for a
+/// minus. Returns the offset and the place after its last `_`, in bytes. Zero is never negative. Returns `None` if no
+/// call offset is at `place`, or a number is past 2^64 - 1. (Itanium C++ ABI 5.1.4, "Other Special Functions and
+/// Entities")
 #[tactic(auto, using(crate::proofs::Digits::dropped))]
 pub fn call_offset(input: &[u8], place: usize) -> Option<(CallOffset, usize)>
     requires place { place ≤ length input.now }

@@ -1,9 +1,9 @@
-//! The cases of special names (Itanium C++ ABI 5.1.4, "Other Special Functions and Entities"): which one the next bytes
-//! begin, and the words that it prints.
+//! The cases of special names (Itanium C++ ABI 5.1.4, "Other Special Functions and Entities"): which one the next
+//! bytes select, and the words that each prints.
 ghost use Rattle.std.specs.Prelude.{◌≡◌};
 ghost use Rattle.itanium_syntax.specs.Specials as spec;
 
-/// `<special-name>`
+/// The cases of `<special-name>`.
 #[derive(Clone, Copy)]
 pub enum SpecialCase {
     /// Words around a type.
@@ -20,7 +20,7 @@ pub enum SpecialCase {
     NoSpecial,
 }
 
-/// Which `<special-name>` stands there.
+/// Returns which `<special-name>` is next.
 pub fn special_case(bytes: &[u8]) -> SpecialCase
     ensures case { result ≡ spec.special_case bytes.now }
 {
@@ -35,7 +35,7 @@ pub fn special_case(bytes: &[u8]) -> SpecialCase
     }
 }
 
-/// The words in front of a special name's type or name, where the case is one of these two.
+/// Returns the words in front of a special name's type or name, for the cases `TypeSpecial` and `NameSpecial`.
 pub fn special_text(bytes: &[u8]) -> &'static [u8]
     ensures text { result.now ≡ spec.special_text bytes.now }
 {
@@ -51,7 +51,7 @@ pub fn special_text(bytes: &[u8]) -> &'static [u8]
     }
 }
 
-/// What closes a special name after its type or name.
+/// Returns the text after a special name's type or name: `)}` for `TV` and `TT`, and otherwise nothing.
 pub fn special_close(bytes: &[u8]) -> &'static [u8]
     ensures text { result.now ≡ spec.special_close bytes.now }
 {

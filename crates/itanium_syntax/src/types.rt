@@ -1,5 +1,4 @@
-//! The cases of types (Itanium C++ ABI 5.1.5): which one the next bytes begin. Of several cases the first one that
-//! fits holds.
+//! The cases of types (Itanium C++ ABI 5.1.5): which one the next bytes select. If several fit, the first one counts.
 ghost use Rattle.std.specs.Prelude.{◌≡◌, ◌<◌, ◌≤◌, length};
 ghost use Rattle.itanium_syntax.specs.Types as spec;
 ghost use Rattle.itanium_syntax.specs.Bytes as bytes_spec;
@@ -8,7 +7,7 @@ ghost use Rattle.itanium_syntax.specs.Calls as call_spec;
 use crate::encodings::EncodingEnd;
 use demangle_quals::{Pointer, Quals, Reference};
 
-/// `<type>`
+/// The cases of `<type>`.
 #[derive(Clone, Copy)]
 pub enum TypeCase {
     BuiltinType,
@@ -26,35 +25,35 @@ pub enum TypeCase {
     NameType,
 }
 
-/// What qualifiers stand in front of.
+/// Whether qualifiers are those of a function type.
 #[derive(Clone, Copy)]
 pub enum CvCase {
     CvFunction,
     CvOther,
 }
 
-/// `<function-type>`: one with `Y` isn't read.
+/// The cases of `<function-type>`. One with `Y` isn't read.
 #[derive(Clone, Copy)]
 pub enum FunctionCase {
     ExternFunction,
     PlainFunction,
 }
 
-/// The parameters of a `<function-type>`, a lambda or an `<encoding>`.
+/// Whether a `<function-type>`, a lambda or an `<encoding>` has parameters.
 #[derive(Clone, Copy)]
 pub enum ParamsCase {
     NoParams,
     SomeParams,
 }
 
-/// The end of such parameters, with or without a `<ref-qualifier>`, or one more type.
+/// Whether one more parameter type is next, or the end of the parameters, with or without a `<ref-qualifier>`.
 #[derive(Clone, Copy)]
 pub enum TypesCase {
     EndOfTypes,
     NextType,
 }
 
-/// Which `<type>` stands there. A `CvType` has at least one byte of qualifiers.
+/// Returns which `<type>` is next. A `CvType` has at least one byte of qualifiers.
 #[tactic(auto, using(crate::proofs::Fronts::cv_shorter))]
 #[inline(always)]
 pub fn type_case(bytes: &[u8]) -> TypeCase
@@ -81,7 +80,7 @@ pub fn type_case(bytes: &[u8]) -> TypeCase
     }
 }
 
-/// What stands after `<CV-qualifiers>`.
+/// Returns whether a function type follows `<CV-qualifiers>`.
 pub fn cv_case(bytes: &[u8]) -> CvCase
     ensures case { result ≡ spec.cv_case bytes.now }
 {
@@ -91,7 +90,7 @@ pub fn cv_case(bytes: &[u8]) -> CvCase
     }
 }
 
-/// Which `<function-type>` stands there.
+/// Returns which `<function-type>` is next.
 pub fn function_case(bytes: &[u8]) -> FunctionCase
     ensures case { result ≡ spec.function_case bytes.now }
 {
@@ -101,7 +100,7 @@ pub fn function_case(bytes: &[u8]) -> FunctionCase
     }
 }
 
-/// Whether there are parameters in front of this end: `v` right in front of it stands for none.
+/// Returns whether there are parameters in front of `end`. A single `v` in front of `end` means that there are none.
 pub fn params_case(end: EncodingEnd, bytes: &[u8]) -> ParamsCase
     ensures case { result ≡ spec.params_case end bytes.now }
 {
@@ -111,8 +110,8 @@ pub fn params_case(end: EncodingEnd, bytes: &[u8]) -> ParamsCase
     }
 }
 
-/// Whether one more type of such parameters stands there, or their end: in a `<function-type>` also a
-/// `<ref-qualifier>` in front of its `E`.
+/// Returns whether one more parameter type is next, or the end of the parameters. In a `<function-type>` an `R` or `O`
+/// in front of the `E` is the end too.
 pub fn types_case(end: EncodingEnd, of_function: bool, bytes: &[u8]) -> TypesCase
     ensures case { result ≡ spec.types_case end of_function bytes.now }
 {
@@ -123,7 +122,8 @@ pub fn types_case(end: EncodingEnd, of_function: bool, bytes: &[u8]) -> TypesCas
     }
 }
 
-/// The text of the `<builtin-type>` that stands there, a letter or `D` and a letter, and no text where none does.
+/// Returns the text of the `<builtin-type>` that is next, which is a letter, or `D` and a letter. Returns no bytes if
+/// there is none.
 #[inline(always)]
 pub fn builtin_text(bytes: &[u8]) -> &'static [u8]
     ensures text { result.now ≡ spec.builtin_text bytes.now }
@@ -184,7 +184,7 @@ fn two_letter_text(letter: u8) -> &'static [u8]
     }
 }
 
-/// What is after a `<builtin-type>`.
+/// Returns the bytes after a `<builtin-type>`.
 pub fn past_builtin(bytes: &[u8]) -> &[u8]
     ensures rest { result.now ≡ spec.past_builtin bytes.now }
 {
@@ -196,7 +196,7 @@ pub fn past_builtin(bytes: &[u8]) -> &[u8]
     }
 }
 
-/// `<CV-qualifiers> ::= [r] [V] [K]`: the qualifiers, and what follows them.
+/// Reads `<CV-qualifiers> ::= [r] [V] [K]`. Returns the qualifiers and the bytes after them.
 pub fn cv_quals(bytes: &[u8]) -> (Quals, &[u8])
     ensures quals { result.0 ≡ spec.cv_quals bytes.now }
     ensures rest { result.1.now ≡ spec.past_cv bytes.now }
@@ -213,7 +213,7 @@ pub fn cv_quals(bytes: &[u8]) -> (Quals, &[u8])
     (quals, past_letter(b'K', after_volatile))
 }
 
-/// Past one byte that stands there, or none.
+/// Returns the bytes after `letter` if that is next, and otherwise all bytes.
 fn past_letter(letter: u8, bytes: &[u8]) -> &[u8]
     ensures rest { result.now ≡ bytes_spec.past_letter letter bytes.now }
     ensures within { length result.now ≤ length bytes.now }
@@ -224,7 +224,7 @@ fn past_letter(letter: u8, bytes: &[u8]) -> &[u8]
     }
 }
 
-/// `<ref-qualifier> ::= R | O`, where one stands, and what follows it.
+/// Reads `<ref-qualifier> ::= R | O` if one is next. Returns the qualifier and the bytes after it.
 pub fn ref_qualifier(bytes: &[u8]) -> (Option<Reference>, &[u8])
     ensures reference { result.0 ≡ spec.reference_of bytes.now }
     ensures rest { result.1.now ≡ spec.past_reference bytes.now }
@@ -237,7 +237,7 @@ pub fn ref_qualifier(bytes: &[u8]) -> (Option<Reference>, &[u8])
     }
 }
 
-/// The word in front of an elaborated type's name: `struct`, `union` or `enum`, and a space.
+/// Returns the word in front of an elaborated type's name: `struct`, `union` or `enum`, and a space.
 pub fn elaborated_text(bytes: &[u8]) -> &'static [u8]
     ensures text { result.now ≡ spec.elaborated_text bytes.now }
 {

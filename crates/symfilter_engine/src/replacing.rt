@@ -21,8 +21,8 @@ use std::alloc::Global;
 
 /// Reads to the end, and writes the replaced text: each symbol in a word is replaced by its demangled name or its
 /// signature. A word is a maximal run of ASCII letters, digits, `_`, `$` and `.`. Its symbol is at its front, after at
-/// most one prefix character or group: `.`, `$` or `__imp_`. The prefix and the dots at the word's end stay. With
-/// `strip`, one more underscore may be in front of the symbol, and is dropped.
+/// most one of `.`, `$` and `__imp_`. These prefix characters and the dots at the word's end stay. With `strip`, one
+/// more underscore may be in front of the symbol, and is dropped.
 ///
 /// Before each read, all that was read is written, except a last word that may hold a symbol. Such a word begins with
 /// a symbol, or has fewer than ten bytes. A line may have any length, since only such a word is kept.
