@@ -28,8 +28,8 @@ pub fn number(input: &[u8], place: usize) -> Option<(u64, usize)>
 }
 
 /// Reads `<seq-id>`: all digits in base 36, `0` to `9` and `A` to `Z`, from `place` on, at least one. Returns the
-/// value and the place after the digits, in bytes. Returns `None` if no digit is at `place`, or the value is past 2^64
-/// - 1. (Itanium C++ ABI 5.1.10, "Compression")
+/// value and the place after the digits, in bytes. Returns `None` if no digit is at `place`, or the value is past
+/// 2^64 - 1. (Itanium C++ ABI 5.1.10, "Compression")
 #[tactic(auto, using(crate::proofs::Digits::dropped), unfolding(crate::specs::Calls::sequence_id))]
 pub fn sequence_id(input: &[u8], place: usize) -> Option<(u64, usize)>
     requires place { place ≤ length input.now }
