@@ -1,4 +1,4 @@
-//! A text with another after it.
+//! Appends the text of one piece to another.
 ghost use Rattle.std.specs.Prelude.{◌≡◌, ◌+◌, ◌++◌, IfOk, OnOk};
 ghost use Rattle.demangle_text.specs.Shape.{text, appended, flattened};
 ghost use Rattle.demangle_text.specs.State.{IsLiving, shape, Lives, IsEdit, JoinsInPlace};
@@ -6,8 +6,8 @@ ghost use Rattle.demangle_text.specs.State.{IsLiving, shape, Lives, IsEdit, Join
 use demangle_text::{Buffer, Piece};
 use std::alloc::AllocError;
 
-/// A plain piece: the text of the first piece, the bytes, and the text of the second. The base
-/// name and the flags are those of the first.
+/// Makes a plain piece of the text of the first piece, the bytes, and the text of the second. The base name and the
+/// flags are those of the first.
 #[inline(always)]
 pub fn append_piece(
     buf: &mut Buffer,

@@ -1,11 +1,11 @@
-//! The digits of numbers, and of an array's dimension.
+//! The digits of numbers, and of the dimensions of arrays.
 ghost use Rattle.std.specs.Prelude.{◌≡◌, ◌≤◌, length, decimal};
 ghost use Rattle.demangle_edit.specs.Types.{dimension_digits};
 
-/// The most digits that a number below 2^64 has.
+/// The most decimal digits that a number below 2^64 has.
 pub const MOST_DIGITS: usize = 20;
 
-/// The digits of a number, without leading zeros, written into these bytes.
+/// Writes the digits of a number without leading zeros at the end of these bytes, and returns them.
 pub fn number_bytes(room: &mut [u8], number: u64) -> &[u8]
     requires room { MOST_DIGITS ≤ length room.old }
     ensures value { result.now ≡ decimal number }
@@ -22,7 +22,8 @@ pub fn number_bytes(room: &mut [u8], number: u64) -> &[u8]
     &room[at..]
 }
 
-/// The digits of a dimension, written into these bytes, and none if it isn't known.
+/// Writes the digits of a dimension at the end of these bytes, and returns them. Returns no digits for an unknown
+/// dimension.
 pub fn dimension_bytes(room: &mut [u8], dimension: Option<u64>) -> &[u8]
     requires room { MOST_DIGITS ≤ length room.old }
     ensures value { result.now ≡ dimension_digits dimension }

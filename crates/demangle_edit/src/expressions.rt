@@ -17,22 +17,22 @@ pub enum LiteralForm {
     Boolean,
     /// `nullptr`, whatever the value
     Null,
-    /// the digits
+    /// The digits.
     Integer,
-    /// the digits in square brackets
+    /// The digits in square brackets.
     Float,
-    /// the type in parentheses, and then the digits
+    /// The type in parentheses, and then the digits.
     Cast,
 }
 
-// Whether a literal's value has a minus.
+// Returns whether a literal's value has a minus, which is a leading `n`.
 fn is_minus(value: &[u8]) -> bool
     ensures value { result ≡ spec.is_minus value.now }
 {
     value.starts_with(b"n")
 }
 
-// How a literal of a type with this text is printed, with a minus or without one.
+// Returns how a literal is printed whose type has this text, with a minus or without one.
 #[inline(always)]
 fn literal_form(ty: &[u8], minus: bool) -> LiteralForm
     ensures value { result ≡ spec.literal_form ty.now minus }
@@ -52,21 +52,21 @@ fn literal_form(ty: &[u8], minus: bool) -> LiteralForm
     LiteralForm::Cast
 }
 
-// The sign of a value, `-` or nothing.
+// Returns the sign of a value: `-` or nothing.
 fn sign_bytes(value: &[u8]) -> &'static [u8]
     ensures value { result.now ≡ spec.sign_text value.now }
 {
     if is_minus(value) { b"-" } else { b"" }
 }
 
-// The digits of a value: all of it but the `n` of a minus.
+// Returns the digits of a value: all bytes but the `n` of a minus.
 fn digit_bytes(value: &[u8]) -> &[u8]
     ensures value { result.now ≡ spec.digits_text value.now }
 {
     if is_minus(value) { &value[1..] } else { value }
 }
 
-// The text of the piece in parentheses, as a plain piece whose base name is the whole, with no flag set.
+// Puts the text of the piece in parentheses, as a plain piece whose base name is the whole text, with no flag set.
 fn parenthesize(buf: &mut Buffer, piece: Piece) -> Result<Piece, AllocError>
     requires piece { IsLiving buf.old piece }
     ensures shape { IfOk result (λ p. Lives buf.new p (spec.parenthesized (shape buf.old piece))) }
@@ -80,7 +80,7 @@ fn parenthesize(buf: &mut Buffer, piece: Piece) -> Result<Piece, AllocError>
     Ok(buf.with_flags(whole, false, false))
 }
 
-// The piece with a value after its text. Its base name is the whole text then.
+// Appends a value to the piece. The base name becomes the whole text.
 #[inline(always)]
 fn append_value(buf: &mut Buffer, piece: Piece, value: &[u8]) -> Result<Piece, AllocError>
     requires piece { IsLiving buf.old piece }
@@ -94,7 +94,7 @@ fn append_value(buf: &mut Buffer, piece: Piece, value: &[u8]) -> Result<Piece, A
     Ok(buf.whole(all))
 }
 
-// A value in square brackets, its sign in front of them.
+// Pushes a value in square brackets, with its sign in front of them.
 fn push_float(buf: &mut Buffer, value: &[u8]) -> Result<Piece, AllocError>
     ensures shape { IfOk result (λ p. Lives buf.new p (plain_shape (calls.float_text value.now))) }
     ensures edit { OnOk result (IsEdit buf.old buf.new) }
@@ -107,7 +107,7 @@ fn push_float(buf: &mut Buffer, value: &[u8]) -> Result<Piece, AllocError>
     Ok(buf.whole(closed))
 }
 
-// A literal with its type in parentheses, the first of which is there.
+// Makes a literal with its type in parentheses. The piece `paren` is the `(`.
 fn print_cast(buf: &mut Buffer, paren: Piece, ty: Piece, value: &[u8]) -> Result<Piece, AllocError>
     requires paren { Lives buf.old paren (plain_shape (codes "(")) }
     requires ty { IsLiving buf.old ty }
@@ -122,13 +122,16 @@ fn print_cast(buf: &mut Buffer, paren: Piece, ty: Piece, value: &[u8]) -> Result
     append_value(buf, cast, value)
 }
 
-/// The literal of a type with this value, in which one leading `n` is the minus and the rest are the digits, printed as
-/// they stand. By the text of the type: of `bool` without minus `false` for `0` and `true` for `1`; of `std::nullptr_t`
-/// `nullptr`, whatever the value; of `int` the digits; of `float`, `double` and `long double` the digits in square
-/// brackets; of all others the type in parentheses and then the digits. `-` stands in front of the digits, or of their
-/// brackets. A plain piece whose base name is the whole, with no flag set.
+/// Makes the literal of a type with this value. One leading `n` of the value is the minus, and the rest are the
+/// digits, which are printed as they are. The text of the type selects the form:
 ///
-/// `None`, and all stays, for a `bool` without minus whose value is neither `0` nor `1`.
+/// `bool` without a minus prints `false` for `0` and `true` for `1`. `std::nullptr_t` prints `nullptr`, whatever the
+/// value. `int` prints the digits. `float`, `double` and `long double` print the digits in square brackets. All other
+/// types, and `bool` with a minus, print the type in parentheses and then the digits. A `-` is in front of the digits,
+/// or of their brackets.
+///
+/// The result is a plain piece whose base name is the whole text, with no flag set. Returns `None`, and changes
+/// nothing, for a `bool` without a minus whose value is neither `0` nor `1`.
 pub fn write_literal(buf: &mut Buffer, ty: Piece, value: &str) -> Result<Option<Piece>, AllocError>
     requires ty { IsLiving buf.old ty }
     ensures shape { Answers result buf.new (calls.literal_step (shape buf.old ty) value.now) }
@@ -158,8 +161,8 @@ pub fn write_literal(buf: &mut Buffer, ty: Piece, value: &str) -> Result<Option<
     Ok(Some(literal))
 }
 
-/// As `write_literal`, where a piece of the text `(` lives: a literal with its type in parentheses begins with it, so
-/// that nothing moves where the text of the type is right after it.
+/// Makes a literal as `write_literal` does, from a piece `paren` whose text is `(`. A literal that prints its type in
+/// parentheses begins with that piece. If the text of the type follows the `(` in the output, no text moves.
 pub fn write_opened_literal(
     buf: &mut Buffer,
     paren: Piece,
@@ -185,8 +188,8 @@ pub fn write_opened_literal(
     }
 }
 
-/// An operand of an expression: where `paren` holds its text in parentheses, as a plain piece whose
-/// base name is the whole, with no flag set; else the piece itself.
+/// Makes an operand of an expression. If `paren` is true, that is the text in parentheses, as a plain piece whose base
+/// name is the whole text, with no flag set. Otherwise it is the piece itself.
 pub fn subexpr(buf: &mut Buffer, piece: Piece, paren: bool) -> Result<Piece, AllocError>
     requires piece { IsLiving buf.old piece }
     ensures shape { IfOk result (λ p. Lives buf.new p
@@ -201,8 +204,8 @@ pub fn subexpr(buf: &mut Buffer, piece: Piece, paren: bool) -> Result<Piece, All
     parenthesize(buf, piece)
 }
 
-/// The address of what the piece names, `&` in front of its text. What it declares and the flags
-/// stay, and its base name moves on; of a function it is the whole text.
+/// Makes the address of what the piece names: inserts `&` in front of its text. The piece stays the same declarator
+/// and keeps its flags. Its base name moves on by one byte; that of a function is the whole text.
 pub fn address(buf: &mut Buffer, piece: Piece) -> Result<Piece, AllocError>
     requires piece { IsLiving buf.old piece }
     ensures shape { IfOk result (λ p. Lives buf.new p (spec.address_shape (shape buf.old piece))) }

@@ -1,21 +1,20 @@
-//! The edits of a buffer's pieces, each of which is one step: from the shapes of a tree's parts to the shape of the
-//! tree.
+//! Edits of a buffer's pieces. Each edit is one step: from the shapes of a tree's parts to the shape of the tree.
 //!
 //! An edit ends the pieces that were made since the innermost open mark, except the piece that it returns. Older
-//! pieces keep their shapes, and so do the table of substitutions and the arguments of the scopes. An error comes only
-//! if an allocation fails, and then `clear` of the buffer is the only call that is promised to work.
+//! pieces keep their shapes, and so do the substitution table and the arguments of the scopes. An edit returns an
+//! error only if an allocation fails. After that, `clear` of the buffer is the only call that is promised to work.
 //!
 //! If a piece ends the output, and began at that mark or later, most edits change it where it is and leave no other
-//! byte after the mark (`in_place`). The others put their text at the end of the output (`appends`).
+//! byte after the mark (`in_place`). The other edits put their text at the end of the output (`appends`).
 //!
-//! Some shapes can be made in two ways, which give the same shape. The first way takes pieces that are all there:
-//! `default_arg`, `qualify`, `attach_template_args`, `format_params`, `function_type`. The second makes the text in
-//! the order in which the symbol is read. What opens it comes first (`open_default_arg`, `open_parent`,
-//! `open_arguments`, `open_function`). Then come the parts, with `, ` before each but the first (`append_piece`). What
-//! closes it comes last (`close_opened`, `close_arguments`, `close_params`, `close_function`).
+//! Some shapes can be made in two ways, which give the same shape. The first way takes pieces that are complete:
+//! `default_arg`, `qualify`, `attach_template_args`, `format_params`, `function_type`. The second way makes the text
+//! in the order in which the symbol is read. The text is opened first (`open_default_arg`, `open_parent`,
+//! `open_arguments`, `open_function`). Then the parts follow, with `, ` before each but the first (`append_piece`). At
+//! last the text is closed (`close_opened`, `close_arguments`, `close_params`, `close_function`).
 //!
-//! It stands on `demangle_text`. Begin with `specs/` of the same names, and then read `names.rt`, `types.rt`,
-//! `lists.rt`.
+//! The pieces are those of `demangle_text`. Begin with the files of the same names in `specs/`, and then read
+//! `names.rt`, `types.rt`, `lists.rt`.
 #![tactic(auto)]
 
 mod appends;

@@ -1,4 +1,4 @@
-//! Texts that follow one another, and lists that are built as they are read.
+//! Edits that join texts, and edits that build lists as they are read.
 ghost use Rattle.std.specs.Prelude.{◌≡◌, ℕ, ◌<◌, ◌++◌, All, map, length, decimal, IfOk, OnOk};
 ghost use Rattle.demangle_text.specs.Shape.{text_len, appended};
 ghost use Rattle.demangle_text.specs.State.{IsLiving, shape, Lives, IsEdit, KeepsAll, StaysInPlace, Appends};
@@ -15,8 +15,8 @@ use demangle_quals::{Quals, reference_bytes};
 use demangle_text::{Buffer, Piece};
 use std::alloc::AllocError;
 
-/// The parts, one after the other, as a plain piece whose base name is the whole, with no flag
-/// set. Of no parts it is empty.
+/// Joins the parts to a plain piece whose base name is the whole text, with no flag set. Without parts the text is
+/// empty.
 pub fn glue(buf: &mut Buffer, parts: &[Glue]) -> Result<Piece, AllocError>
     requires parts { All (IsLivingPart buf.old) parts.now }
     ensures shape { IfOk result (λ p. Lives buf.new p
@@ -38,7 +38,7 @@ pub fn glue(buf: &mut Buffer, parts: &[Glue]) -> Result<Piece, AllocError>
     buf.close(mark, all)
 }
 
-// The texts of the pieces with `, ` between them, as a plain piece.
+// Makes a plain piece of the texts of the pieces, with `, ` between them.
 pub(crate) fn list_pieces(buf: &mut Buffer, pieces: &[Piece]) -> Result<Piece, AllocError>
     requires pieces { All (IsLiving buf.old) pieces.now }
     ensures shape { IfOk result (λ p. Lives buf.new p
@@ -56,11 +56,11 @@ pub(crate) fn list_pieces(buf: &mut Buffer, pieces: &[Piece]) -> Result<Piece, A
     buf.close(mark, whole)
 }
 
-/// The name with the `<` of its template arguments, after a space where the name ends in `<`. A
-/// plain piece with the base name and the flag `ctor` of the name; `templ` holds.
+/// Appends the `<` of template arguments to the name, after a space if the name ends in `<`. The result is a plain
+/// piece with the base name and the flag `ctor` of the name; `templ` is set.
 ///
-/// The list is built as a text after it: `, ` before each argument but the first, and the text of
-/// each, up to the end of the output. `close_arguments` takes all of it in.
+/// The caller appends the list to the output: `, ` before each argument but the first, and the text of each. Then
+/// `close_arguments` makes one piece of all that.
 #[inline(always)]
 pub fn open_arguments(buf: &mut Buffer, name: Piece) -> Result<Piece, AllocError>
     requires name { IsLiving buf.old name }
@@ -79,8 +79,8 @@ pub fn open_arguments(buf: &mut Buffer, name: Piece) -> Result<Piece, AllocError
     Ok(buf.with_flags(opened, true, ctor))
 }
 
-/// The piece that `open_arguments` returned with all that stands after it, which is the list of
-/// template arguments, and with the `>` of the list, after a space where the text ends in `>`.
+/// Completes a list of template arguments. `list` is the piece that `open_arguments` returned, and all after it in the
+/// output is the arguments. Appends `>`, after a space if the text ends in `>`, and makes one piece of it all.
 #[tactic(auto, using(
 // The laws of calls, of runs of calls, and of what ends the output.
 demangle_text::proofs::Laws::laws, demangle_text::proofs::Laws::lasts, demangle_text::proofs::Laws::runs))]
@@ -105,10 +105,10 @@ pub fn close_arguments(buf: &mut Buffer, list: Piece) -> Result<Piece, AllocErro
     Ok(buf.up_to_end(list))
 }
 
-/// The name with the `(` of its parameters. A plain piece with the base name and the flag `ctor`
-/// of the name; `templ` doesn't hold.
+/// Appends the `(` of parameters to the name. The result is a plain piece with the base name and the flag `ctor` of
+/// the name; `templ` isn't set.
 ///
-/// With `, ` before each parameter but the first, the text of each and then `close_params` it is what
+/// Append `, ` before each parameter but the first, and the text of each, and call `close_params`. The result is what
 /// `format_params` makes of the name, the parameters and the qualifiers.
 pub fn open_params(buf: &mut Buffer, name: Piece) -> Result<Piece, AllocError>
     requires name { IsLiving buf.old name }
@@ -122,7 +122,7 @@ pub fn open_params(buf: &mut Buffer, name: Piece) -> Result<Piece, AllocError>
     Ok(buf.with_flags(opened, false, ctor))
 }
 
-/// The list of parameters with its `)` and the qualifiers of the function: the words and then the reference.
+/// Completes a list of parameters: appends `)` and the qualifiers of the function, the words and then the reference.
 pub fn close_params(buf: &mut Buffer, list: Piece, quals: Quals) -> Result<Piece, AllocError>
     requires list { IsLiving buf.old list }
     ensures shape { IfOk result (λ p. Lives buf.new p (params_closed quals (shape buf.old list))) }
@@ -134,7 +134,7 @@ pub fn close_params(buf: &mut Buffer, list: Piece, quals: Quals) -> Result<Piece
     buf.append(worded, reference_bytes(quals.reference))
 }
 
-/// The piece with the number at the end of its text, in decimal digits without leading zeros.
+/// Appends the number to the piece, in decimal digits without leading zeros.
 pub fn append_number(buf: &mut Buffer, piece: Piece, number: u64) -> Result<Piece, AllocError>
     requires piece { IsLiving buf.old piece }
     ensures shape { IfOk result (λ p. Lives buf.new p
@@ -147,7 +147,8 @@ pub fn append_number(buf: &mut Buffer, piece: Piece, number: u64) -> Result<Piec
     buf.append(piece, digits)
 }
 
-/// The list of a lambda's parameters with `)#`, the lambda's number and `}`. The whole text is its base name.
+/// Completes the list of a lambda's parameters: appends `)#`, the lambda's number and `}`. The base name is the whole
+/// text.
 pub fn close_lambda(buf: &mut Buffer, list: Piece, number: u64) -> Result<Piece, AllocError>
     requires list { IsLiving buf.old list }
     ensures shape { IfOk result (λ p. Lives buf.new p (lambda_closed number (shape buf.old list))) }

@@ -1,4 +1,4 @@
-//! Edits that make a name out of names (Itanium C++ ABI 5.1.2).
+//! Edits that make a name from names (Itanium C++ ABI 5.1.2).
 ghost use Rattle.std.specs.Prelude.{◌≡◌, All, map, false, IfOk, OnOk, OnErr};
 ghost use Rattle.demangle_quals.specs.Quals.{has_quals};
 ghost use Rattle.demangle_text.specs.Shape.{plain_shape};
@@ -13,8 +13,8 @@ use demangle_quals::{Quals, reference_bytes};
 use demangle_text::{Buffer, Piece};
 use std::alloc::AllocError;
 
-/// The leaf in its parent, `parent::leaf`, as a plain piece with the base name and the flags of
-/// the leaf. It is offered to others: no reader calls it, since each opens the parent first (`open_parent`).
+/// Makes `parent::leaf`, as a plain piece with the base name and the flags of the leaf. The function is offered to
+/// other callers. The readers open the parent first (`open_parent`).
 pub fn qualify(buf: &mut Buffer, parent: Piece, leaf: Piece) -> Result<Piece, AllocError>
     requires parent { IsLiving buf.old parent }
     requires leaf { IsLiving buf.old leaf }
@@ -33,8 +33,9 @@ pub fn qualify(buf: &mut Buffer, parent: Piece, leaf: Piece) -> Result<Piece, Al
     Ok(buf.with_flags(named, templ, ctor))
 }
 
-/// A text in a parent, `parent::text`, as a plain piece whose base name is the text, with no flag set. It is offered to
-/// others: the readers' parent ends the output, and they put the name after it by `append_name` of the buffer.
+/// Makes `parent::text`, as a plain piece whose base name is the text, with no flag set. The function is offered to
+/// other callers. The readers append the name to the parent with `append_name` of the buffer, since their parent ends
+/// the output.
 pub fn qualify_text(buf: &mut Buffer, parent: Piece, text: &[u8]) -> Result<Piece, AllocError>
     requires parent { IsLiving buf.old parent }
     ensures shape { IfOk result (λ p. Lives buf.new p
@@ -47,8 +48,8 @@ pub fn qualify_text(buf: &mut Buffer, parent: Piece, text: &[u8]) -> Result<Piec
     Ok(name)
 }
 
-/// What stands in front of an entity in a default argument of a parent, `parent::{default arg#k}::` with k for its
-/// number, as a plain piece with the base name and the flags of the parent.
+/// Makes the text in front of an entity in a default argument of a parent: `parent::{default arg#k}::`, where k is its
+/// number. The result is a plain piece with the base name and the flags of the parent.
 pub fn open_default_arg(buf: &mut Buffer, parent: Piece, number: u64) -> Result<Piece, AllocError>
     requires parent { IsLiving buf.old parent }
     ensures shape { IfOk result (λ p. Lives buf.new p (default_arg_opened (shape buf.old parent) number)) }
@@ -61,8 +62,8 @@ pub fn open_default_arg(buf: &mut Buffer, parent: Piece, number: u64) -> Result<
     buf.append(numbered, b"}::")
 }
 
-/// A name after what was opened for it by `open_parent` or `open_default_arg`, as a plain piece with the base name
-/// and the flags of the name.
+/// Appends a name to what `open_parent` or `open_default_arg` opened for it. The result is a plain piece with the base
+/// name and the flags of the name.
 pub fn close_opened(buf: &mut Buffer, opened: Piece, name: Piece) -> Result<Piece, AllocError>
     requires opened { IsLiving buf.old opened }
     requires name { IsLiving buf.old name }
@@ -80,8 +81,8 @@ pub fn close_opened(buf: &mut Buffer, opened: Piece, name: Piece) -> Result<Piec
     Ok(buf.with_flags(named, templ, ctor))
 }
 
-/// A parent with the `::` after it that stands in front of a leaf, as a plain piece with the base name and the
-/// flags of the parent. `close_opened` puts the leaf after it: the two give what `qualify` gives.
+/// Makes a parent with `::` after it, as a plain piece with the base name and the flags of the parent. `close_opened`
+/// appends the leaf. The two calls give what `qualify` gives.
 pub fn open_parent(buf: &mut Buffer, parent: Piece) -> Result<Piece, AllocError>
     requires parent { IsLiving buf.old parent }
     ensures shape { IfOk result (λ p. Lives buf.new p (parent_opened (shape buf.old parent))) }
@@ -92,9 +93,9 @@ pub fn open_parent(buf: &mut Buffer, parent: Piece) -> Result<Piece, AllocError>
     buf.append(plain, b"::")
 }
 
-/// The entity in a default argument of a parent, `parent::{default arg#k}::entity` with k for its number, as a plain
-/// piece with the base name and the flags of the entity. It is offered to others: the readers here put what stands
-/// in front of the entity first (`open_default_arg`).
+/// Makes an entity in a default argument of a parent: `parent::{default arg#k}::entity`, where k is its number. The
+/// result is a plain piece with the base name and the flags of the entity. The function is offered to other callers.
+/// The readers make the text in front of the entity first (`open_default_arg`).
 pub fn default_arg(
     buf: &mut Buffer,
     parent: Piece,
@@ -114,8 +115,9 @@ pub fn default_arg(
     buf.close(mark, named)
 }
 
-/// The constructor of a parent, `parent::name` with the base name of the parent, or its destructor, which has a `~` in
-/// front of that name. A plain piece; its base name is all after the `::`. Of the flags `ctor` holds alone.
+/// Makes the constructor of a parent, which is `parent::name` with the base name of the parent; or its destructor,
+/// which is `parent::~name`. The result is a plain piece whose base name is all after the `::`. Only the flag `ctor`
+/// is set.
 pub fn qualify_ctor(buf: &mut Buffer, parent: Piece, destructor: bool) -> Result<Piece, AllocError>
     requires parent { IsLiving buf.old parent }
     ensures shape { IfOk result (λ p. Lives buf.new p
@@ -132,9 +134,9 @@ pub fn qualify_ctor(buf: &mut Buffer, parent: Piece, destructor: bool) -> Result
     Ok(buf.with_flags(named, false, true))
 }
 
-/// The name with the list of its template arguments after it, and a space between them where the
-/// name ends in `<`. A plain piece with the base name and the flag `ctor` of the name; `templ`
-/// holds. It is offered to others: the readers here build the list on the name (`open_arguments`).
+/// Appends the list of its template arguments to the name, after a space if the name ends in `<`. The result is a
+/// plain piece with the base name and the flag `ctor` of the name; `templ` is set. The function is offered to other
+/// callers. The readers build the list on the name (`open_arguments`).
 #[inline(always)]
 pub fn attach_template_args(buf: &mut Buffer, name: Piece, args: Piece) -> Result<Piece, AllocError>
     requires name { IsLiving buf.old name }
@@ -154,9 +156,10 @@ pub fn attach_template_args(buf: &mut Buffer, name: Piece, args: Piece) -> Resul
     Ok(buf.with_flags(whole, true, ctor))
 }
 
-/// The name of a function with its parameters in parentheses, `, ` between them, and its qualifiers: the words and then
-/// the reference. A plain piece with the base name and the flag `ctor` of the name; `templ` doesn't hold. Of no
-/// parameters it is `name()`. It is offered to others: the readers here build the list on the name (`open_params`).
+/// Appends its parameters to the name of a function, in parentheses with `, ` between them, and then the qualifiers:
+/// the words and then the reference. Without parameters the text is `name()`. The result is a plain piece with the
+/// base name and the flag `ctor` of the name; `templ` isn't set. The function is offered to other callers. The readers
+/// build the list on the name (`open_params`).
 pub fn format_params(
     buf: &mut Buffer,
     name: Piece,
@@ -180,7 +183,8 @@ pub fn format_params(
     buf.close(mark, whole)
 }
 
-/// The name with an ABI tag after it, `name[abi:tag]`, as a plain piece with the base name and the flags of the name.
+/// Appends an ABI tag to the name: `name[abi:tag]`. The result is a plain piece with the base name and the flags of
+/// the name.
 pub fn tag(buf: &mut Buffer, name: Piece, text: &[u8]) -> Result<Piece, AllocError>
     requires name { IsLiving buf.old name }
     ensures shape { IfOk result (λ p. Lives buf.new p (tagged (shape buf.old name) text.now)) }
@@ -193,9 +197,9 @@ pub fn tag(buf: &mut Buffer, name: Piece, text: &[u8]) -> Result<Piece, AllocErr
     buf.append(filled, b"]")
 }
 
-/// The name with its qualifiers after it: the words ` const`, ` volatile` and ` restrict` only
-/// where they are shown, and then the reference. A plain piece with the base name and the flags
-/// of the name, also where nothing is printed. Without qualifiers the answer is the name itself.
+/// Appends the qualifiers to the name: the words ` const`, ` volatile` and ` restrict` only if `shown` is true, and
+/// then the reference. The result is a plain piece with the base name and the flags of the name, also if nothing is
+/// printed. Without qualifiers the result is the name itself.
 pub fn apply_name_qualifiers(
     buf: &mut Buffer,
     name: Piece,

@@ -1,8 +1,8 @@
-//! The parts of which a text is put together.
+//! The parts that `glue` joins.
 
 use demangle_text::Piece;
 
-/// A part of a text that is put together.
+/// A part of a text that `glue` makes.
 #[derive(Clone, Copy)]
 pub enum Glue<'a> {
     /// These bytes.

@@ -1,4 +1,4 @@
-//! Edits that make a type out of types: pointers, references, qualifiers, arrays and functions (Itanium C++ ABI 5.1.5).
+//! Edits that make a type from types: pointers, references, qualifiers, arrays and functions (Itanium C++ ABI 5.1.5).
 ghost use Rattle.std.specs.Prelude.{◌≡◌, ◌≢◌, ◌+◌, ◌++◌, All, map, codes, is_some, true, false, IfOk, OnOk};
 ghost use Rattle.demangle_text.specs.Shape.{text, plain_shape, inserted};
 ghost use Rattle.demangle_text.specs.Calls.{CanInsert, IsPlain, IsDeclared, kind_of, group_of, front_text};
@@ -18,7 +18,7 @@ use demangle_quals::{Pointer, Quals, reference_bytes};
 use demangle_text::{Buffer, Kind, Piece, Place};
 use std::alloc::AllocError;
 
-// A token at the end of a plain text or of a group, or in a group that is opened for it.
+// Adds a token such as `*` at the end of a plain text or of a group. A declarator without a group gets one.
 #[inline(always)]
 fn wrap_token(buf: &mut Buffer, inner: Piece, token: &[u8]) -> Result<Piece, AllocError>
     requires inner { IsLiving buf.old inner }
@@ -35,9 +35,9 @@ fn wrap_token(buf: &mut Buffer, inner: Piece, token: &[u8]) -> Result<Piece, All
     }
 }
 
-/// A pointer or a reference to the type: `*`, `&` or `&&` at the end of a plain text or of a group.
-/// A declarator without group gets a group for it. A reference to a plain text that ends in `&`
-/// collapses, as `collapse_ref` has it. The flags stay.
+/// Makes a pointer or a reference to the type: adds `*`, `&` or `&&` at the end of a plain text or of a group. A
+/// declarator without a group gets one. A reference to a plain text that ends in `&` collapses, see `collapse_ref`.
+/// The flags stay.
 pub fn wrap_pointer(buf: &mut Buffer, inner: Piece, kind: Pointer) -> Result<Piece, AllocError>
     requires inner { IsLiving buf.old inner }
     ensures shape { IfOk result (λ p. Lives buf.new p (pointer_shape kind (shape buf.old inner))) }
@@ -63,10 +63,10 @@ pub fn wrap_pointer(buf: &mut Buffer, inner: Piece, kind: Pointer) -> Result<Pie
     }
 }
 
-/// What is left of a reference to a plain text that ends in `&`: of `&` to a text that ends in `&&` the text without
-/// its last byte, in all other cases the piece itself. `rvalue` says that the reference is `&&`.
+/// Collapses a reference to a plain text that ends in `&`. `rvalue` is true for the reference `&&`. A reference `&` to
+/// a text that ends in `&&` is that text without its last byte. In all other cases the reference is the piece itself.
 ///
-/// `None`, and all stays, where the piece is a declarator or its text doesn't end in `&`.
+/// Returns `None`, and changes nothing, if the piece is a declarator or its text doesn't end in `&`.
 pub fn collapse_ref(
     buf: &mut Buffer,
     inner: Piece,
@@ -96,7 +96,7 @@ pub fn collapse_ref(
     Ok(Some(shorter))
 }
 
-// Where the words of a type's qualifiers go.
+// Returns the place where the words of a type's qualifiers go.
 fn words_place(buf: &Buffer, inner: Piece) -> Place
     requires inner { IsLiving buf.now inner }
     ensures value { result ≡ cv_place (shape buf.now inner).form }
@@ -115,9 +115,9 @@ fn words_place(buf: &Buffer, inner: Piece) -> Place
     }
 }
 
-/// The type with the words ` const`, ` volatile` and ` restrict` of its qualifiers: at the end of
-/// the group, for an array without group in front of its dimensions, else at the end of the text.
-/// The flags stay, and the reference of the qualifiers isn't printed.
+/// Adds the words ` const`, ` volatile` and ` restrict` of the qualifiers to the type. The words go to the end of the
+/// group; for an array without a group in front of its dimensions; otherwise to the end of the text. The flags stay.
+/// The reference of the qualifiers isn't printed.
 pub fn wrap_cv(buf: &mut Buffer, inner: Piece, quals: Quals) -> Result<Piece, AllocError>
     requires inner { IsLiving buf.old inner }
     ensures shape { IfOk result (λ p. Lives buf.new p (cv_shape quals (shape buf.old inner))) }
@@ -128,7 +128,7 @@ pub fn wrap_cv(buf: &mut Buffer, inner: Piece, quals: Quals) -> Result<Piece, Al
     buf.insert(inner, place, quals.words())
 }
 
-// The opening bytes, the digits of a dimension and `]`, at a place of the piece's text.
+// Inserts the opening bytes, the digits of a dimension and `]` at a place of the piece's text.
 fn insert_dimension(
     buf: &mut Buffer,
     piece: Piece,
@@ -151,7 +151,7 @@ fn insert_dimension(
     buf.insert(filled, place, b"]")
 }
 
-// An array of a plain type.
+// Makes an array of a plain type.
 fn first_dimension(
     buf: &mut Buffer,
     elem: Piece,
@@ -165,12 +165,12 @@ fn first_dimension(
 {
     let at = buf.len(elem);
     let longer = insert_dimension(buf, elem, Place::End, b" [", dimension)?;
-    // The check learns here that the length fits 64 bits, and so does each place in the text.
+    // The prover learns here that the length fits 64 bits, and so does each place in the text.
     let _len = buf.len(longer);
     Ok(buf.declare(longer, Kind::Array, at))
 }
 
-// A dimension in front of those that an array without group has: after the first byte of `after`.
+// Adds a dimension to an array without a group, in front of its other dimensions: after the first byte of `after`.
 fn outer_dimension(
     buf: &mut Buffer,
     elem: Piece,
@@ -193,11 +193,11 @@ fn outer_dimension(
     Ok(buf.declare(whole, Kind::Array, at))
 }
 
-/// The array of the type with this dimension, `[]` where there is none: ` [n]` at the end of a
-/// group or after a plain text; for an array without group `[n]` after the first byte of what
-/// follows its name, so that the outer dimension stands first. The flags stay.
+/// Makes an array of the type, with this dimension, or with `[]` if there is none. ` [n]` goes to the end of a group
+/// or after a plain text. For an array without a group, `[n]` goes after the first byte of what follows its name, so
+/// that the outer dimension is first. The flags stay.
 ///
-/// `None`, and all stays, for a function without group.
+/// Returns `None`, and changes nothing, for a function without a group.
 pub fn wrap_array(
     buf: &mut Buffer,
     elem: Piece,
@@ -227,7 +227,7 @@ pub fn wrap_array(
     }
 }
 
-// A pointer to a member of a plain type.
+// Makes a pointer to a member of a plain type.
 fn append_member(buf: &mut Buffer, class: Piece, member: Piece) -> Result<Piece, AllocError>
     requires class { IsLiving buf.old class }
     requires member { IsLiving buf.old member }
@@ -247,7 +247,7 @@ fn append_member(buf: &mut Buffer, class: Piece, member: Piece) -> Result<Piece,
     buf.append(begun, b"::*")
 }
 
-// The text of a declarator, cut where `after` begins.
+// Returns the text of a declarator in two parts, cut where `after` begins.
 fn cut_declarator(buf: &Buffer, piece: Piece) -> (Piece, Piece)
     requires living { IsLiving buf.now piece }
     requires declared { IsDeclared (shape buf.now piece).form }
@@ -262,7 +262,7 @@ fn cut_declarator(buf: &Buffer, piece: Piece) -> (Piece, Piece)
     (buf.own(front), buf.own(after))
 }
 
-// A pointer to a member function: the class stands in a new group.
+// Makes a pointer to a member function, with the class in a new group.
 fn open_member(buf: &mut Buffer, class: Piece, member: Piece) -> Result<Piece, AllocError>
     requires class { IsLiving buf.old class }
     requires member { IsLiving buf.old member }
@@ -287,10 +287,11 @@ fn open_member(buf: &mut Buffer, class: Piece, member: Piece) -> Result<Piece, A
     Ok(buf.with_flags(declared, templ, ctor))
 }
 
-/// The pointer to a member of the class: the class and `::*`, at the end of a plain text (after a space, unless the
-/// text ends in a space or `(`), or in a new group of a function. The flags are those of the member.
+/// Makes a pointer to a member of the class: adds the class and `::*`. They go to the end of a plain text, after a
+/// space unless the text ends in a space or `(`. For a function they go into a new group. The flags are those of the
+/// member.
 ///
-/// `None`, and all stays, for an array.
+/// Returns `None`, and changes nothing, for an array.
 pub fn wrap_member_pointer(
     buf: &mut Buffer,
     class: Piece,
@@ -321,12 +322,12 @@ pub fn wrap_member_pointer(
     }
 }
 
-/// The function type with these parameters and qualifiers: what it returns and a space, then the parameters in
-/// parentheses with `, ` between them, then the qualifiers. Its base name is its whole text, and no flag holds.
+/// Makes a function type: the return type and a space, then the parameters in parentheses with `, ` between them, then
+/// the qualifiers. The base name is the whole text, and no flag is set.
 ///
-/// `None`, and all stays, where what is returned is a declarator.
+/// Returns `None`, and changes nothing, if the return type is a declarator.
 ///
-/// It is offered to others: the readers here build the type as they read it (`open_function`).
+/// The function is offered to other callers. The readers here build the type as they read it (`open_function`).
 pub fn function_type(
     buf: &mut Buffer,
     ret: Piece,
@@ -351,18 +352,18 @@ pub fn function_type(
     let closed = buf.append(begun, b")")?;
     let worded = buf.append(closed, quals.words())?;
     let whole = buf.append(worded, reference_bytes(quals.reference))?;
-    // The check learns here that the length fits 64 bits, and so does each place in the text.
+    // The prover learns here that the length fits 64 bits, and so does each place in the text.
     let _len = buf.len(whole);
     Ok(Some(buf.declare(whole, Kind::Function, before + 1)))
 }
 
-/// What a function returns with the ` (` of its parameters, as a plain piece whose base name is the whole, with no
-/// flag set.
+/// Makes the beginning of a function type: the return type and ` (`, as a plain piece whose base name is the whole
+/// text, with no flag set.
 ///
-/// With `, ` before each parameter but the first, the text of each and then `close_function` it is what
-/// `function_type` makes of what is returned, the parameters and the qualifiers.
+/// Append `, ` before each parameter but the first, and the text of each, and call `close_function`. The result is
+/// what `function_type` makes of the return type, the parameters and the qualifiers.
 ///
-/// `None`, and all stays, where what is returned is a declarator.
+/// Returns `None`, and changes nothing, if the return type is a declarator.
 pub fn open_function(buf: &mut Buffer, ret: Piece) -> Result<Option<Piece>, AllocError>
     requires ret { IsLiving buf.old ret }
     ensures shape { Answers result buf.new (opening_step (shape buf.old ret)) }
@@ -379,9 +380,9 @@ pub fn open_function(buf: &mut Buffer, ret: Piece) -> Result<Option<Piece>, Allo
     Ok(None)
 }
 
-/// The function type whose parameters are this list: the list with its `)` and the qualifiers, the words and then the
-/// reference. What it returns has `front` bytes, and `after` begins one byte later, at the parenthesis; where the list
-/// is no longer than that all of it is `before`. Its base name is its whole text, and no flag holds.
+/// Completes a function type: appends `)` and the qualifiers to the list of parameters, the words and then the
+/// reference. The return type has `front` bytes, and `after` begins one byte later, at the parenthesis. If the list
+/// has no more than `front` bytes, all of it is `before`. The base name is the whole text, and no flag is set.
 pub fn close_function(
     buf: &mut Buffer,
     list: Piece,
@@ -401,8 +402,8 @@ pub fn close_function(
     Ok(buf.with_flags(declared, false, false))
 }
 
-/// The expansion of a pack, `...` at the end of the text of the type. What it declares and the
-/// flags stay, and but for a function the base name.
+/// Makes a pack expansion: appends `...` to the text of the type. The piece stays the same declarator and keeps its
+/// flags, and unless it is a function its base name.
 pub fn expand(buf: &mut Buffer, inner: Piece) -> Result<Piece, AllocError>
     requires inner { IsLiving buf.old inner }
     ensures shape { IfOk result (λ p. Lives buf.new p (expansion_shape (shape buf.old inner))) }

@@ -37,7 +37,7 @@ pub enum Pointer {
 }
 
 impl Quals {
-    /// No qualifier at all.
+    /// Returns no qualifiers.
     pub fn none() -> Self
         ensures value { result ≡ no_quals }
     {
@@ -49,15 +49,15 @@ impl Quals {
         }
     }
 
-    /// Whether any qualifier is set, the reference among them.
+    /// Returns whether any qualifier is set, the reference among them.
     pub fn is_set(self) -> bool
         ensures value { result ≡ has_quals self }
     {
         self.constant || self.volatile || self.restrict || self.reference.is_some()
     }
 
-    /// The words of the qualifiers that are set, ` const`, ` volatile` and ` restrict` in this
-    /// order, each with its space in front. The reference isn't among them.
+    /// Returns the words of the qualifiers that are set: ` const`, ` volatile` and ` restrict` in this order, each
+    /// with a space in front. The reference isn't among them.
     pub fn words(self) -> &'static [u8]
         ensures value { result.now ≡ words_text self }
     {
@@ -74,8 +74,7 @@ impl Quals {
     }
 }
 
-/// The reference qualifier of a function or of a name, ` &` or ` &&` with its space in front, or
-/// nothing where there is none.
+/// Returns the text of a reference qualifier: ` &` or ` &&`, with a space in front, or nothing if there is none.
 pub fn reference_bytes(reference: Option<Reference>) -> &'static [u8]
     ensures value { result.now ≡ reference_text reference }
 {
