@@ -11,16 +11,17 @@ use growing_text::Text;
 use std::alloc::{AllocError, Global};
 use std::marker::Model;
 
-/// A buffer of pieces, with a list of saved shapes and a list of scopes.
+/// A buffer of pieces, with the substitution table, which is a list of saved shapes, and a list of scopes.
 #[derive(Drop)]
 pub struct Buffer {
-    // What is made stands in the output.
+    // The text that is being made.
     pub(crate) output: Text,
-    // What is saved and the arguments of all scopes, with the texts of these that a move would have torn.
+    // The saved shapes and the arguments of all scopes, and the spill with those of their texts that a move would have
+    // torn.
     pub(crate) lists: Lists,
-    // Where the arguments of each scope begin.
+    // The index at which the arguments of each scope begin.
     pub(crate) starts: Vec<usize>,
-    // How long the output was at the innermost mark.
+    // The length of the output at the innermost mark, in bytes.
     pub(crate) frame_main: usize,
 }
 
@@ -59,7 +60,7 @@ impl Buffer {
     ghost use Rattle.demangle_text.specs.Calls.{joined, named, CanInsert, IsPlain, IsDeclared, IsNotFunction, kind_of};
     ghost use Rattle.demangle_text.specs.Calls.{group_of, after_of, declared_group, IsLast, IsInner, text_after};
 
-    /// An empty buffer, with no mark open. It takes no memory.
+    /// Returns an empty buffer, with no mark open. Allocates nothing.
     pub fn new(alloc: Global) -> Self
         ensures no_saved { saved result ≡ [] }
         ensures no_scopes { scopes result ≡ [] }
@@ -79,8 +80,8 @@ impl Buffer {
         }
     }
 
-    /// Ends all pieces and marks: nothing is saved, no scope and no mark is open, and the output
-    /// is empty. What was reserved stays.
+    /// Ends all pieces and marks. Afterwards nothing is saved, no scope and no mark is open, and the output is empty.
+    /// Reserved memory stays.
     pub fn clear(&mut self)
         ensures no_saved { saved self.new ≡ [] }
         ensures no_scopes { scopes self.new ≡ [] }
@@ -97,7 +98,8 @@ impl Buffer {
         self.frame_main = 0;
     }
 
-    /// Opens a mark, which is the innermost one then, at the end of the output. All living pieces are older than it.
+    /// Opens a mark at the end of the output, which becomes the innermost mark. All living pieces are older than the
+    /// mark.
     #[inline(always)]
     pub fn open(&mut self) -> Mark
         ensures opens { Opens self.old self.new result }
@@ -112,9 +114,9 @@ impl Buffer {
         mark
     }
 
-    /// Takes the innermost mark back: the piece, with its shape, becomes all of the output since
-    /// the mark, and counts as made under the mark outside. The other pieces made since the mark
-    /// end. After `AllocError`, `clear` is the only call that is promised.
+    /// Closes the innermost mark. The piece keeps its shape and becomes all of the output since the mark. It counts as
+    /// made under the mark outside. The other pieces made since the mark end. After `AllocError`, `clear` is the only
+    /// call that is promised to work.
     #[inline(always)]
     pub fn close(&mut self, mark: Mark, piece: Piece) -> Result<Piece, AllocError>
         requires innermost { frame self.old ≡ inside mark }
@@ -130,7 +132,7 @@ impl Buffer {
         Ok(piece)
     }
 
-    /// As `close`, of a piece that is changed where it is kept.
+    /// Closes the innermost mark as `close` does, and changes the piece in place.
     #[inline(always)]
     pub fn close_in_place(&mut self, mark: Mark, piece: &mut Piece) -> Result<(), AllocError>
         requires innermost { frame self.old ≡ inside mark }
@@ -146,8 +148,8 @@ impl Buffer {
         Ok(())
     }
 
-    /// A plain piece of the bytes, which go to the end of the output. Its base name is the
-    /// whole text, and both flags are off. After `AllocError` all is as it was.
+    /// Appends the bytes to the output, and returns a plain piece of them. Its base name is the whole text, and both
+    /// flags are off. After `AllocError` nothing has changed.
     #[inline(always)]
     pub fn push(&mut self, bytes: &[u8]) -> Result<Piece, AllocError>
         ensures shape { IfOk result (λ p. Lives self.new p (plain_shape bytes.now)) }
@@ -162,7 +164,7 @@ impl Buffer {
         Ok(Piece::whole_at(from, self.output.len()))
     }
 
-    /// A plain piece of no bytes, at the start of the output.
+    /// Returns a plain piece of no bytes, at the start of the output.
     #[inline(always)]
     pub fn empty(&self) -> Piece
         ensures shape { Lives self.now result (plain_shape []) }
@@ -172,8 +174,8 @@ impl Buffer {
         Piece::whole_at(0, 0)
     }
 
-    /// A new piece of the same shape, whose text goes to the end of the output. After
-    /// `AllocError` all is as it was. It is offered to others: nothing here calls it.
+    /// Appends a copy of the piece's text to the output, and returns a piece of it with the same shape. After
+    /// `AllocError` nothing has changed. The method is offered to other callers: no crate here calls it.
     pub fn copy(&mut self, piece: Piece) -> Result<Piece, AllocError>
         requires living { IsLiving self.old piece }
         ensures shape { IfOk result (λ p. Lives self.new p (shape self.old piece)) }
@@ -188,8 +190,8 @@ impl Buffer {
         Ok(copied)
     }
 
-    /// Puts a copy of the piece's text at the end of the output, where the piece stands then. The other pieces stay as
-    /// they are. After `AllocError` all is as it was.
+    /// Appends a copy of the piece's text to the output, and moves the piece there. The other pieces stay as they are.
+    /// After `AllocError` nothing has changed.
     #[inline(never)]
     pub fn bring_to_end(&mut self, piece: &mut Piece) -> Result<(), AllocError>
         requires living { IsLiving self.old piece.old }
@@ -215,9 +217,9 @@ impl Buffer {
         Ok(())
     }
 
-    /// The piece with the bytes at the end of its text. It ends the other pieces made since the innermost mark. A piece
-    /// that stands up to the end of the output, from the innermost mark or later, stays there; the text of any other is
-    /// copied to the end first. After `AllocError` all is as it was.
+    /// Appends the bytes to the piece's text. The other pieces made since the innermost mark end. If the piece ends
+    /// the output, and begins at the innermost mark or later, it stays in place. Otherwise its text is copied to the
+    /// end of the output first. After `AllocError` nothing has changed.
     #[inline(always)]
     pub fn append(&mut self, piece: Piece, bytes: &[u8]) -> Result<Piece, AllocError>
         requires living { IsLiving self.old piece }
@@ -231,9 +233,9 @@ impl Buffer {
         Ok(piece.extended(bytes.len(), from, self.output.len()))
     }
 
-    /// The piece, which is changed where it is kept, as a plain one with both texts at the end of its text, one after
-    /// the other: the second is its base name, and both flags are off. The piece ends the output, from the innermost
-    /// mark on, and it stays there. It ends the other pieces made since that mark. After `AllocError` all is as it was.
+    /// Appends two texts to the piece, and makes it plain. The second text is its base name, and both flags are off.
+    /// The piece must end the output, and begin at the innermost mark or later; it stays in place. The other pieces
+    /// made since that mark end. After `AllocError` nothing has changed.
     #[inline(always)]
     pub fn append_name(
         &mut self,
@@ -252,7 +254,7 @@ impl Buffer {
         ensures main_err { OnErr result (main_bytes self.new ≡ main_bytes self.old) }
     {
         self.output.add_pair(between, name)?;
-        // A field at a time: a piece that is written whole goes through memory.
+        // The fields are set one by one. A piece that is written as a whole would go through memory.
         piece.to_byte = self.output.len();
         piece.own_end = piece.to_byte - piece.from_byte;
         piece.own_start = piece.own_end - name.len();
@@ -263,8 +265,8 @@ impl Buffer {
         Ok(())
     }
 
-    /// The piece with the bytes and then its own base name at the end of its text. Ends pieces,
-    /// copies a text, and keeps all after `AllocError`, as `append` does.
+    /// Appends the bytes and then the piece's own base name to the piece's text. Ends pieces, copies a text, and keeps
+    /// all after `AllocError`, as `append` does.
     #[inline(always)]
     pub fn append_own(&mut self, piece: Piece, between: &[u8]) -> Result<Piece, AllocError>
         requires living { IsLiving self.old piece }
@@ -282,9 +284,9 @@ impl Buffer {
         Ok(piece.extended(n, from, to))
     }
 
-    /// The piece with the bytes at a place of its text: `Close` asks for a group, `Suffix` for a declarator without
-    /// one. The base name moves on where it begins at the place or later, and grows where the place lies inside it.
-    /// Ends pieces, copies a text, and keeps all after `AllocError`, as `append` does.
+    /// Inserts the bytes at a place of the piece's text. `Close` needs a group, and `Suffix` a declarator without one.
+    /// If the base name begins at the place or later, it moves on; if the place is inside the base name, the base name
+    /// grows. Ends pieces, copies a text, and keeps all after `AllocError`, as `append` does.
     #[inline(always)]
     pub fn insert(&mut self, piece: Piece, place: Place, bytes: &[u8]) -> Result<Piece, AllocError>
         requires living { IsLiving self.old piece }
@@ -304,7 +306,8 @@ impl Buffer {
         Ok(piece.with_bytes(place, at, bytes.len(), from, self.output.len()))
     }
 
-    /// What opens a group after a text: a space unless the text is empty or ends in a space, `(` or `*`, and `(`.
+    /// Returns the text that opens a group after `before`: a space and `(`, or only `(` if `before` is empty or ends
+    /// in a space, `(` or `*`.
     pub fn group_opening(before: &[u8]) -> &'static [u8]
         ensures value { result.now ≡ gap_after before.now ++ codes "(" }
     {
@@ -314,9 +317,9 @@ impl Buffer {
         }
     }
 
-    /// The declarator with a new group of the bytes, after all text up to its `after`, and after a
-    /// space where that text isn't empty and doesn't end in a space, `(` or `*`. Ends pieces, copies
-    /// a text, and keeps all after `AllocError`, as `append` does.
+    /// Puts a new group of the bytes into a declarator, in front of its `after`. A space is in front of the group,
+    /// unless the text before it is empty or ends in a space, `(` or `*`. Ends pieces, copies a text, and keeps all
+    /// after `AllocError`, as `append` does.
     pub fn open_group(&mut self, piece: Piece, bytes: &[u8]) -> Result<Piece, AllocError>
         requires living { IsLiving self.old piece }
         requires declared { IsDeclared (shape self.old piece).form }
@@ -342,8 +345,8 @@ impl Buffer {
         })
     }
 
-    /// The plain piece without its last n bytes. Its base name is what is left of it. The output stays as it is,
-    /// with those bytes. Ends pieces, and keeps all after `AllocError`, as `append` does.
+    /// Cuts the last n bytes off a plain piece. The base name loses those of its bytes that were cut. The output stays
+    /// as it is, with those bytes. Ends pieces, and keeps all after `AllocError`, as `append` does.
     #[inline(always)]
     pub fn cut(&mut self, piece: Piece, n: usize) -> Result<Piece, AllocError>
         requires living { IsLiving self.old piece }
@@ -366,13 +369,15 @@ impl Buffer {
         Ok(shorter)
     }
 
-    /// A plain piece: the text of the first piece, the bytes, and the text of the second. Its base name is the whole
-    /// text, and both flags are off. Where the first ends where the second begins, and the second stands up to the end
-    /// of the output, both from the innermost mark or later, they stay there. Else, where the second stands up to that
-    /// end, from the innermost mark or later, and the first lies before it or in the spill, the text of the first and
-    /// the bytes go in front of it; and where the first stands up to that end, from the innermost mark or later, the
-    /// bytes and the text of the second go after it. Else both are copied to the end. Ends pieces, and keeps all after
-    /// `AllocError`, as `append` does.
+    /// Makes a plain piece of the text of the first piece, the bytes, and the text of the second. Its base name is the
+    /// whole text, and both flags are off. In the four cases below, a text is called last if it ends the output and
+    /// begins at the innermost mark or later.
+    ///
+    /// If the second text is last, and the first begins at the innermost mark or later and ends where the second
+    /// begins, the bytes are inserted between the two. If the second text is last, and the first is before it or in
+    /// the spill, the first text and the bytes are inserted in front of the second. If the first text is last, the
+    /// bytes and the second text are appended. Otherwise both texts are copied to the end. Ends pieces, and keeps all
+    /// after `AllocError`, as `append` does.
     #[inline(always)]
     pub fn join(&mut self, first: Piece, bytes: &[u8], second: Piece) -> Result<Piece, AllocError>
         requires first_living { IsLiving self.old first }
@@ -398,8 +403,8 @@ impl Buffer {
         Ok(Piece::whole_at(from, self.output.len()))
     }
 
-    /// The piece with all that stands after it in the output, up to the end, at the end of its text. The piece has to
-    /// stand in the output from the innermost mark or later: it isn't asked whether it does. The buffer stays as it is.
+    /// Extends the piece up to the end of the output. The piece must be in the output, at the innermost mark or later;
+    /// the method doesn't test that. The buffer stays as it is.
     #[inline(always)]
     pub fn up_to_end(&self, piece: Piece) -> Piece
         requires living { IsLiving self.now piece }
@@ -412,7 +417,7 @@ impl Buffer {
         piece.extended(to - piece.to_byte, piece.from_byte, to)
     }
 
-    /// The output.
+    /// Returns the output.
     #[inline(always)]
     pub fn main_bytes(&self) -> &[u8]
         ensures value { result.now ≡ main_bytes self.now }
@@ -421,7 +426,7 @@ impl Buffer {
         self.output.as_slice()
     }
 
-    /// The text of the piece.
+    /// Returns the text of the piece.
     #[inline(always)]
     pub fn bytes(&self, piece: Piece) -> &[u8]
         requires living { IsLiving self.now piece }
@@ -437,7 +442,7 @@ impl Buffer {
         }
     }
 
-    /// How many bytes the text of the piece has: fewer than 2^63.
+    /// Returns the length of the piece's text in bytes, which is less than 2^63.
     #[inline(always)]
     pub fn len(&self, piece: Piece) -> usize
         requires living { IsLiving self.now piece }
@@ -447,7 +452,7 @@ impl Buffer {
         self.bytes(piece).len()
     }
 
-    /// What the piece declares, or `None` where it is plain.
+    /// Returns what the piece declares, or `None` if it is plain.
     #[inline(always)]
     pub fn kind(&self, piece: Piece) -> Option<Kind>
         requires living { IsLiving self.now piece }
@@ -456,7 +461,7 @@ impl Buffer {
         piece.kind
     }
 
-    /// Whether the piece is declared with a group.
+    /// Returns whether the piece is declared with a group.
     #[inline(always)]
     pub fn has_group(&self, piece: Piece) -> bool
         requires living { IsLiving self.now piece }
@@ -465,7 +470,7 @@ impl Buffer {
         matches!(piece.kind, Some(_) if piece.grouped)
     }
 
-    /// The byte of its text at which `after` begins, or `None` where the piece is plain.
+    /// Returns the byte of the piece's text at which `after` begins, or `None` if the piece is plain.
     #[inline(always)]
     pub fn after_at(&self, piece: Piece) -> Option<usize>
         requires living { IsLiving self.now piece }
@@ -477,7 +482,7 @@ impl Buffer {
         }
     }
 
-    /// The bytes of its text from which and up to which its base name lies.
+    /// Returns the range of the base name in the piece's text, in bytes.
     #[inline(always)]
     pub fn own_range(&self, piece: Piece) -> (usize, usize)
         requires living { IsLiving self.now piece }
@@ -488,7 +493,7 @@ impl Buffer {
         (piece.own_start, piece.own_end)
     }
 
-    /// Whether the piece ends in template arguments.
+    /// Returns whether the piece ends in template arguments.
     #[inline(always)]
     pub fn templ(&self, piece: Piece) -> bool
         ensures value { result ≡ (shape self.now piece).templ }
@@ -496,7 +501,7 @@ impl Buffer {
         piece.templ
     }
 
-    /// Whether the piece names a constructor, a destructor or a conversion.
+    /// Returns whether the piece names a constructor, a destructor or a conversion.
     #[inline(always)]
     pub fn ctor(&self, piece: Piece) -> bool
         ensures value { result ≡ (shape self.now piece).ctor }
@@ -504,7 +509,7 @@ impl Buffer {
         piece.ctor
     }
 
-    /// The shape with these flags. The result is as old as the piece.
+    /// Returns the piece with these flags. The result is as old as the piece.
     #[inline(always)]
     pub fn with_flags(&self, piece: Piece, templ: bool, ctor: bool) -> Piece
         requires living { IsLiving self.now piece }
@@ -518,8 +523,8 @@ impl Buffer {
         flagged
     }
 
-    /// The shape, which isn't a function's, with these bytes of its text as its base name.
-    /// The result is as old as the piece.
+    /// Returns the piece with these bytes of its text as its base name. The piece must not be a function. The result
+    /// is as old as the piece.
     #[inline(always)]
     pub fn own_at(&self, piece: Piece, from: usize, to: usize) -> Piece
         requires living { IsLiving self.now piece }
@@ -536,7 +541,7 @@ impl Buffer {
         named
     }
 
-    /// The shape with its whole text as its base name. The result is as old as the piece.
+    /// Returns the piece with its whole text as its base name. The result is as old as the piece.
     #[inline(always)]
     pub fn whole(&self, piece: Piece) -> Piece
         requires living { IsLiving self.now piece }
@@ -550,7 +555,8 @@ impl Buffer {
         whole
     }
 
-    /// Its text as a plain shape, with the same base name and flags. The result is as old as the piece.
+    /// Returns the piece's text as a plain piece, with the same base name and flags. The result is as old as the
+    /// piece.
     #[inline(always)]
     pub fn plain(&self, piece: Piece) -> Piece
         requires living { IsLiving self.now piece }
@@ -566,7 +572,7 @@ impl Buffer {
         plain
     }
 
-    /// A plain piece of its base name, with both flags off. The result is as old as the piece.
+    /// Returns a plain piece of the piece's base name, with both flags off. The result is as old as the piece.
     #[inline(always)]
     pub fn own(&self, piece: Piece) -> Piece
         requires living { IsLiving self.now piece }
@@ -581,8 +587,9 @@ impl Buffer {
         }
     }
 
-    /// The plain piece as a declarator of this kind, with no group: its `after` begins at the byte `at` of its text. It
-    /// keeps its flags and, but for a function, its base name. The result is as old as the piece.
+    /// Returns a plain piece as a declarator of this kind, with no group. Its `after` begins at the byte `at` of its
+    /// text. The flags stay, and so does the base name unless the kind is a function. The result is as old as the
+    /// piece.
     #[inline(always)]
     pub fn declare(&self, piece: Piece, kind: Kind, at: usize) -> Piece
         requires living { IsLiving self.now piece }
@@ -595,8 +602,9 @@ impl Buffer {
         piece.declared(kind, None, at)
     }
 
-    /// As `declare`, with a group: its `(` stands at the byte `from` of its text, where `before`
-    /// ends, and its `)` right before the byte `at`. The result is as old as the piece.
+    /// Returns a plain piece as a declarator with a group, as `declare` does without one. The group's `(` is the byte
+    /// `from` of the text, where `before` ends. Its `)` is right before the byte `at`. The result is as old as the
+    /// piece.
     #[inline(always)]
     pub fn declare_group(&self, piece: Piece, kind: Kind, from: usize, at: usize) -> Piece
         requires living { IsLiving self.now piece }

@@ -1,4 +1,4 @@
-//! The list of saved shapes, and the list of scopes.
+//! The substitution table, which is the list of saved shapes, and the list of scopes.
 ghost use Rattle.std.specs.Prelude.{◌≡◌, ◌+◌, ◌-◌, ◌^◌, ◌<◌, ◌≤◌, [], ◌∷◌, ◌++◌, length, take, OnOk, OnErr};
 ghost use Rattle.std.specs.Prelude.{IfSome, option_map, slice_get};
 
@@ -23,7 +23,7 @@ impl Buffer {
     ghost use Rattle.demangle_text.specs.State.{IsLiving, shape, saved, scopes, KeepsAll, SameFrame, last_args};
     ghost use Rattle.demangle_text.specs.State.{with_arg, main_bytes};
 
-    /// Adds the shape of the piece to the end of the saved ones. After `AllocError` all is as it was.
+    /// Appends the shape of the piece to the substitution table. After `AllocError` nothing has changed.
     #[inline(always)]
     pub fn save(&mut self, piece: Piece) -> Result<(), AllocError>
         requires living { IsLiving self.old piece }
@@ -36,7 +36,7 @@ impl Buffer {
         self.save_in_place(&piece)
     }
 
-    /// As `save`, of a piece that stays where it is kept.
+    /// Appends a piece to the substitution table as `save` does, and takes it by reference.
     #[inline(always)]
     pub fn save_in_place(&mut self, piece: &Piece) -> Result<(), AllocError>
         requires living { IsLiving self.old piece.now }
@@ -50,7 +50,7 @@ impl Buffer {
         Ok(())
     }
 
-    /// Takes the last saved shape out.
+    /// Removes the last entry of the substitution table.
     #[inline(always)]
     pub fn unsave(&mut self)
         requires some { 0 < length (saved self.old) }
@@ -63,7 +63,8 @@ impl Buffer {
         self.lists.saved.truncate(last);
     }
 
-    /// A piece of the saved shape with this index, from 0, or `None` past the last one.
+    /// Returns a piece of the entry of the substitution table with the index `i`, from 0 on, or `None` past the last
+    /// one.
     #[inline(always)]
     pub fn saved(&self, i: usize) -> Option<Piece>
         ensures shape { option_map (shape self.now) result ≡ slice_get (saved self.now) i }
@@ -72,7 +73,7 @@ impl Buffer {
         self.lists.saved.get(i)
     }
 
-    /// How many shapes are saved.
+    /// Returns the length of the substitution table.
     #[inline(always)]
     pub fn saved_len(&self) -> usize
         ensures value { result ≡ length (saved self.now) }
@@ -81,7 +82,7 @@ impl Buffer {
         self.lists.saved.len()
     }
 
-    /// Opens a scope, which is the last one then and has no argument. After `AllocError` all is as it was.
+    /// Opens a scope without arguments, which becomes the last one. After `AllocError` nothing has changed.
     pub fn open_scope(&mut self) -> Result<(), AllocError>
         ensures scopes { OnOk result (scopes self.new ≡ scopes self.old ++ [] ∷ []) }
         ensures saved { saved self.new ≡ saved self.old }
@@ -94,7 +95,7 @@ impl Buffer {
         Ok(())
     }
 
-    /// Adds the shape of the piece to the end of the last scope. After `AllocError` all is as it was.
+    /// Appends the shape of the piece to the arguments of the last scope. After `AllocError` nothing has changed.
     #[inline(always)]
     pub fn push_arg(&mut self, piece: Piece) -> Result<(), AllocError>
         requires living { IsLiving self.old piece }
@@ -109,8 +110,8 @@ impl Buffer {
         Ok(())
     }
 
-    /// A piece of the argument of the last scope with this index, from 0. `None` past the last
-    /// argument, and where no scope is open.
+    /// Returns a piece of the argument of the last scope with the index `i`, from 0 on. Returns `None` past the last
+    /// argument, and if no scope is open.
     #[inline(always)]
     pub fn arg(&self, i: usize) -> Option<Piece>
         ensures shape { option_map (shape self.now) result ≡ slice_get (last_args (scopes self.now)) i }
@@ -129,7 +130,7 @@ impl Buffer {
         }
     }
 
-    /// How many scopes are open.
+    /// Returns how many scopes are open.
     #[inline(always)]
     pub fn scopes(&self) -> usize
         ensures value { result ≡ length (scopes self.now) }

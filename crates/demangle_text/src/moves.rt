@@ -7,7 +7,8 @@ use crate::shape::Piece;
 use growing_text::Text;
 use std::alloc::AllocError;
 
-// The saved pieces, the arguments of all scopes, and the spill, which has the texts of them that a move would tear.
+// The saved pieces, the arguments of all scopes, and the spill. The spill has those of their texts that a move would
+// tear.
 #[derive(Drop)]
 pub(crate) struct Lists {
     pub(crate) spill: Text,
@@ -30,7 +31,8 @@ impl Lists {
     }
 }
 
-// Whether a kept piece would be torn by a move of the block.
+// Returns whether a move of the block would tear a kept piece. Such a piece is in the output, and neither ends by
+// `block.low` nor is wholly inside the block.
 fn is_torn(piece: Piece, block: Block) -> bool
     ensures torn { result ≡ true → piece.spilled ≡ false }
     ensures apart { result ≡ false → IsApart block.low block.from block.end piece }
@@ -40,7 +42,7 @@ fn is_torn(piece: Piece, block: Block) -> bool
         && (piece.from_byte < block.from || block.end < piece.to_byte)
 }
 
-// How many bytes the pieces of a list have that would be torn.
+// Returns the total length in bytes of the pieces of a list that a move of the block would tear.
 pub(crate) fn torn_len(pieces: &Ranges, block: Block) -> usize
     requires ordered { All (λ p. p.from_byte ≤ p.to_byte) pieces.now }
 {
@@ -54,8 +56,8 @@ pub(crate) fn torn_len(pieces: &Ranges, block: Block) -> usize
     n
 }
 
-// Spills the texts of all pieces of a list that would be torn: none of them lies before the first that a move can
-// reach.
+// Spills the texts of all pieces of a list that a move of the block would tear. The search begins at the first piece
+// that the move can reach.
 #[inline(always)]
 fn evict(
     output: &[u8],

@@ -1,4 +1,4 @@
-//! Texts of pieces, put at the end of the output.
+//! Puts the texts of pieces at the end of the output.
 ghost use Rattle.std.specs.Prelude.{◌≡◌, ◌≤◌, ◌++◌, length, take, slice_range, IfOk, OnOk, OnErr};
 ghost use Rattle.demangle_text.specs.Pieces.{home_bytes, IsBrought};
 
@@ -6,7 +6,7 @@ use crate::shape::Piece;
 use growing_text::Text;
 use std::alloc::AllocError;
 
-// Copies a part of the output or of the spill to the end of the output.
+// Appends a copy of a part of the output, or of the spill if `spilled` is true, to the output.
 #[inline(always)]
 pub(crate) fn add_text(
     output: &mut Text,
@@ -28,7 +28,7 @@ pub(crate) fn add_text(
     }
 }
 
-// Takes back what was added after the first bytes if that failed.
+// Cuts the output to its first `len` bytes if `added` is an error, and returns `added`.
 #[inline(always)]
 pub(crate) fn taken_back(
     output: &mut Text,
@@ -49,8 +49,8 @@ pub(crate) fn taken_back(
     }
 }
 
-// Brings the text of a piece to the end of the output, and returns where it begins: it is copied there unless it ends
-// the output already, from the mark's byte on.
+// Brings the text of a piece to the end of the output, and returns where it begins there. The text is copied, unless
+// it ends the output already and begins at the mark's byte or later.
 #[inline(always)]
 pub(crate) fn at_end(
     output: &mut Text,

@@ -8,10 +8,10 @@ use crate::shape::Piece;
 use std::alloc::{AllocError, Global};
 use std::marker::Model;
 
-// How many pieces the first memory holds.
+// The number of pieces for which the first allocation has capacity.
 const FIRST_ROOM: usize = 16;
 
-// A piece, with a byte of the output by which it ends, and all that were kept before it.
+// A piece and its reach: a byte of the output by which this piece and all that were kept before it end.
 #[derive(Clone, Copy)]
 pub(crate) struct Kept {
     piece: Piece,
@@ -24,7 +24,7 @@ pub(crate) struct Ranges {
     count: usize,
 }
 
-// A block of the output that goes elsewhere. What ends by `low` stays.
+// A block of the output that is moved, from the byte `from` up to `end`. What ends by the byte `low` stays.
 #[derive(Clone, Copy)]
 pub(crate) struct Block {
     pub(crate) low: usize,
@@ -63,7 +63,7 @@ impl Ranges {
         self.count
     }
 
-    // A byte of the output by which the first n pieces end.
+    // Returns a byte of the output by which the first n pieces end.
     #[inline(always)]
     fn reach(&self, n: usize) -> usize
         requires within { n ≤ length self.now }
@@ -73,7 +73,7 @@ impl Ranges {
         if n == 0 { 0 } else { self.kept[n - 1].reach }
     }
 
-    // How many of the first pieces a move of what lies after a byte of the output leaves where they are.
+    // Returns how many of the first pieces stay where they are if all after the byte `low` of the output is moved.
     #[inline(always)]
     pub(crate) fn count_by(&self, low: usize) -> usize
         ensures within { result ≤ length self.now }
@@ -86,7 +86,7 @@ impl Ranges {
         n
     }
 
-    // The first n pieces are kept.
+    // Keeps the first n pieces.
     #[inline(always)]
     pub(crate) fn truncate(&mut self, n: usize)
         requires within { n ≤ length self.old }
@@ -114,7 +114,7 @@ impl Ranges {
         }
     }
 
-    // A piece in the place of one. It ends by each byte by which that one ends.
+    // Replaces the piece with the index `i`. The new piece ends by each byte by which the old one ends.
     pub(crate) fn set(&mut self, i: usize, piece: Piece)
         requires within { i < length self.old }
         requires ends { (end : ℕ) → HoldsAt (EndsBy end) self.old i → EndsBy end piece }
@@ -123,7 +123,7 @@ impl Ranges {
         self.kept[i].piece = piece;
     }
 
-    // A piece at the end. All end by a byte of the output.
+    // Appends a piece. All pieces must end by the byte `end` of the output.
     #[inline(always)]
     pub(crate) fn push(&mut self, piece: &Piece, end: usize) -> Result<(), AllocError>
         requires ends { All (EndsBy end) self.old }
@@ -143,7 +143,7 @@ impl Ranges {
         Ok(())
     }
 
-    // Carries the pieces that lie in a block that is moved.
+    // Moves the pieces that lie in a block along, when the block is moved to `dest`.
     #[inline(always)]
     pub(crate) fn carry(&mut self, block: Block, dest: usize)
         requires ordered { All (λ p. p.from_byte ≤ p.to_byte) self.old }
@@ -161,7 +161,7 @@ impl Ranges {
     }
 }
 
-// Carries the pieces from the first that a move can reach, and says anew by what they end.
+// Moves the pieces from `first` on along with the block, and computes their reaches anew.
 fn carry_each(
     kept: &mut Vec<Kept>,
     first: usize,
@@ -192,7 +192,7 @@ fn carry_each(
     }
 }
 
-// A kept piece after the block was moved.
+// Returns a kept piece after the block was moved to `dest`.
 fn carry_alone(piece: Piece, block: Block, dest: usize) -> Piece
     requires ordered { piece.from_byte ≤ piece.to_byte }
     requires block { block.from ≤ block.end }
@@ -210,7 +210,7 @@ fn carry_alone(piece: Piece, block: Block, dest: usize) -> Piece
     }
 }
 
-// A longer list, filled up with pieces of no bytes.
+// Grows the list, and fills it up with pieces of no bytes.
 #[cold]
 #[inline(never)]
 fn more(kept: &mut Vec<Kept>) -> Result<(), AllocError>

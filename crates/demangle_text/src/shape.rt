@@ -1,4 +1,4 @@
-//! Pieces: where their texts lie, how these are cut into the parts of a shape, and where the base name lies.
+//! Pieces: where their texts are, how these are cut into the parts of a shape, and where the base name is.
 ghost use Rattle.std.specs.Prelude.{◌≡◌, ◌+◌, ◌-◌, ◌^◌, ◌<◌, ◌≤◌, true};
 ghost use Rattle.demangle_text.specs.Pieces.{place_at, layout_with, layout_end, own_at, own_of};
 ghost use Rattle.demangle_text.specs.Pieces.{whole_outline, outline_of, IsAt, IsTailAt, Layout};
@@ -20,7 +20,7 @@ pub enum Place {
     Start,
     /// At the end of the group.
     Close,
-    /// At the end of `before`, of a declarator that has no group.
+    /// At the end of `before`, for a declarator without a group.
     Suffix,
     /// At the end of the text.
     End,
@@ -29,38 +29,38 @@ pub enum Place {
 /// A value that stands for a shape in a buffer, from the call of the buffer that returns it.
 #[derive(Clone, Copy)]
 pub struct Piece {
-    // The bytes of the output or of the spill where its text lies.
+    // The range of the text in the output or in the spill, in bytes.
     pub(crate) from_byte: usize,
     pub(crate) to_byte: usize,
-    // The other places are bytes of its own text. These are the base name's.
+    // The range of the base name. This and the further places count from the start of the piece's text.
     pub(crate) own_start: usize,
     pub(crate) own_end: usize,
-    // Of a declarator: where the `(` of its group stands, if it is grouped, and where `after` begins.
+    // For a declarator: the place of the `(` of its group, if it is grouped, and the place where `after` begins.
     pub(crate) group_start: usize,
     pub(crate) after_start: usize,
-    // What it declares; `None` for a plain shape.
+    // What the piece declares, or `None` for a plain shape.
     pub(crate) kind: Option<Kind>,
     // Whether a declarator has a group.
     pub(crate) grouped: bool,
-    // Whether its text is spilled.
+    // Whether the text is in the spill.
     pub(crate) spilled: bool,
     // Whether the shape ends in template arguments.
     pub(crate) templ: bool,
-    // Whether it names a constructor, a destructor or a conversion.
+    // Whether the shape names a constructor, a destructor or a conversion.
     pub(crate) ctor: bool,
 }
 
-/// What `open` hands out, and `close` takes back.
+/// A place in the output that `open` returns and `close` takes back.
 #[derive(Drop)]
 pub struct Mark {
-    // How long the output was at the mark, and at the one outside it.
+    // The length of the output at this mark, and at the mark outside it, in bytes.
     pub(crate) inside_main: usize,
     pub(crate) outside_main: usize,
     ghost main_nested: { outside_main ≤ inside_main },
 }
 
 impl Piece {
-    // A plain piece of the output, all of which is its base name.
+    // Returns a plain piece of these bytes of the output. Its base name is the whole text.
     #[inline(always)]
     pub(crate) fn whole_at(from: usize, to: usize) -> Piece
         requires ordered { from ≤ to }
@@ -82,7 +82,7 @@ impl Piece {
         }
     }
 
-    // How many bytes its text has.
+    // Returns the length of the text in bytes.
     #[inline(always)]
     pub(crate) fn text_len(self) -> usize
         requires ordered { self.from_byte ≤ self.to_byte }
@@ -91,7 +91,7 @@ impl Piece {
         self.to_byte - self.from_byte
     }
 
-    // Whether it ends the output, which has `end` bytes, and begins at the mark's byte or later.
+    // Returns whether the piece ends the output, which has `end` bytes, and begins at the mark's byte or later.
     #[inline(always)]
     pub(crate) fn is_tail(self, mark: usize, end: usize) -> bool
         ensures tail { result ≡ true → IsTailAt mark end self }
@@ -100,7 +100,7 @@ impl Piece {
         !self.spilled && mark <= self.from_byte && self.to_byte == end
     }
 
-    // Where a place lies in its text.
+    // Returns the byte of the text at which a place is.
     #[inline(always)]
     pub(crate) fn place(self, place: Place) -> usize
         requires ordered { self.from_byte ≤ self.to_byte }
@@ -121,8 +121,8 @@ impl Piece {
         }
     }
 
-    // The piece after n bytes were inserted at a place, which was the byte `at` of its text, when its text lies at
-    // these bytes of the output.
+    // Returns the piece after n bytes were inserted at a place, which was the byte `at` of its text. The new text is
+    // at these bytes of the output.
     #[inline(always)]
     pub(crate) fn with_bytes(
         self,
@@ -166,8 +166,8 @@ impl Piece {
         longer
     }
 
-    // The piece after n bytes were put at the end of its text, when that lies at these bytes of the output: a base name
-    // of no bytes at the end moves on.
+    // Returns the piece after n bytes were appended to its text. The new text is at these bytes of the output. A base
+    // name of no bytes at the end of the text moves on.
     #[inline(always)]
     pub(crate) fn extended(self, n: usize, from: usize, to: usize) -> Piece
         requires text { from ≤ to }
@@ -196,7 +196,7 @@ impl Piece {
         longer
     }
 
-    // The text as a declarator.
+    // Returns the piece as a declarator.
     #[inline(always)]
     pub(crate) fn declared(self, kind: Kind, group: Option<usize>, at: usize) -> Piece
         requires ordered { self.from_byte ≤ self.to_byte }

@@ -1,5 +1,5 @@
-//! Edits of the output that the calls of a buffer are made of: a text is brought to the end and changed there, texts
-//! are joined, and a text is kept alone.
+//! Edits of the output from which the calls of a buffer are made. They bring a text to the end and change it there,
+//! join texts, and keep one text alone.
 ghost use Rattle.std.specs.Prelude.{◌≡◌, ◌+◌, ◌-◌, ◌^◌, ◌<◌, ◌≤◌, ◌++◌, length, take, drop, slice_range, IfOk, OnOk, OnErr, true};
 
 use crate::buffer::Buffer;
@@ -27,7 +27,7 @@ impl Buffer {
     ghost use Rattle.demangle_text.specs.Gaps.{IsGap, IsOpen};
     ghost use Rattle.demangle_text.specs.Pieces.{IsSplice, IsAdjacent, IsAt, EndsBy, outline_of, piece_text, home_bytes};
 
-    // The text of a piece becomes all of the output since the innermost mark.
+    // Makes the text of a piece all of the output since the innermost mark.
     #[inline(always)]
     pub(crate) fn keep_only(&mut self, at: usize, piece: &mut Piece) -> Result<(), AllocError>
         requires mark { self.old.frame_main ≡ at }
@@ -50,8 +50,9 @@ impl Buffer {
         Ok(())
     }
 
-    // A part of the output or of the spill becomes all of the output since the innermost mark. It moves down to the
-    // mark, from the end if it was copied there, and all else since the mark goes.
+    // Makes a part of the output or of the spill all of the output since the innermost mark. A part in the spill, or
+    // before the mark, is copied to the end first. Then the part moves down to the mark, and all else since the mark
+    // goes.
     #[cold]
     fn move_down(
         &mut self,
@@ -90,7 +91,7 @@ impl Buffer {
         Ok(())
     }
 
-    // Bytes at a place of the output since the innermost mark: what lies after it moves on.
+    // Inserts bytes at a place of the output, at the innermost mark or later. What is after the place moves on.
     #[inline(always)]
     pub(crate) fn insert_at(&mut self, at: usize, bytes: &[u8]) -> Result<(), AllocError>
         requires inner { self.old.frame_main ≤ at }
@@ -109,7 +110,8 @@ impl Buffer {
         Ok(())
     }
 
-    // Opens a gap of n spare bytes at a place of the output since the innermost mark: what lies after it moves on.
+    // Opens a gap of n spare bytes at a place of the output, at the innermost mark or later. What is after the place
+    // moves on.
     #[inline(never)]
     fn open_gap(&mut self, at: usize, n: usize) -> Result<(), AllocError>
         requires inner { self.old.frame_main ≤ at }
@@ -137,8 +139,8 @@ impl Buffer {
         Ok(())
     }
 
-    // The text of a piece with a gap of n bytes at a place of it, at the end of the output, to be put over: where it
-    // begins.
+    // Brings the text of a piece to the end of the output, with a gap of n bytes at a place of the text. The caller
+    // overwrites the gap. Returns where the text begins.
     pub(crate) fn open_in(&mut self, piece: Piece, at: usize, n: usize) -> Result<usize, AllocError>
         requires living { IsLiving self.old piece }
         requires within { at ≤ piece.to_byte - piece.from_byte }
@@ -165,7 +167,7 @@ impl Buffer {
         Ok(from)
     }
 
-    // The text of a piece with bytes after it, at the end of the output: where it begins.
+    // Brings the text of a piece to the end of the output and appends the bytes. Returns where the text begins.
     #[inline(always)]
     pub(crate) fn extend(&mut self, piece: Piece, bytes: &[u8]) -> Result<usize, AllocError>
         requires living { IsLiving self.old piece }
@@ -181,7 +183,8 @@ impl Buffer {
         Ok(from)
     }
 
-    // The text of a piece with bytes and the text of another piece after it, at the end of the output: where it begins.
+    // Brings the text of a piece to the end of the output and appends the bytes and the text of another piece. Returns
+    // where the text begins.
     #[inline(always)]
     pub(crate) fn extend_by(
         &mut self,
@@ -212,8 +215,8 @@ impl Buffer {
         Ok(from)
     }
 
-    // The text of a piece and bytes at a place of the output since the innermost mark, by which the piece ends if it
-    // lies there: what lies after the place moves on.
+    // Inserts the text of a piece and the bytes at a place of the output, at the innermost mark or later. What is
+    // after the place moves on. If the piece is in the output, it ends by that place.
     pub(crate) fn insert_piece(
         &mut self,
         at: usize,
@@ -245,8 +248,8 @@ impl Buffer {
         Ok(())
     }
 
-    // Whether the second piece begins where the first ends, and both stand up to the end of the output, from the
-    // innermost mark or later.
+    // Returns whether the second piece begins where the first ends, the second ends the output, and the first begins
+    // at the innermost mark or later.
     #[inline(always)]
     pub(crate) fn are_adjacent(&self, first: Piece, second: Piece) -> bool
         ensures adjacent { result ≡ true → IsAdjacent self.now first second }

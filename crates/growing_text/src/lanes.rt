@@ -1,9 +1,9 @@
-//! Copies of short texts, by lanes that may overlap.
+//! Copies short texts, by lanes that may overlap.
 ghost use Rattle.std.specs.Prelude.{◌≡◌, ◌+◌, ◌≤◌, ◌<◌, [], ◌∷◌, ◌++◌, false, length, IsTrue};
 
 use std::simd::prelude::*;
 
-// The text in spare bytes of its length: up to 64 bytes by lanes.
+// Copies the text into spare bytes of the same length. A text of up to 64 bytes is copied by lanes.
 #[inline(always)]
 pub(crate) fn copy_text(room: &mut [u8], text: &[u8])
     requires same { length room.old ≡ length text.now }
@@ -27,7 +27,7 @@ pub(crate) fn copy_text(room: &mut [u8], text: &[u8])
     }
 }
 
-// The first N bytes and the last N, which may overlap.
+// Copies the first N bytes and the last N bytes, which may overlap.
 #[inline(always)]
 fn by_lanes<const N: usize>(room: &mut [u8], text: &[u8])
     requires same { length room.old ≡ length text.now }

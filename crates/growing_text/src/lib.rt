@@ -1,10 +1,10 @@
 //! A text that grows: the first bytes of a vector that is as long as what is reserved.
 //!
-//! Bytes are put at its end, or at a place of it, and then what lies after that place moves on. Short texts are copied
-//! by their first lane and their last one, which may overlap, so that no loop is needed.
+//! Bytes are appended, or inserted at a place; then what is after that place moves on. Short texts are copied by their
+//! first lane and their last one, which may overlap, so that no loop is needed.
 //!
-//! It stands on std alone, and knows nothing of symbols. `demangle_text` keeps its output and its spill in such texts,
-//! and `symfilter_engine` its input. Begin with the type `Text` in `text.rt`; `lanes.rt` is the copying.
+//! The crate uses std alone, and knows nothing of symbols. `demangle_text` keeps its output and its spill in such
+//! texts, and `symfilter_engine` its output. Begin with the type `Text` in `text.rt`. `lanes.rt` copies short texts.
 #![tactic(auto)]
 
 mod lanes;

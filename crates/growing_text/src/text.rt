@@ -7,12 +7,12 @@ use crate::lanes::copy_text;
 use std::alloc::{AllocError, Global};
 use std::marker::Model;
 
-// The least that is reserved, in bytes.
+// The least capacity that is reserved, in bytes.
 const FIRST_ROOM: usize = 64;
 
-/// A text that grows: the front of a vector that is as long as what is reserved, which stays reserved until the text
-/// is dropped. Places and lengths are counted in bytes. A call that returns a `Result` fails if an allocation fails,
-/// and then the text is as it was.
+/// A text that grows: the front of a vector that is as long as what is reserved. Reserved memory stays until the text
+/// is dropped. Places and lengths are in bytes. A method that returns a `Result` fails if an allocation fails, and
+/// then the text is as it was.
 #[derive(Drop)]
 pub struct Text {
     bytes: Vec<u8>,
@@ -28,7 +28,7 @@ impl Model for Text {
 }
 
 impl Text {
-    /// A text of no bytes. It takes no memory.
+    /// Returns an empty text. Allocates nothing.
     pub fn new(alloc: Global) -> Self
         ensures empty { result ≡ [] }
     {
@@ -38,7 +38,7 @@ impl Text {
         }
     }
 
-    /// How many bytes it has.
+    /// Returns the length in bytes.
     #[inline(always)]
     pub fn len(&self) -> usize
         ensures value { result ≡ length self.now }
@@ -46,7 +46,7 @@ impl Text {
         self.len
     }
 
-    /// Takes all bytes away.
+    /// Removes all bytes. The capacity stays.
     #[inline(always)]
     pub fn clear(&mut self)
         ensures empty { self.new ≡ [] }
@@ -54,7 +54,7 @@ impl Text {
         self.len = 0;
     }
 
-    /// Keeps the first n bytes, and takes the others away.
+    /// Keeps the first n bytes, and removes the others.
     #[inline(always)]
     pub fn truncate(&mut self, n: usize)
         requires within { n ≤ length self.old }
@@ -63,7 +63,7 @@ impl Text {
         self.len = n;
     }
 
-    /// Reserves n more bytes at the end. The text stays as it is.
+    /// Reserves capacity for n more bytes. The text stays as it is.
     #[inline(always)]
     pub fn reserve(&mut self, n: usize) -> Result<(), AllocError>
         ensures same { self.new ≡ self.old }
@@ -72,7 +72,7 @@ impl Text {
         make_room(&mut self.bytes, end, n)
     }
 
-    /// Its bytes.
+    /// Returns the bytes.
     #[inline(always)]
     pub fn as_slice(&self) -> &[u8]
         ensures value { result.now ≡ self.now }
@@ -80,7 +80,7 @@ impl Text {
         &self.bytes[..self.len]
     }
 
-    /// The bytes from one place up to another.
+    /// Returns the bytes from one place up to another.
     #[inline(always)]
     pub fn part(&self, from: usize, to: usize) -> &[u8]
         requires ordered { from ≤ to }
@@ -90,7 +90,7 @@ impl Text {
         &self.bytes[from..to]
     }
 
-    /// Puts bytes at the end.
+    /// Appends bytes.
     #[inline(always)]
     pub fn add(&mut self, bytes: &[u8]) -> Result<(), AllocError>
         ensures ok { OnOk result (self.new ≡ self.old ++ bytes.now) }
@@ -103,7 +103,7 @@ impl Text {
         Ok(())
     }
 
-    /// Puts two texts at the end, one after the other.
+    /// Appends two texts, one after the other.
     #[inline(always)]
     pub fn add_pair(&mut self, first: &[u8], second: &[u8]) -> Result<(), AllocError>
         ensures ok { OnOk result (self.new ≡ self.old ++ (first.now ++ second.now)) }
@@ -120,7 +120,7 @@ impl Text {
         Ok(())
     }
 
-    /// Puts a part of the text once more at the end.
+    /// Appends a copy of a part of the text.
     #[inline(always)]
     pub fn repeat(&mut self, from: usize, to: usize) -> Result<(), AllocError>
         requires ordered { from ≤ to }
@@ -136,7 +136,8 @@ impl Text {
         Ok(())
     }
 
-    /// Puts n bytes at a place, which are to be put over: nothing is said of them. What lies after the place moves on.
+    /// Inserts n spare bytes at a place, of unspecified values. What is after the place moves on. The caller
+    /// overwrites the bytes.
     #[inline(always)]
     pub fn open_room(&mut self, at: usize, n: usize) -> Result<(), AllocError>
         requires within { at ≤ length self.old }
@@ -150,7 +151,7 @@ impl Text {
         Ok(())
     }
 
-    /// Puts bytes at a place, over those that stood there, and returns where they end.
+    /// Overwrites the bytes at a place, and returns the place after them.
     #[inline(always)]
     pub fn put(&mut self, at: usize, bytes: &[u8]) -> usize
         requires within { at + length bytes.now ≤ length self.old }
@@ -161,7 +162,8 @@ impl Text {
         at + bytes.len()
     }
 
-    /// Puts a part of the text at a place after it, over the bytes that stood there, and returns where it ends.
+    /// Overwrites the bytes at a place with a copy of an earlier part of the text, and returns the place after the
+    /// copy.
     #[inline(always)]
     pub fn put_part(&mut self, at: usize, from: usize, to: usize) -> usize
         requires ordered { from ≤ to }
@@ -177,7 +179,8 @@ impl Text {
         at + n
     }
 
-    /// Moves a part of the text down to a place, and takes away what stood between them and after the part.
+    /// Moves a part of the text down to a place. Removes what was between that place and the part, and what was after
+    /// the part.
     pub fn keep(&mut self, at: usize, from: usize, to: usize)
         requires before { at ≤ from }
         requires ordered { from ≤ to }
@@ -189,7 +192,7 @@ impl Text {
     }
 }
 
-// Reserves n more bytes after the first ones.
+// Makes sure that there is capacity for n more bytes after the first `len`.
 #[inline(always)]
 fn make_room(bytes: &mut Vec<u8>, len: usize, n: usize) -> Result<(), AllocError>
     requires within { len ≤ length bytes.old.items }
@@ -203,7 +206,7 @@ fn make_room(bytes: &mut Vec<u8>, len: usize, n: usize) -> Result<(), AllocError
     Ok(())
 }
 
-// Reserves bytes that aren't there yet.
+// Reserves capacity for n more bytes after the first `len`.
 #[cold]
 #[inline(never)]
 fn grow(bytes: &mut Vec<u8>, len: usize, n: usize) -> Result<(), AllocError>
