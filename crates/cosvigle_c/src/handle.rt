@@ -11,8 +11,9 @@ use std::alloc::Global;
 use std::marker::{Model, Send};
 use std::ptr::null_mut;
 
-/// What is kept in a box, or nothing. To C it is a struct of one pointer, which is null where there is none: a `Global`
-/// takes no bytes. The pointer is one to bytes, since no export takes one to a type that holds a `Vec`.
+/// A `Kept` in a box, or nothing. To C a handle is a struct of one pointer, which is null if there is nothing; a
+/// `Global` has no bytes. The pointer is one to bytes, since no exported function takes a pointer to a type that holds
+/// a `Vec`.
 #[repr(C)]
 pub struct Handle {
     at: *mut u8,
@@ -25,11 +26,11 @@ impl Model for Handle {
     ghost also_owns = { λ handle. holds (ghosts.dealloc_token handle.alloc) the_row handle.at handle.kept };
 }
 
-/// It may be handed to another thread: what is kept may, and any thread may free the box.
+/// A handle may be moved to another thread: a `Kept` may, and any thread may free the box.
 unsafe impl Send for Handle {}
 
 impl Handle {
-    /// Nothing is kept.
+    /// Returns a handle that keeps nothing.
     pub fn none(alloc: Global) -> Handle
         ensures kept { result.kept ≡ None }
     {
@@ -62,14 +63,14 @@ impl Handle {
         })
     }
 
-    /// Holds what a box has.
+    /// Returns a handle that keeps what the box has.
     pub fn of(boxed: Box<Kept>) -> Handle
         ensures kept { result.kept ≡ Some boxed.value }
     {
         Handle::of_loose(Loose::of(boxed))
     }
 
-    /// The box of what is kept, if anything is.
+    /// Returns the box of what the handle keeps, or `None` if it keeps nothing.
     pub fn into_box(self) -> Option<Box<Kept>>
         ensures kept { option_map (λ boxed. boxed.value) result ≡ self.kept }
     {

@@ -8,7 +8,7 @@ use itanium_demangle::Demangler;
 use std::alloc::{AllocError, Global};
 use symfilter_engine::Printing;
 
-/// A demangler, and a text that was made and is still to be taken. The text is empty where there is none.
+/// A demangler, and a text that was made and that the caller has yet to take. The text is empty if there is none.
 #[derive(Drop)]
 pub struct Kept {
     pub demangler: Demangler,
@@ -16,7 +16,7 @@ pub struct Kept {
 }
 
 impl Kept {
-    /// A new demangler, and no text. It takes no memory.
+    /// Returns a new demangler, and no text. Allocates nothing.
     pub fn new(alloc: Global) -> Kept
         ensures demangler { result.demangler ≡ no_run }
         ensures text { result.text.items ≡ [] }
@@ -27,7 +27,8 @@ impl Kept {
         }
     }
 
-    /// Reads a symbol, as a name or as a signature. The demangler keeps what it is asked for.
+    /// Reads a symbol as a name or as a signature. The demangler keeps the result. Returns an error if an allocation
+    /// fails.
     pub fn read(
         &mut self,
         alloc: Global,

@@ -1,11 +1,11 @@
-//! What C, C++, Rust and Python call: the demangler, the filter and the replacement. The caller provides the memory.
-//! `include/cosvigle.h` declares it.
+//! The functions that C, C++, Rust and Python call: the demangler, the filter and the replacement. The caller provides
+//! the memory. `include/cosvigle.h` declares the functions.
 //!
-//! Every call but `cosvigle_free` and `cosvigle_version` returns a status: 0 if all is done, 1 if there is no
+//! Every function but `cosvigle_free` and `cosvigle_version` returns a status: 0 if all is done, 1 if there is no
 //! demangled name, 2 if an allocation failed, 3 if the capacity is too small, 4 if the symbol isn't UTF-8.
 //!
-//! It stands on `itanium_demangle` and `symfilter_engine`. Begin with `cosvigle_ask` below. `texts.rt` has the calls
-//! for whole texts, and `handle.rt` keeps a demangler from one call to the next.
+//! `itanium_demangle` and `symfilter_engine` do the work. Begin with `cosvigle_ask` below. `texts.rt` has the
+//! functions for whole texts, and `handle.rt` keeps a demangler from one call to the next.
 #![tactic(auto)]
 
 ghost use Rattle.std.specs.Prelude.{◌≡◌, ◌≢◌, ◌↔◌, [], pos, Some, None};
@@ -31,8 +31,8 @@ use std::mem::replace;
 use std::str::from_utf8_unchecked;
 use symfilter_engine::Printing;
 
-/// The version of the library, 0.1.0: the major version times 1,000,000, the minor times 1,000, and the patch, added
-/// up.
+/// Returns the version of the library, 0.1.0, as a number: 1,000,000 times the major version, plus 1,000 times the
+/// minor version, plus the patch.
 #[unsafe(no_mangle)]
 pub extern "C" fn cosvigle_version() -> u32
     ensures value { result ≡ 1000 }
@@ -40,7 +40,7 @@ pub extern "C" fn cosvigle_version() -> u32
     1000
 }
 
-/// Writes what is asked of a symbol, its demangled name or its signature, as `cosvigle_ask` says.
+/// Writes the demangled name or the signature of a symbol, as `cosvigle_ask` says.
 fn ask(
     alloc: Global,
     handle: &mut Handle,
@@ -84,13 +84,17 @@ fn ask(
     status
 }
 
-/// Writes the demangled name of a symbol at the front of `answer`, and returns 0, with its length in bytes in `needed`.
-/// The bytes after it stay. 1 if the symbol has no demangled name, 2 if an allocation fails, 3 if the name is longer
-/// than the capacity, with its length in `needed`, 4 if the symbol isn't UTF-8. With these nothing is written, and but
-/// for 3 `needed` is 0. The name is that of `Demangler::demangle` (Itanium C++ ABI 5.1.2).
+/// Writes the demangled name of a symbol at the front of `answer`, and its length in bytes to `needed`. The name is
+/// the one that `Demangler::demangle` returns (Itanium C++ ABI 5.1.2). The bytes of `answer` after the name stay as
+/// they are.
 ///
-/// The handle's demangler reads the symbol, and keeps its memory for the next one, or a new one if the handle has none.
-/// The handle has one afterwards; with 2 or 4 one that had none may have none. A text that it keeps stays.
+/// Returns 0 if the name is written, 1 if the symbol has no demangled name, 2 if an allocation fails, 3 if the name is
+/// longer than `answer`, and 4 if the symbol isn't UTF-8. If the status isn't 0, nothing is written to `answer`. With
+/// 3, `needed` is the length of the name. With 1, 2 and 4, `needed` is 0.
+///
+/// The symbol is read by the handle's demangler, or by a new one if the handle has none. The demangler keeps its
+/// memory for the next symbol, and the handle has a demangler afterwards. Only with 2 or 4 can a handle that had none
+/// still have none. A text that the handle keeps stays.
 #[unsafe(no_mangle)]
 pub extern "C" fn cosvigle_ask(
     alloc: Global,
@@ -114,9 +118,9 @@ pub extern "C" fn cosvigle_ask(
     ask(alloc, handle, Printing::Names, symbol, answer, needed)
 }
 
-/// Writes the signature of a symbol, that is its demangled name with its parameters, as `cosvigle_ask` writes the name,
-/// with the same statuses. Where it has no signature its demangled name is written. The text is that of
-/// `Demangler::demangle_signature`.
+/// Writes the signature of a symbol, which is its demangled name with its parameters. If the symbol has no signature,
+/// writes its demangled name. The text is the one that `Demangler::demangle_signature` returns. All else is as with
+/// `cosvigle_ask`, also the statuses.
 #[unsafe(no_mangle)]
 pub extern "C" fn cosvigle_ask_signature(
     alloc: Global,
@@ -140,8 +144,8 @@ pub extern "C" fn cosvigle_ask_signature(
     ask(alloc, handle, Printing::Signatures, symbol, answer, needed)
 }
 
-/// Writes the demangled name of a symbol at the front of `answer`, as `cosvigle_ask` does, with the same statuses and
-/// its length in bytes in `needed`. No memory is kept (Itanium C++ ABI 5.1.2).
+/// Writes the demangled name of a symbol at the front of `answer`, and its length in bytes to `needed`, with the
+/// statuses of `cosvigle_ask` (Itanium C++ ABI 5.1.2). No memory is kept after the call.
 #[unsafe(no_mangle)]
 pub extern "C" fn cosvigle_demangle(
     alloc: Global,
@@ -160,8 +164,8 @@ pub extern "C" fn cosvigle_demangle(
     cosvigle_ask(alloc, &mut Handle::none(alloc), symbol, answer, needed)
 }
 
-/// Gives the handle a new demangler, which keeps no text: 0, or 2 if an allocation fails, and then it has none. What it
-/// had is freed.
+/// Gives the handle a new demangler, and frees what the handle had. Afterwards the handle keeps no text. Returns 0, or
+/// 2 if an allocation fails; then the handle has no demangler.
 #[unsafe(no_mangle)]
 pub extern "C" fn cosvigle_new(alloc: Global, handle: &mut Handle) -> i32
     ensures status { result ≢ pos 0 → result ≡ pos 2 }
@@ -179,7 +183,7 @@ pub extern "C" fn cosvigle_new(alloc: Global, handle: &mut Handle) -> i32
     }
 }
 
-/// Frees what the handle has: it has no demangler and no text afterwards. If it had none, nothing is done.
+/// Frees what the handle has. Afterwards the handle has no demangler and no text. If it had none, nothing is done.
 #[unsafe(no_mangle)]
 pub extern "C" fn cosvigle_free(alloc: Global, handle: &mut Handle)
     ensures none { handle.new.kept ≡ None }

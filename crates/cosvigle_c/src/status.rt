@@ -1,6 +1,6 @@
-//! What a call returns, and how it writes a text.
+//! The statuses that a call returns, and how a call writes a text.
 //!
-//! The statuses are numbers, as C has them.
+//! The statuses are numbers, as in C.
 ghost use Rattle.std.specs.Prelude.{◌≡◌, ◌≢◌, pos};
 ghost use Rattle.cosvigle_c.specs.Room.{Fills, IsShort};
 
@@ -15,8 +15,8 @@ pub(crate) const NO_ROOM: i32 = 3;
 /// The symbol isn't UTF-8.
 pub(crate) const NOT_UTF8: i32 = 4;
 
-/// Writes the text at the front of the caller's memory, if it fits, and its length in bytes to `needed`. `WRITTEN`, or
-/// `NO_ROOM`.
+/// Writes the text at the front of the caller's memory if it fits, and its length in bytes to `needed` in any case.
+/// Returns `WRITTEN` or `NO_ROOM`.
 pub(crate) fn hand_out(text: &[u8], room: &mut [u8], needed: &mut usize) -> i32
     ensures status { result ≢ pos 0 → result ≡ pos 3 }
     ensures fills { result ≡ pos 0 → Fills text.now room.old room.new needed.new }

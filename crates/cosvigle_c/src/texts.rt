@@ -1,5 +1,5 @@
-//! The calls over whole texts: the filter, the replacement, and the text that a handle keeps where there was too little
-//! room for it.
+//! The functions for whole texts: the filter, the replacement, and the one that writes a text that a handle keeps
+//! because the capacity was too small.
 ghost use Rattle.std.specs.Prelude.{◌≡◌, ◌≢◌, ◌↔◌, [], pos, Some, None, IfOk, OnErr};
 ghost use Rattle.symfilter_engine.specs.declared.symbols.Printing.TheVariants.{Names};
 ghost use Rattle.symfilter_engine.specs.Filtered.{IsAnswered};
@@ -15,7 +15,7 @@ use std::alloc::{AllocError, Global};
 use std::mem;
 use symfilter_engine::{Failed, FilterFault, Printing, Replacement, Sink, Tally, filter, replace};
 
-/// A sink in memory, which fails where an allocation fails.
+/// A sink in memory. A call fails if an allocation fails.
 #[derive(Drop)]
 struct Gathered {
     text: Vec<u8>,
@@ -42,8 +42,8 @@ impl Sink for Gathered {
     }
 }
 
-/// The filtered text of a block of lines. A fault where an allocation fails: the source is memory, and the sink has no
-/// other.
+/// Returns the filtered text of a block of lines. A fault means that an allocation failed: neither the source nor the
+/// sink can fail in another way, since both are in memory.
 fn filtered(alloc: Global, lines: &[u8]) -> Result<Vec<u8>, FilterFault>
     ensures text { IfOk result (λ text. IsAnswered Names lines.now text.items) }
 {
@@ -56,7 +56,7 @@ fn filtered(alloc: Global, lines: &[u8]) -> Result<Vec<u8>, FilterFault>
     Ok(sink.text)
 }
 
-/// The replaced text of a text. A fault where an allocation fails.
+/// Returns a text with its symbols replaced. A fault means that an allocation failed.
 fn replaced(alloc: Global, strip: bool, bytes: &[u8]) -> Result<Vec<u8>, FilterFault>
     ensures text { IfOk result (λ text. IsReplaced (by_names strip) bytes.now text.items) }
 {
@@ -73,10 +73,12 @@ fn replaced(alloc: Global, strip: bool, bytes: &[u8]) -> Result<Vec<u8>, FilterF
     Ok(sink.text)
 }
 
-/// Writes the filtered text of a block of lines at the front of `into`: each line that is a symbol as its demangled
-/// name, and each other line as it is. Returns 0, with its length in bytes in `needed`; the bytes after it stay. 2 if
-/// an allocation fails, 3 if it is longer than the capacity, with its length in `needed`. With these nothing is
-/// written, and with 2 `needed` is 0. A line goes up to the next line feed or the end.
+/// Writes the filtered text of a block of lines at the front of `into`, and its length in bytes to `needed`. Each line
+/// that is a symbol is written as its demangled name, and each other line as it is. A line goes up to the next line
+/// feed or the end. The bytes of `into` after the text stay as they are.
+///
+/// Returns 0 if the text is written, 2 if an allocation fails, and 3 if the text is longer than `into`. With 2 and 3
+/// nothing is written to `into`. With 3, `needed` is the length of the text; with 2, `needed` is 0.
 #[unsafe(no_mangle)]
 pub extern "C" fn cosvigle_filter(
     alloc: Global,
@@ -97,7 +99,8 @@ pub extern "C" fn cosvigle_filter(
     }
 }
 
-/// Takes what a handle keeps, without its text. Where it keeps nothing a new demangler is made.
+/// Takes the demangler out of a handle, and drops the text that the handle keeps. If the handle has no demangler,
+/// makes a new one. Returns an error if an allocation fails.
 fn take_kept(alloc: Global, handle: &mut Handle) -> Result<Box<Kept>, AllocError>
     ensures kept { IfOk result (λ kept. run_of handle.old.kept ≢ None →
         Some kept.value.demangler ≡ run_of handle.old.kept) }
@@ -117,8 +120,8 @@ fn take_kept(alloc: Global, handle: &mut Handle) -> Result<Box<Kept>, AllocError
     }
 }
 
-/// Writes a text that was made at the front of the caller's memory, or keeps it if it is too small: `WRITTEN`, or
-/// `NO_ROOM`.
+/// Writes a text at the front of the caller's memory, and its length in bytes to `needed`. If the memory is too small,
+/// keeps the text instead. Returns `WRITTEN` or `NO_ROOM`.
 fn hand_out_or_keep(kept: &mut Kept, made: Vec<u8>, room: &mut [u8], needed: &mut usize) -> i32
     requires no_text { kept.old.text.items ≡ [] }
     ensures status { result ≢ pos 0 → result ≡ pos 3 }
@@ -135,9 +138,9 @@ fn hand_out_or_keep(kept: &mut Kept, made: Vec<u8>, room: &mut [u8], needed: &mu
     status
 }
 
-/// Writes the filtered text of a block of lines, as `cosvigle_filter` does, with the same statuses and its length in
-/// bytes in `needed`. With 3 the handle keeps the text for `cosvigle_take`, else it keeps none. Its demangler stays; a
-/// handle without one may get one.
+/// Writes the filtered text of a block of lines as `cosvigle_filter` does, with the same statuses and the same
+/// `needed`. With 3 the handle keeps the text for `cosvigle_take`; otherwise it keeps none. The handle's demangler
+/// stays. A handle without one may get one.
 #[unsafe(no_mangle)]
 pub extern "C" fn cosvigle_filter_with(
     alloc: Global,
@@ -167,13 +170,15 @@ pub extern "C" fn cosvigle_filter_with(
     status
 }
 
-/// Writes the replaced text of a text at the front of `into`: each symbol that stands in a word as its demangled name,
-/// and all other bytes as they are. With `strip` one more underscore may stand in front of a symbol, and is dropped.
-/// Returns 0, with its length in bytes in `needed`; the bytes after it stay. 2 if an allocation fails, 3 if it is
-/// longer than the capacity, with its length in `needed`. With these nothing is written, and with 2 `needed` is 0.
+/// Writes a text with its symbols replaced at the front of `into`, and its length in bytes to `needed`. Each symbol in
+/// a word is written as its demangled name, and all other bytes as they are. With `strip`, one more underscore may be
+/// in front of a symbol, and is dropped. The bytes of `into` after the text stay as they are.
 ///
-/// With 3 the handle keeps the text for `cosvigle_take`, else it keeps none. Its demangler stays; a handle without one
-/// may get one.
+/// Returns 0 if the text is written, 2 if an allocation fails, and 3 if the text is longer than `into`. With 2 and 3
+/// nothing is written to `into`. With 3, `needed` is the length of the text; with 2, `needed` is 0.
+///
+/// With 3 the handle keeps the text for `cosvigle_take`; otherwise it keeps none. The handle's demangler stays. A
+/// handle without one may get one.
 #[unsafe(no_mangle)]
 pub extern "C" fn cosvigle_replace(
     alloc: Global,
@@ -204,9 +209,12 @@ pub extern "C" fn cosvigle_replace(
     status
 }
 
-/// Writes the text that the handle keeps at the front of `into`, and keeps it no longer. Returns 0, with its length in
-/// bytes in `needed`; the bytes after it stay. 1 if the handle keeps no text, 3 if it is longer than the capacity, with
-/// its length in `needed`. With these nothing is written, the handle keeps what it kept, and with 1 `needed` is 0.
+/// Writes the text that the handle keeps at the front of `into`, and its length in bytes to `needed`. Afterwards the
+/// handle keeps no text. The bytes of `into` after the text stay as they are.
+///
+/// Returns 0 if the text is written, 1 if the handle keeps no text, and 3 if the text is longer than `into`. With 1
+/// and 3 nothing is written to `into`, and the handle keeps what it kept. With 3, `needed` is the length of the text;
+/// with 1, `needed` is 0.
 #[unsafe(no_mangle)]
 pub extern "C" fn cosvigle_take(
     alloc: Global,
