@@ -1,4 +1,4 @@
-//! What the reading of a symbol leaves on a value, and the answer as a text of its own.
+//! Tests the counts and components that a symbol leaves on a value, and the name as a new string.
 //!
 //! `corpus/patterns.tsv` and `corpus/records.tsv` have symbols with their counts and components, which
 //! `tests/limits/beginnings` compares.
@@ -7,14 +7,14 @@ use itanium_demangle::{Demangler, demangle_owned};
 use std::alloc::Global;
 use std::process::Abort;
 
-/// The value has no counts and no component.
+/// Asserts that the counts of the value are 0, and that it has no component.
 fn assert_nothing_left(rt: &impl Abort, demangler: &Demangler) {
     assert_eq!(rt; demangler.entered(), 0);
     assert_eq!(rt; demangler.most_saved(), 0);
     assert!(rt; demangler.component(0).is_none());
 }
 
-/// The symbol has this answer as a text of its own, or none.
+/// Asserts that `demangle_owned` returns this name for the symbol, or `None`.
 fn assert_owned(rt: &impl Abort, alloc: Global, symbol: &str, expected: Option<&str>) {
     let found = demangle_owned(alloc, symbol).expect(rt, "no memory");
     assert!(rt; found.as_deref() == expected, "{symbol}");

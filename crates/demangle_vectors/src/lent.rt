@@ -1,10 +1,11 @@
-//! The buffer that an answer stands in.
+//! Tests the buffer that holds a result.
 
 use itanium_demangle::Demangler;
 use std::alloc::Global;
 use std::process::Abort;
 
-/// The symbol is prepared, and its answer is all of the output of the buffer; or it has none, and no buffer.
+/// Prepares the symbol, and asserts that its name is all of the buffer's output; or that there is no name and no
+/// buffer.
 fn assert_main_text(
     rt: &impl Abort,
     alloc: Global,

@@ -1,4 +1,4 @@
-//! Numbers, sequence ids, source names, call offsets and operator codes, read by themselves.
+//! Tests the readers of numbers, sequence ids, source names, call offsets and operator codes.
 
 use itanium_demangle::scalar::{
     CallOffset, Signed, call_offset, number, operator_arity, operator_text, sequence_id,
@@ -6,7 +6,7 @@ use itanium_demangle::scalar::{
 };
 use std::process::Abort;
 
-/// What was read at this place of the text is as expected.
+/// Asserts that the number that was read is as expected. `text` is printed if it isn't.
 fn assert_value(
     rt: &impl Abort,
     text: &str,
@@ -16,7 +16,7 @@ fn assert_value(
     assert!(rt; found == expected, "{text}");
 }
 
-/// As `assert_value`, for a source name.
+/// Asserts that the source name that was read is as expected.
 fn assert_name(
     rt: &impl Abort,
     text: &str,
@@ -79,7 +79,7 @@ fn source_names(rt: HostRuntime) {
     }
 }
 
-/// As `assert_value`, for a call offset.
+/// Asserts that the call offset that was read is as expected.
 fn assert_offset(
     rt: &impl Abort,
     text: &str,
@@ -89,7 +89,7 @@ fn assert_offset(
     assert!(rt; found == expected, "{text}");
 }
 
-/// A number without a minus.
+/// Returns a number without a minus.
 fn positive(magnitude: u64) -> Signed {
     Signed {
         negative: false,
@@ -97,7 +97,7 @@ fn positive(magnitude: u64) -> Signed {
     }
 }
 
-/// A number with a minus.
+/// Returns a number with a minus.
 fn negative(magnitude: u64) -> Signed {
     Signed {
         negative: true,
@@ -128,12 +128,12 @@ fn call_offsets(rt: HostRuntime) {
     }
 }
 
-/// The operator of this code has the text and the arity, or none.
+/// Asserts that the operator with this code has this text, or that there is no such operator.
 fn assert_text(rt: &impl Abort, first: u8, second: u8, expected: Option<&str>) {
     assert!(rt; operator_text(first, second) == expected);
 }
 
-/// The operator of this code has so many operands, or isn't one of a fixed number.
+/// Asserts that the operator with this code has this number of operands, or that there is no such operator.
 fn assert_arity(rt: &impl Abort, first: u8, second: u8, expected: Option<u8>) {
     assert!(rt; operator_arity(first, second) == expected);
 }
@@ -166,7 +166,7 @@ fn refused_expressions(rt: HostRuntime) {
             true
         );
     }
-    // Operators that are read, literals and parameters, and no codes at all.
+    // Operators that are read, literals and parameters, and codes that don't exist.
     let others = [
         *b"ps", *b"mi", *b"gt", *b"qu", *b"pp", *b"mm", *b"ix", *b"pm", *b"ss", *b"ad", *b"L_",
         *b"LZ", *b"Li", *b"T_", *b"TL", *b"CL", *b"lc", *b"sr", *b"on", *b"fp", *b"__",

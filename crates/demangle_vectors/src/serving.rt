@@ -1,16 +1,16 @@
-//! Values before the first symbol, what a value prints, and the limits. `corpus/patterns.tsv` has symbols for one value
-//! after another.
+//! Tests values before their first symbol, the debug text of a value, and the limits. `corpus/patterns.tsv` has
+//! symbols for one value after another.
 
 use itanium_demangle::{Demangler, MAX_DEPTH, MAX_TEXT};
 use std::alloc::Global;
 use std::process::Abort;
 
-/// The text is as expected, or there is none.
+/// Asserts that the text is as expected, or that there is none.
 fn assert_text(rt: &impl Abort, found: Option<&str>, expected: Option<&str>) {
     assert_eq!(rt; found, expected);
 }
 
-/// The symbol has this answer.
+/// Asserts that the symbol has this name.
 fn assert_demangled(
     rt: &impl Abort,
     alloc: Global,
@@ -22,13 +22,13 @@ fn assert_demangled(
     assert_text(rt, found, Some(expected));
 }
 
-/// The print of the value.
+/// Asserts that the debug text of the value is `Demangler`.
 fn assert_printed(rt: &impl Abort, alloc: Global, demangler: &Demangler) {
     let printed = format!(in alloc; "{demangler:?}").expect(rt, "no memory");
     assert_text(rt, Some(printed.as_str()), Some("Demangler"));
 }
 
-/// An empty value has no text, and can be used.
+/// Asserts that a new value has no text, and can be used.
 fn assert_empty(rt: &impl Abort, alloc: Global, demangler: &mut Demangler) {
     assert_text(rt, demangler.text(), None);
     assert_demangled(rt, alloc, demangler, "_ZN3Foo3barEv", "Foo::bar");

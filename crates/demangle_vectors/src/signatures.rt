@@ -1,10 +1,10 @@
-//! Signatures, and names by the same value.
+//! Tests signatures, and names by the same value.
 
 use itanium_demangle::Demangler;
 use std::alloc::Global;
 use std::process::Abort;
 
-/// The symbol has this signature.
+/// Asserts that the symbol has this signature.
 fn assert_signature(
     rt: &impl Abort,
     alloc: Global,
@@ -17,7 +17,7 @@ fn assert_signature(
     assert!(rt; demangler.is_signature(), "{symbol}");
 }
 
-/// The symbol has no signature, and this name.
+/// Asserts that the symbol has no signature, and this name or none.
 fn assert_name_alone(
     rt: &impl Abort,
     alloc: Global,
@@ -30,7 +30,7 @@ fn assert_name_alone(
     assert!(rt; !demangler.is_signature(), "{symbol}");
 }
 
-/// The symbol has this name.
+/// Asserts that the symbol has this name.
 fn assert_name(
     rt: &impl Abort,
     alloc: Global,

@@ -1,4 +1,4 @@
-//! The filter and the replacement between two ends in memory.
+//! Tests the filter and the replacement between a source and a sink in memory.
 ghost use Rattle.std.specs.Prelude.{◌<◌};
 
 use crate::engine::Engine;
@@ -7,10 +7,11 @@ use std::alloc::Global;
 use std::process::Abort;
 use symfilter_engine::{FilterFault, Sink, Source};
 
-/// No end makes so many calls.
+/// More calls than any source or sink here gets.
 const CALLS: usize = 1000;
 
-/// These bytes are written for the text, where the ends give and take so many bytes a call.
+/// Asserts that these bytes are written for the text. The source and the sink give and take at most `most` bytes a
+/// call.
 fn assert_copied(
     rt: &impl Abort,
     alloc: Global,
@@ -47,7 +48,7 @@ fn each_symbol_in_a_word_has_its_answer(rt: HostRuntime) {
     }
 }
 
-/// Neither end was called once it had failed, and so much was written.
+/// Asserts that neither the source nor the sink was called after a failure, and that these bytes were written.
 fn assert_in_time(rt: &impl Abort, source: &MemorySource, sink: &MemorySink, written: &[u8]) {
     assert!(rt; !source.called_late && !sink.called_late);
     assert_eq!(rt; sink.bytes.as_slice(), written);

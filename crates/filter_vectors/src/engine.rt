@@ -1,4 +1,4 @@
-//! The two calls of the engine.
+//! The two functions of the engine.
 ghost use Rattle.std.specs.Prelude.{◌≡◌, false};
 
 use std::alloc::Global;
@@ -10,17 +10,17 @@ const IN_WORDS: Replacement = Replacement {
     printing: Printing::Names,
 };
 
-/// What the engine is asked for.
+/// The functions of the engine.
 #[derive(Clone, Copy)]
 pub enum Engine {
-    /// Lines are symbols.
+    /// `filter`: each line may be a symbol.
     Filter,
-    /// Symbols stand in words, and no underscore is stripped.
+    /// `replace`: words may have symbols, and no underscore is stripped.
     Replace,
 }
 
 impl Engine {
-    /// The name of the call.
+    /// Returns the name of the function.
     pub fn name(self) -> &'static str {
         match self {
             Engine::Filter => "filter",
@@ -28,7 +28,7 @@ impl Engine {
         }
     }
 
-    /// Runs between these ends, which haven't failed.
+    /// Runs the function between a source and a sink that haven't failed.
     pub fn run<R: Source, W: Sink>(
         self,
         alloc: Global,

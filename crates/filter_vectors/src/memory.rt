@@ -1,10 +1,10 @@
-//! A source and a sink of the filter over bytes in memory.
+//! A source and a sink in memory for the filter.
 ghost use Rattle.std.specs.Prelude.{◌≡◌, ◌<◌, true, false, length, Some};
 
 use std::alloc::Global;
 use symfilter_engine::{Failed, FilterFault, Sink, Source, filter};
 
-/// Whether an end was called once it had failed, with one call more.
+/// Returns whether a source or sink has been called after a failure, once one more call is made.
 fn is_late(failed: bool, called_late: bool) -> bool
     ensures in_time { failed ≡ false → result ≡ called_late }
     ensures late { failed ≡ true → result ≡ true }
@@ -12,8 +12,8 @@ fn is_late(failed: bool, called_late: bool) -> bool
     failed || called_late
 }
 
-/// Bytes in memory, of which each call gives at most `most`. It fails once `calls_left` calls were made, and keeps
-/// whether it was called after that.
+/// A source over bytes in memory. Each call gives at most `most` bytes. The source fails after `calls_left` calls, and
+/// records whether it is called after that.
 #[derive(Drop)]
 pub struct MemorySource<'a> {
     pub rest: &'a [u8],
@@ -25,7 +25,7 @@ pub struct MemorySource<'a> {
 }
 
 impl<'a> MemorySource<'a> {
-    /// A source of these bytes, which hasn't failed.
+    /// Returns a source of these bytes that hasn't failed.
     pub fn new(bytes: &'a [u8], most: usize, calls_left: usize) -> Self
         requires some { 0 < most }
         ensures not_failed { result.failed ≡ false }
@@ -68,8 +68,8 @@ impl Source for MemorySource<'_> {
     }
 }
 
-/// Memory that takes at most `most` bytes a call. It fails once `calls_left` calls were made, and keeps whether it was
-/// called after that.
+/// A sink in memory. Each call takes at most `most` bytes. The sink fails after `calls_left` calls, and records
+/// whether it is called after that.
 #[derive(Drop)]
 pub struct MemorySink {
     pub bytes: Vec<u8>,
@@ -81,7 +81,7 @@ pub struct MemorySink {
 }
 
 impl MemorySink {
-    /// An empty sink, which hasn't failed.
+    /// Returns an empty sink that hasn't failed.
     pub fn new(alloc: Global, most: usize, calls_left: usize) -> Self
         requires some { 0 < most }
         ensures not_failed { result.failed ≡ false }
@@ -119,7 +119,7 @@ impl Sink for MemorySink {
     }
 }
 
-/// Filters from memory into memory. Neither end is called once it has failed.
+/// Filters from memory into memory. Neither the source nor the sink is called after a failure.
 pub fn filter_in_memory(
     alloc: Global,
     source: &mut MemorySource,

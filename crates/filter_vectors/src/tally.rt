@@ -1,4 +1,4 @@
-//! Tests of a `Tally` over readers and writers of std, and of the faults.
+//! Tests a `Tally` over readers and writers of std, and the faults.
 ghost use Rattle.std.specs.Prelude.{◌≤◌, IfOk};
 
 use std::cell::Cell;
@@ -7,13 +7,13 @@ use std::io::{ErrorKind, Read, Write};
 use std::process::Abort;
 use symfilter_engine::{Failed, FilterFault, Sink, Source, Tally};
 
-/// So many calls of a `Tally` are looked at.
+/// The number of calls of a `Tally` that are tested.
 const CALLS: usize = 5;
 
-/// No call has this number.
+/// A number that no call has.
 const NEVER: usize = 0;
 
-/// What a reader or writer of std does at one of its calls: any error is a failure.
+/// The things that a reader or writer of std does at one of its calls. Any error is a failure.
 const TURNS: [Turn; 7] = [
     Turn::DoesNothing,
     Turn::Fails(ErrorKind::Interrupted),
@@ -26,14 +26,14 @@ const TURNS: [Turn; 7] = [
 
 #[derive(Clone, Copy)]
 enum Turn {
-    /// It gives or takes nothing.
+    /// Gives or takes no byte.
     DoesNothing,
-    /// It fails with this error.
+    /// Fails with this error.
     Fails(ErrorKind),
 }
 
-/// A reader and a writer of std that counts its calls. It gives or takes two bytes a call, but at the call with this
-/// number, and then it goes on.
+/// A reader and a writer of std that counts its calls. Each call gives or takes two bytes, but the call with the
+/// number `at` does what `turn` says.
 #[derive(Drop)]
 struct Counted<'a> {
     calls: &'a Cell<usize>,
@@ -42,7 +42,7 @@ struct Counted<'a> {
 }
 
 impl Counted<'_> {
-    /// How many of so many bytes this call gives or takes.
+    /// Returns how many of `len` bytes this call gives or takes.
     fn count(&mut self, len: usize) -> io::Result<usize>
         ensures { IfOk result (λ count. count ≤ len) }
     {
@@ -73,8 +73,8 @@ impl Write for Counted<'_> {
     }
 }
 
-/// A call of a `Tally`: its number, what it answered, whether the `Tally` has failed since, and how often the end below
-/// was called.
+/// A call of a `Tally`: its number, its result, whether the `Tally` has failed by then, and how often its reader or
+/// writer was called.
 #[derive(Clone, Copy)]
 struct Call {
     number: usize,
@@ -83,7 +83,8 @@ struct Call {
     calls: usize,
 }
 
-/// The end below was asked once a call. The call answers what the end did, and that it has failed once is kept.
+/// Asserts that each call of the `Tally` calls its reader or writer once and returns what that did, and that a failure
+/// is kept.
 fn assert_call(rt: &impl Abort, call: Call, at: usize, turn: Result<usize, Failed>) {
     assert_eq!(rt; call.calls, call.number);
     assert!(rt; call.answer == if call.number == at { turn } else { Ok(2) });
@@ -91,7 +92,8 @@ fn assert_call(rt: &impl Abort, call: Call, at: usize, turn: Result<usize, Faile
     assert_eq!(rt; call.has_failed, fails && at <= call.number);
 }
 
-/// What a `Tally` answers where its reader or writer does that. `nothing` is that where it gives or takes nothing.
+/// Returns what a `Tally` returns if its reader or writer does `turn`. If that gives or takes nothing, it is
+/// `nothing`.
 fn answer(turn: Turn, nothing: Result<usize, Failed>) -> Result<usize, Failed> {
     match turn {
         Turn::DoesNothing => nothing,
@@ -99,7 +101,7 @@ fn answer(turn: Turn, nothing: Result<usize, Failed>) -> Result<usize, Failed> {
     }
 }
 
-/// A `Tally` over a reader that does that at this call.
+/// Tests a `Tally` over a reader that does `turn` at the call with the number `at`.
 fn assert_reads(rt: &impl Abort, at: usize, turn: Turn) {
     let calls = Cell::new(0);
     let mut source = Tally::new(Counted {
@@ -119,7 +121,8 @@ fn assert_reads(rt: &impl Abort, at: usize, turn: Turn) {
     }
 }
 
-/// A `Tally` over a writer that does that at this call. One that takes nothing of what is offered fails.
+/// Tests a `Tally` over a writer that does `turn` at the call with the number `at`. A writer that takes nothing of
+/// some bytes fails.
 fn assert_writes(rt: &impl Abort, at: usize, turn: Turn) {
     let calls = Cell::new(0);
     let mut sink = Tally::new(Counted {
