@@ -1,11 +1,11 @@
-//! Three programs that try the libraries, in one. The first argument says which of them runs:
+//! Three programs in one that test the libraries. The first argument says which of them runs:
 //!
-//! - `probes beginnings` demangles symbols that were made to break it, and their beginnings.
-//! - `probes refusals` demangles row after row, in each of which one allocation may fail.
+//! - `probes beginnings` demangles symbols that were made to break the demangler, and their beginnings.
+//! - `probes refusals` tries the libraries row after row, while one allocation may fail.
 //! - `probes scripts` plays scripts of calls of a buffer.
 //!
-//! Each of them reads standard input; its module says what it reads and what it writes. If the argument is missing
-//! nothing is read, and the status is 2. It stands on `itanium_demangle`, `demangle_edit` and `filter_vectors`.
+//! Each program reads standard input. Its module says what it reads and what it writes. If the argument is missing,
+//! nothing is read, and the status is 2. The programs use `itanium_demangle`, `demangle_edit` and `filter_vectors`.
 #![tactic(auto)]
 
 mod beginnings;
@@ -16,19 +16,19 @@ use std::env::Env;
 use std::process::ExitCode;
 use std::{io, str};
 
-/// No program's name is longer.
+/// The capacity for a program name, in bytes. No name is longer.
 const NAME_LEN: usize = 16;
 
-/// No program has this name.
+/// The exit status if no program has the name.
 const NOT_ASKED: u8 = 2;
 
-/// The text of these bytes, or an empty one where they aren't UTF-8.
+/// Returns the text of these bytes, or an empty text if they aren't UTF-8.
 fn text_of(bytes: &[u8]) -> &str {
     str::from_utf8(bytes).unwrap_or("")
 }
 
-/// Runs the program that the first argument names. That is read without an allocation, so that `probes refusals` makes
-/// its own alone.
+/// Runs the program that the first argument names. The argument is read without an allocation, so that
+/// `probes refusals` makes only its own.
 fn main(rt: HostRuntime) -> io::Result<ExitCode> {
     let mut room = [0u8; NAME_LEN];
     let Ok(len) = rt.arg(1, &mut room) else {

@@ -1,7 +1,8 @@
-//! Asks the demangler, a buffer and the engine of the filter row after row, and prints a line for each row: its name,
-//! and `answer` where all is answered as it must be, `refused` where memory was refused once and all holds that must
-//! hold then, or what is wrong. It asks the row that standard input names; all of them, one after the other, where that
-//! is empty. Status 1 says that something is wrong, or that there is no such row.
+//! Tries the demangler, a buffer and the engine of the filter, row after row, while an allocation may fail. Prints a
+//! line for each row: its name, and then one of three. `answer` means that all results are right. `refused` means that
+//! an allocation failed once, and that all holds which must hold then. Any other text says what is wrong. Standard
+//! input names the row to try; if that is empty, all rows are tried, one after the other. Status 1 means that
+//! something is wrong, or that there is no such row.
 
 mod calls;
 mod filtering;
@@ -20,20 +21,20 @@ use std::io::{self, Read};
 use std::process::ExitCode;
 use std::str;
 
-/// No row's name is longer.
+/// The capacity for a row name, in bytes. No name is longer.
 const NAME_LEN: usize = 128;
 
-/// Which rows are asked, and what is known of those that were.
+/// The rows to try, and the outcome so far.
 #[derive(Drop)]
 struct Rows<'a> {
-    // The name of the one row, or nothing where all rows are asked.
+    // The name of the only row to try, or nothing if all rows are tried.
     asked: &'a str,
     any: bool,
     wrong: bool,
 }
 
 impl Rows<'_> {
-    /// Whether this row is asked. Its name is two words.
+    /// Returns whether to try this row. Its name is two words.
     fn has(&self, call: &str, what: &str) -> bool {
         match self.asked.split_once(' ') {
             Some((first, second)) => first == call && second == what,
@@ -62,7 +63,7 @@ impl Rows<'_> {
     }
 }
 
-/// The rows of these symbols by this call.
+/// Tries the rows of these symbols with this call.
 fn ask_symbols(
     rt: &HostRuntime,
     rows: &mut Rows,
@@ -79,7 +80,7 @@ fn ask_symbols(
     Ok(())
 }
 
-/// The rows of the scripts.
+/// Tries the rows of the scripts.
 fn play_scripts(rt: &HostRuntime, rows: &mut Rows) -> io::Result<()> {
     for script in SCRIPTS {
         if rows.has("buffer", script.name()) {
@@ -90,7 +91,7 @@ fn play_scripts(rt: &HostRuntime, rows: &mut Rows) -> io::Result<()> {
     Ok(())
 }
 
-/// The rows of the filter and of the replacement.
+/// Tries the rows of the filter and of the replacement.
 fn ask_engine(rt: &HostRuntime, rows: &mut Rows) -> io::Result<()> {
     for lines in LINES {
         if rows.has(lines.engine.name(), lines.name) {
@@ -101,7 +102,7 @@ fn ask_engine(rt: &HostRuntime, rows: &mut Rows) -> io::Result<()> {
     Ok(())
 }
 
-/// All rows that are asked.
+/// Tries all rows that are asked for.
 fn ask_rows(rt: &HostRuntime, rows: &mut Rows) -> io::Result<()> {
     let mut demangler = Demangler::new();
     ask_symbols(rt, rows, &mut demangler, Call::Demangle, &NAMES)?;
@@ -118,7 +119,7 @@ fn ask_rows(rt: &HostRuntime, rows: &mut Rows) -> io::Result<()> {
     ask_engine(rt, rows)
 }
 
-/// The name that was read.
+/// Returns the row name that was read, or `?` if it isn't UTF-8.
 fn name_of(bytes: &[u8]) -> &str {
     match str::from_utf8(bytes) {
         Ok(text) => text.trim_ascii_end(),
@@ -126,7 +127,7 @@ fn name_of(bytes: &[u8]) -> &str {
     }
 }
 
-/// Asks the rows.
+/// Tries the rows, and returns the exit status.
 pub fn run(rt: &HostRuntime) -> ExitCode {
     let mut room = [0u8; NAME_LEN];
     let Ok(len) = rt.stdin().read(&mut room) else {

@@ -1,21 +1,22 @@
-//! Plays scripts of calls of a buffer, and of the edits of its pieces, and asks what holds after them.
+//! Plays scripts of calls of a buffer and of the edits of its pieces, and tests what holds after them.
 //!
 //! Standard input has the scripts, each over a new buffer, with an empty line between two. A line that begins with `#`
-//! says what the next ones show. Each other one has words, with spaces between them, and texts in quotation marks.
+//! says what the next lines show. Every other line has words, with spaces between them, and texts in quotation marks.
 //!
-//! - `b = append a "x"` makes the call `append` of the piece `a` with that text, and its result is `b` from then on.
-//!   After the name of a call, all of which are in `calls.rt`, come its pieces, then numbers or words. Qualifiers are
-//!   words, as `const` or `&&`.
-//! - `none = cut a 3` says that this call makes nothing: its result is `None`, or its piece isn't of the form.
+//! - `b = append a "x"` makes the call `append` of the piece `a` with that text, and names the result `b`. After the
+//!   name of a call come its pieces, then numbers or words. All calls are in `calls.rt`. Qualifiers are words, such as
+//!   `const` or `&&`.
+//! - `none = cut a 3` says that this call makes nothing: either it returns `None`, or its piece doesn't have the form
+//!   that it needs.
 //! - `save a`, `unsave`, `open_scope`, `push_arg a`, `keep_scopes 1`, `open` and `clear` have no result.
-//! - `a is "x"`, `a own 0 1`, `a after 4`, `a grouped`, `a flags_none` and the like ask what the piece `a` is; all of
-//!   these questions are in `calls.rt`. `output "x"`, `saved_len 1` and `scopes 1` ask what the buffer has.
+//! - `a is "x"`, `a own 0 1`, `a after 4`, `a grouped`, `a flags_none` and the like are questions about the piece `a`.
+//!   All questions are in `calls.rt`. `output "x"`, `saved_len 1` and `scopes 1` are questions about the buffer.
 //!
-//! The pieces have the names `a`, `b` and `c`. After an edit its result alone has a name. But inside an open mark `a`
-//! is a piece that was made before it, which keeps its name, and no other piece can have that.
+//! The pieces have the names `a`, `b` and `c`. After an edit only its result has a name. There is one exception: if a
+//! mark is open, `a` is a piece that was made before the mark. That piece keeps its name, and no other can have it.
 //!
-//! For each line that asks what isn't so, or that can't be played, that line is written. The last line is `N passed, M
-//! failed`, and with failures the status is 1.
+//! A line is written if its question has the answer no, or if the line can't be played. The last line is `N passed, M
+//! failed`. If any failed, the status is 1.
 
 mod built;
 mod calls;
@@ -29,7 +30,7 @@ use crate::scripts::script::{Outcome, Script};
 use std::io;
 use std::process::ExitCode;
 
-/// How many questions passed and how many lines failed.
+/// The number of tests that passed and of lines that failed.
 #[derive(Clone, Copy)]
 struct Counts {
     passed: u64,
@@ -37,7 +38,7 @@ struct Counts {
 }
 
 impl Counts {
-    /// Counts what a line did, and writes it where it failed.
+    /// Counts what a line did, and writes the line if it failed.
     fn note(&mut self, rt: &HostRuntime, line: &str, outcome: Outcome) -> io::Result<()> {
         match outcome {
             Outcome::Called => Ok(()),
@@ -65,7 +66,7 @@ fn play(rt: &HostRuntime, lines: &str, counts: &mut Counts) -> io::Result<()> {
     Ok(())
 }
 
-/// Plays the scripts.
+/// Plays the scripts of standard input, and returns the exit status.
 pub fn run(rt: &HostRuntime) -> io::Result<ExitCode> {
     let mut counts = Counts {
         passed: 0,

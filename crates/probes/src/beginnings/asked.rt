@@ -1,4 +1,4 @@
-//! Symbols that are asked one after another.
+//! Demangles symbols one after another, and tests the results.
 
 use crate::beginnings::record::record;
 use itanium_demangle::Demangler;
@@ -6,7 +6,7 @@ use std::alloc::{AllocError, Global};
 use std::io;
 use std::process::ExitCode;
 
-/// The value that answers all, and how many questions passed and failed.
+/// The value that demangles all symbols, and how many tests passed and failed.
 #[derive(Drop)]
 pub struct Asked {
     kept: Demangler,
@@ -14,19 +14,19 @@ pub struct Asked {
     failed: u64,
 }
 
-/// What is recorded of a symbol, and with how many fields.
+/// What is recorded of a symbol, and in how many fields.
 #[derive(Clone, Copy)]
 struct Recorded<'a> {
     text: &'a str,
     fields: usize,
 }
 
-/// The text with a tab for each `\t`.
+/// Returns the text with a tab for each `\t`.
 fn with_tabs(alloc: Global, text: &str) -> Result<String, AllocError> {
     text.replace(alloc, "\\t", "\t")
 }
 
-/// How many fields the line has, with tabs between them.
+/// Returns how many fields the line has, with tabs between them.
 fn fields(line: &str) -> usize {
     let mut fields: usize = 1;
     for byte in line.bytes() {
@@ -37,7 +37,7 @@ fn fields(line: &str) -> usize {
     fields
 }
 
-/// What is wrong with two values that were asked the same symbol.
+/// Returns what is wrong with two values that demangled the same symbol.
 fn fault(new: &Demangler, kept: &Demangler, symbol: &str) -> Option<&'static str> {
     if new.text() != kept.text() {
         Some("a new value has another answer")
@@ -58,14 +58,14 @@ fn fault(new: &Demangler, kept: &Demangler, symbol: &str) -> Option<&'static str
     }
 }
 
-/// Whether both values have the same text and the same counts.
+/// Returns whether both values have the same text and the same counts.
 fn agree(one: &Demangler, other: &Demangler) -> bool {
     one.text() == other.text()
         && one.entered() == other.entered()
         && one.most_saved() == other.most_saved()
 }
 
-/// What is wrong with a symbol's signature beside its name.
+/// Returns what is wrong with a symbol's signature, compared with its name.
 fn signature_fault(name: &Demangler, signed: &Demangler) -> Option<&'static str> {
     if name.is_signature() {
         Some("its name is called a signature")
@@ -80,7 +80,7 @@ fn signature_fault(name: &Demangler, signed: &Demangler) -> Option<&'static str>
     }
 }
 
-/// What was found to be wrong, or that the symbol which was asked last has another record than this one.
+/// Returns what was found to be wrong, or that the record of the last symbol isn't the recorded one.
 fn compared(
     alloc: Global,
     asked: &Demangler,
@@ -98,7 +98,7 @@ fn compared(
 }
 
 impl Asked {
-    /// Nothing was asked.
+    /// Returns a value that has demangled nothing.
     pub fn new() -> Self {
         Asked {
             kept: Demangler::new(),
@@ -107,7 +107,7 @@ impl Asked {
         }
     }
 
-    /// Asks the symbol of a record, or each beginning of a symbol that stands alone in its line.
+    /// Demangles the symbol of a record, or each beginning of a symbol that is alone in its line.
     pub fn ask_line<R: Print + AllocGlobal>(&mut self, rt: &R, line: &str) -> io::Result<()> {
         let signed = line.strip_prefix("signature\t");
         let line = signed.unwrap_or(line);
@@ -127,7 +127,8 @@ impl Asked {
         }
     }
 
-    /// Asks each beginning of the symbol that ends between two characters: the empty one, and so on up to the whole.
+    /// Demangles each beginning of the symbol that ends between two characters: the empty one, and so on up to the
+    /// whole.
     fn ask_beginnings<R: Print + AllocGlobal>(&mut self, rt: &R, symbol: &str) -> io::Result<()> {
         for end in 0..=symbol.len() {
             if let Some(beginning) = symbol.get(..end) {
@@ -137,7 +138,7 @@ impl Asked {
         Ok(())
     }
 
-    /// Asks for the symbol's name, and then for its signature. Either may have a record.
+    /// Demangles the symbol's name, and then its signature. Either may have a record.
     fn ask<R: Print + AllocGlobal>(
         &mut self,
         rt: &R,
@@ -154,7 +155,7 @@ impl Asked {
         self.ask_signature(rt, symbol, &name, signature_record)
     }
 
-    /// Asks for the signature of a symbol, beside the value that has its name.
+    /// Demangles the signature of a symbol, and compares it with the value that has its name.
     fn ask_signature<R: Print + AllocGlobal>(
         &mut self,
         rt: &R,
@@ -179,7 +180,7 @@ impl Asked {
         self.note(rt, symbol, " as a signature", found)
     }
 
-    /// Counts a question, and writes what is wrong, if anything is. `how` says what was asked for.
+    /// Counts a test, and writes what is wrong, if anything is. `how` says what was demangled.
     fn note(
         &mut self,
         rt: &impl Print,
@@ -197,7 +198,7 @@ impl Asked {
         Ok(())
     }
 
-    /// Writes how many passed and failed. The status says whether any failed.
+    /// Writes how many tests passed and failed. Returns the exit status, which is a failure if any failed.
     pub fn end(&self, rt: &impl Print) -> io::Result<ExitCode> {
         println!(rt; "{} passed, {} failed", self.passed, self.failed)?;
         Ok(if self.failed == 0 {

@@ -3,7 +3,7 @@
 use itanium_demangle::Demangler;
 use std::alloc::{AllocError, Global};
 
-/// Adds `most_saved` and each component that is left, each after a tab.
+/// Appends `most_saved` and each component that is left, each after a tab.
 fn push_components(
     alloc: Global,
     asked: &Demangler,
@@ -20,9 +20,9 @@ fn push_components(
     Ok(())
 }
 
-/// The record of the symbol that was asked last, in the form of a line with so many fields: two have no counts, three
-/// have `entered` alone, and more have all. Where the symbol has no answer it stands in place of the answer, as the
-/// filter writes it.
+/// Returns the record of the last symbol, in the form of a line with this number of fields. Two fields have no counts,
+/// three have `entered` alone, and more have all. If the symbol has no result, the symbol is in the place of the
+/// result, as the filter writes it.
 pub fn record(
     alloc: Global,
     asked: &Demangler,

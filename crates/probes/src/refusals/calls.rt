@@ -1,5 +1,6 @@
-//! The calls of a buffer, each repeated where memory is refused. Before it is repeated all must be as it was: two
-//! pieces that live, what is saved, the last scope, and how long the output is. A refused `close` isn't repeated.
+//! Makes the calls of a buffer, and repeats each if an allocation fails. Before a call is repeated, nothing must have
+//! changed: two pieces that live, the substitution table, the last scope, and the length of the output. A `close` that
+//! fails isn't repeated.
 ghost use Rattle.std.specs.Prelude.{◌≡◌, ◌≤◌, IfOk, OnOk};
 ghost use Rattle.demangle_text.specs.Shape.{plain_shape, text_len};
 ghost use Rattle.demangle_text.specs.Calls.{IsDeclared, IsPlain};
@@ -11,10 +12,10 @@ use crate::refusals::view::{BufferView, view_of};
 use demangle_text::{Buffer, Mark, Piece, Place};
 use std::alloc::AllocError;
 
-/// Why a script ends early.
+/// The reason why a script ends early.
 #[derive(Clone, Copy)]
 pub enum Stop {
-    /// `close` was refused memory.
+    /// An allocation failed in `close`.
     Closed,
     /// Something is wrong.
     Wrong(Wrong),
@@ -32,14 +33,14 @@ impl From<AllocError> for Stop {
     }
 }
 
-/// Memory was refused, for the first time.
+/// Notes that an allocation failed, for the first time.
 fn note_refusal(memory: &mut Memory) -> Result<(), Wrong> {
     must(*memory == Memory::Given, "an error after the first one")?;
     *memory = Memory::Refused;
     Ok(())
 }
 
-/// A call was refused memory, and what is seen of the buffer and these two pieces is as it was.
+/// Notes that an allocation failed in a call, and tests that the buffer and these two pieces haven't changed.
 fn note_unchanged(
     buf: &Buffer,
     memory: &mut Memory,
@@ -56,7 +57,7 @@ fn note_unchanged(
     Ok(())
 }
 
-/// The call, and after an error the call again, while these two pieces live.
+/// Makes a call, and makes it again after an error, while these two pieces live.
 macro_rules! repeated {
     ($buf:ident, $memory:ident, $one:expr, $other:expr, $call:expr) => {{
         let before = view_of($buf, $one, $other);
@@ -68,7 +69,7 @@ macro_rules! repeated {
     }};
 }
 
-/// `push`, beside two pieces.
+/// Calls `push`, while two pieces live.
 #[tactic(auto, using(demangle_text::proofs::Laws::laws, demangle_text::proofs::Laws::runs))]
 pub fn push(
     buf: &mut Buffer,
@@ -85,7 +86,7 @@ pub fn push(
     repeated!(buf, memory, one, other, buf.push(bytes))
 }
 
-/// `copy` of the second piece.
+/// Calls `copy` of the second piece.
 #[tactic(auto, using(demangle_text::proofs::Laws::laws, demangle_text::proofs::Laws::runs))]
 pub fn copy(
     buf: &mut Buffer,
@@ -101,7 +102,7 @@ pub fn copy(
     repeated!(buf, memory, beside, piece, buf.copy(piece))
 }
 
-/// `append` to the second piece.
+/// Calls `append` to the second piece.
 #[tactic(auto, using(demangle_text::proofs::Laws::laws, demangle_text::proofs::Laws::runs))]
 pub fn append(
     buf: &mut Buffer,
@@ -118,7 +119,7 @@ pub fn append(
     repeated!(buf, memory, beside, piece, buf.append(piece, bytes))
 }
 
-/// `insert` at the start of a piece.
+/// Calls `insert` at the start of a piece.
 #[tactic(auto, using(demangle_text::proofs::Laws::laws, demangle_text::proofs::Laws::runs))]
 pub fn insert_first(
     buf: &mut Buffer,
@@ -139,7 +140,7 @@ pub fn insert_first(
     )
 }
 
-/// `open_group` of the second piece.
+/// Calls `open_group` of the second piece.
 #[tactic(auto, using(demangle_text::proofs::Laws::laws, demangle_text::proofs::Laws::runs))]
 pub fn open_group(
     buf: &mut Buffer,
@@ -157,7 +158,7 @@ pub fn open_group(
     repeated!(buf, memory, beside, piece, buf.open_group(piece, bytes))
 }
 
-/// `cut` of a piece.
+/// Calls `cut` of a piece.
 #[tactic(auto, using(demangle_text::proofs::Laws::laws, demangle_text::proofs::Laws::runs))]
 pub fn cut(buf: &mut Buffer, memory: &mut Memory, piece: Piece, n: usize) -> Result<Piece, Stop>
     requires living { IsLiving buf.old piece }
@@ -169,7 +170,7 @@ pub fn cut(buf: &mut Buffer, memory: &mut Memory, piece: Piece, n: usize) -> Res
     repeated!(buf, memory, piece, piece, buf.cut(piece, n))
 }
 
-/// `join` of two pieces.
+/// Calls `join` of two pieces.
 #[tactic(auto, using(demangle_text::proofs::Laws::laws, demangle_text::proofs::Laws::runs))]
 pub fn join(
     buf: &mut Buffer,
@@ -186,7 +187,7 @@ pub fn join(
     repeated!(buf, memory, first, second, buf.join(first, bytes, second))
 }
 
-/// `save` of the second piece.
+/// Calls `save` of the second piece.
 #[tactic(auto, using(demangle_text::proofs::Laws::laws, demangle_text::proofs::Laws::runs))]
 pub fn save(buf: &mut Buffer, memory: &mut Memory, beside: Piece, piece: Piece) -> Result<(), Stop>
     requires beside { IsLiving buf.old beside }
@@ -196,7 +197,7 @@ pub fn save(buf: &mut Buffer, memory: &mut Memory, beside: Piece, piece: Piece) 
     repeated!(buf, memory, beside, piece, buf.save(piece))
 }
 
-/// `open_scope`, beside two pieces.
+/// Calls `open_scope`, while two pieces live.
 #[tactic(auto, using(demangle_text::proofs::Laws::laws, demangle_text::proofs::Laws::runs))]
 pub fn open_scope(
     buf: &mut Buffer,
@@ -211,7 +212,7 @@ pub fn open_scope(
     repeated!(buf, memory, one, other, buf.open_scope())
 }
 
-/// `push_arg` of the second piece.
+/// Calls `push_arg` of the second piece.
 #[tactic(auto, using(demangle_text::proofs::Laws::laws, demangle_text::proofs::Laws::runs))]
 pub fn push_arg(
     buf: &mut Buffer,
@@ -229,7 +230,7 @@ pub fn push_arg(
     repeated!(buf, memory, beside, piece, buf.push_arg(piece))
 }
 
-/// `close`, which isn't repeated.
+/// Calls `close`, which isn't repeated.
 #[tactic(auto, using(demangle_text::proofs::Laws::laws, demangle_text::proofs::Laws::runs))]
 pub fn close(buf: &mut Buffer, memory: &mut Memory, mark: Mark, piece: Piece) -> Result<Piece, Stop>
     requires innermost { frame buf.old ≡ inside mark }

@@ -1,4 +1,4 @@
-//! The rows of the filter and of the replacement, between two ends in memory that take no memory themselves.
+//! The rows of the filter and of the replacement, between a source and a sink in memory that allocate nothing.
 ghost use Rattle.std.specs.Prelude.{◌<◌};
 
 use crate::refusals::outcome::{Memory, Wrong, must};
@@ -16,7 +16,7 @@ pub struct Lines {
     filtered: &'static [u8],
 }
 
-/// The lines of each row. Of the first the third is longer as its answer than all before it.
+/// The lines of each row. In the first row, the text for the third line is longer than all before it.
 pub const LINES: [Lines; 4] = [
     Lines {
         engine: Engine::Filter,
@@ -52,8 +52,8 @@ malloc
     },
 ];
 
-/// Filters once, from a source that gives at most so many bytes a call: all of the filtered text is written, or whole
-/// lines or words before the fault.
+/// Filters once, from a source that gives at most `most` bytes a call. All of the filtered text must be written, or
+/// whole lines or words before the fault.
 fn run_once(alloc: Global, lines: &Lines, most: usize, watch: &Watch) -> Result<Memory, Wrong>
     requires { 0 < most }
 {
@@ -76,9 +76,9 @@ fn run_once(alloc: Global, lines: &Lines, most: usize, watch: &Watch) -> Result<
     }
 }
 
-/// Filters from a source that gives at most so many bytes a call, and after a fault once more. The second run asks the
-/// ends for the same, call by call, up to where memory was refused in the first. So at some moment it has asked for as
-/// much as the first one in all, unless that one called an end after it was refused memory.
+/// Filters from a source that gives at most `most` bytes a call, and after a fault once more. The second run makes the
+/// same calls of source and sink as the first, up to where the allocation failed. The first run may call neither of
+/// them after that, so at some moment the second has asked for as much as the first in all.
 fn run_by(alloc: Global, lines: &Lines, most: usize, memory: &mut Memory) -> Result<(), Wrong>
     requires { 0 < most }
 {
@@ -96,7 +96,7 @@ fn run_by(alloc: Global, lines: &Lines, most: usize, memory: &mut Memory) -> Res
     Ok(())
 }
 
-/// The row of these lines: the source gives one byte a call, some, or all.
+/// Tries the row of these lines: the source gives one byte a call, some, or all.
 pub fn run(alloc: Global, lines: &Lines) -> Result<Memory, Wrong> {
     let mut memory = Memory::Given;
     for most in [1, 7, 1000] {

@@ -2,7 +2,7 @@
 
 use std::alloc::AllocError;
 
-/// Whether memory was refused in a row.
+/// Whether an allocation failed in a row.
 #[derive(Clone, Copy, PartialEq, Eq)]
 pub enum Memory {
     Given,
@@ -13,14 +13,14 @@ pub enum Memory {
 #[derive(Clone, Copy)]
 pub struct Wrong(pub &'static str);
 
-/// Of a run one request is refused at most, so a second error is wrong.
+/// At most one allocation of a run fails, so a second error is wrong.
 impl From<AllocError> for Wrong {
     fn from(_error: AllocError) -> Wrong {
         Wrong("an error after the first one")
     }
 }
 
-/// The fact holds, or that is wrong.
+/// Returns `Wrong` with this text if the fact doesn't hold.
 pub fn must(holds: bool, otherwise: &'static str) -> Result<(), Wrong> {
     if holds { Ok(()) } else { Err(Wrong(otherwise)) }
 }

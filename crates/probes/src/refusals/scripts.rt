@@ -1,5 +1,5 @@
-//! Rows of scripts over a buffer: what was saved, and what is an argument, keeps its shape whatever is done to the
-//! pieces beside it, also where memory was refused on the way.
+//! Rows of scripts over a buffer. Each tests that substitutions and arguments keep their shapes whatever is done to
+//! the pieces beside them, also if an allocation failed on the way.
 ghost use Rattle.std.specs.Prelude.{IfOk};
 ghost use Rattle.demangle_text.specs.State.{IsLiving};
 
@@ -11,17 +11,17 @@ use crate::refusals::outcome::{Memory, Wrong, must};
 use demangle_text::{Buffer, Kind, Piece};
 use std::alloc::Global;
 
-/// What stands in the output before a script begins is some of this.
+/// The output before a script begins is some of these bytes.
 const FRONT: [u8; 64] = [b'-'; 64];
 
-/// The piece has this text.
+/// Tests that the piece has this text.
 fn must_be(buf: &Buffer, piece: Piece, text: &[u8]) -> Result<(), Wrong>
     requires living { IsLiving buf.now piece }
 {
     must(buf.bytes(piece) == text, "a piece has another text")
 }
 
-/// The first saved shape has this text.
+/// Tests that the first entry of the substitution table has this text.
 fn must_save(buf: &Buffer, text: &[u8]) -> Result<(), Wrong> {
     match buf.saved(0) {
         Some(saved) => must(buf.bytes(saved) == text, "what is saved has another text"),
@@ -29,7 +29,7 @@ fn must_save(buf: &Buffer, text: &[u8]) -> Result<(), Wrong> {
     }
 }
 
-/// The first argument of the last scope has this text.
+/// Tests that the first argument of the last scope has this text.
 fn must_have_arg(buf: &Buffer, text: &[u8]) -> Result<(), Wrong> {
     match buf.arg(0) {
         Some(argument) => must(buf.bytes(argument) == text, "an argument has another text"),
@@ -37,7 +37,7 @@ fn must_have_arg(buf: &Buffer, text: &[u8]) -> Result<(), Wrong> {
     }
 }
 
-/// From this byte on the output is this.
+/// Tests that the output from this byte on is this text.
 fn must_end_in(buf: &Buffer, front: usize, text: &[u8]) -> Result<(), Wrong> {
     match buf.main_bytes().get(front..) {
         Some(rest) => must(rest == text, "the main text is another one"),
@@ -45,7 +45,8 @@ fn must_end_in(buf: &Buffer, front: usize, text: &[u8]) -> Result<(), Wrong> {
     }
 }
 
-/// The piece has this text, with which the output ends from this byte on, and the first saved shape has that one.
+/// Tests that the piece has this text, that the output from this byte on is the same text, and that the first entry of
+/// the substitution table has the other text.
 fn must_end(
     buf: &Buffer,
     front: usize,
@@ -60,7 +61,7 @@ fn must_end(
     must_save(buf, saved)
 }
 
-/// The piece is a function, with a group or without one.
+/// Tests that the piece is a function, with a group or without one.
 fn must_be_function(buf: &Buffer, piece: Piece, group: bool) -> Result<(), Wrong>
     requires living { IsLiving buf.now piece }
 {
@@ -95,7 +96,7 @@ fn saved_function_under_a_pointer_to_it(buf: &mut Buffer, memory: &mut Memory) -
     Ok(())
 }
 
-/// The first saved shape is a function without a group.
+/// Tests that the first entry of the substitution table is a function without a group.
 fn must_save_function(buf: &Buffer) -> Result<(), Wrong> {
     match buf.saved(0) {
         Some(saved) => must_be_function(buf, saved, false),
@@ -103,7 +104,7 @@ fn must_save_function(buf: &Buffer) -> Result<(), Wrong> {
     }
 }
 
-/// A name is saved inside a mark, which is closed with the name after it: the answer is that of `close`.
+/// Saves a name inside a mark, and closes the mark with the name that follows. Returns the result of `close`.
 #[tactic(auto, using(demangle_text::proofs::Laws::laws, demangle_text::proofs::Laws::runs))]
 fn name_that_closes_a_mark(buf: &mut Buffer, memory: &mut Memory) -> Result<Piece, Stop>
     ensures living { IfOk result (IsLiving buf.new) }
@@ -124,7 +125,7 @@ fn saved_name_after_a_closed_mark(buf: &mut Buffer, memory: &mut Memory) -> Resu
     Ok(())
 }
 
-/// A copy of the saved name with bytes after it closes a mark: the answer is that of `close`.
+/// Closes a mark with a copy of the saved name and bytes after it. Returns the result of `close`.
 #[tactic(auto, using(demangle_text::proofs::Laws::laws, demangle_text::proofs::Laws::runs))]
 fn pointer_that_closes_a_mark(
     buf: &mut Buffer,
@@ -188,7 +189,7 @@ fn saved_name_that_is_cut_inside_a_mark(buf: &mut Buffer, memory: &mut Memory) -
     Ok(())
 }
 
-/// A scope with an argument of these bytes, beside a piece.
+/// Opens a scope with an argument of these bytes, while a piece lives.
 #[tactic(auto, using(demangle_text::proofs::Laws::laws, demangle_text::proofs::Laws::runs))]
 fn open_scope_of(
     buf: &mut Buffer,
@@ -224,7 +225,7 @@ fn argument_of_the_outer_scope_after_a_closed_mark(
     Ok(())
 }
 
-/// Of two scopes the second is dropped.
+/// Drops the second of two scopes.
 fn keep_one_scope(buf: &mut Buffer) -> Result<(), Wrong> {
     if buf.scopes() != 2 {
         return Err(Wrong("there aren't two scopes"));
@@ -233,7 +234,7 @@ fn keep_one_scope(buf: &mut Buffer) -> Result<(), Wrong> {
     must(buf.scopes() == 1, "there isn't one scope")
 }
 
-/// A script over a buffer.
+/// The scripts over a buffer.
 #[derive(Clone, Copy)]
 pub enum Script {
     SavedName,
@@ -245,7 +246,7 @@ pub enum Script {
     OuterArgument,
 }
 
-/// Each of them.
+/// All scripts.
 pub const SCRIPTS: [Script; 7] = [
     Script::SavedName,
     Script::SavedFunction,
@@ -282,7 +283,7 @@ impl Script {
     }
 }
 
-/// Plays the script. After a refused `close` the buffer is cleared, and the first script is played on it.
+/// Plays the script. If an allocation fails in `close`, the buffer is cleared, and the first script is played on it.
 fn play_to_the_end(script: Script, buf: &mut Buffer, memory: &mut Memory) -> Result<(), Wrong> {
     let ended = match script.play(buf, memory) {
         Err(Stop::Closed) => {
@@ -298,7 +299,7 @@ fn play_to_the_end(script: Script, buf: &mut Buffer, memory: &mut Memory) -> Res
     }
 }
 
-/// Puts so many bytes in front. Where memory is refused that is repeated.
+/// Pushes `len` bytes in front. If the allocation fails, the call is repeated.
 fn put_front(buf: &mut Buffer, memory: &mut Memory, len: usize) -> Result<(), Wrong> {
     let Some(bytes) = FRONT.as_slice().get(..len) else {
         return Err(Wrong("there aren't so many bytes"));
@@ -311,8 +312,8 @@ fn put_front(buf: &mut Buffer, memory: &mut Memory, len: usize) -> Result<(), Wr
     }
 }
 
-/// The row of a script. It is played with 0 to 64 bytes in front of it: so each call that puts bytes finds the main
-/// text full in one of these turns.
+/// Tries the row of a script. The script is played with 0 to 64 bytes in front of it, so that each call that appends
+/// bytes finds the output full in one of these turns.
 pub fn run(script: Script, alloc: Global) -> Result<Memory, Wrong> {
     let mut memory = Memory::Given;
     for len in 0..=FRONT.len() {

@@ -1,4 +1,4 @@
-//! Rows of symbols. After each error nothing is kept, and then the same value answers.
+//! Rows of symbols. After each error the value must keep nothing, and must demangle again.
 
 use crate::refusals::outcome::{Memory, Wrong, must};
 use itanium_demangle::{Demangler, demangle_owned};
@@ -27,7 +27,7 @@ pub const NAMES: [(&str, &str); 7] = [
     ),
 ];
 
-/// Each symbol with its signature, and last one that has none, with the answer of its name.
+/// Each symbol with its signature. The last has none, and stands with its name.
 pub const SIGNATURES: [(&str, &str); 6] = [
     (
         "_ZNSt6vectorIS_IiEE4sizeEv",
@@ -49,16 +49,16 @@ pub const SIGNATURES: [(&str, &str); 6] = [
     ),
 ];
 
-/// What must be answered after an error.
+/// The names that must be returned after an error.
 const AFTER: [(&str, Option<&str>); 2] = [("_Z1fIDpiEvv", Some("f<int...>")), ("malloc", None)];
 
-/// What must be answered after an error where signatures are asked.
+/// The signatures that must be returned after an error.
 const SIGNATURES_AFTER: [(&str, Option<&str>); 2] = [
     ("_Z1fIDpiEvv", Some("f<int...>()")),
     ("malloc", None),
 ];
 
-/// The call by which a symbol is asked.
+/// The call by which a symbol is demangled.
 #[derive(Clone, Copy)]
 pub enum Call {
     Demangle,
@@ -75,7 +75,7 @@ impl Call {
         }
     }
 
-    /// What must be answered by this call after an error.
+    /// Returns the results that this call must give after an error.
     fn after(self) -> [(&'static str, Option<&'static str>); 2] {
         match self {
             Call::Demangle | Call::DemangleOwned => AFTER,
@@ -84,7 +84,7 @@ impl Call {
     }
 }
 
-/// What was found is the answer.
+/// Tests that the result is the expected one.
 fn given(found: Option<&str>, answer: Option<&str>) -> Result<Memory, Wrong> {
     match (found, answer) {
         (Some(text), Some(expected)) if text == expected => Ok(Memory::Given),
@@ -94,7 +94,7 @@ fn given(found: Option<&str>, answer: Option<&str>) -> Result<Memory, Wrong> {
     }
 }
 
-/// Nothing of a last symbol is kept.
+/// Returns whether the value keeps nothing of its last symbol.
 fn keeps_nothing(demangler: &Demangler) -> bool {
     demangler.text().is_none()
         && !demangler.is_signature()
@@ -104,7 +104,7 @@ fn keeps_nothing(demangler: &Demangler) -> bool {
         && demangler.buffer().is_none()
 }
 
-/// An allocation failed, and nothing is kept.
+/// Tests that the value keeps nothing after an allocation failed.
 fn refused(demangler: &Demangler) -> Result<Memory, Wrong> {
     must(
         keeps_nothing(demangler),
@@ -113,7 +113,7 @@ fn refused(demangler: &Demangler) -> Result<Memory, Wrong> {
     Ok(Memory::Refused)
 }
 
-/// Asks the value.
+/// Demangles the symbol with the value, and tests the result.
 fn ask_value(
     alloc: Global,
     demangler: &mut Demangler,
@@ -126,7 +126,7 @@ fn ask_value(
     refused(demangler)
 }
 
-/// Asks the value for a signature.
+/// Demangles the symbol's signature with the value, and tests the result.
 fn ask_signature(
     alloc: Global,
     demangler: &mut Demangler,
@@ -139,7 +139,7 @@ fn ask_signature(
     refused(demangler)
 }
 
-/// Asks for a text of its own.
+/// Demangles the symbol to a new string, and tests it.
 fn ask_owned(alloc: Global, symbol: &str, answer: Option<&str>) -> Result<Memory, Wrong> {
     match demangle_owned(alloc, symbol) {
         Ok(Some(text)) => given(Some(text.as_str()), answer),
@@ -148,7 +148,7 @@ fn ask_owned(alloc: Global, symbol: &str, answer: Option<&str>) -> Result<Memory
     }
 }
 
-/// Asks by this call.
+/// Demangles the symbol by this call, and tests the result.
 fn ask(
     call: Call,
     alloc: Global,
@@ -163,7 +163,7 @@ fn ask(
     }
 }
 
-/// Asks once more, after an error.
+/// Demangles other symbols after an error, and then the symbol once more.
 fn ask_again(
     call: Call,
     alloc: Global,
@@ -175,7 +175,7 @@ fn ask_again(
     must(memory == Memory::Given, "an error after the first one")
 }
 
-/// The row of a symbol: after an error other symbols are asked, and then it once more.
+/// Tries the row of a symbol. After an error other symbols are demangled, and then the symbol once more.
 pub fn run(
     call: Call,
     alloc: Global,

@@ -1,9 +1,9 @@
-//! What a buffer shows of two pieces, of what is saved and of the last scope.
+//! What a buffer shows of two pieces, of the substitution table and of the last scope.
 ghost use Rattle.demangle_text.specs.State.{IsLiving};
 
 use demangle_text::{Buffer, Kind, Piece};
 
-/// No piece that is looked at is longer.
+/// The length in bytes of the longest piece that is viewed, or more.
 const TEXT_LEN: usize = 16;
 
 /// A shape: its text, at most 16 bytes of it, and how the text is cut.
@@ -19,8 +19,8 @@ struct PieceView {
     ctor: bool,
 }
 
-/// The shapes of two pieces, of the first saved one and of the first two arguments of the last scope; how many shapes
-/// are saved and how many scopes are open; how long the output is.
+/// The shapes of two pieces, of the first entry of the substitution table and of the first two arguments of the last
+/// scope; the length of the table, the number of open scopes, and the length of the output.
 #[derive(Clone, Copy, PartialEq, Eq)]
 pub struct BufferView {
     one: PieceView,
@@ -33,7 +33,7 @@ pub struct BufferView {
     main_len: usize,
 }
 
-/// The first bytes of a text.
+/// Returns the first bytes of a text.
 fn front(text: &[u8]) -> [u8; TEXT_LEN] {
     let mut room = [0u8; TEXT_LEN];
     let len = text.len().min(TEXT_LEN);
@@ -70,7 +70,7 @@ fn arg_view(buf: &Buffer, i: usize) -> Option<PieceView> {
     }
 }
 
-/// Looks at the buffer, and at two pieces that live.
+/// Returns a view of the buffer and of two pieces that live.
 pub fn view_of(buf: &Buffer, one: Piece, other: Piece) -> BufferView
     requires one { IsLiving buf.now one }
     requires other { IsLiving buf.now other }

@@ -1,11 +1,11 @@
-//! Ends that count what they are asked for, and note whether it was ever as much as in another run. They take no
-//! memory.
+//! A source and a sink that count what they are asked for, and note whether that was ever as much as in another run.
+//! They allocate nothing.
 ghost use Rattle.std.specs.Prelude.{◌<◌, false, length, Some};
 
 use std::cell::Cell;
 use symfilter_engine::{Failed, Sink, Source};
 
-/// What both ends have been asked for: how many calls each had, and for how many bytes.
+/// What source and sink have been asked for: the number of calls of each, and of bytes.
 #[derive(Clone, Copy, PartialEq, Eq)]
 pub struct Asked {
     takes: usize,
@@ -22,12 +22,12 @@ pub const NOTHING: Asked = Asked {
     offered: 0,
 };
 
-/// Whether the byte is one of words.
+/// Returns whether the byte is a word byte.
 fn is_word_byte(byte: u8) -> bool {
     byte.is_ascii_alphanumeric() || matches!(byte, b'_' | b'$' | b'.')
 }
 
-/// What the ends of a run are asked for.
+/// What the source and the sink of a run are asked for.
 #[derive(Drop)]
 pub struct Watch {
     asked: Cell<Asked>,
@@ -36,7 +36,7 @@ pub struct Watch {
 }
 
 impl Watch {
-    /// Of a run that hasn't begun, beside what another run was asked for in all.
+    /// Returns the counts of a run that hasn't begun. `other` is what another run was asked for in all.
     pub fn new(other: Asked) -> Self {
         Watch {
             asked: Cell::new(NOTHING),
@@ -45,17 +45,17 @@ impl Watch {
         }
     }
 
-    /// What was asked for so far.
+    /// Returns what was asked for so far.
     pub fn asked(&self) -> Asked {
         self.asked.get()
     }
 
-    /// Whether at some moment as much was asked for as in the other run.
+    /// Returns whether at some moment as much was asked for as in the other run.
     pub fn has_met(&self) -> bool {
         self.met.get()
     }
 
-    /// So much is asked for now.
+    /// Notes that so much has been asked for.
     fn note(&self, asked: Asked) {
         self.asked.set(asked);
         if asked == self.other {
@@ -63,7 +63,7 @@ impl Watch {
         }
     }
 
-    /// The source is asked for at most so many bytes.
+    /// Notes that the source is asked for at most `room` bytes.
     fn note_take(&self, room: usize) {
         let mut asked = self.asked.get();
         asked.takes = asked.takes.saturating_add(1);
@@ -71,7 +71,7 @@ impl Watch {
         self.note(asked);
     }
 
-    /// The sink is offered so many bytes.
+    /// Notes that the sink is offered `offered` bytes.
     fn note_put(&self, offered: usize) {
         let mut asked = self.asked.get();
         asked.puts = asked.puts.saturating_add(1);
@@ -80,7 +80,7 @@ impl Watch {
     }
 }
 
-/// A text of which each call gives at most `most` bytes. Each call is noted first.
+/// A source over a text. Each call gives at most `most` bytes, and is noted first.
 #[derive(Drop)]
 pub struct TextSource<'a> {
     rest: &'a [u8],
@@ -122,10 +122,10 @@ impl Source for TextSource<'_> {
     }
 }
 
-/// A sink that takes all that it is offered, and compares it with the text that it expects. Each call is noted first.
+/// A sink that takes all bytes that it is offered, and compares them with an expected text. Each call is noted first.
 #[derive(Drop)]
 pub struct TextSink<'a> {
-    // What is expected from here on.
+    // The expected text that is left.
     rest: &'a [u8],
     differs: bool,
     is_at_line: bool,
@@ -144,22 +144,23 @@ impl<'a> TextSink<'a> {
         }
     }
 
-    /// Whether it got what it expects, and no more.
+    /// Returns whether the sink got the expected text, and no more.
     pub fn has_all(&self) -> bool {
         !self.differs && self.rest.is_empty()
     }
 
-    /// Whether it got whole lines of what it expects.
+    /// Returns whether the sink got whole lines of the expected text.
     pub fn has_whole_lines(&self) -> bool {
         !self.differs && self.is_at_line
     }
 
-    /// Whether it got whole words of what it expects, and after the last one a byte that is in no word.
+    /// Returns whether the sink got whole words of the expected text, and after the last one a byte that is no word
+    /// byte.
     pub fn has_whole_words(&self) -> bool {
         !self.differs && !self.is_in_word
     }
 
-    /// Compares the bytes with what is expected next.
+    /// Compares the bytes with the expected text that is left.
     fn compare(&mut self, bytes: &[u8]) {
         match self.rest.get(bytes.len()..) {
             Some(rest) if self.rest.starts_with(bytes) => self.rest = rest,

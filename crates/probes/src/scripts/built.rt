@@ -12,7 +12,7 @@ use demangle_edit::{
 use demangle_text::{Buffer, Piece, Place};
 use std::alloc::AllocError;
 
-/// A text that is saved, with bytes and a name after it.
+/// Pushes a text, saves it, and appends bytes and a name to it.
 #[tactic(auto, using(
 // The laws of calls, of runs of calls, and of what ends the output.
 demangle_text::proofs::Laws::laws, demangle_text::proofs::Laws::runs, demangle_text::proofs::Laws::lasts))]
@@ -31,7 +31,7 @@ pub fn save_and_name(
     Ok(whole)
 }
 
-/// Puts the texts from this one on after the output.
+/// Appends the texts of the line to the output, from the text with the index `first` on.
 #[tactic(auto, using(demangle_text::proofs::Laws::laws))]
 fn push_each(buf: &mut Buffer, line: &Line, first: usize) -> Result<(), AllocError>
     ensures kept { OnOk result (KeepsAll buf.old buf.new) }
@@ -42,7 +42,7 @@ fn push_each(buf: &mut Buffer, line: &Line, first: usize) -> Result<(), AllocErr
     Ok(())
 }
 
-/// A text that takes in those that are put after it.
+/// Pushes the texts of the line, and makes one piece of them all.
 #[tactic(auto, using(
 // The laws of calls, of runs of calls, and of what ends the output.
 demangle_text::proofs::Laws::laws, demangle_text::proofs::Laws::runs, demangle_text::proofs::Laws::lasts))]
@@ -55,8 +55,7 @@ pub fn up_to_end(buf: &mut Buffer, line: &Line) -> Result<Piece, AllocError>
     Ok(buf.up_to_end(list))
 }
 
-/// The template arguments of a name, as texts that are put after it: all of them but for what closes the list, or with
-/// it.
+/// Appends the texts of the line to a name as its template arguments. The list is closed if `closed` is true.
 #[tactic(auto, using(
 // The laws of calls, of runs of calls, and of what ends the output.
 demangle_text::proofs::Laws::laws, demangle_text::proofs::Laws::runs, demangle_text::proofs::Laws::lasts))]
@@ -79,7 +78,7 @@ pub fn arguments(
     }
 }
 
-/// An edit of a piece that may not be of the form.
+/// Edits a piece if it has the form that the call needs, and returns `None` otherwise.
 #[tactic(auto, using(
 // The laws of calls.
 demangle_text::proofs::Laws::laws,
@@ -109,7 +108,7 @@ pub fn try_form(
     }
 }
 
-/// What a type or a class may make.
+/// Edits a type or a class by a call that may make nothing.
 #[tactic(auto, using(demangle_text::proofs::Laws::laws))]
 pub fn try_type(
     buf: &mut Buffer,
@@ -135,7 +134,7 @@ pub fn try_type(
     }
 }
 
-/// A function type with so many parameters, of two.
+/// Makes a function type with up to two parameters.
 #[tactic(auto, using(demangle_text::proofs::Laws::laws))]
 pub fn try_function(
     buf: &mut Buffer,
@@ -159,7 +158,7 @@ pub fn try_function(
     }
 }
 
-/// A literal of a type that is put after its parenthesis.
+/// Makes a literal of a type that follows its parenthesis.
 #[tactic(auto, using(demangle_text::proofs::Laws::laws))]
 pub fn opened_literal(buf: &mut Buffer, ty: &str, value: &str) -> Result<Option<Piece>, AllocError>
     ensures living { IfFound result (IsLiving buf.new) }

@@ -1,4 +1,4 @@
-//! What a line may say: the calls by their names, and the questions.
+//! The calls and the questions of a line, by their names.
 
 use demangle_edit::Pointer;
 use demangle_text::Kind;
@@ -79,7 +79,7 @@ pub enum Several {
     GlueTwo,
 }
 
-/// A call that makes nothing where its piece isn't of the form.
+/// A call that makes nothing if its piece doesn't have the form that it needs.
 #[derive(Clone, Copy)]
 pub enum Try {
     Cut,
@@ -88,7 +88,7 @@ pub enum Try {
     OpenGroup,
 }
 
-/// A call that makes nothing where there is no such type or literal.
+/// A call that makes nothing if there is no such type or literal.
 #[derive(Clone, Copy)]
 pub enum Type {
     CollapseRef(bool),
@@ -118,7 +118,7 @@ pub enum Call {
     Close,
 }
 
-/// What may be asked of a piece.
+/// A question about a piece.
 #[derive(Clone, Copy)]
 pub enum OfPiece {
     Is,
@@ -130,7 +130,7 @@ pub enum OfPiece {
 }
 
 impl Look {
-    /// The call of this name.
+    /// Returns the call with this name, or `None`.
     fn named(name: &str) -> Option<Look> {
         let call = match name {
             "saved" => Look::Saved,
@@ -150,7 +150,7 @@ impl Look {
 }
 
 impl Push {
-    /// The call of this name.
+    /// Returns the call with this name, or `None`.
     fn named(name: &str) -> Option<Push> {
         let call = match name {
             "push" => Push::Push,
@@ -162,7 +162,7 @@ impl Push {
 }
 
 impl One {
-    /// The call of this name.
+    /// Returns the call with this name, or `None`.
     fn named(name: &str) -> Option<One> {
         let call = match name {
             "copy" => One::Copy,
@@ -183,7 +183,7 @@ impl One {
 }
 
 impl Text {
-    /// The call of this name.
+    /// Returns the call with this name, or `None`.
     fn named(name: &str) -> Option<Text> {
         let call = match name {
             "append" => Text::Append,
@@ -199,7 +199,7 @@ impl Text {
 }
 
 impl Words {
-    /// The call of this name.
+    /// Returns the call with this name, or `None`.
     fn named(name: &str) -> Option<Words> {
         let call = match name {
             "append_number" => Words::AppendNumber,
@@ -217,7 +217,7 @@ impl Words {
 }
 
 impl Two {
-    /// The call of this name.
+    /// Returns the call with this name, or `None`.
     fn named(name: &str) -> Option<Two> {
         let call = match name {
             "join" => Two::Join,
@@ -233,7 +233,7 @@ impl Two {
 }
 
 impl Several {
-    /// The call of this name.
+    /// Returns the call with this name, or `None`.
     fn named(name: &str) -> Option<Several> {
         let call = match name {
             "format_no_params" => Several::FormatNoParams,
@@ -248,7 +248,7 @@ impl Several {
 }
 
 impl Try {
-    /// The call of this name.
+    /// Returns the call with this name, or `None`.
     fn named(name: &str) -> Option<Try> {
         let call = match name {
             "cut" => Try::Cut,
@@ -262,7 +262,7 @@ impl Try {
 }
 
 impl Type {
-    /// The call of this name.
+    /// Returns the call with this name, or `None`.
     fn named(name: &str) -> Option<Type> {
         let call = match name {
             "collapse_left" => Type::CollapseRef(false),
@@ -279,7 +279,7 @@ impl Type {
 }
 
 impl Call {
-    /// The call of this name.
+    /// Returns the call with this name, or `None`.
     pub fn named(name: &str) -> Option<Call> {
         if let Some(call) = Look::named(name) {
             return Some(Call::Look(call));
@@ -311,7 +311,7 @@ impl Call {
         Call::alone(name)
     }
 
-    /// The call of this name, of no class.
+    /// Returns the call with this name that is in no other enum, or `None`.
     fn alone(name: &str) -> Option<Call> {
         let call = match name {
             "save_and_name" => Call::SaveAndName,
@@ -329,7 +329,7 @@ impl Call {
 }
 
 impl OfPiece {
-    /// The question of this name, with so many words and texts.
+    /// Returns the question with this name and this number of words and texts, or `None`.
     pub fn named(name: &str, words: usize, texts: usize) -> Option<OfPiece> {
         let question = match (name, words, texts) {
             ("is", 2, 1) => OfPiece::Is,

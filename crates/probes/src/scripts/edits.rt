@@ -1,4 +1,4 @@
-//! Edits of pieces.
+//! Makes the edits of pieces.
 ghost use Rattle.std.specs.Prelude.{IfOk, OnOk};
 ghost use Rattle.demangle_text.specs.State.{IsLiving, IsEdit};
 
@@ -13,7 +13,7 @@ use demangle_edit::{
 use demangle_text::{Buffer, Piece, Place};
 use std::alloc::AllocError;
 
-/// The qualifiers among the words.
+/// Returns the qualifiers among the words.
 pub fn quals(line: &Line) -> Quals {
     Quals {
         constant: line.has("const"),
@@ -27,7 +27,7 @@ pub fn quals(line: &Line) -> Quals {
     }
 }
 
-/// An edit of one piece.
+/// Edits one piece.
 #[tactic(auto, using(demangle_text::proofs::Laws::laws))]
 pub fn of_one(buf: &mut Buffer, piece: Piece, call: One) -> Result<Piece, AllocError>
     requires living { IsLiving buf.old piece }
@@ -45,7 +45,7 @@ pub fn of_one(buf: &mut Buffer, piece: Piece, call: One) -> Result<Piece, AllocE
     }
 }
 
-/// Bytes and a name after a piece.
+/// Appends bytes and a name to a piece.
 #[tactic(auto, using(demangle_text::proofs::Laws::laws, demangle_text::proofs::Laws::lasts))]
 fn append_name(
     buf: &mut Buffer,
@@ -62,7 +62,7 @@ fn append_name(
     Ok(whole)
 }
 
-/// An edit of one piece with a text, and one of them with two.
+/// Edits one piece with a text, or with two for one of the calls.
 #[tactic(auto, using(demangle_text::proofs::Laws::laws))]
 pub fn with_text(
     buf: &mut Buffer,
@@ -85,7 +85,7 @@ pub fn with_text(
     }
 }
 
-/// An edit of one piece with a number or with qualifiers.
+/// Edits one piece with a number or with qualifiers.
 #[tactic(auto, using(demangle_text::proofs::Laws::laws))]
 pub fn with_words(
     buf: &mut Buffer,
@@ -109,7 +109,7 @@ pub fn with_words(
     }
 }
 
-/// An edit of two pieces.
+/// Edits two pieces.
 #[tactic(auto, using(demangle_text::proofs::Laws::laws))]
 pub fn of_two(
     buf: &mut Buffer,
@@ -134,7 +134,7 @@ pub fn of_two(
     }
 }
 
-/// An edit with a list of pieces, of which the third is asked with parameters alone.
+/// Edits with a list of pieces. Only a call with parameters uses the third piece.
 #[tactic(auto, using(demangle_text::proofs::Laws::laws))]
 pub fn of_several(
     buf: &mut Buffer,

@@ -1,11 +1,11 @@
 //! A line of a script: words, and texts in quotation marks.
 
-/// No line has more words, and none has more texts.
+/// The most words of a line. A line has at most `TEXTS` texts.
 const WORDS: usize = 10;
 
 const TEXTS: usize = 3;
 
-/// The words of a line and its texts, each in their order, and how many there are. What isn't there is empty.
+/// The words and the texts of a line, each in their order, and how many there are. The others are empty.
 #[derive(Clone, Copy)]
 pub struct Line<'a> {
     words: [&'a str; WORDS],
@@ -15,7 +15,7 @@ pub struct Line<'a> {
 }
 
 impl<'a> Line<'a> {
-    /// The parts of the line. Each second one stands between quotation marks.
+    /// Splits the line into its parts. Every second part is between quotation marks.
     pub fn new(line: &'a str) -> Self {
         let mut parts = Line {
             words: [""; WORDS],
@@ -53,17 +53,17 @@ impl<'a> Line<'a> {
         }
     }
 
-    /// The word with this index.
+    /// Returns the word with this index, or an empty one.
     pub fn word(&self, i: usize) -> &'a str {
         if i < WORDS { self.words[i] } else { "" }
     }
 
-    /// The text with this index.
+    /// Returns the text with this index, or an empty one.
     pub fn text(&self, i: usize) -> &'a str {
         if i < TEXTS { self.texts[i] } else { "" }
     }
 
-    /// Whether this is one of the words.
+    /// Returns whether this is one of the words.
     pub fn has(&self, word: &str) -> bool {
         for other in self.words {
             if other == word {
@@ -73,7 +73,7 @@ impl<'a> Line<'a> {
         false
     }
 
-    /// The word with this index as a number. One that is no number stands for the greatest.
+    /// Returns the word with this index as a number. A word that is no number gives the greatest number.
     pub fn number(&self, i: usize) -> usize {
         match self.word(i).parse::<usize>() {
             Ok(number) => number,

@@ -1,4 +1,4 @@
-//! Calls that change nothing, and what is asked of a piece.
+//! Makes the calls that change nothing, and answers the questions about a piece.
 ghost use Rattle.std.specs.Prelude.{IfSome};
 ghost use Rattle.demangle_text.specs.State.{IsLiving};
 
@@ -6,7 +6,7 @@ use crate::scripts::calls::{Look, OfPiece};
 use crate::scripts::line::Line;
 use demangle_text::{Buffer, Kind, Piece};
 
-/// The piece with a base name.
+/// Returns the piece with these bytes as its base name, or `None` if they can't be.
 #[tactic(auto, using(crate::proofs::Forms::forms))]
 fn own_at(buf: &Buffer, piece: Piece, from: usize, to: usize) -> Option<Piece>
     requires living { IsLiving buf.now piece }
@@ -18,7 +18,7 @@ fn own_at(buf: &Buffer, piece: Piece, from: usize, to: usize) -> Option<Piece>
     Some(buf.own_at(piece, from, to))
 }
 
-/// The plain piece as a declarator.
+/// Returns the piece as a declarator, or `None` if it isn't plain or is too short.
 #[tactic(auto, using(demangle_edit::proofs::Declarators::declarators))]
 fn declare(buf: &Buffer, piece: Piece, kind: Kind, at: usize) -> Option<Piece>
     requires living { IsLiving buf.now piece }
@@ -30,7 +30,7 @@ fn declare(buf: &Buffer, piece: Piece, kind: Kind, at: usize) -> Option<Piece>
     Some(buf.declare(piece, kind, at))
 }
 
-/// The plain piece as a declarator with a group.
+/// Returns the piece as a declarator with a group, or `None` if it can't be.
 #[tactic(auto, using(demangle_edit::proofs::Declarators::declarators))]
 fn declare_group(buf: &Buffer, piece: Piece, kind: Kind, from: usize, at: usize) -> Option<Piece>
     requires living { IsLiving buf.now piece }
@@ -46,7 +46,7 @@ fn declare_group(buf: &Buffer, piece: Piece, kind: Kind, from: usize, at: usize)
     Some(buf.declare_group(piece, kind, from, at))
 }
 
-/// A piece of a list, or the piece with another form, where there is one.
+/// Returns a piece of a list, or the piece in another form, or `None` if there is none.
 pub fn look(buf: &Buffer, piece: Piece, line: &Line, look: Look) -> Option<Piece>
     requires living { IsLiving buf.now piece }
     ensures living { IfSome result (IsLiving buf.now) }
@@ -65,7 +65,7 @@ pub fn look(buf: &Buffer, piece: Piece, line: &Line, look: Look) -> Option<Piece
     }
 }
 
-/// Whether what is said of the piece is so.
+/// Returns whether the question about the piece has the answer yes.
 pub fn is_so(buf: &Buffer, piece: Piece, line: &Line, question: OfPiece) -> bool
     requires living { IsLiving buf.now piece }
 {
@@ -79,7 +79,7 @@ pub fn is_so(buf: &Buffer, piece: Piece, line: &Line, question: OfPiece) -> bool
     }
 }
 
-/// Whether what is said of the buffer is so.
+/// Returns whether the question about the buffer has the answer yes.
 pub fn is_so_of_all(buf: &Buffer, line: &Line) -> bool {
     match line.word(0) {
         "output" if line.texts_len == 1 => buf.main_bytes() == line.text(0).as_bytes(),

@@ -12,7 +12,8 @@ use crate::scripts::looks::{is_so, is_so_of_all, look};
 use demangle_text::{Buffer, Mark, Piece};
 use std::alloc::{AllocError, Global};
 
-/// A buffer, up to three pieces that live in it, and the open mark, if there is one. Then `a` was made before the mark.
+/// A buffer, up to three pieces that live in it, and the open mark, if there is one. If a mark is open, `a` was made
+/// before it.
 #[derive(Drop)]
 pub struct Script {
     pub buf: Buffer,
@@ -25,15 +26,15 @@ pub struct Script {
 /// What a line did.
 #[derive(Clone, Copy)]
 pub enum Outcome {
-    /// A call was made, of which nothing is asked.
+    /// A call was made, and nothing was tested.
     Called,
-    /// What it asks is so.
+    /// The question has the answer yes.
     Passed,
-    /// What it asks isn't so, or it can't be played, for this reason.
+    /// The question has the answer no, or the line can't be played, for this reason.
     Failed(&'static str),
 }
 
-/// The edit of these pieces.
+/// Makes the edit of these pieces.
 #[tactic(auto, using(demangle_text::proofs::Laws::laws))]
 fn edit(
     buf: &mut Buffer,
@@ -60,7 +61,7 @@ fn edit(
     }
 }
 
-/// The edit of these pieces that makes a piece in any case.
+/// Makes the edit of these pieces, of a kind that always makes a piece.
 #[tactic(auto, using(demangle_text::proofs::Laws::laws))]
 fn edit_always(
     buf: &mut Buffer,
@@ -88,7 +89,7 @@ fn edit_always(
     }
 }
 
-/// A call of the lists, with a piece. It says whether it could be made.
+/// Makes a call of the lists with a piece. Returns whether it could be made.
 fn list(buf: &mut Buffer, piece: Piece, line: &Line) -> Result<bool, AllocError>
     requires living { IsLiving buf.old piece }
     ensures kept { OnOk result (SameFrame buf.old buf.new) }
@@ -118,7 +119,7 @@ impl Script {
         }
     }
 
-    /// The piece of this name, if it lives.
+    /// Returns the piece with this name, if it lives.
     fn piece(&self, name: &str) -> Option<Piece>
         requires holds { Holds self.now }
         ensures living { IfSome result (IsLiving self.now.buf) }
@@ -131,7 +132,7 @@ impl Script {
         }
     }
 
-    /// The piece of this name, if it lives, or a piece that is given.
+    /// Returns the piece with this name if it lives, and otherwise the piece `other`.
     fn piece_or(&self, name: &str, other: Piece) -> Piece
         requires holds { Holds self.now }
         requires other { IsLiving self.now.buf other }
@@ -143,7 +144,7 @@ impl Script {
         }
     }
 
-    /// The piece that a call is given first. Where a line has a number there, or nothing, that is an empty one.
+    /// Returns the first piece of a call. If the line has a number there, or nothing, that is an empty piece.
     fn first(&self, line: &Line) -> Option<Piece>
         requires holds { Holds self.now }
         ensures living { IfSome result (IsLiving self.now.buf) }
@@ -170,7 +171,7 @@ impl Script {
         Outcome::Called
     }
 
-    /// What is said where nothing is made: `none` has to stand in place of the name.
+    /// Returns the outcome if nothing is made: `none` must be in the place of the name.
     fn put_none(name: &str) -> Outcome {
         if name == "none" {
             Outcome::Passed
@@ -179,7 +180,7 @@ impl Script {
         }
     }
 
-    /// Forgets the pieces that an edit ended, and gives the answer this name.
+    /// Forgets the pieces that an edit ended, and gives its result this name.
     fn put_edited(&mut self, name: &str, piece: Piece) -> Outcome
         requires living { IsLiving self.old.buf piece }
         requires marked { IsMarked self.old.buf self.old.mark self.old.a }
@@ -193,7 +194,7 @@ impl Script {
         self.put(name, piece)
     }
 
-    /// A call that changes nothing.
+    /// Makes a call that changes nothing.
     fn look(&mut self, line: &Line, call: Look) -> Outcome
         requires holds { Holds self.old }
         ensures holds { Holds self.new }
@@ -207,7 +208,7 @@ impl Script {
         }
     }
 
-    /// A call that leaves all pieces as they are.
+    /// Makes a call that leaves all pieces as they are.
     #[tactic(auto, using(crate::proofs::Held::held))]
     fn push(&mut self, line: &Line, call: Push) -> Result<Outcome, AllocError>
         requires holds { Holds self.old }
@@ -220,7 +221,7 @@ impl Script {
         Ok(self.put(line.word(0), piece))
     }
 
-    /// An edit of pieces, or a call that may make nothing. Then all pieces stay.
+    /// Makes an edit of pieces, or a call that may make nothing. If it makes nothing, all pieces stay.
     #[tactic(auto, using(crate::proofs::Held::held))]
     fn edit(&mut self, line: &Line, call: Call) -> Result<Outcome, AllocError>
         requires holds { Holds self.old }
@@ -237,7 +238,7 @@ impl Script {
         }
     }
 
-    /// The call that saves what it names.
+    /// Makes the call that saves what it names.
     #[tactic(auto, using(crate::proofs::Held::held))]
     fn save_and_name(&mut self, line: &Line) -> Result<Outcome, AllocError>
         requires holds { Holds self.old }
@@ -267,7 +268,7 @@ impl Script {
         Ok(self.put(line.word(0), kept))
     }
 
-    /// A call of the lists, which makes no piece.
+    /// Makes a call of the lists, which makes no piece.
     #[tactic(auto, using(crate::proofs::Held::held))]
     fn list(&mut self, line: &Line) -> Result<Outcome, AllocError>
         requires holds { Holds self.old }
@@ -281,7 +282,7 @@ impl Script {
         }
     }
 
-    /// Opens a mark, or empties the buffer.
+    /// Opens a mark, or clears the buffer.
     #[tactic(auto, using(crate::proofs::Held::held))]
     fn frame(&mut self, opens: bool) -> Outcome
         requires holds { Holds self.old }
@@ -301,7 +302,7 @@ impl Script {
         Outcome::Called
     }
 
-    /// What is asked of a piece, or of the buffer.
+    /// Answers a question about a piece or the buffer.
     fn ask(&self, line: &Line) -> Outcome
         requires holds { Holds self.now }
     {
@@ -319,7 +320,7 @@ impl Script {
         }
     }
 
-    /// A line that gives a name to what a call makes.
+    /// Plays a line that gives a name to what a call makes.
     fn name(&mut self, line: &Line) -> Result<Outcome, AllocError>
         requires holds { Holds self.old }
         ensures holds { OnOk result (Holds self.new) }
