@@ -16,7 +16,7 @@
  *   start or the end of a thread. After it is copied, only one of the two is used and freed.
  * Calls share nothing but a handle: threads with handles of their own may call at the same time.
  *
- * NULL: a text or symbol of length 0 and room of 0 bytes may be NULL, and so may needed, and the handle of
+ * NULL: a text or symbol of length 0 and memory of 0 bytes may be NULL, and so may needed, and the handle of
  * cosvigle_free. Any other NULL gives COSVIGLE_BAD_CALL. This holds for callers that include this header. The exported
  * calls themselves, as a program reaches them by dlsym or from another language, take no NULL.
  *
@@ -45,13 +45,13 @@ enum {
     COSVIGLE_WRITTEN = 0,   /* the text is written, and *needed is its length in bytes */
     COSVIGLE_NO_ANSWER = 1, /* the symbol has no demangled name; the handle keeps no text */
     COSVIGLE_NO_MEMORY = 2, /* an allocation failed */
-    COSVIGLE_NO_ROOM = 3,   /* there is too little room: *needed is the length of the text in bytes */
+    COSVIGLE_NO_ROOM = 3,   /* the text is longer than room: *needed is its length in bytes */
     COSVIGLE_NOT_UTF8 = 4,  /* the symbol isn't UTF-8 */
     COSVIGLE_BAD_CALL = 5   /* a pointer is NULL that must not be */
 };
-/* A call that returns COSVIGLE_WRITTEN writes the text at the front of the room, without a NUL at its end, and leaves
- * the bytes after it. With any other status nothing is written there, and *needed is 0 unless the status is
- * COSVIGLE_NO_ROOM. */
+/* The parameter room is the capacity in bytes of the memory that the caller gives for a text. A call that returns
+ * COSVIGLE_WRITTEN writes the text at the front of that memory, without a NUL at its end. It leaves the bytes after it.
+ * With any other status nothing is written there, and *needed is 0 unless the status is COSVIGLE_NO_ROOM. */
 
 /* The version of the library: the major version times 1,000,000, the minor times 1,000, and the patch, added up. */
 uint32_t cosvigle_version(void);
@@ -67,9 +67,9 @@ typedef struct {
 /* Writes the demangled name of a symbol of len bytes to answer, which has room bytes. A symbol begins with _Z or __Z.
  * The parameters of a function aren't read. A suffix such as .cold is kept only right after what was read: foo.cold for
  * _Z3foo.cold, and foo for _Z3fooi.cold. Any other bytes after what was read are dropped: foo for "_Z3foo at main.c".
- * After COSVIGLE_NO_ROOM the symbol has to be asked again with more room. The name is UTF-8. The handle keeps its
- * memory, so that a next symbol that needs no more makes no call of malloc. A handle without a demangler gets one.
- * After COSVIGLE_NO_MEMORY the handle can be used again. */
+ * The name is UTF-8. After COSVIGLE_NO_ROOM, call again with more memory for the name. The handle keeps its own memory,
+ * so that a next symbol that needs no more makes no call of malloc. A handle without a demangler gets one. After
+ * COSVIGLE_NO_MEMORY the handle can be used again. */
 int cosvigle_ask(cosvigle_handle *handle, const char *symbol, size_t len, char *answer, size_t room, size_t *needed);
 
 /* Writes the signature of a symbol, that is its demangled name with its parameters: foo(int) for _Z3fooi. Where it has
@@ -80,21 +80,22 @@ int cosvigle_ask_signature(cosvigle_handle *handle, const char *symbol, size_t l
 /* The demangled name of one symbol, without a handle. */
 int cosvigle_demangle(const char *symbol, size_t len, char *answer, size_t room, size_t *needed);
 
-/* Writes a text with its symbols replaced by their demangled names, as the program cosvigle does. A word is a longest
- * run of ASCII letters, digits, _, $ and dots. Its symbol stands at its front, after at most one dot, one $ or
- * __imp_, which stays, as do the dots at its end. With strip, one more underscore may stand in front of a symbol, and
- * is dropped. All other bytes stay. WRITTEN, NO_MEMORY or NO_ROOM, and BAD_CALL for a NULL. A call takes more than
- * 128 KiB of memory while it runs: give it whole texts rather than single lines.
+/* Writes a text with its symbols replaced by their demangled names, as the program cosvigle does. A word is a maximal
+ * run of ASCII letters, digits, _, $ and dots. Its symbol stands at its front. At most one dot, one $ or __imp_ may
+ * stand before the symbol, and is kept. The dots at the end of the word are kept too. With strip, one more underscore
+ * may stand in front of a symbol, and is dropped. All other bytes are kept. The status is WRITTEN, NO_MEMORY or
+ * NO_ROOM, and BAD_CALL for a NULL. A call takes more than 128 KiB of memory while it runs: give it whole texts rather
+ * than single lines.
  *
- * With COSVIGLE_NO_ROOM the handle keeps the text that was made: give *needed bytes of room to cosvigle_take. The next
- * call with this handle of cosvigle_replace, cosvigle_filter_with, cosvigle_new or cosvigle_free drops it. */
+ * With COSVIGLE_NO_ROOM the handle keeps the text that was made: give *needed bytes of memory to cosvigle_take. The
+ * next call with this handle of cosvigle_replace, cosvigle_filter_with, cosvigle_new or cosvigle_free drops it. */
 int cosvigle_replace(cosvigle_handle *handle, bool strip, const char *text, size_t len, char *into, size_t room,
                      size_t *needed);
 
-/* Writes lines with each line that has a demangled name replaced by it, as the program symfilter does. The whole line
- * is asked, as by cosvigle_ask: so what follows a symbol on its line is dropped, but for a suffix. Any other line
- * stays. A line goes up to the next line feed, which is written too, or to the end. The statuses, and what the handle
- * keeps, are those of cosvigle_replace. */
+/* Writes lines, and replaces each line that has a demangled name by that name, as the program symfilter does. A whole
+ * line is one symbol, as in cosvigle_ask. So bytes that follow a symbol on its line are dropped, except a suffix. Any
+ * other line is unchanged. A line goes up to the next line feed, which is written too, or to the end. The statuses, and
+ * what the handle keeps, are those of cosvigle_replace. */
 int cosvigle_filter_with(cosvigle_handle *handle, const char *lines, size_t len, char *into, size_t room,
                          size_t *needed);
 
@@ -127,7 +128,7 @@ void cosvigle_free(cosvigle_handle *handle);
 #define COSVIGLE_TEXT(at) ((char *)(at))
 #endif
 
-/* Whether a pointer and a length can't be a text or room. */
+/* Whether a pointer and a length can't be a text or memory for one. */
 COSVIGLE_INLINE bool cosvigle_is_bad(const void *at, size_t len) { return at == NULL && len != 0; }
 
 COSVIGLE_INLINE int cosvigle_bad_call(size_t *needed) {

@@ -56,7 +56,7 @@ using std::nullopt_t;
 using std::optional;
 using std::string_view;
 #else
-// Bytes that are lent.
+// Borrowed bytes.
 class string_view {
   public:
     string_view() noexcept : at(""), len(0) {}
@@ -136,8 +136,8 @@ class demangler {
         std::free(text);
     }
 
-    // The demangled name of a symbol, lent until the next call, or none if it has none or isn't UTF-8. The symbol may
-    // not be a name that this value lends. After a fault the value can be used again.
+    // The demangled name of a symbol, or none if it has none or isn't UTF-8. The name is valid until the next call. The
+    // symbol may not be a name that this demangler returned. After an error the demangler can be used again.
     optional<string_view> demangle(string_view symbol) { return answer_by(cosvigle_ask, symbol); }
 
     // The same with the parameters: foo(int) for _Z3fooi. Where the symbol has no signature it is the demangled name.
@@ -177,7 +177,7 @@ class demangler {
         std::swap(last, other.last);
     }
 
-    // Asks by this call, a second time where there was too little room.
+    // Calls this function, and calls it again with more memory if the text was longer than the capacity.
     optional<string_view> answer_by(decltype(&cosvigle_ask) call, string_view symbol) {
         std::size_t needed = 0;
         if (text != nullptr || grow(256)) ask(call, symbol, needed);
@@ -202,7 +202,7 @@ class demangler {
         return true;
     }
 
-    // What a call over a text made, which the handle keeps if there was too little room.
+    // The text that a call made. The handle keeps it if it was longer than the capacity.
     optional<std::string> finish(std::string &made, std::size_t needed) {
         if (last == COSVIGLE_NO_ROOM && needed > made.size()) {
             made.resize(needed);

@@ -204,12 +204,13 @@ abbrev pub IsApart : ℕ → ℕ → ℕ → Piece → Type 0
 IsApart low from to p = p.spilled ≡ false → low < p.to_byte → (from ≤ p.from_byte) × (p.to_byte ≤ to)
 
 -- both lists keep their shapes while texts of theirs are put at the end of the spill
-pub record IsSpilled (output old_side new_side : List ℕ) (old_saved new_saved old_args new_args : List Piece) : Type 0 where
-  pub spill : Extends old_side new_side
-  pub saved_lie : All (IsPiece output new_side) new_saved
-  pub args_lie : All (IsPiece output new_side) new_args
-  pub saved_shapes : map (shape_in output new_side) new_saved ≡ map (shape_in output old_side) old_saved
-  pub args_shapes : map (shape_in output new_side) new_args ≡ map (shape_in output old_side) old_args
+pub record IsSpilled (output old_spill new_spill : List ℕ)
+    (old_saved new_saved old_args new_args : List Piece) : Type 0 where
+  pub spill : Extends old_spill new_spill
+  pub saved_lie : All (IsPiece output new_spill) new_saved
+  pub args_lie : All (IsPiece output new_spill) new_args
+  pub saved_shapes : map (shape_in output new_spill) new_saved ≡ map (shape_in output old_spill) old_saved
+  pub args_shapes : map (shape_in output new_spill) new_args ≡ map (shape_in output old_spill) old_args
   pub args_long : length new_args ≡ length old_args
 
 -- the piece lies in the spill, or ends by a byte of the output

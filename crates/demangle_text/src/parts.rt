@@ -17,7 +17,8 @@ pub(crate) fn add_text(
 ) -> Result<(), AllocError>
     requires ordered { from ≤ to }
     requires within { to ≤ length (home_bytes output.old spill.now spilled) }
-    ensures ok { OnOk result (output.new ≡ output.old ++ slice_range (home_bytes output.old spill.now spilled) from to) }
+    ensures ok { OnOk result (output.new
+        ≡ output.old ++ slice_range (home_bytes output.old spill.now spilled) from to) }
     ensures err { OnErr result (output.new ≡ output.old) }
 {
     if spilled {

@@ -17,7 +17,8 @@ use itanium_syntax::types::ref_qualifier;
 use std::alloc::AllocError;
 
 impl<'a> Reader<'a> {
-    /// A pointer or a reference to what was found.
+    /// A pointer or a reference to what was found. It isn't inlined: so a type takes less of the stack.
+    #[inline(never)]
     pub fn save_pointer(&mut self, kind: Pointer) -> Result<(), AllocError>
         requires living { IsLiving self.old.buffer.value self.old.found }
         ensures shape { OnOk result (Lives self.new.buffer.value self.new.found (pointer_shape kind

@@ -194,8 +194,9 @@ impl<'a> Reader<'a> {
         Ok(())
     }
 
-    /// The name that was found with its own qualifiers, words only where they are `shown`; it becomes plain.
-    #[inline(always)]
+    /// The name that was found with its own qualifiers, words only where they are `shown`; it becomes plain. It isn't
+    /// inlined: so a name takes less of the stack.
+    #[inline(never)]
     pub fn print_quals(&mut self, quals: Quals, shown: bool) -> Result<(), AllocError>
         requires living { IsLiving self.old.buffer.value self.old.found }
         ensures shape { OnOk result (Lives self.new.buffer.value self.new.found
