@@ -27,7 +27,7 @@ pub fn qualify(buf: &mut Buffer, parent: Piece, leaf: Piece) -> Result<Piece, Al
     let (from, to) = buf.own_range(leaf);
     let (templ, ctor) = (buf.templ(leaf), buf.ctor(leaf));
     let whole = buf.join(parent, b"::", leaf)?;
-    // The check learns here that the length fits 64 bits, and so does each place in the text.
+    // The prover learns here that the length fits 64 bits, and so does each place in the text.
     let _len = buf.len(whole);
     let named = buf.own_at(whole, before + 2 + from, before + 2 + to);
     Ok(buf.with_flags(named, templ, ctor))
@@ -75,7 +75,7 @@ pub fn close_opened(buf: &mut Buffer, opened: Piece, name: Piece) -> Result<Piec
     let (from, to) = buf.own_range(name);
     let (templ, ctor) = (buf.templ(name), buf.ctor(name));
     let whole = buf.join(opened, b"", name)?;
-    // The check learns here that the length fits 64 bits, and so does each place in the text.
+    // The prover learns here that the length fits 64 bits, and so does each place in the text.
     let _len = buf.len(whole);
     let named = buf.own_at(whole, before + from, before + to);
     Ok(buf.with_flags(named, templ, ctor))

@@ -162,8 +162,7 @@ pub(crate) fn read_binary(reader: &mut Reader, depth: usize, context: Context) -
     Ok(())
 }
 
-/// Reads `gt <expression> <expression>`. The whole is printed in parentheses, so that its `>` doesn't end an argument
-/// list.
+/// Reads `gt <expression> <expression>`. Each of the two is printed in parentheses, and so is the whole.
 #[tactic(auto, using(itanium_reader::proofs::Rules::buffers))]
 #[cycle(reader)]
 pub(crate) fn read_greater(reader: &mut Reader, depth: usize, context: Context) -> Result<(), Stop>

@@ -38,9 +38,9 @@ pub fn text_limit() -> usize
     MAX_TEXT
 }
 
-/// Reads mangled bytes. Each production has a function over a `Reader`, or a method. It returns `Ok` if the production
-/// was read; then `found` is the piece of its printing. It returns `Stop::Unread` if the bytes aren't read as the
-/// production, and `Stop::Memory` if an allocation fails.
+/// Reads mangled bytes. Each production has a function over a `Reader`, or a method. The function returns `Ok` if the
+/// production was read; then `found` is the piece of its printing. It returns `Stop::Unread` if the bytes aren't read
+/// as the production, and `Stop::Memory` if an allocation fails.
 #[derive(Drop)]
 pub struct Reader<'a> {
     /// The bytes that aren't read yet.
@@ -228,7 +228,8 @@ impl<'a> Reader<'a> {
         Ok(depth - 1)
     }
 
-    /// Returns the most entries that the substitution table had at one moment.
+    /// Returns the most entries that the grammar's substitution table had at one moment. The grammar's table also gets
+    /// the last segment of a nested name.
     #[inline(always)]
     pub fn most_saved(&self) -> usize
         ensures value { result ≡ (state self.now).most_saved }

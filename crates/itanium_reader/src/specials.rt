@@ -1,5 +1,4 @@
-//! Special names, and what follows the prefix of a symbol (Itanium C++ ABI 5.1.4, "Other Special Functions and
-//! Entities").
+//! Special names (Itanium C++ ABI 5.1.4, "Other Special Functions and Entities").
 ghost use Rattle.std.specs.Prelude.{◌≡◌, ◌<◌, ◌++◌, OnOk, IfOk, codes, decimal, length};
 ghost use Rattle.demangle_text.specs.Shape.{text, appended, plain_shape};
 ghost use Rattle.demangle_text.specs.State.{IsLiving, Lives, shape, IsEdit, IsRun};

@@ -16,7 +16,7 @@ pub enum EncodingEnd {
 }
 
 impl EncodingEnd {
-    /// Returns where the encoding of a thunk ends. `self` is where the special name ends whose thunk it is.
+    /// Returns where the encoding of a thunk ends. `self` is the end of the special name that is the thunk.
     pub fn of_thunk(self) -> EncodingEnd
         ensures end { result ≡ spec.of_thunk self }
     {
