@@ -71,8 +71,8 @@ fn effect_of(mode: Mode, byte: u8) -> Effect
     }
 }
 
-/// Splits a text at spaces into words. A part between two `'` or two `"` is of one word, with its spaces. The byte
-/// after a backslash stands for itself. Returns an error if an allocation fails.
+/// Splits a text at white space into words. A part between two `'` or two `"` belongs to one word, with its white
+/// space. The byte after a backslash stands for itself. Returns an error if an allocation fails.
 pub fn words_in(alloc: Global, text: &[u8]) -> Result<Vec<Vec<u8>>, AllocError>
     ensures words { IfOk result (λ words. map (λ word. word.items) words.items ≡ spec.words_in text.now) }
 {

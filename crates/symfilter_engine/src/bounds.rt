@@ -9,9 +9,9 @@ use std::simd::prelude::*;
 /// The number of bytes that are tested at once.
 const LANES: usize = 16;
 
-/// Gives, for the four high bits of a byte, the bit of the kind of word bytes that have them. The kinds are: 1 for `$`
-/// and `.`, 2 for the digits, 4 for `A` to `O` and `a` to `o`, 8 for `P` to `Z` and `_`, 16 for `p` to `z`. No kind is
-/// 0.
+/// Gives, for the four high bits of a byte, the bit of the kind of word bytes that have them, or 0 for no kind. The
+/// bits are 1 for `$` and `.`, 2 for the digits, 4 for `A` to `O` and `a` to `o`, 8 for `P` to `Z` and `_`, 16 for `p`
+/// to `z`.
 const BY_HIGH_NIBBLE: [u8; 16] = [0, 0, 1, 2, 4, 8, 4, 16, 0, 0, 0, 0, 0, 0, 0, 0];
 
 /// Gives, for the four low bits of a byte, the bits of all kinds that have a byte with them. A byte is a word byte if

@@ -54,7 +54,7 @@ pub trait Sink {
     fn failed(&self) -> bool
         ensures value { result ≡ failed self.now };
 
-    /// Writes some of the first bytes, and returns their number. Writes at least one byte if there is one. A failed
+    /// Writes a beginning of the bytes, and returns its length. Writes at least one byte if there is one. A failed
     /// call writes no byte.
     fn put(&mut self, bytes: &[u8]) -> Result<usize, Failed>
         ensures bound { IfOk result (λ count. count ≤ length bytes.now) }

@@ -31,10 +31,10 @@ const OUTPUT_LEN: usize = 32768;
 /// The capacity that is reserved for the output, in bytes. The capacity is more than `OUTPUT_LEN`.
 const OUTPUT_CAPACITY: usize = 36864;
 
-/// The least bytes of ordinary lines that are written without a copy.
+/// The least length in bytes of ordinary lines that are written without a copy.
 const LONG_LEN: usize = 16384;
 
-/// The most bytes whose words are replaced at once.
+/// The most bytes whose words are replaced at once, unless the first word is longer.
 const BLOCK_LEN: usize = 4096;
 
 /// The first byte of each symbol.

@@ -163,7 +163,7 @@ fn ask(
     }
 }
 
-/// Demangles other symbols after an error, and then the symbol once more.
+/// Demangles a symbol after an error, and tests that no allocation fails again.
 fn ask_again(
     call: Call,
     alloc: Global,
