@@ -116,8 +116,8 @@ fn words_place(buf: &Buffer, inner: Piece) -> Place
 }
 
 /// Adds the words ` const`, ` volatile` and ` restrict` of the qualifiers to the type. The words go to the end of the
-/// group; for an array without a group in front of its dimensions; otherwise to the end of the text. The flags stay.
-/// The reference of the qualifiers isn't printed.
+/// group. For an array without a group they go in front of its dimensions, and otherwise to the end of the text. The
+/// flags stay. The reference of the qualifiers isn't printed.
 pub fn wrap_cv(buf: &mut Buffer, inner: Piece, quals: Quals) -> Result<Piece, AllocError>
     requires inner { IsLiving buf.old inner }
     ensures shape { IfOk result (λ p. Lives buf.new p (cv_shape quals (shape buf.old inner))) }
@@ -403,7 +403,7 @@ pub fn close_function(
 }
 
 /// Makes a pack expansion: appends `...` to the text of the type. The piece stays the same declarator and keeps its
-/// flags, and unless it is a function its base name.
+/// flags. The base name stays too, unless the piece is a function.
 pub fn expand(buf: &mut Buffer, inner: Piece) -> Result<Piece, AllocError>
     requires inner { IsLiving buf.old inner }
     ensures shape { IfOk result (λ p. Lives buf.new p (expansion_shape (shape buf.old inner))) }

@@ -6,12 +6,12 @@ ghost use Rattle.itanium_syntax.specs.Encodings as spec;
 /// Where an `<encoding>` ends.
 #[derive(Clone, Copy)]
 pub enum EncodingEnd {
-    /// Right after its name: neither return type nor parameters are read. The encoding of a symbol that is read as a
-    /// name ends so, and the encoding of a thunk in it.
+    /// Right after its name: neither return type nor parameters are read. This is the end for a symbol that is read as
+    /// a name, and for the encoding of a thunk in it.
     AfterName,
     /// At the `E` of the local or external name around it.
     AtE,
-    /// Where the symbol ends. The encoding of a signature ends so, and the encoding of a thunk in it.
+    /// Where the symbol ends. This is the end for a signature, and for the encoding of a thunk in it.
     AtSymbolEnd,
 }
 
