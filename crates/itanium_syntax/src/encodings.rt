@@ -7,11 +7,12 @@ ghost use Rattle.itanium_syntax.specs.Encodings as spec;
 #[derive(Clone, Copy)]
 pub enum EncodingEnd {
     /// Right after its name: neither return type nor parameters are read. This is the end for a symbol that is read as
-    /// a name, and for the encoding of a thunk in it.
+    /// a name, and for the encoding of a thunk in such a symbol or in a local or external name.
     AfterName,
     /// At the `E` of the local or external name around it.
     AtE,
-    /// Where the symbol ends. This is the end for a signature, and for the encoding of a thunk in it.
+    /// Where the symbol ends. This is the end for a signature, and for the encoding of a thunk whose end is that of a
+    /// signature.
     AtSymbolEnd,
 }
 
