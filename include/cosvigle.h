@@ -80,12 +80,17 @@ int cosvigle_ask_signature(cosvigle_handle *handle, const char *symbol, size_t l
 /* The demangled name of one symbol, without a handle. */
 int cosvigle_demangle(const char *symbol, size_t len, char *answer, size_t room, size_t *needed);
 
-/* Writes a text with its symbols replaced by their demangled names, as the program cosvigle does. A word is a maximal
- * run of ASCII letters, digits, _, $ and dots. Its symbol stands at its front. At most one dot, one $ or __imp_ may
- * stand before the symbol, and is kept. The dots at the end of the word are kept too. With strip, one more underscore
- * may stand in front of a symbol, and is dropped. All other bytes are kept. The status is WRITTEN, NO_MEMORY or
- * NO_ROOM, and BAD_CALL for a NULL. A call takes more than 128 KiB of memory while it runs: give it whole texts rather
- * than single lines.
+/* Writes a text with its symbols replaced by their demangled names, as the program cosvigle does.
+ *
+ * A word is a maximal run of ASCII letters, digits, _, $ and dots. It has three parts: a front, a symbol, and the dots
+ * at its end. The front is one dot, one $, one __imp_ or nothing. The symbol is everything between the front and the
+ * dots. It begins with _Z or __Z, and with strip also with ___Z, whose first underscore is then no part of it.
+ * If the symbol has a demangled name, the word becomes its front, the name and its dots. So bytes of the word that
+ * follow what was read are dropped, as in cosvigle_ask: foo for _Z3foov_Z3barv. A word without a symbol, or whose
+ * symbol has no name, is kept. Bytes that are in no word are kept too.
+ *
+ * The status is COSVIGLE_WRITTEN, COSVIGLE_NO_MEMORY or COSVIGLE_NO_ROOM, and COSVIGLE_BAD_CALL for a NULL. A call
+ * takes more than 128 KiB of memory while it runs. So give it whole texts rather than single lines.
  *
  * With COSVIGLE_NO_ROOM the handle keeps the text that was made: give *needed bytes of memory to cosvigle_take. The
  * next call with this handle of cosvigle_replace, cosvigle_filter_with, cosvigle_new or cosvigle_free drops it. */
