@@ -4,21 +4,22 @@
 pub const HELP: &str = "\
 usage: cosvigle [OPTION].. [SYMBOL]..
 
-Prints the name of each symbol, or the symbol itself, one a line. Without any it
-copies standard input to standard output, with names in place of symbols.
+Prints the name of each symbol, or the symbol itself if it has none, one a line.
+Without symbols it copies standard input to standard output, with names in place
+of symbols.
 
   -_, --strip-underscore     a symbol may begin with ___Z
-  -n, --no-strip-underscores it may not: so it is without an option
-  -P, --params               names with their parameters
-  -p, --no-params            names alone: so it is without an option
-  -l, --lines                of standard input each line is a symbol; no -_
-  -s, --format=FORMAT        auto or gnu-v3; or none: no symbol is read
-  -h, --help                 print this, and end
-  -v, --version              print the version, and end
-  @FILE                      the words of this file stand in its place
-  --                         all that follows is a symbol
+  -n, --no-strip-underscores a symbol may not begin with ___Z (default)
+  -P, --params               print names with their parameters
+  -p, --no-params            print names without parameters (default)
+  -l, --lines                each line of the input is one symbol; -_ is ignored
+  -s, --format=FORMAT        auto or gnu-v3 (no effect), or none: read no symbol
+  -h, --help                 print this text
+  -v, --version              print the version
+  @FILE                      stands for the words of this file
+  --                         all arguments after it are symbols
   no effect: -i, --no-verbose; -r, --no-recurse-limit; -R, --recurse-limit
-Letters may stand in a group, and names may be shortened.
+Letters may be grouped, and long names may be shortened.
 
 examples:
   cosvigle _ZN3Foo3barEv     prints Foo::bar

@@ -39,16 +39,16 @@ after_prefix symbol =
 abbrev pub start : List ℕ → Position
 start bytes = record { rest = bytes; saved = []; scopes = [] }
 
--- what ends the answer: all that follows from a dot right after what was read
+-- the end of the answer: if a dot follows what was read, the dot and all bytes after it
 abbrev pub suffix : List ℕ → List ℕ
 suffix rest = if begins (codes ".") rest then rest else []
 
--- what follows the prefix of a symbol: as a signature, where the words of qualifiers are shown, or else as a name
+-- what follows the prefix of a symbol: read as a signature, in which the words of qualifiers are printed, or as a name
 abbrev pub Mangled : Bool → Position → Tree → Position → Cost → Type 0
 Mangled true p = Signature (inside_local initial) p
 Mangled false p = Symbol initial p
 
--- A definition with a truth value in front is of a symbol's signature where it is true, and else of its name.
+-- Below, a first argument `signature` selects what is meant: the symbol's signature if it is true, its name if not.
 
 -- the grammar reads the symbol as the tree, with this position after it and at this cost
 pub record IsReading (signature : Bool) (symbol : List ℕ) (tree : Tree) (next : Position) (cost : Cost) : Type 0 where
@@ -91,7 +91,7 @@ IsAnswer symbol answer = IsAnswerOf false symbol answer
 abbrev pub IsSignature : List ℕ → Option (List ℕ) → Type 0
 IsSignature symbol answer = IsAnswerOf true symbol answer
 
--- what is answered where a signature is asked for: the signature where the symbol has one, else the answer of its name.
+-- the answer when a signature is asked for: the signature if the symbol has one, and otherwise the answer of its name.
 -- The truth value says which of the two it is
 abbrev pub IsSignatureOrName : Bool → List ℕ → Option (List ℕ) → Type 0
 IsSignatureOrName true symbol answer = IsSignature symbol answer × (is_some answer ≡ true)
@@ -121,8 +121,8 @@ HasCountsOf signature symbol entered most_saved =
 abbrev pub HasCounts : List ℕ → ℕ → ℕ → Type 0
 HasCounts symbol entered most_saved = HasCountsOf false symbol entered most_saved
 
--- where there is an answer, the list has f of each tree that every reading within the limits leaves saved; elsewhere it
--- is empty
+-- if there is an answer, the list has f of each tree that every reading within the limits leaves saved. Otherwise it is
+-- empty
 abbrev pub HasEach : {A : Type 0} → (Tree → A) → Bool → List ℕ → Option (List ℕ) → List A → Type 0
 HasEach f signature symbol (Some answer) kept =
     OfEachReading signature symbol (λ tree next cost. kept ≡ map f next.saved)
@@ -144,8 +144,8 @@ HasSavedOf signature symbol answer shapes = HasEach shape_of signature symbol an
 abbrev pub HasSaved : List ℕ → Option (List ℕ) → List Shape → Type 0
 HasSaved symbol answer shapes = HasSavedOf false symbol answer shapes
 
--- the most bytes of a printing: of a signature's those of the longest text, of a name's those of two types of the
--- longest text, with the 28 bytes of the words around them
+-- the greatest length of a printing in bytes. A signature: max_text. A name: 2 · max_text + 28, since a construction
+-- vtable prints two types and 28 bytes of words
 abbrev pub longest_printing : Bool → ℕ
 longest_printing true = 1048576
 longest_printing false = 2097180

@@ -221,7 +221,7 @@ unfoldable mutual
   shape_of (conditional_of t u v) =
       conditional_shape (shape_of_operand t) (shape_of_operand u) (shape_of_operand v)
 
-  -- the shape of a name without its own qualifiers, from its whole shape, which it is where the name can't have any
+  -- the shape of a name without its own qualifiers. A name that can't have any keeps the whole shape
   pub bare_in : Shape → Tree → Shape
   bare_in whole (nested_of name quals shown) = shape_of name
   bare_in whole (local_in encoding entity) = qualified (shape_of encoding) (bare_in (shape_of entity) entity)
