@@ -8,15 +8,15 @@
  * - Each pointer is valid for as many bytes as its length says, and aligned for its type.
  * - The memory that a call writes to (a text, *needed, a handle) overlaps nothing else that the call is given. No
  *   other thread touches what a call is given until it returns.
- * - malloc, realloc and free are of one allocator, which aligns a block to each power of two up to 16 that divides its
- *   size.
+ * - malloc, realloc and free belong to the same allocator. A block whose size is a multiple of 2, 4, 8 or 16 must be
+ *   aligned to that number.
  * - No call is made from a signal handler, or in the forked child of a process with threads.
  * - A handle begins as COSVIGLE_NONE, and only the calls change it. It is used in one call at a time, and with one
  *   copy of the library. It may be handed to another thread, if the two threads are synchronised by a lock, or by the
  *   start or the end of a thread. After it is copied, only one of the two is used and freed.
- * Calls share nothing but a handle: threads with handles of their own may call at the same time.
+ * Calls share nothing except a handle. So threads with handles of their own may call at the same time.
  *
- * NULL: a text or symbol of length 0 and memory of 0 bytes may be NULL, and so may needed, and the handle of
+ * NULL: these pointers may be NULL: a text or symbol of length 0, memory of 0 bytes, needed, and the handle of
  * cosvigle_free. Any other NULL gives COSVIGLE_BAD_CALL. This holds for callers that include this header. The exported
  * calls themselves, as a program reaches them by dlsym or from another language, take no NULL.
  *
@@ -42,16 +42,17 @@ extern "C" {
 
 /* What a call returns. Later versions may have more: treat a status that you don't know as an error. */
 enum {
-    COSVIGLE_WRITTEN = 0,   /* the text is written, and *needed is its length in bytes */
-    COSVIGLE_NO_ANSWER = 1, /* the symbol has no demangled name; the handle keeps no text */
+    COSVIGLE_WRITTEN = 0,   /* the text is written, and *needed is its length in bytes; cosvigle_new: all is done */
+    COSVIGLE_NO_ANSWER = 1, /* the symbol has no demangled name; cosvigle_take: the handle keeps no text */
     COSVIGLE_NO_MEMORY = 2, /* an allocation failed */
     COSVIGLE_NO_ROOM = 3,   /* the text is longer than room: *needed is its length in bytes */
-    COSVIGLE_NOT_UTF8 = 4,  /* the symbol isn't UTF-8 */
+    COSVIGLE_NOT_UTF8 = 4,  /* the symbol as a whole isn't UTF-8, and isn't read */
     COSVIGLE_BAD_CALL = 5   /* a pointer is NULL that must not be */
 };
-/* The parameter room is the capacity in bytes of the memory that the caller gives for a text. A call that returns
- * COSVIGLE_WRITTEN writes the text at the front of that memory, without a NUL at its end. It leaves the bytes after it.
- * With any other status nothing is written there, and *needed is 0 unless the status is COSVIGLE_NO_ROOM. */
+/* The parameter room is the capacity in bytes of the memory that the caller gives for a text. If such a call returns
+ * COSVIGLE_WRITTEN, it has written the text at the front of that memory, without a NUL at its end. The bytes after the
+ * text are unchanged. With any other status nothing is written there, and *needed is 0 unless the status is
+ * COSVIGLE_NO_ROOM. */
 
 /* The version of the library: the major version times 1,000,000, the minor times 1,000, and the patch, added up. */
 uint32_t cosvigle_version(void);
@@ -64,62 +65,73 @@ typedef struct {
 /* A handle without a demangler: cosvigle_handle handle = COSVIGLE_NONE; */
 #define COSVIGLE_NONE {NULL}
 
-/* Writes the demangled name of a symbol of len bytes to answer, which has room bytes. A symbol begins with _Z or __Z.
- * The parameters of a function aren't read. A suffix such as .cold is kept only right after what was read: foo.cold for
- * _Z3foo.cold, and foo for _Z3fooi.cold. Any other bytes after what was read are dropped: foo for "_Z3foo at main.c".
- * The name is UTF-8. After COSVIGLE_NO_ROOM, call again with more memory for the name. The handle keeps its own memory,
- * so that a next symbol that needs no more makes no call of malloc. A handle without a demangler gets one. After
- * COSVIGLE_NO_MEMORY the handle can be used again. */
+/* Writes the demangled name of a symbol of len bytes to answer, which has room bytes. Only a symbol that begins with
+ * _Z or __Z has a name. The parameters of a function aren't read. A suffix such as .cold is kept only right after what
+ * was read: foo.cold for _Z3foo.cold, and foo for _Z3fooi.cold. Any other bytes after what was read are dropped: foo
+ * for "_Z3foo at main.c". The name is UTF-8. After COSVIGLE_NO_ROOM, call again with more memory for the name.
+ *
+ * The handle keeps its own memory. A later symbol that needs no more memory makes no call of malloc. A handle without
+ * a demangler gets one, but after COSVIGLE_NO_MEMORY and COSVIGLE_NOT_UTF8 it may still have none. After any status
+ * the handle can be used again. */
 int cosvigle_ask(cosvigle_handle *handle, const char *symbol, size_t len, char *answer, size_t room, size_t *needed);
 
-/* Writes the signature of a symbol, that is its demangled name with its parameters: foo(int) for _Z3fooi. Where it has
- * no signature its demangled name is written. All else is as of cosvigle_ask, and one handle serves both calls. */
+/* Writes the signature of a symbol, that is its demangled name with its parameters: foo(int) for _Z3fooi. If the
+ * symbol has no signature, its demangled name is written. The status doesn't say which of the two it was. Everything
+ * else is as for cosvigle_ask, and one handle serves both calls. */
 int cosvigle_ask_signature(cosvigle_handle *handle, const char *symbol, size_t len, char *answer, size_t room,
                            size_t *needed);
 
-/* The demangled name of one symbol, without a handle. */
+/* The same as cosvigle_ask, without a handle. Nothing is kept. */
 int cosvigle_demangle(const char *symbol, size_t len, char *answer, size_t room, size_t *needed);
 
-/* Writes a text with its symbols replaced by their demangled names, as the program cosvigle does. A word is a maximal
- * run of ASCII letters, digits, _, $ and dots. Its symbol stands at its front. At most one dot, one $ or __imp_ may
- * stand before the symbol, and is kept. The dots at the end of the word are kept too. With strip, one more underscore
- * may stand in front of a symbol, and is dropped. All other bytes are kept. The status is WRITTEN, NO_MEMORY or
- * NO_ROOM, and BAD_CALL for a NULL. A call takes more than 128 KiB of memory while it runs: give it whole texts rather
- * than single lines.
+/* Writes a text with its symbols replaced by their demangled names, as the program cosvigle does.
  *
- * With COSVIGLE_NO_ROOM the handle keeps the text that was made: give *needed bytes of memory to cosvigle_take. The
- * next call with this handle of cosvigle_replace, cosvigle_filter_with, cosvigle_new or cosvigle_free drops it. */
+ * A word is a maximal run of ASCII letters, digits, _, $ and dots. It has three parts: a front, a symbol, and the dots
+ * at its end. The front is one dot, one $, one __imp_ or nothing. The symbol is everything between the front and the
+ * dots. It begins with _Z or __Z, and with strip also with ___Z, whose first underscore is then no part of it.
+ * If the symbol has a demangled name, the word becomes its front, the name and its dots. So bytes of the word that
+ * follow what was read are dropped, as in cosvigle_ask: foo for _Z3foov_Z3barv. A word without a symbol, or whose
+ * symbol has no name, is kept. Bytes that are in no word are kept too.
+ *
+ * The status is COSVIGLE_WRITTEN, COSVIGLE_NO_MEMORY or COSVIGLE_NO_ROOM, and COSVIGLE_BAD_CALL for a NULL. A call
+ * takes more than 128 KiB of memory while it runs. So give it whole texts rather than single lines.
+ *
+ * After COSVIGLE_NO_ROOM the handle keeps the text that was made. To get it, call cosvigle_take with *needed bytes of
+ * memory. The next call with this handle of cosvigle_replace, cosvigle_filter_with, cosvigle_new or cosvigle_free
+ * drops the kept text. */
 int cosvigle_replace(cosvigle_handle *handle, bool strip, const char *text, size_t len, char *into, size_t room,
                      size_t *needed);
 
 /* Writes lines, and replaces each line that has a demangled name by that name, as the program symfilter does. A whole
- * line is one symbol, as in cosvigle_ask. So bytes that follow a symbol on its line are dropped, except a suffix. Any
- * other line is unchanged. A line goes up to the next line feed, which is written too, or to the end. The statuses, and
- * what the handle keeps, are those of cosvigle_replace. */
+ * line is one symbol, as in cosvigle_ask. So bytes of the line that follow what was read are dropped, except a suffix.
+ * Any other line is unchanged. A line goes up to the next line feed, which is written too, or to the end. The
+ * statuses, and what the handle keeps, are those of cosvigle_replace. */
 int cosvigle_filter_with(cosvigle_handle *handle, const char *lines, size_t len, char *into, size_t room,
                          size_t *needed);
 
-/* Writes the text that the handle keeps, and drops it. WRITTEN; NO_ANSWER if the handle keeps none; with NO_ROOM the
- * handle still keeps it. */
+/* Writes the text that the handle keeps. The status is COSVIGLE_WRITTEN, and then the handle no longer keeps the text;
+ * COSVIGLE_NO_ANSWER if the handle keeps none; or COSVIGLE_NO_ROOM, and then the handle still keeps it. */
 int cosvigle_take(cosvigle_handle *handle, char *into, size_t room, size_t *needed);
 
-/* The same as cosvigle_filter_with, without a handle: after COSVIGLE_NO_ROOM the text has to be made again. */
+/* The same as cosvigle_filter_with, without a handle. After COSVIGLE_NO_ROOM the text has to be made again. */
 int cosvigle_filter(const char *lines, size_t len, char *into, size_t room, size_t *needed);
 
-/* Gives the handle a new demangler, and frees what it had. WRITTEN, or NO_MEMORY, and then it has none. The other
- * calls do this for a handle without a demangler. */
+/* Gives the handle a new demangler, and frees what it had. The status is COSVIGLE_WRITTEN, or COSVIGLE_NO_MEMORY, and
+ * then the handle has none. No text is written. No program has to call this first: the calls that demangle make a
+ * demangler if the handle has none. */
 int cosvigle_new(cosvigle_handle *handle);
 
-/* Frees what the handle has. It is without a demangler then, and can be used again. Without one nothing is done. */
+/* Frees what the handle has. Afterwards the handle has no demangler, and can be used again. If it had none, nothing is
+ * done. */
 void cosvigle_free(cosvigle_handle *handle);
 
 #ifdef __cplusplus
 }
 #endif
 
-/* What follows is C, and is not proved. Each function cosvigle_..._or_null stands in front of a call, under the call's
- * name: it returns COSVIGLE_BAD_CALL for a NULL that must not be, and puts a valid pointer in the place of any other.
- */
+/* What follows is C, and is not proved. A macro gives each function cosvigle_..._or_null the name of the call that it
+ * makes. The function returns COSVIGLE_BAD_CALL for a NULL that must not be. In place of any other NULL it passes a
+ * valid pointer to the call. */
 #ifdef __cplusplus
 #define COSVIGLE_INLINE inline
 #define COSVIGLE_TEXT(at) static_cast<char *>(at)
@@ -218,8 +230,9 @@ COSVIGLE_INLINE void cosvigle_free_or_null(cosvigle_handle *handle) {
 #define cosvigle_new cosvigle_new_or_null
 #define cosvigle_free cosvigle_free_or_null
 
-/* The demangled name of a symbol as a text to keep: it ends in a NUL, and the caller frees it by free. NULL if the
- * symbol is NULL or has no demangled name, or if an allocation fails. */
+/* Returns the demangled name of a symbol. Both texts end in a NUL. The name is in memory of malloc, and the caller
+ * frees it by free. The result is NULL if the symbol is NULL, has no demangled name or isn't UTF-8, or if an
+ * allocation fails. */
 COSVIGLE_INLINE char *cosvigle_string(const char *symbol) {
     cosvigle_handle handle = COSVIGLE_NONE;
     const size_t len = symbol == NULL ? 0 : strlen(symbol);

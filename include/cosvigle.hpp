@@ -1,12 +1,12 @@
-// Cosvigle for C++, from C++11 on: a class and functions over cosvigle.h, which says what a caller must keep to.
-// Nothing here is proved.
+// Cosvigle for C++, from C++11 on. This header has a class and functions that make the calls of cosvigle.h. That
+// header says what a caller must keep to. Nothing here is proved.
 //
-// From C++17 on the names optional and string_view below are those of std. Before, they are small classes with some of
-// the members of these, and a symbol may be a const char * (not NULL) or a std::string as well.
+// From C++17 on the names optional and string_view below are those of std. Before C++17 they are small classes with
+// some of the members of these. A symbol may be a const char * (not NULL) or a std::string as well.
 //
-// With exceptions, out of memory is std::bad_alloc, and any other fault a cosvigle::error. Without them (-fno-
-// exceptions) a call returns no value, and demangler::status() says why: COSVIGLE_NO_ANSWER and COSVIGLE_NOT_UTF8 are
-// no faults. The functions without a demangler have no status.
+// With exceptions a failed allocation throws std::bad_alloc, and any other fault throws a cosvigle::error. Without
+// exceptions (-fno-exceptions) a call that fails returns no value, and demangler::status() says why.
+// COSVIGLE_NO_ANSWER and COSVIGLE_NOT_UTF8 are no faults. The functions without a demangler have no status.
 #ifndef COSVIGLE_HPP
 #define COSVIGLE_HPP
 
@@ -119,8 +119,8 @@ class error : public std::runtime_error {
     int number;
 };
 
-// Demangles symbol after symbol, and keeps its memory. It can be moved, also to another thread, but is used by one at a
-// time.
+// Demangles symbol after symbol, and keeps its memory from one symbol to the next. It can be moved, also to another
+// thread, but only one thread may use it at a time.
 class demangler {
   public:
     demangler() noexcept = default;
@@ -136,16 +136,16 @@ class demangler {
         std::free(text);
     }
 
-    // The demangled name of a symbol, or none if it has none or isn't UTF-8. The name is valid until the next call. The
-    // symbol may not be a name that this demangler returned. After an error the demangler can be used again.
+    // The demangled name of a symbol, or none if the symbol has none or isn't UTF-8. The name is valid until the next
+    // call. The symbol may not be a name that this demangler returned. After an error the demangler can be used again.
     optional<string_view> demangle(string_view symbol) { return answer_by(cosvigle_ask, symbol); }
 
-    // The same with the parameters: foo(int) for _Z3fooi. Where the symbol has no signature it is the demangled name.
+    // The same with the parameters: foo(int) for _Z3fooi. If the symbol has no signature it is the demangled name.
     optional<string_view> demangle_signature(string_view symbol) { return answer_by(cosvigle_ask_signature, symbol); }
 
-    // The text with the symbols in its words replaced, as the program cosvigle does. With strip one more underscore
-    // may stand in front of a symbol. No value after a fault. Here and in filter a std::string that gets no memory
-    // throws std::bad_alloc, and without exceptions ends the program.
+    // Returns the text. Each symbol in its words is replaced by its name, as the program cosvigle does. With strip one
+    // more underscore may stand in front of a symbol. After a fault there is no value. Here and in filter a
+    // std::string that gets no memory throws std::bad_alloc, and without exceptions ends the program.
     optional<std::string> replace(string_view given, bool strip = false) {
         std::string made(given.size() + given.size() / 2, '\0');
         std::size_t needed = 0;
@@ -153,7 +153,8 @@ class demangler {
         return finish(made, needed);
     }
 
-    // The lines with each that is a symbol replaced, as the program symfilter does. No value after a fault.
+    // Returns the lines. Each line that has a name is replaced by that name, as symfilter does. After a fault there is
+    // no value.
     optional<std::string> filter(string_view lines) {
         std::string made(lines.size() + lines.size() / 2, '\0');
         std::size_t needed = 0;

@@ -1,5 +1,5 @@
-//! Demangles C++ symbols of the Itanium C++ ABI, by the library `libcosvigle`, whose calls are proved. This crate is not
-//! proved.
+//! Demangles C++ symbols of the Itanium C++ ABI. It calls the library `libcosvigle`, whose calls are proved. This
+//! crate itself is only tested.
 //!
 //! ```
 //! let mut demangler = cosvigle::Demangler::new();
@@ -9,7 +9,9 @@
 //! # Ok::<(), cosvigle::Error>(())
 //! ```
 //!
-//! What the library's header says of the allocator, signal handlers and forked children a program still has to keep to.
+//! A program must keep to three rules of the library's header, `cosvigle.h`. The program's `malloc`, `realloc` and
+//! `free` belong to the same allocator, which aligns a block whose size is a multiple of 2, 4, 8 or 16 to that number.
+//! No call is made from a signal handler. No call is made in the forked child of a process with threads.
 
 use std::ffi::c_void;
 use std::fmt;
@@ -91,7 +93,8 @@ impl fmt::Display for Error {
 
 impl std::error::Error for Error {}
 
-/// Demangles symbol after symbol, and keeps its memory. After an error it can be used again.
+/// Demangles symbol after symbol, and keeps its memory from one symbol to the next. After an error it can be used
+/// again.
 pub struct Demangler {
     handle: Handle,
     room: Vec<u8>,
@@ -103,28 +106,30 @@ impl Demangler {
         Demangler { handle: Handle { at: null_mut() }, room: Vec::new() }
     }
 
-    /// The demangled name of a symbol, lent until the next call, or `None` if it has none.
+    /// The demangled name of a symbol, or `None` if it has none. The name is borrowed until the next call.
     pub fn demangle(&mut self, symbol: &str) -> Result<Option<&str>, Error> {
         self.demangle_bytes(symbol.as_bytes())
     }
 
-    /// The same for bytes. Bytes that aren't UTF-8 have no demangled name.
+    /// The same for bytes. The result is `None` if they aren't UTF-8 as a whole, since the library reads no such
+    /// symbol.
     pub fn demangle_bytes(&mut self, symbol: &[u8]) -> Result<Option<&str>, Error> {
         self.answer_by(cosvigle_ask, symbol)
     }
 
-    /// The signature of a symbol, that is its demangled name with its parameters, lent until the next call. Where it has
-    /// no signature it is the demangled name, or `None` if it has none.
+    /// The signature of a symbol, that is its demangled name with its parameters. It is borrowed until the next call.
+    /// If the symbol has no signature the result is its demangled name, or `None` if it has none.
     pub fn demangle_signature(&mut self, symbol: &str) -> Result<Option<&str>, Error> {
         self.demangle_signature_bytes(symbol.as_bytes())
     }
 
-    /// The same for bytes. Bytes that aren't UTF-8 have no signature.
+    /// The same for bytes. The result is `None` if they aren't UTF-8 as a whole, since the library reads no such
+    /// symbol.
     pub fn demangle_signature_bytes(&mut self, symbol: &[u8]) -> Result<Option<&str>, Error> {
         self.answer_by(cosvigle_ask_signature, symbol)
     }
 
-    /// Asks by this call, a second time where there was too little room.
+    /// Makes this call. If there was too little room it makes the call a second time.
     fn answer_by(&mut self, call: AskCall, symbol: &[u8]) -> Result<Option<&str>, Error> {
         if self.room.is_empty() {
             enlarge(&mut self.room, 256)?;
@@ -160,8 +165,8 @@ impl Demangler {
         }
     }
 
-    /// The text with the symbols in its words replaced by their demangled names, as the program `cosvigle` does. With
-    /// `strip` one more underscore may stand in front of a symbol. The text may be any bytes.
+    /// Returns the text. Each symbol in its words is replaced by its demangled name, as the program `cosvigle` does.
+    /// With `strip` one more underscore may stand in front of a symbol. The text may be any bytes.
     pub fn replace(&mut self, text: &[u8], strip: bool) -> Result<Vec<u8>, Error> {
         let mut made = Vec::new();
         enlarge(&mut made, text.len() + text.len() / 2)?;
@@ -181,7 +186,7 @@ impl Demangler {
         self.finish(made, status, needed)
     }
 
-    /// The lines with each that is a symbol replaced by its demangled name, as the program `symfilter` does. The lines
+    /// Returns the lines. Each line that has a demangled name is replaced by that name, as `symfilter` does. The lines
     /// may be any bytes.
     pub fn filter(&mut self, lines: &[u8]) -> Result<Vec<u8>, Error> {
         let mut made = Vec::new();
@@ -231,8 +236,8 @@ fn failure(status: c_int) -> Error {
     }
 }
 
-// The handle may be handed to another thread: the library's type is proved to be `Send`, what it points to is reached by
-// this value alone, and a call borrows it mutably. The bytes are Rust's own.
+// The handle may be handed to another thread. The library's type is proved to be `Send`. What it points to is reached
+// by this value alone, and a call borrows it mutably. The bytes are Rust's own.
 unsafe impl Send for Demangler {}
 
 impl Default for Demangler {
@@ -259,8 +264,8 @@ pub fn demangle(symbol: &str) -> Result<Option<String>, Error> {
     owned(Demangler::new().demangle(symbol)?)
 }
 
-/// The signature of one symbol, as a text of its own. Where it has none it is the demangled name, or `None` if it has
-/// none.
+/// The signature of one symbol, as a text of its own. If the symbol has no signature the result is its demangled name,
+/// or `None` if it has none.
 pub fn demangle_signature(symbol: &str) -> Result<Option<String>, Error> {
     owned(Demangler::new().demangle_signature(symbol)?)
 }
