@@ -12,7 +12,7 @@ use Rattle.itanium_syntax.specs.declared.offsets.ThunkOffsets.{ThunkOffsets}
 use Rattle.itanium_syntax.specs.Offsets.{thunk_offsets}
 use Rattle.itanium_syntax.specs.Specials.{special_case, special_text, special_close}
 use Rattle.itanium_syntax.specs.Names.{segment_case}
-use Rattle.itanium_syntax.specs.Names.{source_text, symbol_case, name_case, name_quals, tag_case}
+use Rattle.itanium_syntax.specs.Names.{source_text, encoding_case, name_case, name_quals, tag_case}
 use Rattle.itanium_reader.specs.Parser.{shows_words}
 use Rattle.itanium_syntax.specs.Context.{inside_lambda, inside_local, inside_encoding, inside_params}
 use Rattle.itanium_syntax.specs.Encodings.{is_here}
@@ -23,7 +23,7 @@ use Rattle.itanium_grammar.specs.Grammar.{type_special, name_special, temporary_
 use Rattle.itanium_grammar.specs.Grammar.{thunk_special, thunk, name_alone, past_initializer, last_of}
 use Rattle.itanium_grammar.specs.Grammar.{SubstitutionAs, Substitution, ArgumentNamed, Parameter, TaggedAs, UnqualifiedAs}
 use Rattle.itanium_grammar.specs.Grammar.{Unqualified, FirstAs, Name, NameAs, Local, EntityAs, EncodingAs}
-use Rattle.itanium_grammar.specs.Grammar.{ReturnAs, SignatureAs, UnscopedAs, AttachedAs, Nested, SegmentsAs}
+use Rattle.itanium_grammar.specs.Grammar.{ReturnAs, EncodingParamsAs, UnscopedAs, AttachedAs, Nested, SegmentsAs}
 use Rattle.itanium_grammar.specs.Grammar.{abbreviation_substitution, component_substitution}
 use Rattle.itanium_grammar.specs.Grammar.{auto_parameter, scope_parameter, parameter, no_tag, next_tag, FreeAs}
 use Rattle.itanium_grammar.specs.Grammar.{source_free, unnamed_type_free, lambda_free, conversion_free}
@@ -31,11 +31,11 @@ use Rattle.itanium_grammar.specs.Grammar.{literal_operator_free, operator_free, 
 use Rattle.itanium_grammar.specs.Grammar.{destructor_unqualified, free_unqualified, unqualified, parameter_first}
 use Rattle.itanium_grammar.specs.Grammar.{std_first, substitution_first, name_first, name, nested_name, local_name}
 use Rattle.itanium_grammar.specs.Grammar.{local, string_literal_entity, default_argument_entity, name_entity}
-use Rattle.itanium_grammar.specs.Grammar.{name_encoding, no_return_type, some_return_type, no_signature, some_signature}
+use Rattle.itanium_grammar.specs.Grammar.{name_encoding, no_return_type, some_return_type, no_encoding_params, some_encoding_params}
 use Rattle.itanium_grammar.specs.Grammar.{unscoped_name, std_name, substitution_name, global_name, none_attached}
 use Rattle.itanium_grammar.specs.Grammar.{args_attached, nested, end_of_segments, args_segment, name_segment}
 use Rattle.itanium_grammar.proofs.Progress.{unqualified_takes, args_takes}
-use Rattle.itanium_grammar.specs.Cases.{EncodingEnd, AfterName, AtE, AtSymbolEnd, SymbolCase, SpecialCase, ReturnCase, SignatureCase, EntityCase}
+use Rattle.itanium_grammar.specs.Cases.{EncodingEnd, AfterName, AtE, AtSymbolEnd, EncodingCase, SpecialCase, ReturnCase, EncodingParamsCase, EntityCase}
 use Rattle.itanium_grammar.specs.Cases.{SubstitutionCase, TagCase, UnqualifiedCase, FreeCase, FirstCase, NameCase}
 use Rattle.itanium_grammar.specs.Cases.{UnscopedCase, AttachedCase, SegmentCase}
 use Rattle.itanium_reader.specs.Parser.{ParserState, after_turn, loop, ◌>>=◌, tag_as, tag_turn, parse_tags, free_as}
@@ -214,10 +214,10 @@ return_complete d kinds no_return_type deep e m = same_state refl refl (omega ar
 return_complete d kinds (some_return_type a) deep e m = rw (kinds _ _ _ _ _ a deep e m) refl
 
 -- the parameters of an encoding
-signature_met : (d : ℕ) → TypesComplete d → {case : SignatureCase} {end : EncodingEnd} {x : Context} {t u : Tree} {p q : Position} {c : Cost} → SignatureAs case end x t p u q c → Small d c → (e m : ℕ)
+signature_met : (d : ℕ) → TypesComplete d → {case : EncodingParamsCase} {end : EncodingEnd} {x : Context} {t u : Tree} {p q : Position} {c : Cost} → EncodingParamsAs case end x t p u q c → Small d c → (e m : ℕ)
     → Met text_len (signature_as case end (parse_type d (inside_params end x)) (bare_of t) (state_at p e m)) (reached shape_of u q c e m)
-signature_met d kinds (no_signature {t = t}) deep e m = met (same_read (sym (shape-encoding_of t)) refl refl (omega arith) (omega arith))
-signature_met d kinds (some_signature {end = end} {t = t} {ts = ts} params) deep e m =
+signature_met d kinds (no_encoding_params {t = t}) deep e m = met (same_read (sym (shape-encoding_of t)) refl refl (omega arith) (omega arith))
+signature_met d kinds (some_encoding_params {end = end} {t = t} {ts = ts} params) deep e m =
     let list = listed_each true (params_opened (bare_shape t)) (map shape_of ts) in
     let whole = params_built (bare_shape t) (map shape_of ts) (own_quals t) ∙ sym (shape-function_encoding t ts) in
     met_then _ (typed_params_met end false d kinds params deep e m (params_opened (bare_shape t)))
@@ -259,7 +259,7 @@ module _ (d : ℕ) (kinds : TypesComplete d) (bares : BareNamesComplete d) (thun
   unfolding parse_special
   special_complete a deep e m = special_as_complete a deep e m
 
-  encoding_as_met : {case : SymbolCase} {end : EncodingEnd} {x : Context} {p q : Position} {t : Tree} {c : Cost} → EncodingAs case end x p t q c → Small d c → (e m : ℕ)
+  encoding_as_met : {case : EncodingCase} {end : EncodingEnd} {x : Context} {p q : Position} {t : Tree} {c : Cost} → EncodingAs case end x p t q c → Small d c → (e m : ℕ)
       → Met text_len (encoding_as case end (parse_special d end x) (parse_name d x) (parse_bare_name d x) (parse_type d x) (parse_type d (inside_params end x)) (state_at p e m)) (reached shape_of t q c e m)
   encoding_as_met (special_encoding a) deep e m = met (special_complete a deep e m)
   encoding_as_met (name_alone a) deep e m = met (names_complete d bares _ _ _ _ _ a deep e m)
@@ -271,26 +271,26 @@ module _ (d : ℕ) (kinds : TypesComplete d) (bares : BareNamesComplete d) (thun
       )
       (met_as (signature_met d kinds g (omega arith) (e + c.count + f.count) (max (max m c.peak) f.peak)) (same_read refl refl refl (omega arith) (omega arith)))
 
-  pub encoding_met : {end : EncodingEnd} {x : Context} {p q : Position} {t : Tree} {c : Cost} → EncodingAs (symbol_case end p.rest) end x p t q c → Small d c → (e m : ℕ)
+  pub encoding_met : {end : EncodingEnd} {x : Context} {p q : Position} {t : Tree} {c : Cost} → EncodingAs (encoding_case end p.rest) end x p t q c → Small d c → (e m : ℕ)
       → Met text_len (parse_encoding d end x (state_at p e m)) (reached shape_of t q c e m)
   unfolding parse_encoding
   encoding_met a deep e m = encoding_as_met a deep e m
 
   -- where it ends after its name it isn't measured, and nothing in it is too long
-  alone_as_complete : {case : SymbolCase} {x : Context} {p q : Position} {t : Tree} {c : Cost} → symbol_case AfterName p.rest ≡ case → EncodingAs case AfterName x p t q c → Small d c → (e m : ℕ)
+  alone_as_complete : {case : EncodingCase} {x : Context} {p q : Position} {t : Tree} {c : Cost} → encoding_case AfterName p.rest ≡ case → EncodingAs case AfterName x p t q c → Small d c → (e m : ℕ)
       → encoding_as case AfterName (parse_special d AfterName x) (parse_name d x) (parse_bare_name d x) (parse_type d x) (parse_type d x) (state_at p e m) ≡ given shape_of t q c e m
   alone_as_complete is (special_encoding a) deep e m = special_complete a deep e m
   alone_as_complete is (name_alone a) deep e m = names_complete d bares _ _ _ _ _ a deep e m
   alone_as_complete {p = p} is (name_encoding a b g) deep e m = absurd (alone_after_name p.rest is)
 
-  pub alone_complete : {x : Context} {p q : Position} {t : Tree} {c : Cost} → EncodingAs (symbol_case AfterName p.rest) AfterName x p t q c → Small d c → (e m : ℕ)
+  pub alone_complete : {x : Context} {p q : Position} {t : Tree} {c : Cost} → EncodingAs (encoding_case AfterName p.rest) AfterName x p t q c → Small d c → (e m : ℕ)
       → parse_encoding d AfterName x (state_at p e m) ≡ given shape_of t q c e m
   unfolding parse_encoding
   alone_complete a deep e m = alone_as_complete refl a deep e m
 
   -- the offsets of a thunk, and its encoding
   pub thunk_by_met : {end : EncodingEnd} {x : Context} (p : Position) {q : Position} {t : Tree} {c : Cost} {offsets : ThunkOffsets} {rest : List ℕ} → thunk_offsets (drop 1 p.rest) ≡ Some (offsets, rest)
-      → EncodingAs (symbol_case end rest) end x (with_rest rest p) t q c → Small d c → (e m : ℕ)
+      → EncodingAs (encoding_case end rest) end x (with_rest rest p) t q c → Small d c → (e m : ℕ)
       → Met text_len (thunk_by (encoding_by end (parse_type d x) (parse_type d (inside_params end x)) (parse_bare_name d x) (parse_thunk d end x) x) (state_at p e m)) (reached shape_of (thunk_of offsets t) q c e m)
   unfolding parse_special parse_name
   thunk_by_met p {t = t} {offsets = o} found a deep e m =
@@ -302,7 +302,7 @@ module _ (d : ℕ) (kinds : TypesComplete d) (bares : BareNamesComplete d) (thun
       met_fits (met_as (thunk_by_met p found a (omega arith) (e + 1) m) (same_read refl refl refl (omega arith) refl)) (omega arith)
 
   -- a signature
-  pub signature_by_met : {x : Context} {p q : Position} {t : Tree} {c : Cost} → EncodingAs (symbol_case AtSymbolEnd p.rest) AtSymbolEnd x p t q c → is_here AtSymbolEnd q.rest ≡ true → Small d c → (e m : ℕ)
+  pub signature_by_met : {x : Context} {p q : Position} {t : Tree} {c : Cost} → EncodingAs (encoding_case AtSymbolEnd p.rest) AtSymbolEnd x p t q c → is_here AtSymbolEnd q.rest ≡ true → Small d c → (e m : ℕ)
       → Met text_len (parse_encoding d AtSymbolEnd x (state_at p e m) >>= at_symbol_end) (reached shape_of t q c e m)
   signature_by_met a here deep e m = met_then _ (encoding_met a deep e m) (omega arith) (met (rw here refl))
 

@@ -9,7 +9,7 @@ use Rattle.itanium_syntax.specs.Scalars.{source_name, index_of, ordinal}
 use Rattle.itanium_syntax.specs.Abbreviations.{abbreviation_of}
 use Rattle.itanium_syntax.specs.Offsets.{thunk_offsets, past_base_offset}
 use Rattle.itanium_syntax.specs.Specials.{special_case}
-use Rattle.itanium_syntax.specs.Names.{source_text, symbol_case, name_case, unscoped_case, first_case, segment_case}
+use Rattle.itanium_syntax.specs.Names.{source_text, encoding_case, name_case, unscoped_case, first_case, segment_case}
 use Rattle.itanium_syntax.specs.Names.{unqualified_case, free_case, tag_case, substitution_case, past_internal}
 use Rattle.itanium_syntax.specs.Names.{past_name_quals, saves_first}
 use Rattle.itanium_syntax.specs.Args.{attached_case}
@@ -20,7 +20,7 @@ use Rattle.itanium_grammar.specs.Grammar.{saving, SubstitutionAs, Substitution, 
 use Rattle.itanium_grammar.specs.Grammar.{FreeAs, UnqualifiedAs, Unqualified, FirstAs, NameAs, Name, nothing, SpecialAs}
 use Rattle.itanium_grammar.specs.Grammar.{Signature, signature, Thunk, special_encoding, type_special, name_special}
 use Rattle.itanium_grammar.specs.Grammar.{temporary_special, construction_special, thunk_special, thunk, name_alone}
-use Rattle.itanium_grammar.specs.Grammar.{Local, EntityAs, EncodingAs, ReturnAs, SignatureAs}
+use Rattle.itanium_grammar.specs.Grammar.{Local, EntityAs, EncodingAs, ReturnAs, EncodingParamsAs}
 use Rattle.itanium_grammar.specs.Grammar.{UnscopedAs, AttachedAs, Nested, SegmentsAs, Args}
 use Rattle.itanium_grammar.specs.Grammar.{abbreviation_substitution, component_substitution}
 use Rattle.itanium_grammar.specs.Grammar.{auto_parameter, scope_parameter, parameter, no_tag, next_tag, source_free}
@@ -29,13 +29,13 @@ use Rattle.itanium_grammar.specs.Grammar.{operator_free, constructor_unqualified
 use Rattle.itanium_grammar.specs.Grammar.{free_unqualified, unqualified, parameter_first, std_first, substitution_first}
 use Rattle.itanium_grammar.specs.Grammar.{name_first, name, nested_name, local_name, local, string_literal_entity}
 use Rattle.itanium_grammar.specs.Grammar.{default_argument_entity, name_entity, name_encoding, no_return_type}
-use Rattle.itanium_grammar.specs.Grammar.{some_return_type, no_signature, some_signature, unscoped_name, std_name}
+use Rattle.itanium_grammar.specs.Grammar.{some_return_type, no_encoding_params, some_encoding_params, unscoped_name, std_name}
 use Rattle.itanium_grammar.specs.Grammar.{substitution_name, global_name, none_attached, args_attached, nested}
 use Rattle.itanium_grammar.specs.Grammar.{end_of_segments, args_segment, name_segment}
 use Rattle.itanium_grammar.proofs.Progress.{unqualified_takes, args_takes}
-use Rattle.itanium_grammar.specs.Cases.{EncodingEnd, AtE, AtSymbolEnd, SymbolCase, SpecialSymbol, NameSymbol, FullSymbol, SpecialCase, TypeSpecial, NameSpecial}
+use Rattle.itanium_grammar.specs.Cases.{EncodingEnd, AtE, AtSymbolEnd, EncodingCase, SpecialEncoding, NameEncoding, FullEncoding, SpecialCase, TypeSpecial, NameSpecial}
 use Rattle.itanium_grammar.specs.Cases.{TemporarySpecial, ConstructionSpecial, ThunkSpecial, NoSpecial, ReturnCase}
-use Rattle.itanium_grammar.specs.Cases.{NoReturnType, SomeReturnType, SignatureCase, NoSignature, SomeSignature}
+use Rattle.itanium_grammar.specs.Cases.{NoReturnType, SomeReturnType, EncodingParamsCase, NoEncodingParams, SomeEncodingParams}
 use Rattle.itanium_grammar.specs.Cases.{EntityCase, StringLiteralEntity, DefaultArgumentEntity, NameEntity, NoEntity}
 use Rattle.itanium_grammar.specs.Cases.{SubstitutionCase, AbbreviationSubstitution, ComponentSubstitution, TagCase}
 use Rattle.itanium_grammar.specs.Cases.{NoTag, NextTag, UnqualifiedCase, ConstructorName, DestructorName, FreeName}
@@ -67,7 +67,7 @@ use Rattle.itanium_demangle.proofs.CompleteNames.{bare_names_complete, names_com
 use Rattle.itanium_syntax.specs.Types.{params_case}
 use Rattle.itanium_syntax.specs.Operators.{operator_here}
 use Rattle.itanium_syntax.specs.Context.{inside_lambda, inside_local, inside_encoding, inside_params}
-use Rattle.itanium_syntax.specs.Encodings.{is_here, of_thunk, return_case, signature_case, entity_case}
+use Rattle.itanium_syntax.specs.Encodings.{is_here, of_thunk, return_case, encoding_params_case, entity_case}
 use Rattle.itanium_reader.specs.Parser.{shows_words}
 use Rattle.demangle_quals.specs.declared.quals.Quals.{Quals}
 use Rattle.demangle_edit.specs.Built.{params_opened}
@@ -395,13 +395,13 @@ return_sound d kinds SomeReturnType x p e m after is =
     let i = found.within in
     record { next = i.next; cost = i.cost; reading = some_return_type i.reading; deep = i.deep; is = sym (same_Some _ _ left) ∙ ap (λ (y : Shape × ParserState). y.1) found.is })
 
-signature_sound : (d : ℕ) → TypesComplete d → TypesSound d → (case : SignatureCase) (end : EncodingEnd) (x : Context) (t : Tree) (p : Position) (e m : ℕ) (y : Shape × ParserState)
-    → signature_as case end (parse_type d (inside_params end x)) (bare_of t) (state_at p e m) ≡ Some y → Within (SignatureAs case end x t p) d
-signature_sound d complete kinds NoSignature end x t p e m y is = record { tree = _; next = _; cost = _; reading = no_signature; deep = omega arith }
-signature_sound d complete kinds SomeSignature end x t p e m y is =
+signature_sound : (d : ℕ) → TypesComplete d → TypesSound d → (case : EncodingParamsCase) (end : EncodingEnd) (x : Context) (t : Tree) (p : Position) (e m : ℕ) (y : Shape × ParserState)
+    → signature_as case end (parse_type d (inside_params end x)) (bare_of t) (state_at p e m) ≡ Some y → Within (EncodingParamsAs case end x t p) d
+signature_sound d complete kinds NoEncodingParams end x t p e m y is = record { tree = _; next = _; cost = _; reading = no_encoding_params; deep = omega arith }
+signature_sound d complete kinds SomeEncodingParams end x t p e m y is =
     option_and_then_some _ (typed_params_as (params_case end p.rest) end false (parse_type d (inside_params end x)) (params_opened (bare_shape t)) (state_at p e m)) y is (λ z params _.
     let i = (typed_params_sound end false d complete kinds (params_case end p.rest) (inside_params end x) (params_opened (bare_shape t)) p e m z params).within in
-    record { tree = _; next = _; cost = _; reading = some_signature i.reading; deep = i.deep })
+    record { tree = _; next = _; cost = _; reading = some_encoding_params i.reading; deep = i.deep })
 
 -- a name with its own qualifiers
 pub names_sound : (d : ℕ) → BareNamesComplete d → BareNamesSound d → NamesSound d
@@ -454,13 +454,13 @@ module _ (d : ℕ) (complete : TypesComplete d) (bares_are : BareNamesComplete d
   unfolding parse_special
   special_sound end x p e m y is = special_as_sound (special_case p.rest) end x p e m y is
 
-  encoding_as_sound : (case : SymbolCase) (end : EncodingEnd) (x : Context) (p : Position) (e m : ℕ) (y : Shape × ParserState)
+  encoding_as_sound : (case : EncodingCase) (end : EncodingEnd) (x : Context) (p : Position) (e m : ℕ) (y : Shape × ParserState)
       → encoding_as case end (parse_special d end x) (parse_name d x) (parse_bare_name d x) (parse_type d x) (parse_type d (inside_params end x)) (state_at p e m) ≡ Some y → Within (EncodingAs case end x p) d
-  encoding_as_sound SpecialSymbol end x p e m y is =
+  encoding_as_sound SpecialEncoding end x p e m y is =
       let i = special_sound end x p e m y is in record { tree = _; next = _; cost = _; reading = special_encoding i.reading; deep = i.deep }
-  encoding_as_sound NameSymbol end x p e m y is =
+  encoding_as_sound NameEncoding end x p e m y is =
       let i = (names_sound d bares_are bares x p e m y is).within in record { tree = _; next = _; cost = _; reading = name_alone i.reading; deep = i.deep }
-  encoding_as_sound FullSymbol end x p e m y is =
+  encoding_as_sound FullEncoding end x p e m y is =
       option_and_then_some _ (parse_bare_name d x (state_at p e m)) y is (λ z named ends.
       let found = bares x p e m z named in
       let i = found.within in
@@ -468,13 +468,13 @@ module _ (d : ℕ) (complete : TypesComplete d) (bares_are : BareNamesComplete d
       let there = rw (found.is, same_return end i.reading i.next.rest) at ends in
       option_and_then_some _ (return_as case (parse_type d x) (state_at i.next (e + i.cost.count) (max m i.cost.peak))) y there (λ after left signed.
       let r = return_sound d kinds case x i.next (e + i.cost.count) (max m i.cost.peak) after left in
-      let s = signature_sound d complete kinds (signature_case end r.next.rest) end x i.tree r.next (e + i.cost.count + r.cost.count) (max (max m i.cost.peak) r.cost.peak) y (rw r.is at signed) in
+      let s = signature_sound d complete kinds (encoding_params_case end r.next.rest) end x i.tree r.next (e + i.cost.count + r.cost.count) (max (max m i.cost.peak) r.cost.peak) y (rw r.is at signed) in
       record { tree = _; next = _; cost = _; reading = name_encoding i.reading r.reading s.reading; deep = omega (arith, i.deep, r.deep, s.deep) }))
 
-  pub encoding_sound : (end : EncodingEnd) (x : Context) (p : Position) (e m : ℕ) (y : Shape × ParserState) → parse_encoding d end x (state_at p e m) ≡ Some y → Found (EncodingAs (symbol_case end p.rest) end x p) shape_of d e m y
+  pub encoding_sound : (end : EncodingEnd) (x : Context) (p : Position) (e m : ℕ) (y : Shape × ParserState) → parse_encoding d end x (state_at p e m) ≡ Some y → Found (EncodingAs (encoding_case end p.rest) end x p) shape_of d e m y
   unfolding parse_encoding
   encoding_sound end x p e m y is =
-      let w = encoding_as_sound (symbol_case end p.rest) end x p e m y is in
+      let w = encoding_as_sound (encoding_case end p.rest) end x p e m y is in
       record { within = w; is = met_is (encoding_met d complete bares_are thunks_are w.reading w.deep e m) is }
 
   pub thunks_sound : ThunksSound (suc d)
@@ -483,8 +483,8 @@ module _ (d : ℕ) (complete : TypesComplete d) (bares_are : BareNamesComplete d
       let inner = of_thunk end in
       option_and_then_some _ (thunk_by (encoding_by inner (parse_type d x) (parse_type d (inside_params inner x)) (parse_bare_name d x) (parse_thunk d inner x) x) (state_at p (e + 1) m)) y is (λ u thunked through.
       option_and_then_some _ (thunk_offsets (drop 1 p.rest)) u thunked (λ o offsets more.
-      option_and_then_some _ (encoding_as (symbol_case inner o.1) inner (parse_special d inner x) (parse_name d x) (parse_bare_name d x) (parse_type d x) (parse_type d (inside_params inner x)) (state_at (with_rest o.1 p) (e + 1) m)) u more (λ z read _.
-      let i = encoding_as_sound (symbol_case inner o.1) inner x (with_rest o.1 p) (e + 1) m z read in
+      option_and_then_some _ (encoding_as (encoding_case inner o.1) inner (parse_special d inner x) (parse_name d x) (parse_bare_name d x) (parse_type d x) (parse_type d (inside_params inner x)) (state_at (with_rest o.1 p) (e + 1) m)) u more (λ z read _.
+      let i = encoding_as_sound (encoding_case inner o.1) inner x (with_rest o.1 p) (e + 1) m z read in
       let narrow = met_passed (thunk_by_met d complete bares_are thunks_are p offsets i.reading i.deep (e + 1) m) thunked through in
       let w : Within (Thunk end x p) (suc d) = record { tree = _; next = _; cost = _; reading = thunk offsets i.reading; deep = omega (arith, i.deep, narrow) } in
       record { within = w; is = same_Some _ _ (sym is ∙ thunks_complete d complete bares_are thunks_are end x _ _ _ _ w.reading w.deep e m) })))

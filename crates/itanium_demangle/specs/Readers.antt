@@ -7,7 +7,7 @@ use Rattle.demangle_quals.specs.declared.quals.Quals.{Quals}
 use Rattle.itanium_syntax.specs.declared.context.Context.{Context}
 use Rattle.itanium_syntax.specs.Args.{argument_case}
 use Rattle.itanium_syntax.specs.Expressions.{literal_case}
-use Rattle.itanium_syntax.specs.Names.{symbol_case}
+use Rattle.itanium_syntax.specs.Names.{encoding_case}
 use Rattle.itanium_syntax.specs.Specials.{special_case}
 use Rattle.itanium_grammar.specs.Tree.{Tree, shape_of, bare_shape, own_quals, printing}
 use Rattle.itanium_grammar.specs.Grammar.{Position, Cost, Name, EncodingAs, SpecialAs, Thunk, Symbol, Signature, Args, ArgumentAs}
@@ -49,7 +49,7 @@ shape_of_args ts = arguments_shape (map shape_of ts)
 
 -- <encoding>, by how it ends and what it begins with
 abbrev pub Encoding : EncodingEnd → Context → Position → Tree → Position → Cost → Type 0
-Encoding end x p = EncodingAs (symbol_case end p.rest) end x p
+Encoding end x p = EncodingAs (encoding_case end p.rest) end x p
 
 -- <special-name>, by what it begins with
 abbrev pub SpecialName : EncodingEnd → Context → Position → Tree → Position → Cost → Type 0

@@ -3,8 +3,8 @@ use Rattle.std.proofs.Common.{◌≡◌, Bool, List, Option, drop, refl, arith, 
 use Rattle.demangle_quals.specs.declared.quals.Quals.{Quals}
 use Rattle.itanium_syntax.specs.declared.context.Context.{Context}
 use Rattle.itanium_syntax.specs.declared.numerals.Radix.TheVariants.{Decimal, Base36}
-use Rattle.itanium_grammar.specs.Cases.{EncodingEnd, SymbolCase, SpecialCase, LiteralCase, ExpressionCase, NameCase, ReturnCase}
-use Rattle.itanium_grammar.specs.Cases.{SignatureCase, EntityCase, UnscopedCase, AttachedCase, FirstCase, SegmentCase}
+use Rattle.itanium_grammar.specs.Cases.{EncodingEnd, EncodingCase, SpecialCase, LiteralCase, ExpressionCase, NameCase, ReturnCase}
+use Rattle.itanium_grammar.specs.Cases.{EncodingParamsCase, EntityCase, UnscopedCase, AttachedCase, FirstCase, SegmentCase}
 use Rattle.itanium_grammar.specs.Cases.{UnqualifiedCase, FreeCase, TagCase, SubstitutionCase, ArgsCase, ArgumentCase}
 use Rattle.itanium_grammar.specs.Cases.{TypeCase, CvCase, ParamsCase, TypesCase}
 use Rattle.itanium_syntax.specs.Names.{first_case, segment_case, unqualified_case}
@@ -27,7 +27,7 @@ use Rattle.itanium_grammar.specs.Grammar.{post_expression, binary_expression, gr
 use Rattle.itanium_grammar.specs.Grammar.{conditional_expression, parameter_expression, literal_expression}
 use Rattle.itanium_grammar.specs.Grammar.{SubstitutionAs, Substitution, Parameter, TaggedAs, UnqualifiedAs, Unqualified}
 use Rattle.itanium_grammar.specs.Grammar.{FirstAs, Name, NameAs, Local, EntityAs, EncodingAs, ReturnAs}
-use Rattle.itanium_grammar.specs.Grammar.{SignatureAs, UnscopedAs, AttachedAs, Nested, SegmentsAs, Args}
+use Rattle.itanium_grammar.specs.Grammar.{EncodingParamsAs, UnscopedAs, AttachedAs, Nested, SegmentsAs, Args}
 use Rattle.itanium_grammar.specs.Grammar.{ArgumentsAs, ArgumentAs, TypeOf, TypeAs, CvAs, Function, ParamsAs, TypesAs}
 use Rattle.itanium_grammar.specs.Grammar.{TypeAttachedAs, abbreviation_substitution}
 use Rattle.itanium_grammar.specs.Grammar.{component_substitution, parameter, no_tag, next_tag}
@@ -36,7 +36,7 @@ use Rattle.itanium_grammar.specs.Grammar.{literal_operator_free, operator_free, 
 use Rattle.itanium_grammar.specs.Grammar.{constructor_unqualified, destructor_unqualified, unqualified, parameter_first}
 use Rattle.itanium_grammar.specs.Grammar.{std_first, substitution_first, name_first, name, nested_name, local_name}
 use Rattle.itanium_grammar.specs.Grammar.{local, string_literal_entity, default_argument_entity, name_entity}
-use Rattle.itanium_grammar.specs.Grammar.{name_encoding, no_return_type, some_return_type, no_signature, some_signature}
+use Rattle.itanium_grammar.specs.Grammar.{name_encoding, no_return_type, some_return_type, no_encoding_params, some_encoding_params}
 use Rattle.itanium_grammar.specs.Grammar.{unscoped_name, std_name, substitution_name, global_name, none_attached}
 use Rattle.itanium_grammar.specs.Grammar.{args_attached, nested, end_of_segments, args_segment, name_segment}
 use Rattle.itanium_grammar.specs.Grammar.{args, end_of_arguments, one_more_argument, pack_argument, type_argument, Pack}
@@ -80,7 +80,7 @@ mutual
       after_then (after_drop 2 p.rest) (takes_takes (ordinal_takes (drop 2 p.rest) (n, r) found) (name_takes a)).after
   entity_after (name_entity {p = p} a) = after_then (after_drop 1 p.rest) (name_takes a).after
 
-  pub encoding_as_takes : {case : SymbolCase} {end : EncodingEnd} {x : Context} {p q : Position} {t : Tree} {c : Cost} → EncodingAs case end x p t q c → Takes q.rest p.rest
+  pub encoding_as_takes : {case : EncodingCase} {end : EncodingEnd} {x : Context} {p q : Position} {t : Tree} {c : Cost} → EncodingAs case end x p t q c → Takes q.rest p.rest
   encoding_as_takes (special_encoding a) = special_takes a
   encoding_as_takes (name_alone a) = name_takes a
   encoding_as_takes (name_encoding a b d) = takes_then (name_takes a) (after_then (return_after b) (signature_after d))
@@ -102,9 +102,9 @@ mutual
   return_after (no_return_type {p = p}) = after_none p.rest
   return_after (some_return_type a) = (type_takes a).after
 
-  signature_after : {case : SignatureCase} {end : EncodingEnd} {x : Context} {t u : Tree} {p q : Position} {c : Cost} → SignatureAs case end x t p u q c → IsAfter q.rest p.rest
-  signature_after (no_signature {p = p}) = after_none p.rest
-  signature_after (some_signature a) = params_after a
+  signature_after : {case : EncodingParamsCase} {end : EncodingEnd} {x : Context} {t u : Tree} {p q : Position} {c : Cost} → EncodingParamsAs case end x t p u q c → IsAfter q.rest p.rest
+  signature_after (no_encoding_params {p = p}) = after_none p.rest
+  signature_after (some_encoding_params a) = params_after a
 
   unscoped_takes : {case : UnscopedCase} {x : Context} {p q : Position} {t : Tree} {c : Cost} → UnscopedAs case x p t q c → Takes q.rest p.rest
   unscoped_takes (std_name {p = p} a b) = takes_then (after_takes (after_drop 2 p.rest) (unqualified_takes a)) (attached_after b)

@@ -6,12 +6,12 @@ use Rattle.demangle_quals.specs.declared.quals.Quals.{Quals}
 use Rattle.itanium_syntax.specs.declared.context.Context.{Context}
 use Rattle.itanium_grammar.specs.Cases.{EncodingEnd, ArgsCase, ArgumentCase, AttachedCase, CvCase, EntityCase, ExpressionCase}
 use Rattle.itanium_grammar.specs.Cases.{FirstCase, FreeCase, LiteralCase, NameCase, ParamsCase, ReturnCase}
-use Rattle.itanium_grammar.specs.Cases.{SegmentCase, SignatureCase, SpecialCase, SubstitutionCase, SymbolCase}
+use Rattle.itanium_grammar.specs.Cases.{SegmentCase, EncodingParamsCase, SpecialCase, SubstitutionCase, EncodingCase}
 use Rattle.itanium_grammar.specs.Cases.{TagCase, TypeCase, TypesCase, UnqualifiedCase, UnscopedCase}
 use Rattle.itanium_grammar.specs.Tree.{Tree, Operand}
 use Rattle.itanium_grammar.specs.Grammar.{Position, Cost, scopes_inside, SubstitutionAs, Parameter, TaggedAs, Name}
 use Rattle.itanium_grammar.specs.Grammar.{NameAs, Local, EntityAs, EncodingAs, SpecialAs, Thunk, ReturnAs}
-use Rattle.itanium_grammar.specs.Grammar.{SignatureAs, UnscopedAs, AttachedAs, FreeAs, UnqualifiedAs, Unqualified}
+use Rattle.itanium_grammar.specs.Grammar.{EncodingParamsAs, UnscopedAs, AttachedAs, FreeAs, UnqualifiedAs, Unqualified}
 use Rattle.itanium_grammar.specs.Grammar.{FirstAs, Nested, SegmentsAs, Args, ArgumentsAs, Pack, PackedAs, ArgumentAs}
 use Rattle.itanium_grammar.specs.Grammar.{LiteralAs, Expression, OperandOf, ExpressionAs, TypeOf, TypeAs, CvAs}
 use Rattle.itanium_grammar.specs.Grammar.{Function, ParamsAs, TypesAs, TypeAttachedAs, abbreviation_substitution}
@@ -20,7 +20,7 @@ use Rattle.itanium_grammar.specs.Grammar.{local_name, unscoped_name, local, stri
 use Rattle.itanium_grammar.specs.Grammar.{default_argument_entity, name_entity, special_encoding, name_encoding}
 use Rattle.itanium_grammar.specs.Grammar.{type_special, name_special, temporary_special, construction_special}
 use Rattle.itanium_grammar.specs.Grammar.{thunk_special, thunk, name_alone, no_return_type}
-use Rattle.itanium_grammar.specs.Grammar.{some_return_type, no_signature, some_signature, std_name, substitution_name}
+use Rattle.itanium_grammar.specs.Grammar.{some_return_type, no_encoding_params, some_encoding_params, std_name, substitution_name}
 use Rattle.itanium_grammar.specs.Grammar.{global_name, none_attached, args_attached, source_free, unnamed_type_free}
 use Rattle.itanium_grammar.specs.Grammar.{lambda_free, conversion_free, literal_operator_free, operator_free}
 use Rattle.itanium_grammar.specs.Grammar.{constructor_unqualified, destructor_unqualified, free_unqualified}
@@ -87,7 +87,7 @@ mutual
   entity_keeps (default_argument_entity a b) = name_keeps b
   entity_keeps (name_entity a) = name_keeps a
 
-  encoding_keeps : {case : SymbolCase} {end : EncodingEnd} {x : Context} {p : Position} {t : Tree} {q : Position} {c : Cost} → EncodingAs case end x p t q c → Keeps p.scopes q.scopes
+  encoding_keeps : {case : EncodingCase} {end : EncodingEnd} {x : Context} {p : Position} {t : Tree} {q : Position} {c : Cost} → EncodingAs case end x p t q c → Keeps p.scopes q.scopes
   encoding_keeps (special_encoding a) = special_keeps a
   encoding_keeps (name_alone a) = name_keeps a
   encoding_keeps (name_encoding a b d) = keeps_then (name_keeps a) (keeps_then (return_keeps b) (signature_keeps d))
@@ -106,9 +106,9 @@ mutual
   return_keeps no_return_type = keeps_all _
   return_keeps (some_return_type a) = type_keeps a
 
-  signature_keeps : {case : SignatureCase} {end : EncodingEnd} {x : Context} {t : Tree} {p : Position} {u : Tree} {q : Position} {c : Cost} → SignatureAs case end x t p u q c → Keeps p.scopes q.scopes
-  signature_keeps no_signature = keeps_all _
-  signature_keeps (some_signature a) = params_keeps a
+  signature_keeps : {case : EncodingParamsCase} {end : EncodingEnd} {x : Context} {t : Tree} {p : Position} {u : Tree} {q : Position} {c : Cost} → EncodingParamsAs case end x t p u q c → Keeps p.scopes q.scopes
+  signature_keeps no_encoding_params = keeps_all _
+  signature_keeps (some_encoding_params a) = params_keeps a
 
   unscoped_keeps : {case : UnscopedCase} {x : Context} {p : Position} {t : Tree} {q : Position} {c : Cost} → UnscopedAs case x p t q c → Keeps p.scopes q.scopes
   unscoped_keeps (std_name a b) = keeps_then (unqualified_keeps a) (attached_keeps b)

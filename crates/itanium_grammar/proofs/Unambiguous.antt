@@ -4,18 +4,18 @@ use Rattle.std.specs.Prelude.{option_map}
 use Rattle.std.proofs.lemmas.Option.{some_pair_parts, same_Some}
 use Rattle.demangle_quals.specs.declared.quals.Quals.{Quals}
 use Rattle.itanium_syntax.specs.declared.context.Context.{Context}
-use Rattle.itanium_grammar.specs.Cases.{EncodingEnd, AtE, SymbolCase, SpecialCase, LiteralCase, ExpressionCase, NameCase, ReturnCase}
-use Rattle.itanium_grammar.specs.Cases.{SignatureCase, EntityCase, UnscopedCase, AttachedCase, FirstCase, SegmentCase}
+use Rattle.itanium_grammar.specs.Cases.{EncodingEnd, AtE, EncodingCase, SpecialCase, LiteralCase, ExpressionCase, NameCase, ReturnCase}
+use Rattle.itanium_grammar.specs.Cases.{EncodingParamsCase, EntityCase, UnscopedCase, AttachedCase, FirstCase, SegmentCase}
 use Rattle.itanium_grammar.specs.Cases.{UnqualifiedCase, FreeCase, TagCase, SubstitutionCase, ArgsCase, ArgumentCase}
 use Rattle.itanium_grammar.specs.Cases.{TypeCase, CvCase, ParamsCase, TypesCase}
-use Rattle.itanium_syntax.specs.Names.{segment_case, symbol_case, source_text, tag_case, past_name_quals, name_quals, saves_first, first_case}
+use Rattle.itanium_syntax.specs.Names.{segment_case, encoding_case, source_text, tag_case, past_name_quals, name_quals, saves_first, first_case}
 use Rattle.itanium_syntax.specs.Scalars.{ordinal, index_of}
 use Rattle.itanium_syntax.specs.declared.numerals.Radix.TheVariants.{Base36}
 use Rattle.itanium_syntax.specs.Context.{inside_local}
 use Rattle.itanium_syntax.specs.Expressions.{is_external, literal_value, expression_text}
 use Rattle.itanium_syntax.specs.Offsets.{past_base_offset}
 use Rattle.itanium_syntax.specs.Specials.{special_text, special_close}
-use Rattle.itanium_syntax.specs.Encodings.{of_thunk, return_case, signature_case, entity_case}
+use Rattle.itanium_syntax.specs.Encodings.{of_thunk, return_case, encoding_params_case, entity_case}
 use Rattle.itanium_syntax.specs.Args.{attached_case, args_case}
 use Rattle.itanium_syntax.specs.Types.{params_case, types_case, elaborated_text, with_reference, past_reference}
 use Rattle.itanium_grammar.specs.Tree.{Tree, worded, temporary_of, construction_of, thunk_of, Operand, operand}
@@ -35,7 +35,7 @@ use Rattle.itanium_grammar.specs.Grammar.{conditional_expression, parameter_expr
 use Rattle.itanium_grammar.specs.Grammar.{skip, counted, saving, save, past_initializer, both}
 use Rattle.itanium_grammar.specs.Grammar.{SubstitutionAs, ArgumentNamed, Parameter, TaggedAs, UnqualifiedAs}
 use Rattle.itanium_grammar.specs.Grammar.{Unqualified, FirstAs, Name, NameAs, Local, EntityAs, EncodingAs}
-use Rattle.itanium_grammar.specs.Grammar.{ReturnAs, SignatureAs, UnscopedAs, AttachedAs, Nested, SegmentsAs}
+use Rattle.itanium_grammar.specs.Grammar.{ReturnAs, EncodingParamsAs, UnscopedAs, AttachedAs, Nested, SegmentsAs}
 use Rattle.itanium_grammar.specs.Grammar.{Args, ArgumentsAs, ArgumentAs, TypeOf, TypeAs, CvAs, Function, ParamsAs}
 use Rattle.itanium_grammar.specs.Grammar.{TypesAs, TypeAttachedAs, abbreviation_substitution}
 use Rattle.itanium_grammar.specs.Grammar.{component_substitution, auto_parameter, scope_parameter}
@@ -45,7 +45,7 @@ use Rattle.itanium_grammar.specs.Grammar.{free_unqualified, nothing, constructor
 use Rattle.itanium_grammar.specs.Grammar.{unqualified, parameter_first, std_first, substitution_first, name_first, name}
 use Rattle.itanium_grammar.specs.Grammar.{nested_name, local_name, local, string_literal_entity}
 use Rattle.itanium_grammar.specs.Grammar.{default_argument_entity, name_entity, name_encoding, no_return_type}
-use Rattle.itanium_grammar.specs.Grammar.{some_return_type, no_signature, some_signature, unscoped_name, std_name}
+use Rattle.itanium_grammar.specs.Grammar.{some_return_type, no_encoding_params, some_encoding_params, unscoped_name, std_name}
 use Rattle.itanium_grammar.specs.Grammar.{substitution_name, global_name, none_attached, args_attached, nested}
 use Rattle.itanium_grammar.specs.Grammar.{end_of_segments, args_segment, name_segment, args, end_of_arguments}
 use Rattle.itanium_grammar.specs.Grammar.{one_more_argument, pack_argument, type_argument, Pack, PackedAs, pack}
@@ -142,14 +142,14 @@ mutual
       record { tree = ap₂ (default_argument_of t) (sym found.0) same.tree; next = same.next; cost = same.cost }
   one_entity (name_entity {t = t} a) (name_entity b) = same_made (local_in t) (one_name a b)
 
-  pub one_encoding_as : {case : SymbolCase} {end : EncodingEnd} {x : Context} {p q r : Position} {t u : Tree} {c d : Cost} → EncodingAs case end x p t q c → EncodingAs case end x p u r d
+  pub one_encoding_as : {case : EncodingCase} {end : EncodingEnd} {x : Context} {p q r : Position} {t u : Tree} {c d : Cost} → EncodingAs case end x p t q c → EncodingAs case end x p u r d
       → Same t u q r c d
   one_encoding_as (special_encoding a) (special_encoding b) = one_special a b
   one_encoding_as (name_alone a) (name_alone b) = one_name a b
   one_encoding_as (name_encoding {end = end} {x = x} a b g) (name_encoding {r = r} {s = s} {u = u} {d = d} {e = e} f h k) =
       let first = one_name a f in
       let mid = one_return b (along (λ t o. ReturnAs (return_case end (shape_of t).templ (shape_of t).ctor o.rest) x o r d) (sym first.tree) (sym first.next) h) in
-      let same = one_signature g (along (λ t o. SignatureAs (signature_case end o.rest) end x t o u s e) (sym first.tree) (sym mid.0) k) in
+      let same = one_signature g (along (λ t o. EncodingParamsAs (encoding_params_case end o.rest) end x t o u s e) (sym first.tree) (sym mid.0) k) in
       record { tree = same.tree; next = same.next; cost = ap₂ both first.cost (ap₂ both mid.1 same.cost) }
 
   pub one_special : {case : SpecialCase} {end : EncodingEnd} {x : Context} {p q r : Position} {t u : Tree} {c d : Cost}
@@ -170,17 +170,17 @@ mutual
   pub one_thunk : {end : EncodingEnd} {x : Context} {p q r : Position} {t u : Tree} {c d : Cost} → Thunk end x p t q c → Thunk end x p u r d → Same t u q r c d
   one_thunk (thunk {end = end} {x = x} {p = p} e a) (thunk {q = r} {t = u} {c = d} g b) =
       let found = some_pair_parts _ _ _ _ (sym g ∙ e) in
-      let same = one_encoding_as a (subst (λ v. EncodingAs (symbol_case (of_thunk end) v) (of_thunk end) x (with_rest v p) u r d) found.1 b) in
+      let same = one_encoding_as a (subst (λ v. EncodingAs (encoding_case (of_thunk end) v) (of_thunk end) x (with_rest v p) u r d) found.1 b) in
       same_counted printing (record { tree = ap₂ thunk_of (sym found.0) same.tree; next = same.next; cost = same.cost })
 
   one_return : {case : ReturnCase} {x : Context} {p q r : Position} {c d : Cost} → ReturnAs case x p q c → ReturnAs case x p r d → (q ≡ r) × (c ≡ d)
   one_return no_return_type no_return_type = (refl, refl)
   one_return (some_return_type a) (some_return_type b) = let same = one_type a b in (same.next, same.cost)
 
-  one_signature : {case : SignatureCase} {end : EncodingEnd} {x : Context} {t u v : Tree} {p q r : Position} {c d : Cost}
-      → SignatureAs case end x t p u q c → SignatureAs case end x t p v r d → Same u v q r c d
-  one_signature no_signature no_signature = record { tree = refl; next = refl; cost = refl }
-  one_signature (some_signature {t = t} a) (some_signature b) =
+  one_signature : {case : EncodingParamsCase} {end : EncodingEnd} {x : Context} {t u v : Tree} {p q r : Position} {c d : Cost}
+      → EncodingParamsAs case end x t p u q c → EncodingParamsAs case end x t p v r d → Same u v q r c d
+  one_signature no_encoding_params no_encoding_params = record { tree = refl; next = refl; cost = refl }
+  one_signature (some_encoding_params {t = t} a) (some_encoding_params b) =
       let same = one_params a b in record { tree = ap (λ ts. function_encoding t (trees ts)) same.tree; next = same.next; cost = same.cost }
 
   one_unscoped : {case : UnscopedCase} {x : Context} {p q r : Position} {t u : Tree} {c d : Cost}

@@ -11,13 +11,13 @@ use Rattle.itanium_syntax.specs.Bytes.{begins}
 use Rattle.itanium_syntax.specs.Scalars.{numeral, following, ended, index_of}
 use Rattle.itanium_syntax.specs.Specials.{begins_t_and, special_text, special_close}
 use Rattle.itanium_grammar.specs.Answer.{max_text, longest_printing, after_prefix, start, suffix, Mangled, HasAnswer, IsAnswerOf, HasLengthOf}
-use Rattle.itanium_syntax.specs.Names.{symbol_case}
+use Rattle.itanium_syntax.specs.Names.{encoding_case}
 use Rattle.itanium_syntax.proofs.Fronts.{alone_after_name}
 use Rattle.itanium_grammar.specs.Tree.{Tree, shape_of, printing, worded, temporary_of, construction_of}
 use Rattle.itanium_grammar.specs.Grammar.{Position, Cost, Name, TypeOf, Thunk, SpecialAs, EncodingAs, Signature, signature, special_encoding, name_encoding, name, type}
 use Rattle.itanium_grammar.specs.Grammar.{thunk, type_special, name_special, temporary_special, construction_special}
 use Rattle.itanium_grammar.specs.Grammar.{thunk_special, name_alone}
-use Rattle.itanium_grammar.specs.Cases.{EncodingEnd, AfterName, SpecialCase, SymbolCase}
+use Rattle.itanium_grammar.specs.Cases.{EncodingEnd, AfterName, SpecialCase, EncodingCase}
 use Rattle.itanium_grammar.proofs.Agreement.{one_reading, inside_takes}
 
 -- what special names print
@@ -124,7 +124,7 @@ special_wide (construction_special {t = t} {u = u} a found b) narrow =
     (omega (arith, four_len (codes "construction vtable for ") (printing u) (codes "-in-") (printing t), type_narrow a, type_narrow b))
 special_wide (thunk_special a) narrow = omega (arith, thunk_narrow a)
 
-symbol_as_wide : {case : SymbolCase} {x : Context} {p q : Position} {t : Tree} {c : Cost} → symbol_case AfterName p.rest ≡ case → EncodingAs case AfterName x p t q c → c.width ≤ max_text → length (printing t) ≤ 2 * max_text + 28
+symbol_as_wide : {case : EncodingCase} {x : Context} {p q : Position} {t : Tree} {c : Cost} → encoding_case AfterName p.rest ≡ case → EncodingAs case AfterName x p t q c → c.width ≤ max_text → length (printing t) ≤ 2 * max_text + 28
 symbol_as_wide is (special_encoding a) narrow = special_wide a narrow
 symbol_as_wide is (name_alone a) narrow = omega (arith, name_narrow a)
 symbol_as_wide {p = p} is (name_encoding a b d) narrow = absurd (alone_after_name p.rest is)

@@ -1,6 +1,6 @@
 -- The cases of each production, as the code has them.
-pub use Rattle.itanium_syntax.specs.declared.names.SymbolCase.{SymbolCase}
-pub use Rattle.itanium_syntax.specs.declared.names.SymbolCase.TheVariants.{SpecialSymbol, NameSymbol, FullSymbol}
+pub use Rattle.itanium_syntax.specs.declared.names.EncodingCase.{EncodingCase}
+pub use Rattle.itanium_syntax.specs.declared.names.EncodingCase.TheVariants.{SpecialEncoding, NameEncoding, FullEncoding}
 pub use Rattle.itanium_syntax.specs.declared.names.NameCase.{NameCase}
 pub use Rattle.itanium_syntax.specs.declared.names.NameCase.TheVariants.{NestedName, LocalName, UnscopedName}
 pub use Rattle.itanium_syntax.specs.declared.names.UnscopedCase.{UnscopedCase}
@@ -19,8 +19,8 @@ pub use Rattle.itanium_syntax.specs.declared.encodings.EncodingEnd.{EncodingEnd}
 pub use Rattle.itanium_syntax.specs.declared.encodings.EncodingEnd.TheVariants.{AfterName, AtE, AtSymbolEnd}
 pub use Rattle.itanium_syntax.specs.declared.encodings.ReturnCase.{ReturnCase}
 pub use Rattle.itanium_syntax.specs.declared.encodings.ReturnCase.TheVariants.{NoReturnType, SomeReturnType}
-pub use Rattle.itanium_syntax.specs.declared.encodings.SignatureCase.{SignatureCase}
-pub use Rattle.itanium_syntax.specs.declared.encodings.SignatureCase.TheVariants.{NoSignature, SomeSignature}
+pub use Rattle.itanium_syntax.specs.declared.encodings.EncodingParamsCase.{EncodingParamsCase}
+pub use Rattle.itanium_syntax.specs.declared.encodings.EncodingParamsCase.TheVariants.{NoEncodingParams, SomeEncodingParams}
 pub use Rattle.itanium_syntax.specs.declared.encodings.EntityCase.{EntityCase}
 pub use Rattle.itanium_syntax.specs.declared.encodings.EntityCase.TheVariants.{StringLiteralEntity, DefaultArgumentEntity, NameEntity, NoEntity}
 pub use Rattle.itanium_syntax.specs.declared.names.SubstitutionCase.{SubstitutionCase}

@@ -18,10 +18,10 @@ use Rattle.demangle_edit.specs.Expressions.{has_literal}
 use Rattle.itanium_syntax.specs.declared.abbreviations.Abbreviation.{Abbreviation}
 use Rattle.itanium_syntax.specs.declared.context.Context.{Context}
 use Rattle.itanium_syntax.specs.declared.numerals.Radix.TheVariants.{Decimal, Base36}
-use Rattle.itanium_grammar.specs.Cases.{EncodingEnd, AfterName, AtE, AtSymbolEnd, SymbolCase, SpecialSymbol, NameSymbol}
-use Rattle.itanium_grammar.specs.Cases.{FullSymbol, SpecialCase, TypeSpecial, NameSpecial, TemporarySpecial, ConstructionSpecial, ThunkSpecial, NameCase, NestedName}
+use Rattle.itanium_grammar.specs.Cases.{EncodingEnd, AfterName, AtE, AtSymbolEnd, EncodingCase, SpecialEncoding, NameEncoding}
+use Rattle.itanium_grammar.specs.Cases.{FullEncoding, SpecialCase, TypeSpecial, NameSpecial, TemporarySpecial, ConstructionSpecial, ThunkSpecial, NameCase, NestedName}
 use Rattle.itanium_grammar.specs.Cases.{LocalName, UnscopedName, ReturnCase, NoReturnType, SomeReturnType}
-use Rattle.itanium_grammar.specs.Cases.{SignatureCase, NoSignature, SomeSignature, EntityCase, StringLiteralEntity}
+use Rattle.itanium_grammar.specs.Cases.{EncodingParamsCase, NoEncodingParams, SomeEncodingParams, EntityCase, StringLiteralEntity}
 use Rattle.itanium_grammar.specs.Cases.{DefaultArgumentEntity, NameEntity, UnscopedCase, StdName, SubstitutionName}
 use Rattle.itanium_grammar.specs.Cases.{PlainName, AttachedCase, NoneAttached, ArgsAttached, FirstCase, ParameterFirst}
 use Rattle.itanium_grammar.specs.Cases.{StdFirst, SubstitutionFirst, NameFirst, SegmentCase, EndOfSegments, ArgsSegment}
@@ -42,7 +42,7 @@ use Rattle.itanium_syntax.specs.Operators.{operator_here}
 use Rattle.itanium_syntax.specs.Abbreviations.{abbreviation_of}
 use Rattle.itanium_syntax.specs.Context.{opens_scope, inside_type, inside_pack, inside_lambda, inside_local}
 use Rattle.itanium_syntax.specs.Context.{inside_encoding, inside_params}
-use Rattle.itanium_syntax.specs.Names.{symbol_case, name_case, unscoped_case, first_case, segment_case}
+use Rattle.itanium_syntax.specs.Names.{encoding_case, name_case, unscoped_case, first_case, segment_case}
 use Rattle.itanium_syntax.specs.Names.{unqualified_case, free_case, tag_case, past_internal, past_initializer_letter}
 use Rattle.itanium_syntax.specs.Names.{source_text, name_quals, past_name_quals, saves_first, substitution_case}
 use Rattle.itanium_syntax.specs.Bytes.{begins}
@@ -50,7 +50,7 @@ use Rattle.itanium_syntax.specs.Expressions.{is_external, literal_case, literal_
 use Rattle.itanium_syntax.specs.declared.offsets.ThunkOffsets.{ThunkOffsets}
 use Rattle.itanium_syntax.specs.Offsets.{thunk_offsets, past_base_offset}
 use Rattle.itanium_syntax.specs.Specials.{special_case, special_text, special_close}
-use Rattle.itanium_syntax.specs.Encodings.{is_here, of_thunk, return_case, signature_case, entity_case}
+use Rattle.itanium_syntax.specs.Encodings.{is_here, of_thunk, return_case, encoding_params_case, entity_case}
 use Rattle.itanium_syntax.specs.Args.{attached_case, args_case, argument_case}
 use Rattle.itanium_syntax.specs.Types.{type_case, builtin_text, past_builtin, cv_quals, past_cv, with_reference, past_reference, cv_case, function_case, params_case, types_case, elaborated_text}
 use Rattle.itanium_grammar.specs.Tree.{Tree, worded, temporary_of, construction_of, thunk_of, Operand, operand}
@@ -200,7 +200,7 @@ mutual
   -- the encoding words are shown, and no type is around it
   pub data Local : Bool → Context → Position → Tree → Position → Cost → Type 0 where
     local : {waits : Bool} {x : Context} {p q r : Position} {t u : Tree} {c d : Cost}
-        → EncodingAs (symbol_case AtE p.rest) AtE (inside_encoding x) p t q c
+        → EncodingAs (encoding_case AtE p.rest) AtE (inside_encoding x) p t q c
         → EntityAs (entity_case q.rest) waits (inside_local x) t q u r d
         → Local waits x p u r (both c d)
 
@@ -221,21 +221,21 @@ mutual
         → EntityAs NameEntity waits x t p (local_in t u) q c
 
   -- <encoding> ::= <special-name> | <name> [<return type>] [<parameter types>], by how it ends and what it begins with
-  pub data EncodingAs : SymbolCase → EncodingEnd → Context → Position → Tree → Position → Cost → Type 0 where
+  pub data EncodingAs : EncodingCase → EncodingEnd → Context → Position → Tree → Position → Cost → Type 0 where
     -- <special-name>
     special_encoding : {end : EncodingEnd} {x : Context} {p q : Position} {t : Tree} {c : Cost}
         → SpecialAs (special_case p.rest) end x p t q c
-        → EncodingAs SpecialSymbol end x p t q c
+        → EncodingAs SpecialEncoding end x p t q c
     -- a <name> that is all of it
     name_alone : {end : EncodingEnd} {x : Context} {p q : Position} {t : Tree} {c : Cost}
         → Name false x p t q c
-        → EncodingAs NameSymbol end x p t q c
+        → EncodingAs NameEncoding end x p t q c
     -- a <name>, whose own qualifiers wait, then its return type and its parameters
     name_encoding : {end : EncodingEnd} {x : Context} {p q r s : Position} {t u : Tree} {c d e : Cost}
         → Name true x p t q c
         → ReturnAs (return_case end (shape_of t).templ (shape_of t).ctor q.rest) x q r d
-        → SignatureAs (signature_case end r.rest) end x t r u s e
-        → EncodingAs FullSymbol end x p u s (both c (both d e))
+        → EncodingParamsAs (encoding_params_case end r.rest) end x t r u s e
+        → EncodingAs FullEncoding end x p u s (both c (both d e))
 
   -- <special-name>, by what it begins with
   pub data SpecialAs : SpecialCase → EncodingEnd → Context → Position → Tree → Position → Cost → Type 0 where
@@ -271,7 +271,7 @@ mutual
     thunk : {end : EncodingEnd} {x : Context} {p q : Position} {t : Tree} {c : Cost} {offsets : ThunkOffsets}
         {rest : List ℕ}
         → thunk_offsets (drop 1 p.rest) ≡ Some (offsets, rest)
-        → EncodingAs (symbol_case (of_thunk end) rest) (of_thunk end) x (with_rest rest p) t q c
+        → EncodingAs (encoding_case (of_thunk end) rest) (of_thunk end) x (with_rest rest p) t q c
         → Thunk end x p (thunk_of offsets t) q (counted (length (printing (thunk_of offsets t))) c)
 
   -- the return type of an encoding, or none: it isn't printed, and what it saved and the scopes that it left stay
@@ -285,15 +285,15 @@ mutual
         → ReturnAs SomeReturnType x p q c
 
   -- the parameters of an encoding, or none
-  pub data SignatureAs : SignatureCase → EncodingEnd → Context → Tree → Position → Tree → Position → Cost
+  pub data EncodingParamsAs : EncodingParamsCase → EncodingEnd → Context → Tree → Position → Tree → Position → Cost
       → Type 0 where
     -- the end of the encoding after the name or its return type
-    no_signature : {end : EncodingEnd} {x : Context} {p : Position} {t : Tree}
-        → SignatureAs NoSignature end x t p (encoding_of t) p nothing
+    no_encoding_params : {end : EncodingEnd} {x : Context} {p : Position} {t : Tree}
+        → EncodingParamsAs NoEncodingParams end x t p (encoding_of t) p nothing
     -- <parameter types>
-    some_signature : {end : EncodingEnd} {x : Context} {p q : Position} {t : Tree} {ts : List Tree} {c : Cost}
+    some_encoding_params : {end : EncodingEnd} {x : Context} {p q : Position} {t : Tree} {ts : List Tree} {c : Cost}
         → ParamsAs (params_case end p.rest) end false (inside_params end x) p ts q c
-        → SignatureAs SomeSignature end x t p (function_encoding t (trees ts)) q c
+        → EncodingParamsAs SomeEncodingParams end x t p (function_encoding t (trees ts)) q c
 
   -- <unscoped-name> [<template-args>], or a <substitution> with <template-args>
   pub data UnscopedAs : UnscopedCase → Context → Position → Tree → Position → Cost → Type 0 where
@@ -482,7 +482,7 @@ mutual
   pub data LiteralAs : LiteralCase → Context → Position → Tree → Position → Cost → Type 0 where
     -- L _Z <encoding> E: an external name
     external_name : {x : Context} {p q : Position} {t : Tree} {c : Cost}
-        → EncodingAs (symbol_case AtE (drop 3 p.rest)) AtE (inside_encoding x) (skip 3 p) t q c
+        → EncodingAs (encoding_case AtE (drop 3 p.rest)) AtE (inside_encoding x) (skip 3 p) t q c
         → begins (codes "E") q.rest ≡ true
         → LiteralAs ExternalName x p t (skip 1 q) c
     -- L <type> <value> E, where the type as it is printed has such a value
@@ -671,12 +671,12 @@ mutual
 
 -- what follows the prefix of a symbol, as a name: an encoding that ends right after its name
 abbrev pub Symbol : Context → Position → Tree → Position → Cost → Type 0
-Symbol x p = EncodingAs (symbol_case AfterName p.rest) AfterName x p
+Symbol x p = EncodingAs (encoding_case AfterName p.rest) AfterName x p
 
 -- what follows the prefix of a symbol, as a signature, which has its parameters too: an encoding up to where no ASCII
 -- letter, digit or underscore is next, counted
 pub data Signature : Context → Position → Tree → Position → Cost → Type 0 where
   signature : {x : Context} {p q : Position} {t : Tree} {c : Cost}
-      → EncodingAs (symbol_case AtSymbolEnd p.rest) AtSymbolEnd x p t q c
+      → EncodingAs (encoding_case AtSymbolEnd p.rest) AtSymbolEnd x p t q c
       → is_here AtSymbolEnd q.rest ≡ true
       → Signature x p t q (counted (length (printing t)) c)

@@ -20,9 +20,10 @@ use demangle_text::Piece;
 use itanium_reader::{Reader, Stop};
 use itanium_syntax::context::Context;
 use itanium_syntax::encodings::{
-    EncodingEnd, EntityCase, ReturnCase, SignatureCase, entity_case, return_case, signature_case,
+    EncodingEnd, EncodingParamsCase, EntityCase, ReturnCase, encoding_params_case, entity_case,
+    return_case,
 };
-use itanium_syntax::names::{SymbolCase, symbol_case};
+use itanium_syntax::names::{EncodingCase, encoding_case};
 use itanium_syntax::numerals::ordinal;
 
 /// Reads a `<type>` and removes its text from the output. The substitutions that it saved and the scopes that it
@@ -93,12 +94,12 @@ pub(crate) fn end_encoding(
     let templ = reader.buffer.templ(name);
     let ctor = reader.buffer.ctor(name);
     read_return(reader, depth, context, end, templ, ctor)?;
-    match signature_case(end, reader.rest) {
-        SignatureCase::NoSignature => {
+    match encoding_params_case(end, reader.rest) {
+        EncodingParamsCase::NoEncodingParams => {
             reader.found = apply_name_qualifiers(&mut reader.buffer, name, quals, true)?;
             Ok(())
         }
-        SignatureCase::SomeSignature => {
+        EncodingParamsCase::SomeEncodingParams => {
             let list = open_params(&mut reader.buffer, name)?;
             read_params(reader, depth, context.inside_params(end), end, false, list)?;
             reader.found = close_params(&mut reader.buffer, reader.found, quals)?;
@@ -123,10 +124,10 @@ pub fn read_encoding(
     ensures bounds { TakesSome 1 result (state reader.old) (state reader.new) }
     ensures saved { SavedBounds 1 result (state reader.old) (state reader.new) }
 {
-    match symbol_case(end, reader.rest) {
-        SymbolCase::SpecialSymbol => read_special_name(reader, depth, context, end),
-        SymbolCase::NameSymbol => read_name(reader, depth, context, false),
-        SymbolCase::FullSymbol => {
+    match encoding_case(end, reader.rest) {
+        EncodingCase::SpecialEncoding => read_special_name(reader, depth, context, end),
+        EncodingCase::NameEncoding => read_name(reader, depth, context, false),
+        EncodingCase::FullEncoding => {
             read_name(reader, depth, context, true)?;
             end_encoding(reader, depth, context, end, reader.found)
         }

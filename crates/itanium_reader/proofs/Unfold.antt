@@ -14,7 +14,7 @@ use Rattle.itanium_syntax.specs.declared.offsets.ThunkOffsets.TheVariants.{Singl
 use Rattle.itanium_syntax.specs.Offsets.{thunk_offsets}
 use Rattle.itanium_syntax.specs.Scalars.{index_of, source_name}
 use Rattle.itanium_syntax.specs.Context.{opens_scope, inside_type, inside_pack, inside_lambda, inside_local, inside_encoding, inside_params}
-use Rattle.itanium_syntax.specs.Names.{begins_special, symbol_case, name_case, unqualified_case, tag_case, source_text}
+use Rattle.itanium_syntax.specs.Names.{begins_special, encoding_case, name_case, unqualified_case, tag_case, source_text}
 use Rattle.itanium_syntax.specs.Names.{free_case, first_case, substitution_case}
 use Rattle.itanium_syntax.specs.Calls.{begins_source}
 use Rattle.itanium_syntax.specs.Names.{past_internal, past_name_quals, name_quals, saves_first}
@@ -26,7 +26,7 @@ use Rattle.itanium_reader.specs.declared.stop.Stop.{Stop}
 use Rattle.itanium_reader.specs.declared.stop.Stop.TheVariants.{Unread, Memory}
 use Rattle.itanium_reader.specs.Outcome.{Gives, Measures}
 use Rattle.itanium_grammar.specs.Cases.{UnqualifiedCase, FreeName, ConstructorName, DestructorName, SourceName, TagCase, NoTag, NextTag}
-use Rattle.itanium_grammar.specs.Cases.{NameFirst, EncodingEnd, AfterName, AtE, AtSymbolEnd, SpecialSymbol, NameSymbol}
+use Rattle.itanium_grammar.specs.Cases.{NameFirst, EncodingEnd, AfterName, AtE, AtSymbolEnd, SpecialEncoding, NameEncoding}
 use Rattle.itanium_reader.specs.Parser.{ParserState, Turn, Parses, ParsesName, ParsesBareName, ◌>>=◌, is_wide, fitting}
 use Rattle.itanium_grammar.specs.Tree.{offset_text, thunk_shape, worded_shape}
 use Rattle.itanium_reader.specs.Parser.{fitting_bare, enter, with_rest, skip, save}
@@ -145,7 +145,7 @@ unfolding parse_argument
 argument_opens d x s = refl
 
 pub encoding_opens : (d : ℕ) (end : EncodingEnd) (x : Context) (s : ParserState)
-    → parse_encoding d end x s ≡ encoding_as (symbol_case end s.rest) end (parse_special d end x) (parse_name d x) (parse_bare_name d x) (parse_type d x) (parse_type d (inside_params end x)) s
+    → parse_encoding d end x s ≡ encoding_as (encoding_case end s.rest) end (parse_special d end x) (parse_name d x) (parse_bare_name d x) (parse_type d x) (parse_type d (inside_params end x)) s
 unfolding parse_encoding
 encoding_opens d end x s = refl
 
@@ -322,7 +322,7 @@ unfolding parse_encoding
 symbol_opens d x s = go (begins_special s.rest)
   where
     go : (special : Bool)
-        → encoding_as (if special then SpecialSymbol else NameSymbol) AfterName (parse_special d AfterName x) (parse_name d x) (parse_bare_name d x) (parse_type d x) (parse_type d x) s
+        → encoding_as (if special then SpecialEncoding else NameEncoding) AfterName (parse_special d AfterName x) (parse_name d x) (parse_bare_name d x) (parse_type d x) (parse_type d x) s
         ≡ (if special then parse_special d AfterName x s else parse_name d x s)
     go true = refl
     go false = refl

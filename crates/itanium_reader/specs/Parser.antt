@@ -22,25 +22,25 @@ use Rattle.itanium_syntax.specs.Operators.{operator_here}
 use Rattle.itanium_syntax.specs.Abbreviations.{abbreviation_of}
 use Rattle.itanium_syntax.specs.Context.{opens_scope, inside_type, inside_pack, inside_lambda, inside_local}
 use Rattle.itanium_syntax.specs.Context.{inside_encoding, inside_params}
-use Rattle.itanium_syntax.specs.Names.{symbol_case, name_case, unscoped_case, first_case, segment_case}
+use Rattle.itanium_syntax.specs.Names.{encoding_case, name_case, unscoped_case, first_case, segment_case}
 use Rattle.itanium_syntax.specs.Names.{unqualified_case, free_case, tag_case, past_internal, past_initializer_letter}
 use Rattle.itanium_syntax.specs.Names.{source_text, name_quals, past_name_quals, saves_first, substitution_case}
 use Rattle.itanium_syntax.specs.Bytes.{begins}
 use Rattle.itanium_syntax.specs.Expressions.{is_external, literal_case, literal_value, expression_text, expression_case}
 use Rattle.itanium_syntax.specs.Offsets.{thunk_offsets, past_base_offset}
 use Rattle.itanium_syntax.specs.Specials.{special_case, special_text, special_close}
-use Rattle.itanium_syntax.specs.Encodings.{is_here, of_thunk, return_case, signature_case, entity_case}
+use Rattle.itanium_syntax.specs.Encodings.{is_here, of_thunk, return_case, encoding_params_case, entity_case}
 use Rattle.itanium_syntax.specs.Args.{attached_case, args_case, argument_case}
 use Rattle.itanium_syntax.specs.Types.{type_case, builtin_text, past_builtin, cv_quals, past_cv, with_reference, past_reference, cv_case, function_case, params_case, types_case, elaborated_text}
 use Rattle.itanium_grammar.specs.Answer.{max_text}
 use Rattle.itanium_grammar.specs.Tree.{offset_text, worded_shape, temporary_shape, construction_shape, thunk_shape, pre_shape}
 use Rattle.itanium_grammar.specs.Tree.{post_shape, binary_shape, greater_shape, conditional_shape, abbreviation_shape}
 use Rattle.itanium_grammar.specs.Tree.{conversion_shape, elaborated_shape, unnamed_text, literal_operator_text}
-use Rattle.itanium_grammar.specs.Cases.{EncodingEnd, AtE, AtSymbolEnd, SymbolCase, SpecialSymbol, NameSymbol}
-use Rattle.itanium_grammar.specs.Cases.{FullSymbol, SpecialCase, TypeSpecial, NameSpecial}
+use Rattle.itanium_grammar.specs.Cases.{EncodingEnd, AtE, AtSymbolEnd, EncodingCase, SpecialEncoding, NameEncoding}
+use Rattle.itanium_grammar.specs.Cases.{FullEncoding, SpecialCase, TypeSpecial, NameSpecial}
 use Rattle.itanium_grammar.specs.Cases.{TemporarySpecial, ConstructionSpecial, ThunkSpecial, NoSpecial, NameCase}
 use Rattle.itanium_grammar.specs.Cases.{NestedName, LocalName, UnscopedName, ReturnCase, NoReturnType, SomeReturnType}
-use Rattle.itanium_grammar.specs.Cases.{SignatureCase, NoSignature, SomeSignature, EntityCase, StringLiteralEntity}
+use Rattle.itanium_grammar.specs.Cases.{EncodingParamsCase, NoEncodingParams, SomeEncodingParams, EntityCase, StringLiteralEntity}
 use Rattle.itanium_grammar.specs.Cases.{DefaultArgumentEntity, NameEntity, NoEntity, UnscopedCase, StdName}
 use Rattle.itanium_grammar.specs.Cases.{SubstitutionName, PlainName, AttachedCase, NoneAttached, ArgsAttached, FirstCase}
 use Rattle.itanium_grammar.specs.Cases.{ParameterFirst, StdFirst, SubstitutionFirst, NameFirst, SegmentCase}
@@ -426,9 +426,9 @@ return_as NoReturnType type s = Some s
 return_as SomeReturnType type s = dropped (type s)
 
 -- the parameters of an encoding after its name, or none: and then the qualifiers that waited
-abbrev pub signature_as : SignatureCase → EncodingEnd → Parses Shape → Shape × Quals → Parses Shape
-signature_as NoSignature end param name s = Some (with_name_qualifiers name.0 name.1 true, s)
-signature_as SomeSignature end param name s =
+abbrev pub signature_as : EncodingParamsCase → EncodingEnd → Parses Shape → Shape × Quals → Parses Shape
+signature_as NoEncodingParams end param name s = Some (with_name_qualifiers name.0 name.1 true, s)
+signature_as SomeEncodingParams end param name s =
     typed_params_as (params_case end s.rest) end false param (params_opened name.0) s >>= λ list.
     Some (params_closed name.1 list.0, list.1)
 
@@ -436,7 +436,7 @@ signature_as SomeSignature end param name s =
 abbrev pub encoding_end : EncodingEnd → Parses Shape → Parses Shape → Shape × Quals → Parses Shape
 encoding_end end type param name s =
     return_as (return_case end name.0.templ name.0.ctor s.rest) type s >>= λ after.
-    signature_as (signature_case end after.rest) end param name after
+    signature_as (encoding_params_case end after.rest) end param name after
 
 -- the words of a name's own qualifiers are shown inside a local name, so also of its entity
 abbrev pub shows_words : NameCase → Bool → Bool
@@ -501,18 +501,18 @@ thunk_by encoding s =
     Some (thunk_shape found.0 t.0, t.1)
 
 -- <encoding>, by what it begins with
-abbrev pub encoding_as : SymbolCase → EncodingEnd → Parses Shape → Parses Shape → ParsesBareName → Parses Shape
+abbrev pub encoding_as : EncodingCase → EncodingEnd → Parses Shape → Parses Shape → ParsesBareName → Parses Shape
     → Parses Shape → Parses Shape
-encoding_as SpecialSymbol end special name bare type param s = special s
-encoding_as NameSymbol end special name bare type param s = name s
-encoding_as FullSymbol end special name bare type param s =
+encoding_as SpecialEncoding end special name bare type param s = special s
+encoding_as NameEncoding end special name bare type param s = name s
+encoding_as FullEncoding end special name bare type param s =
     bare s >>= λ found. encoding_end end type param found.0 found.1
 
 -- <encoding>, by what it is made of
 abbrev pub encoding_by : EncodingEnd → Parses Shape → Parses Shape → ParsesBareName → Parses Shape → Context
     → Parses Shape
 encoding_by end type param bare thunk x s =
-    encoding_as (symbol_case end s.rest) end (special_by type (qualified_by bare x) thunk) (qualified_by bare x) bare
+    encoding_as (encoding_case end s.rest) end (special_by type (qualified_by bare x) thunk) (qualified_by bare x) bare
     type param s
 
 -- the <encoding> of a local or an external name, by what it is made of
@@ -841,7 +841,7 @@ parse_special d end x = special_by (parse_type d x) (parse_name d x) (parse_thun
 -- <encoding>
 unfoldable pub parse_encoding : ℕ → EncodingEnd → Context → Parses Shape
 parse_encoding d end x s =
-    encoding_as (symbol_case end s.rest) end (parse_special d end x) (parse_name d x) (parse_bare_name d x)
+    encoding_as (encoding_case end s.rest) end (parse_special d end x) (parse_name d x) (parse_bare_name d x)
     (parse_type d x) (parse_type d (inside_params end x)) s
 
 -- <expr-primary>

@@ -14,7 +14,7 @@ use Rattle.itanium_syntax.specs.declared.numerals.Radix.{Radix}
 use Rattle.itanium_syntax.specs.declared.numerals.Radix.TheVariants.{Decimal}
 use Rattle.itanium_syntax.specs.Abbreviations.{abbreviation_of}
 use Rattle.itanium_syntax.specs.Bytes.{begins, begins_one_of, past_letter}
-use Rattle.itanium_syntax.specs.Cases.{EncodingEnd, AfterName, AtE, SpecialSymbol, NameSymbol, FullSymbol}
+use Rattle.itanium_syntax.specs.Cases.{EncodingEnd, AfterName, AtE, SpecialEncoding, NameEncoding, FullEncoding}
 use Rattle.itanium_syntax.specs.Cases.{TypeSpecial, NameSpecial, TemporarySpecial, ConstructionSpecial, ThunkSpecial}
 use Rattle.itanium_syntax.specs.Cases.{PreExpression, AddressExpression, UnaryExpression, PostExpression}
 use Rattle.itanium_syntax.specs.Cases.{BinaryExpression, GreaterExpression, ConditionalExpression, LiteralExpression}
@@ -24,7 +24,7 @@ use Rattle.itanium_syntax.specs.Cases.{LiteralOperatorName, OperatorName, PackAr
 use Rattle.itanium_syntax.specs.Cases.{ArgsSegment, ConstructorName, DestructorName, ArgsAttached, EndOfArguments}
 use Rattle.itanium_syntax.specs.Cases.{BuiltinType, ArrayType, FunctionType, MemberType, PointerType, CvFunction}
 use Rattle.itanium_syntax.specs.Cases.{NoParams, EndOfTypes}
-use Rattle.itanium_syntax.specs.Names.{begins_special, symbol_case, first_case, segment_case, unqualified_case, free_case, past_internal, past_initializer_letter, past_name_quals}
+use Rattle.itanium_syntax.specs.Names.{begins_special, encoding_case, first_case, segment_case, unqualified_case, free_case, past_internal, past_initializer_letter, past_name_quals}
 use Rattle.std.specs.Str.{is_utf8}
 use Rattle.std.specs.Prelude.{take}
 use Rattle.itanium_syntax.specs.Expressions.{value_len, literal_value, expression_case}
@@ -348,10 +348,10 @@ thunk_some [] e = cc
 thunk_some (b ∷ bytes) e = omega arith
 
 -- an encoding that ends after its name has a name alone
-pub alone_after_name : (bytes : List ℕ) → symbol_case AfterName bytes ≡ FullSymbol → ⊥
+pub alone_after_name : (bytes : List ℕ) → encoding_case AfterName bytes ≡ FullEncoding → ⊥
 alone_after_name bytes is = go (begins_special bytes) is
   where
-    go : (special : Bool) → (if special then SpecialSymbol else NameSymbol) ≡ FullSymbol → ⊥
+    go : (special : Bool) → (if special then SpecialEncoding else NameEncoding) ≡ FullEncoding → ⊥
     go true e = cc
     go false e = cc
 

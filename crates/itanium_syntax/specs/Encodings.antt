@@ -3,8 +3,8 @@ use Rattle.std.specs.Prelude.{ℕ, List, Bool, true, not, ◌&&◌, ◌||◌, dr
 use Rattle.itanium_syntax.specs.declared.encodings.EncodingEnd.{EncodingEnd}
 use Rattle.itanium_syntax.specs.declared.encodings.EncodingEnd.TheVariants.{AfterName, AtE, AtSymbolEnd}
 use Rattle.itanium_syntax.specs.Bytes.{begins, begins_digit, begins_between}
-use Rattle.itanium_syntax.specs.Cases.{ReturnCase, NoReturnType, SomeReturnType, SignatureCase}
-use Rattle.itanium_syntax.specs.Cases.{NoSignature, SomeSignature, EntityCase, StringLiteralEntity}
+use Rattle.itanium_syntax.specs.Cases.{ReturnCase, NoReturnType, SomeReturnType, EncodingParamsCase}
+use Rattle.itanium_syntax.specs.Cases.{NoEncodingParams, SomeEncodingParams, EntityCase, StringLiteralEntity}
 use Rattle.itanium_syntax.specs.Cases.{DefaultArgumentEntity, NameEntity, NoEntity}
 
 -- an ASCII letter, a digit or an underscore is next
@@ -30,8 +30,8 @@ return_case end templ ctor bytes =
     if templ && not ctor && not (is_here end bytes) then SomeReturnType else NoReturnType
 
 -- the parameters of an encoding, or its end
-abbrev pub signature_case : EncodingEnd → List ℕ → SignatureCase
-signature_case end bytes = if is_here end bytes then NoSignature else SomeSignature
+abbrev pub encoding_params_case : EncodingEnd → List ℕ → EncodingParamsCase
+encoding_params_case end bytes = if is_here end bytes then NoEncodingParams else SomeEncodingParams
 
 -- what follows the encoding of a <local-name>: its E, and s for a string literal, d for a default argument, or a name
 abbrev pub entity_case : List ℕ → EntityCase

@@ -6,7 +6,7 @@ use Rattle.itanium_syntax.specs.Bytes.{letter, begins, begins_between, begins_di
 use Rattle.itanium_syntax.specs.Operators.{operator_here}
 use Rattle.itanium_syntax.specs.declared.encodings.EncodingEnd.{EncodingEnd}
 use Rattle.itanium_syntax.specs.declared.encodings.EncodingEnd.TheVariants.{AfterName}
-use Rattle.itanium_syntax.specs.Cases.{SymbolCase, SpecialSymbol, NameSymbol, FullSymbol, NameCase, NestedName}
+use Rattle.itanium_syntax.specs.Cases.{EncodingCase, SpecialEncoding, NameEncoding, FullEncoding, NameCase, NestedName}
 use Rattle.itanium_syntax.specs.Cases.{LocalName, UnscopedName, UnscopedCase, StdName, SubstitutionName, PlainName, FirstCase}
 use Rattle.itanium_syntax.specs.Cases.{ParameterFirst, StdFirst, SubstitutionFirst, NameFirst, SegmentCase}
 use Rattle.itanium_syntax.specs.Cases.{EndOfSegments, ArgsSegment, NameSegment, UnqualifiedCase, ConstructorName}
@@ -20,13 +20,13 @@ abbrev pub begins_special : List ℕ → Bool
 begins_special bytes = begins (codes "T") bytes || begins (codes "G") bytes
 
 -- an <encoding> of a name: the name alone, where it ends right after it
-abbrev pub named_case : EncodingEnd → SymbolCase
-named_case AfterName = NameSymbol
-named_case end = FullSymbol
+abbrev pub named_case : EncodingEnd → EncodingCase
+named_case AfterName = NameEncoding
+named_case end = FullEncoding
 
 -- <encoding>: a special name, or one of a name
-abbrev pub symbol_case : EncodingEnd → List ℕ → SymbolCase
-symbol_case end bytes = if begins_special bytes then SpecialSymbol else named_case end
+abbrev pub encoding_case : EncodingEnd → List ℕ → EncodingCase
+encoding_case end bytes = if begins_special bytes then SpecialEncoding else named_case end
 
 -- <name>
 abbrev pub name_case : List ℕ → NameCase

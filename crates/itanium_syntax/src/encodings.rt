@@ -51,9 +51,9 @@ pub enum ReturnCase {
 
 /// Whether parameters follow the name of an `<encoding>`, and its return type if it has one.
 #[derive(Clone, Copy)]
-pub enum SignatureCase {
-    NoSignature,
-    SomeSignature,
+pub enum EncodingParamsCase {
+    NoEncodingParams,
+    SomeEncodingParams,
 }
 
 /// What follows the `<encoding>` of a `<local-name>`.
@@ -78,13 +78,13 @@ pub fn return_case(end: EncodingEnd, templ: bool, ctor: bool, bytes: &[u8]) -> R
 }
 
 /// Returns whether parameters are next. There are none if the encoding ends here.
-pub fn signature_case(end: EncodingEnd, bytes: &[u8]) -> SignatureCase
-    ensures case { result ≡ spec.signature_case end bytes.now }
+pub fn encoding_params_case(end: EncodingEnd, bytes: &[u8]) -> EncodingParamsCase
+    ensures case { result ≡ spec.encoding_params_case end bytes.now }
 {
     if end.is_here(bytes) {
-        SignatureCase::NoSignature
+        EncodingParamsCase::NoEncodingParams
     } else {
-        SignatureCase::SomeSignature
+        EncodingParamsCase::SomeEncodingParams
     }
 }
 

@@ -15,10 +15,10 @@ use demangle_quals::Quals;
 /// The cases of `<encoding>`: a special name; a name that is the whole encoding; a name that a return type and
 /// parameters may follow.
 #[derive(Clone, Copy)]
-pub enum SymbolCase {
-    SpecialSymbol,
-    NameSymbol,
-    FullSymbol,
+pub enum EncodingCase {
+    SpecialEncoding,
+    NameEncoding,
+    FullEncoding,
 }
 
 /// The cases of `<name>`.
@@ -97,15 +97,15 @@ pub fn begins_special(bytes: &[u8]) -> bool
 }
 
 /// Returns which `<encoding>` with this end is next.
-pub fn symbol_case(end: EncodingEnd, bytes: &[u8]) -> SymbolCase
-    ensures case { result ≡ spec.symbol_case end bytes.now }
+pub fn encoding_case(end: EncodingEnd, bytes: &[u8]) -> EncodingCase
+    ensures case { result ≡ spec.encoding_case end bytes.now }
 {
     if begins_special(bytes) {
-        return SymbolCase::SpecialSymbol;
+        return EncodingCase::SpecialEncoding;
     }
     match end {
-        EncodingEnd::AfterName => SymbolCase::NameSymbol,
-        _ => SymbolCase::FullSymbol,
+        EncodingEnd::AfterName => EncodingCase::NameEncoding,
+        _ => EncodingCase::FullEncoding,
     }
 }
 

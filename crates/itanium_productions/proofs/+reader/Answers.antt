@@ -762,8 +762,8 @@ args::read_template_args-add_argument-requires-clause-living t c = grind (arith,
 pub args::read_template_args-up_to_end-requires-clause-inner : goal.args::read_template_args-up_to_end-requires-clause-inner
 args::read_template_args-up_to_end-requires-clause-inner t c = grind (arith, argument_lists)
 
-pub encodings::read_encoding-returns-in_err-read_name-in-FullSymbol-clause-reads : goal.encodings::read_encoding-returns-in_err-read_name-in-FullSymbol-clause-reads
-encodings::read_encoding-returns-in_err-read_name-in-FullSymbol-clause-reads t c = grind (arith, encodings)
+pub encodings::read_encoding-returns-in_err-read_name-in-FullEncoding-clause-reads : goal.encodings::read_encoding-returns-in_err-read_name-in-FullEncoding-clause-reads
+encodings::read_encoding-returns-in_err-read_name-in-FullEncoding-clause-reads t c = grind (arith, encodings)
 
 pub encodings::read_entity-returns-in_ok-print_string_literal-in-StringLiteralEntity-clause-reads : goal.encodings::read_entity-returns-in_ok-print_string_literal-in-StringLiteralEntity-clause-reads
 encodings::read_entity-returns-in_ok-print_string_literal-in-StringLiteralEntity-clause-reads t c = grind (arith, common_steps)
