@@ -38,8 +38,8 @@
 
 namespace cosvigle {
 
-// What differs by the standard and by the compiler's flags has names of its own, so that files that are compiled in
-// different ways can be linked.
+// The inline namespace depends on C++17 and on exceptions, so that objects built with different flags can be linked
+// without ODR violations.
 #if COSVIGLE_HAS_VIEWS && COSVIGLE_HAS_EXCEPTIONS
 inline namespace views_and_exceptions {
 #elif COSVIGLE_HAS_VIEWS
@@ -108,7 +108,8 @@ template <class T> class optional {
 };
 #endif
 
-// A status that isn't known, or a NULL that must not be.
+// Thrown if a call returns a status that it shouldn't return: one that this header doesn't know, COSVIGLE_BAD_CALL for
+// a pointer that may not be NULL, or COSVIGLE_NO_ROOM although the memory is as large as the call has asked for.
 class error : public std::runtime_error {
   public:
     explicit error(int status)

@@ -1,9 +1,12 @@
-// Reads symbols, one a line, and prints the demangled name of each, or the symbol itself if it has none.
+// Reads symbols, one per line, and prints the demangled name of each, or the symbol itself if it has none. It uses one
+// demangler for all symbols, since that keeps its memory.
 #include <cosvigle.hpp>
 #include <iostream>
+#include <string>
 
 int main() {
+    cosvigle::demangler demangler;
     for (std::string line; std::getline(std::cin, line);) {
-        std::cout << cosvigle::demangle(line).value_or(line) << '\n';
+        std::cout << demangler.demangle(line).value_or(line) << '\n';
     }
 }

@@ -78,7 +78,9 @@ const NOT_UTF8: c_int = 4;
 pub enum Error {
     /// An allocation failed.
     NoMemory,
-    /// The library returned a status that this crate doesn't know.
+    /// A call returned a status that it should never return, or a result that contradicts its status. The number is
+    /// that status. It need not be one that this crate doesn't know: 0 comes with a result that isn't UTF-8 or is
+    /// longer than the memory for it, 1 and 4 for a text, and 3 if the memory is too small a second time.
     Status(i32),
 }
 
@@ -94,7 +96,7 @@ impl fmt::Display for Error {
 impl std::error::Error for Error {}
 
 /// Demangles symbol after symbol, and keeps its memory from one symbol to the next. After an error it can be used
-/// again.
+/// again. It is `Send` and not `Sync`: it may be moved to another thread, but threads can't share a reference to it.
 pub struct Demangler {
     handle: Handle,
     room: Vec<u8>,
@@ -129,7 +131,7 @@ impl Demangler {
         self.answer_by(cosvigle_ask_signature, symbol)
     }
 
-    /// Makes this call. If there was too little room it makes the call a second time.
+    /// Makes this call. If the memory was too small, enlarges it and makes the call a second time.
     fn answer_by(&mut self, call: AskCall, symbol: &[u8]) -> Result<Option<&str>, Error> {
         if self.room.is_empty() {
             enlarge(&mut self.room, 256)?;
@@ -151,8 +153,9 @@ impl Demangler {
     }
 
     fn ask(&mut self, call: AskCall, symbol: &[u8], needed: &mut usize) -> c_int {
-        // A slice's pointer is valid for its length and never null. The four don't overlap: one is shared, three are
-        // borrowed mutably.
+        // SAFETY: a slice's pointer is valid for its length, and never null. The handle began as one without a
+        // demangler, and only the calls changed it. The four parts don't overlap: the symbol is borrowed shared, and
+        // the handle, the memory and `needed` are borrowed mutably.
         unsafe {
             call(
                 &mut self.handle,
@@ -171,7 +174,7 @@ impl Demangler {
         let mut made = Vec::new();
         enlarge(&mut made, text.len() + text.len() / 2)?;
         let mut needed = 0;
-        // As in `ask`.
+        // SAFETY: as in `ask`, with `text` in place of the symbol and `made` in place of the memory.
         let status = unsafe {
             cosvigle_replace(
                 &mut self.handle,
@@ -192,7 +195,7 @@ impl Demangler {
         let mut made = Vec::new();
         enlarge(&mut made, lines.len() + lines.len() / 2)?;
         let mut needed = 0;
-        // As in `ask`.
+        // SAFETY: as in `ask`, with `lines` in place of the symbol and `made` in place of the memory.
         let status = unsafe {
             cosvigle_filter_with(
                 &mut self.handle,
@@ -206,12 +209,12 @@ impl Demangler {
         self.finish(made, status, needed)
     }
 
-    /// What a call over a text made. The handle keeps it if there was too little room.
+    /// What a call over a text made. If the memory was too small, the handle keeps the text, and this takes it.
     fn finish(&mut self, mut made: Vec<u8>, status: c_int, needed: usize) -> Result<Vec<u8>, Error> {
         let (mut status, mut needed) = (status, needed);
         if status == NO_ROOM && needed > made.len() {
             enlarge(&mut made, needed)?;
-            // As in `ask`.
+            // SAFETY: as in `ask`, with `made` in place of the memory. No symbol is passed.
             status = unsafe { cosvigle_take(&mut self.handle, made.as_mut_ptr(), made.len(), &mut needed) };
         }
         if status != WRITTEN || needed > made.len() {
@@ -236,8 +239,9 @@ fn failure(status: c_int) -> Error {
     }
 }
 
-// The handle may be handed to another thread. The library's type is proved to be `Send`. What it points to is reached
-// by this value alone, and a call borrows it mutably. The bytes are Rust's own.
+// SAFETY: the library's type of a handle is proved to be `Send`, so a handle may be handed to another thread. What it
+// points to is reached by this value alone, and every call borrows the value mutably. The bytes of `room` are Rust's
+// own. `Sync` isn't claimed: a raw pointer in the handle keeps the compiler from deriving it.
 unsafe impl Send for Demangler {}
 
 impl Default for Demangler {
@@ -254,7 +258,7 @@ impl fmt::Debug for Demangler {
 
 impl Drop for Demangler {
     fn drop(&mut self) {
-        // The handle began as one without a demangler, and only the calls wrote to it.
+        // SAFETY: the handle began as one without a demangler, and only the calls changed it. It is borrowed mutably.
         unsafe { cosvigle_free(&mut self.handle) }
     }
 }
@@ -284,7 +288,7 @@ fn owned(name: Option<&str>) -> Result<Option<String>, Error> {
 
 /// The version of the library: the major version times 1,000,000, the minor times 1,000, and the patch, added up.
 pub fn version() -> u32 {
-    // It reads nothing that a caller gives.
+    // SAFETY: the call takes no parameters, and reads no memory of a caller.
     unsafe { cosvigle_version() }
 }
 
