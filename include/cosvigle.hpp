@@ -108,8 +108,9 @@ template <class T> class optional {
 };
 #endif
 
-// Thrown if a call returns a status that it shouldn't return: one that this header doesn't know, COSVIGLE_BAD_CALL for
-// a pointer that may not be NULL, or COSVIGLE_NO_ROOM although the memory is as large as the call has asked for.
+// Thrown if a call returns a status that it shouldn't: one that is unknown or that the call never returns,
+// COSVIGLE_BAD_CALL for a pointer that may not be NULL, or COSVIGLE_NO_ROOM although the memory is as large as the
+// call has asked for.
 class error : public std::runtime_error {
   public:
     explicit error(int status)
