@@ -45,11 +45,11 @@ enum {
     COSVIGLE_WRITTEN = 0,   /* the text is written, and *needed is its length in bytes; cosvigle_new: all is done */
     COSVIGLE_NO_ANSWER = 1, /* the symbol has no demangled name; cosvigle_take: the handle keeps no text */
     COSVIGLE_NO_MEMORY = 2, /* an allocation failed */
-    COSVIGLE_NO_ROOM = 3,   /* the text is longer than room: *needed is its length in bytes */
+    COSVIGLE_NO_ROOM = 3,   /* the text is longer than capacity: *needed is its length in bytes */
     COSVIGLE_NOT_UTF8 = 4,  /* the symbol as a whole isn't UTF-8, and isn't read */
     COSVIGLE_BAD_CALL = 5   /* a pointer is NULL that must not be */
 };
-/* The parameter room is the capacity in bytes of the memory that the caller gives for a text. If such a call returns
+/* The parameter capacity is how many bytes of memory the caller gives for a text, from out on. If such a call returns
  * COSVIGLE_WRITTEN, it has written the text at the front of that memory, without a NUL at its end. The bytes after the
  * text are unchanged. With any other status nothing is written there, and *needed is 0 unless the status is
  * COSVIGLE_NO_ROOM. */
@@ -65,7 +65,7 @@ typedef struct {
 /* A handle without a demangler: cosvigle_handle handle = COSVIGLE_NONE; */
 #define COSVIGLE_NONE {NULL}
 
-/* Writes the demangled name of a symbol of len bytes to answer, which has room bytes. Only a symbol that begins with
+/* Writes the demangled name of a symbol of len bytes to out, which has capacity bytes. Only a symbol that begins with
  * _Z or __Z has a name. The parameters of a function aren't read. A suffix such as .cold is kept only right after what
  * was read: foo.cold for _Z3foo.cold, and foo for _Z3fooi.cold. Any other bytes after what was read are dropped: foo
  * for "_Z3foo at main.c". The name is UTF-8. After COSVIGLE_NO_ROOM, call again with more memory for the name.
@@ -73,16 +73,16 @@ typedef struct {
  * The handle keeps its own memory. A later symbol that needs no more memory makes no call of malloc. A handle without
  * a demangler gets one, but after COSVIGLE_NO_MEMORY and COSVIGLE_NOT_UTF8 it may still have none. After any status
  * the handle can be used again. */
-int cosvigle_ask(cosvigle_handle *handle, const char *symbol, size_t len, char *answer, size_t room, size_t *needed);
+int cosvigle_ask(cosvigle_handle *handle, const char *symbol, size_t len, char *out, size_t capacity, size_t *needed);
 
 /* Writes the signature of a symbol, that is its demangled name with its parameters: foo(int) for _Z3fooi. If the
  * symbol has no signature, its demangled name is written. The status doesn't say which of the two it was. Everything
  * else is as for cosvigle_ask, and one handle serves both calls. */
-int cosvigle_ask_signature(cosvigle_handle *handle, const char *symbol, size_t len, char *answer, size_t room,
+int cosvigle_ask_signature(cosvigle_handle *handle, const char *symbol, size_t len, char *out, size_t capacity,
                            size_t *needed);
 
 /* The same as cosvigle_ask, without a handle. Nothing is kept. */
-int cosvigle_demangle(const char *symbol, size_t len, char *answer, size_t room, size_t *needed);
+int cosvigle_demangle(const char *symbol, size_t len, char *out, size_t capacity, size_t *needed);
 
 /* Writes a text with its symbols replaced by their demangled names, as the program cosvigle does.
  *
@@ -99,22 +99,22 @@ int cosvigle_demangle(const char *symbol, size_t len, char *answer, size_t room,
  * After COSVIGLE_NO_ROOM the handle keeps the text that was made. To get it, call cosvigle_take with *needed bytes of
  * memory. The next call with this handle of cosvigle_replace, cosvigle_filter_with, cosvigle_new or cosvigle_free
  * drops the kept text. */
-int cosvigle_replace(cosvigle_handle *handle, bool strip, const char *text, size_t len, char *into, size_t room,
+int cosvigle_replace(cosvigle_handle *handle, bool strip, const char *text, size_t len, char *out, size_t capacity,
                      size_t *needed);
 
 /* Writes lines, and replaces each line that has a demangled name by that name, as the program symfilter does. A whole
  * line is one symbol, as in cosvigle_ask. So bytes of the line that follow what was read are dropped, except a suffix.
  * Any other line is unchanged. A line goes up to the next line feed, which is written too, or to the end. The
  * statuses, and what the handle keeps, are those of cosvigle_replace. */
-int cosvigle_filter_with(cosvigle_handle *handle, const char *lines, size_t len, char *into, size_t room,
+int cosvigle_filter_with(cosvigle_handle *handle, const char *lines, size_t len, char *out, size_t capacity,
                          size_t *needed);
 
 /* Writes the text that the handle keeps. The status is COSVIGLE_WRITTEN, and then the handle no longer keeps the text;
  * COSVIGLE_NO_ANSWER if the handle keeps none; or COSVIGLE_NO_ROOM, and then the handle still keeps it. */
-int cosvigle_take(cosvigle_handle *handle, char *into, size_t room, size_t *needed);
+int cosvigle_take(cosvigle_handle *handle, char *out, size_t capacity, size_t *needed);
 
 /* The same as cosvigle_filter_with, without a handle. After COSVIGLE_NO_ROOM the text has to be made again. */
-int cosvigle_filter(const char *lines, size_t len, char *into, size_t room, size_t *needed);
+int cosvigle_filter(const char *lines, size_t len, char *out, size_t capacity, size_t *needed);
 
 /* Gives the handle a new demangler, and frees what it had. The status is COSVIGLE_WRITTEN, or COSVIGLE_NO_MEMORY, and
  * then the handle has none. No text is written. No program has to call this first: the calls that demangle make a
@@ -129,7 +129,7 @@ void cosvigle_free(cosvigle_handle *handle);
 }
 #endif
 
-/* What follows is C, and is not proved. A macro gives each function cosvigle_..._or_null the name of the call that it
+/* What follows is C, and is not proved. A macro gives each function cosvigle_..._checked the name of the call that it
  * makes. The function returns COSVIGLE_BAD_CALL for a NULL that must not be. In place of any other NULL it passes a
  * valid pointer to the call. */
 #ifdef __cplusplus
@@ -148,87 +148,92 @@ COSVIGLE_INLINE int cosvigle_bad_call(size_t *needed) {
     return COSVIGLE_BAD_CALL;
 }
 
-COSVIGLE_INLINE int cosvigle_ask_or_null(cosvigle_handle *handle, const char *symbol, size_t len, char *answer,
-                                         size_t room, size_t *needed) {
+COSVIGLE_INLINE int cosvigle_ask_checked(cosvigle_handle *handle, const char *symbol, size_t len, char *out,
+                                         size_t capacity, size_t *needed) {
     char none = 0;
     size_t unused;
-    if (handle == NULL || cosvigle_is_bad(symbol, len) || cosvigle_is_bad(answer, room)) {
+    if (handle == NULL || cosvigle_is_bad(symbol, len) || cosvigle_is_bad(out, capacity)) {
         return cosvigle_bad_call(needed);
     }
-    return cosvigle_ask(handle, symbol == NULL ? "" : symbol, len, answer == NULL ? &none : answer, room,
+    return cosvigle_ask(handle, symbol == NULL ? "" : symbol, len, out == NULL ? &none : out, capacity,
                         needed == NULL ? &unused : needed);
 }
 
-COSVIGLE_INLINE int cosvigle_ask_signature_or_null(cosvigle_handle *handle, const char *symbol, size_t len,
-                                                   char *answer, size_t room, size_t *needed) {
+COSVIGLE_INLINE int cosvigle_ask_signature_checked(cosvigle_handle *handle, const char *symbol, size_t len,
+                                                   char *out, size_t capacity, size_t *needed) {
     char none = 0;
     size_t unused;
-    if (handle == NULL || cosvigle_is_bad(symbol, len) || cosvigle_is_bad(answer, room)) {
+    if (handle == NULL || cosvigle_is_bad(symbol, len) || cosvigle_is_bad(out, capacity)) {
         return cosvigle_bad_call(needed);
     }
-    return cosvigle_ask_signature(handle, symbol == NULL ? "" : symbol, len, answer == NULL ? &none : answer, room,
+    return cosvigle_ask_signature(handle, symbol == NULL ? "" : symbol, len, out == NULL ? &none : out, capacity,
                                   needed == NULL ? &unused : needed);
 }
 
-COSVIGLE_INLINE int cosvigle_demangle_or_null(const char *symbol, size_t len, char *answer, size_t room,
+COSVIGLE_INLINE int cosvigle_demangle_checked(const char *symbol, size_t len, char *out, size_t capacity,
                                               size_t *needed) {
     char none = 0;
     size_t unused;
-    if (cosvigle_is_bad(symbol, len) || cosvigle_is_bad(answer, room)) return cosvigle_bad_call(needed);
-    return cosvigle_demangle(symbol == NULL ? "" : symbol, len, answer == NULL ? &none : answer, room,
+    if (cosvigle_is_bad(symbol, len) || cosvigle_is_bad(out, capacity)) return cosvigle_bad_call(needed);
+    return cosvigle_demangle(symbol == NULL ? "" : symbol, len, out == NULL ? &none : out, capacity,
                              needed == NULL ? &unused : needed);
 }
 
-COSVIGLE_INLINE int cosvigle_replace_or_null(cosvigle_handle *handle, bool strip, const char *text, size_t len,
-                                             char *into, size_t room, size_t *needed) {
+COSVIGLE_INLINE int cosvigle_replace_checked(cosvigle_handle *handle, bool strip, const char *text, size_t len,
+                                             char *out, size_t capacity, size_t *needed) {
     char none = 0;
     size_t unused;
-    if (handle == NULL || cosvigle_is_bad(text, len) || cosvigle_is_bad(into, room)) return cosvigle_bad_call(needed);
-    return cosvigle_replace(handle, strip, text == NULL ? "" : text, len, into == NULL ? &none : into, room,
+    if (handle == NULL || cosvigle_is_bad(text, len) || cosvigle_is_bad(out, capacity)) {
+        return cosvigle_bad_call(needed);
+    }
+    return cosvigle_replace(handle, strip, text == NULL ? "" : text, len, out == NULL ? &none : out, capacity,
                             needed == NULL ? &unused : needed);
 }
 
-COSVIGLE_INLINE int cosvigle_filter_with_or_null(cosvigle_handle *handle, const char *lines, size_t len, char *into,
-                                                 size_t room, size_t *needed) {
+COSVIGLE_INLINE int cosvigle_filter_with_checked(cosvigle_handle *handle, const char *lines, size_t len, char *out,
+                                                 size_t capacity, size_t *needed) {
     char none = 0;
     size_t unused;
-    if (handle == NULL || cosvigle_is_bad(lines, len) || cosvigle_is_bad(into, room)) return cosvigle_bad_call(needed);
-    return cosvigle_filter_with(handle, lines == NULL ? "" : lines, len, into == NULL ? &none : into, room,
+    if (handle == NULL || cosvigle_is_bad(lines, len) || cosvigle_is_bad(out, capacity)) {
+        return cosvigle_bad_call(needed);
+    }
+    return cosvigle_filter_with(handle, lines == NULL ? "" : lines, len, out == NULL ? &none : out, capacity,
                                 needed == NULL ? &unused : needed);
 }
 
-COSVIGLE_INLINE int cosvigle_take_or_null(cosvigle_handle *handle, char *into, size_t room, size_t *needed) {
+COSVIGLE_INLINE int cosvigle_take_checked(cosvigle_handle *handle, char *out, size_t capacity, size_t *needed) {
     char none = 0;
     size_t unused;
-    if (handle == NULL || cosvigle_is_bad(into, room)) return cosvigle_bad_call(needed);
-    return cosvigle_take(handle, into == NULL ? &none : into, room, needed == NULL ? &unused : needed);
+    if (handle == NULL || cosvigle_is_bad(out, capacity)) return cosvigle_bad_call(needed);
+    return cosvigle_take(handle, out == NULL ? &none : out, capacity, needed == NULL ? &unused : needed);
 }
 
-COSVIGLE_INLINE int cosvigle_filter_or_null(const char *lines, size_t len, char *into, size_t room, size_t *needed) {
+COSVIGLE_INLINE int cosvigle_filter_checked(const char *lines, size_t len, char *out, size_t capacity,
+                                            size_t *needed) {
     char none = 0;
     size_t unused;
-    if (cosvigle_is_bad(lines, len) || cosvigle_is_bad(into, room)) return cosvigle_bad_call(needed);
-    return cosvigle_filter(lines == NULL ? "" : lines, len, into == NULL ? &none : into, room,
+    if (cosvigle_is_bad(lines, len) || cosvigle_is_bad(out, capacity)) return cosvigle_bad_call(needed);
+    return cosvigle_filter(lines == NULL ? "" : lines, len, out == NULL ? &none : out, capacity,
                            needed == NULL ? &unused : needed);
 }
 
-COSVIGLE_INLINE int cosvigle_new_or_null(cosvigle_handle *handle) {
+COSVIGLE_INLINE int cosvigle_new_checked(cosvigle_handle *handle) {
     return handle == NULL ? COSVIGLE_BAD_CALL : cosvigle_new(handle);
 }
 
-COSVIGLE_INLINE void cosvigle_free_or_null(cosvigle_handle *handle) {
+COSVIGLE_INLINE void cosvigle_free_checked(cosvigle_handle *handle) {
     if (handle != NULL) cosvigle_free(handle);
 }
 
-#define cosvigle_ask cosvigle_ask_or_null
-#define cosvigle_ask_signature cosvigle_ask_signature_or_null
-#define cosvigle_demangle cosvigle_demangle_or_null
-#define cosvigle_replace cosvigle_replace_or_null
-#define cosvigle_filter_with cosvigle_filter_with_or_null
-#define cosvigle_take cosvigle_take_or_null
-#define cosvigle_filter cosvigle_filter_or_null
-#define cosvigle_new cosvigle_new_or_null
-#define cosvigle_free cosvigle_free_or_null
+#define cosvigle_ask cosvigle_ask_checked
+#define cosvigle_ask_signature cosvigle_ask_signature_checked
+#define cosvigle_demangle cosvigle_demangle_checked
+#define cosvigle_replace cosvigle_replace_checked
+#define cosvigle_filter_with cosvigle_filter_with_checked
+#define cosvigle_take cosvigle_take_checked
+#define cosvigle_filter cosvigle_filter_checked
+#define cosvigle_new cosvigle_new_checked
+#define cosvigle_free cosvigle_free_checked
 
 /* Returns the demangled name of a symbol. Both texts end in a NUL. The name is in memory of malloc, and the caller
  * frees it by free. The result is NULL if the symbol is NULL, has no demangled name or isn't UTF-8, or if an
@@ -236,14 +241,14 @@ COSVIGLE_INLINE void cosvigle_free_or_null(cosvigle_handle *handle) {
 COSVIGLE_INLINE char *cosvigle_string(const char *symbol) {
     cosvigle_handle handle = COSVIGLE_NONE;
     const size_t len = symbol == NULL ? 0 : strlen(symbol);
-    size_t needed = 0, room = 2 * len + 1;
-    char *text = COSVIGLE_TEXT(malloc(room)), *larger;
-    int status = text == NULL ? COSVIGLE_NO_MEMORY : cosvigle_ask(&handle, symbol, len, text, room - 1, &needed);
+    size_t needed = 0, capacity = 2 * len + 1;
+    char *text = COSVIGLE_TEXT(malloc(capacity)), *larger;
+    int status = text == NULL ? COSVIGLE_NO_MEMORY : cosvigle_ask(&handle, symbol, len, text, capacity - 1, &needed);
     if (status == COSVIGLE_NO_ROOM) {
-        room = needed + 1;
-        larger = COSVIGLE_TEXT(realloc(text, room));
+        capacity = needed + 1;
+        larger = COSVIGLE_TEXT(realloc(text, capacity));
         if (larger != NULL) text = larger;
-        status = larger == NULL ? COSVIGLE_NO_MEMORY : cosvigle_ask(&handle, symbol, len, text, room - 1, &needed);
+        status = larger == NULL ? COSVIGLE_NO_MEMORY : cosvigle_ask(&handle, symbol, len, text, capacity - 1, &needed);
     }
     cosvigle_free(&handle);
     if (status == COSVIGLE_WRITTEN) {

@@ -8,10 +8,11 @@
 //! byte after the mark (`in_place`). The other edits put their text at the end of the output (`appends`).
 //!
 //! Some shapes can be made in two ways, which give the same shape. The first way takes pieces that are complete:
-//! `default_arg`, `qualify`, `attach_template_args`, `format_params`, `function_type`. The second way makes the text
-//! in the order in which the symbol is read. The text is opened first (`open_default_arg`, `open_parent`,
-//! `open_arguments`, `open_function`). Then the parts follow, with `, ` before each but the first (`append_piece`). At
-//! last the text is closed (`close_opened`, `close_arguments`, `close_params`, `close_function`).
+//! `default_arg`, `qualify`, `attach_template_args`, `format_params`, `function_type`. The second way makes the text in
+//! the order in which the symbol is read. The text is opened first (`open_default_arg`, `open_parent`,
+//! `open_arguments`, `open_params`, `open_function`). Then the parts follow. The caller writes the `, ` between them.
+//! It appends each parameter by `append_piece`, and writes template arguments right after the list. At last the text is
+//! closed (`close_opened`, `close_arguments`, `close_params`, `close_function`).
 //!
 //! The pieces are those of `demangle_text`. Begin with the files of the same names in `specs/`, and then read
 //! `names.rt`, `types.rt`, `lists.rt`.

@@ -265,8 +265,8 @@ impl Buffer {
         Ok(())
     }
 
-    /// Appends the bytes and then the piece's own base name to the piece's text. Ends pieces, copies a text, and keeps
-    /// all after `AllocError`, as `append` does.
+    /// Appends the bytes and then the piece's own base name to the piece's text. What `append` says of other pieces, of
+    /// copying and of `AllocError` holds here too.
     #[inline(always)]
     pub fn append_own(&mut self, piece: Piece, between: &[u8]) -> Result<Piece, AllocError>
         requires living { IsLiving self.old piece }
@@ -286,7 +286,7 @@ impl Buffer {
 
     /// Inserts the bytes at a place of the piece's text. `Close` needs a group, and `Suffix` a declarator without one.
     /// If the base name begins at the place or later, it moves on; if the place is inside the base name, the base name
-    /// grows. Ends pieces, copies a text, and keeps all after `AllocError`, as `append` does.
+    /// grows. What `append` says of other pieces, of copying and of `AllocError` holds here too.
     #[inline(always)]
     pub fn insert(&mut self, piece: Piece, place: Place, bytes: &[u8]) -> Result<Piece, AllocError>
         requires living { IsLiving self.old piece }
@@ -318,8 +318,8 @@ impl Buffer {
     }
 
     /// Puts a new group of the bytes into a declarator, in front of its `after`. A space is in front of the group,
-    /// unless the text before it is empty or ends in a space, `(` or `*`. Ends pieces, copies a text, and keeps all
-    /// after `AllocError`, as `append` does.
+    /// unless the text before it is empty or ends in a space, `(` or `*`. What `append` says of other pieces, of
+    /// copying and of `AllocError` holds here too.
     pub fn open_group(&mut self, piece: Piece, bytes: &[u8]) -> Result<Piece, AllocError>
         requires living { IsLiving self.old piece }
         requires declared { IsDeclared (shape self.old piece).form }
@@ -346,7 +346,7 @@ impl Buffer {
     }
 
     /// Cuts the last n bytes off a plain piece. The base name loses those of its bytes that were cut. The output stays
-    /// as it is, with those bytes. Ends pieces, and keeps all after `AllocError`, as `append` does.
+    /// as it is, with those bytes. What `append` says of other pieces and of `AllocError` holds here too.
     #[inline(always)]
     pub fn cut(&mut self, piece: Piece, n: usize) -> Result<Piece, AllocError>
         requires living { IsLiving self.old piece }
@@ -376,8 +376,8 @@ impl Buffer {
     /// If the second text is last, and the first begins at the innermost mark or later and ends where the second
     /// begins, the bytes are inserted between the two. If the second text is last, and the first is before it or in
     /// the spill, the first text and the bytes are inserted in front of the second. If the first text is last, the
-    /// bytes and the second text are appended. Otherwise both texts are copied to the end. Ends pieces, and keeps all
-    /// after `AllocError`, as `append` does.
+    /// bytes and the second text are appended. Otherwise both texts are copied to the end. What `append` says of other
+    /// pieces and of `AllocError` holds here too.
     #[inline(always)]
     pub fn join(&mut self, first: Piece, bytes: &[u8], second: Piece) -> Result<Piece, AllocError>
         requires first_living { IsLiving self.old first }

@@ -1,4 +1,5 @@
-//! A text that grows: the first bytes of a vector that is as long as what is reserved.
+//! `Text`, a string of bytes that grows. Its vector is always as long as what is reserved, and a length says how many
+//! of the first bytes are the text.
 //!
 //! Bytes are appended, or inserted at a place; then what is after that place moves on. Short texts are copied by their
 //! first lane and their last one, which may overlap, so that no loop is needed.

@@ -4,15 +4,15 @@ use Rattle.demangle_text.specs.Shape.{Shape}
 
 -- what is left of the last symbol that was prepared
 pub record LastRun : Type 0 where
-  -- its answer
+  -- the text of the last symbol: its name or its signature, if it has one
   pub text : Option (List ℕ)
-  -- whether the answer is its signature, and not that of its name
+  -- true if the text is the symbol's signature; false if it is its name, or if there is none
   pub signature : Bool
   -- the counted productions that were entered
   pub entered : ℕ
   -- the most components that were saved at one moment
   pub most_saved : ℕ
-  -- where it has an answer, the texts of the components that are left saved
+  -- if there is a text, the texts of the components that are left saved
   pub components : List (List ℕ)
   -- the shapes of these components, in the same order
   pub saved : List Shape

@@ -188,8 +188,9 @@ impl Demangler {
     /// of what was read. If the next byte is a dot, all from that dot on is appended.
     ///
     /// A symbol has no name in exactly two cases. In the first, no reading is within the limits. A reading is within
-    /// the limits if at most `MAX_DEPTH` counted productions nest and none of them prints more than `MAX_TEXT` bytes,
-    /// also none whose text is dropped. In the second case the printing isn't UTF-8.
+    /// the limits if at most `MAX_DEPTH` counted productions nest and none of them prints more than `MAX_TEXT` bytes.
+    /// This also holds for a production whose text isn't printed, such as a return type. In the second case the
+    /// printing isn't UTF-8.
     ///
     /// A text without such a prefix has no reading. For such a text nothing is allocated, and both counts are 0.
     ///
@@ -228,7 +229,8 @@ impl Demangler {
     /// A signature is a counted production itself: at most `MAX_DEPTH` counted productions nest, the signature
     /// included, and none of them prints more than `MAX_TEXT` bytes. The result has at most `MAX_TEXT` bytes and those
     /// from the dot on, if it is a signature. Counts and components are those of the reading whose printing was kept.
-    /// If there is no result, the counts are at most what `entered` and `most_saved` can be for any symbol.
+    /// If there is no result, the counts are those of the second reading, as a name: at most twice the number of the
+    /// symbol's bytes, and at most that number.
     ///
     /// Returns an error if an allocation fails. Then the value has no result, and it can be used again.
     pub fn prepare_signature(&mut self, alloc: Global, symbol: &str) -> Result<bool, AllocError>

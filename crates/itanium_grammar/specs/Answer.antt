@@ -78,21 +78,21 @@ OfEachReading signature symbol Fact =
 abbrev pub HasNoAnswer : Bool → List ℕ → Type 0
 HasNoAnswer signature symbol = OfEachReading signature symbol (λ tree next cost. IsUtf8 (printing tree) → ⊥)
 
--- the answer of a symbol
+-- the answer of a symbol: its signature or its name, as `signature` says
 abbrev pub IsAnswerOf : Bool → List ℕ → Option (List ℕ) → Type 0
 IsAnswerOf signature symbol (Some answer) = HasAnswer signature symbol answer
 IsAnswerOf signature symbol None = HasNoAnswer signature symbol
 
--- the answer of its name
+-- the symbol's name, or None
 abbrev pub IsAnswer : List ℕ → Option (List ℕ) → Type 0
 IsAnswer symbol answer = IsAnswerOf false symbol answer
 
--- its signature
+-- the symbol's signature, or None
 abbrev pub IsSignature : List ℕ → Option (List ℕ) → Type 0
 IsSignature symbol answer = IsAnswerOf true symbol answer
 
--- the answer when a signature is asked for: the signature if the symbol has one, and otherwise the answer of its name.
--- The truth value says which of the two it is
+-- the answer when a signature is asked for: the signature if the symbol has one, and otherwise its name, or None. The
+-- truth value says which of the two it is
 abbrev pub IsSignatureOrName : Bool → List ℕ → Option (List ℕ) → Type 0
 IsSignatureOrName true symbol answer = IsSignature symbol answer × (is_some answer ≡ true)
 IsSignatureOrName false symbol answer = IsSignature symbol None × IsAnswer symbol answer
@@ -108,7 +108,7 @@ pub record HasOneReadingOf (signature : Bool) (symbol : List ℕ) : Type 0 where
       → IsWithin d
       → (t ≡ u) × (q ≡ r) × (c ≡ d)
 
--- the same of its name
+-- `HasOneReadingOf` for the symbol's name
 abbrev pub HasOneReading : List ℕ → Type 0
 HasOneReading symbol = HasOneReadingOf false symbol
 
@@ -117,7 +117,7 @@ abbrev pub HasCountsOf : Bool → List ℕ → ℕ → ℕ → Type 0
 HasCountsOf signature symbol entered most_saved =
     OfEachReading signature symbol (λ tree next cost. (entered ≡ cost.count) × (most_saved ≡ cost.peak))
 
--- the same of its name
+-- `HasCountsOf` for the symbol's name
 abbrev pub HasCounts : List ℕ → ℕ → ℕ → Type 0
 HasCounts symbol entered most_saved = HasCountsOf false symbol entered most_saved
 
@@ -128,19 +128,19 @@ HasEach f signature symbol (Some answer) kept =
     OfEachReading signature symbol (λ tree next cost. kept ≡ map f next.saved)
 HasEach f signature symbol None kept = kept ≡ []
 
--- where there is an answer, the printings of the trees that are left saved; else none
+-- if there is an answer, the printings of the trees that are left saved; otherwise none
 abbrev pub HasComponentsOf : Bool → List ℕ → Option (List ℕ) → List (List ℕ) → Type 0
 HasComponentsOf signature symbol answer components = HasEach printing signature symbol answer components
 
--- the same of its name
+-- `HasComponentsOf` for the symbol's name
 abbrev pub HasComponents : List ℕ → Option (List ℕ) → List (List ℕ) → Type 0
 HasComponents symbol answer components = HasComponentsOf false symbol answer components
 
--- where there is an answer, the shapes of the trees that are left saved; else none
+-- if there is an answer, the shapes of the trees that are left saved; otherwise none
 abbrev pub HasSavedOf : Bool → List ℕ → Option (List ℕ) → List Shape → Type 0
 HasSavedOf signature symbol answer shapes = HasEach shape_of signature symbol answer shapes
 
--- the same of its name
+-- `HasSavedOf` for the symbol's name
 abbrev pub HasSaved : List ℕ → Option (List ℕ) → List Shape → Type 0
 HasSaved symbol answer shapes = HasSavedOf false symbol answer shapes
 
@@ -150,18 +150,18 @@ abbrev pub longest_printing : Bool → ℕ
 longest_printing true = 1048576
 longest_printing false = 2097180
 
--- where there is an answer, it is no longer than the longest printing and the suffix of every reading within the limits
+-- if there is an answer, it is no longer than the longest printing and the suffix of every reading within the limits
 abbrev pub HasLengthOf : Bool → List ℕ → Option (List ℕ) → Type 0
 HasLengthOf signature symbol (Some answer) =
     OfEachReading signature symbol
     (λ tree next cost. length answer ≤ longest_printing signature + length (suffix next.rest))
 HasLengthOf signature symbol None = Unit {0}
 
--- the same of its name
+-- `HasLengthOf` for the symbol's name
 abbrev pub HasLength : List ℕ → Option (List ℕ) → Type 0
 HasLength symbol answer = HasLengthOf false symbol answer
 
--- at most two counted productions are entered for each byte of the symbol, and at no moment are more components saved
--- than it has bytes
+-- bounds of the two counts by the length of the symbol in bytes. `HasCounts` says what the counts are if there is a
+-- reading within the limits
 abbrev pub HasBounds : List ℕ → ℕ → ℕ → Type 0
 HasBounds symbol entered most_saved = (entered ≤ 2 * length symbol) × (most_saved ≤ length symbol)

@@ -174,8 +174,8 @@ pub data TaggedAs : TagCase → Tree → Position → Tree → Position → Type
       → TaggedAs NextTag t p u q
 
 mutual
-  -- <name> ::= <nested-name> | <local-name> | <unscoped-name> | <unscoped-template-name> <template-args>: counted. The
-  -- truth value is true in an <encoding>'s name and its entity: the encoding prints own qualifiers, so they don't count
+  -- <name> ::= <nested-name> | <local-name> | <unscoped-name> | <unscoped-template-name> <template-args>: counted. If
+  -- the truth value is true, the <encoding> around it prints the name's own qualifiers: the width is without them
   pub data Name : Bool → Context → Position → Tree → Position → Cost → Type 0 where
     name : {waits : Bool} {x : Context} {p q : Position} {t : Tree} {c : Cost}
         → NameAs (name_case p.rest) waits x p t q c

@@ -1,5 +1,6 @@
-//! Each production of the grammar has one reader here. The reader has the production's name, and the production stands
-//! above it in the ABI's notation.
+//! The readers of all productions that have other productions as parts. Most are named after their production, which
+//! stands above them in the ABI's notation. Productions without parts, such as `<source-name>` and `<substitution>`,
+//! are methods of `Reader` in `itanium_reader`.
 //!
 //! The readers call one another, so they are proved together. Each equals its function in `specs/Parser` of
 //! `itanium_reader`. Only `itanium_demangle` uses this crate. `itanium_demangle` proves that the parser agrees with

@@ -249,9 +249,9 @@ pub(crate) fn read_nested_name(
     Ok(())
 }
 
-/// Reads `<prefix> E`. Each segment but `St` and a `<substitution>` becomes a substitution when another segment
-/// follows. The last segment doesn't: in the ABI it is outside of the `<prefix>`. Most segments are `<source-name>`s,
-/// so the loop tests that case first.
+/// Reads `<prefix> E`. Before each further segment the prefix that was read so far is saved as a component, unless it
+/// is a single `St` or `<substitution>`. The whole isn't saved: in the ABI the last segment is outside of the
+/// `<prefix>`. Most segments are `<source-name>`s, so the loop tests that case first.
 #[tactic(auto, using(itanium_reader::proofs::Rules::segments))]
 #[cycle(reader)]
 #[inline(always)]
