@@ -1,4 +1,4 @@
-/* Reads symbols, one a line, and prints the demangled name of each, or the symbol itself if it has none. */
+/* Reads symbols, one per line, and prints the demangled name of each, or the symbol itself if it has none. */
 #include <cosvigle.h>
 #include <stdio.h>
 #include <stdlib.h>

@@ -1,4 +1,4 @@
-//! Reads symbols, one a line, and prints the demangled name of each, or the name itself.
+//! Reads symbols, one per line, and prints the demangled name of each, or the name itself.
 
 use std::io::{self, BufRead, Write};
 
