@@ -24,7 +24,7 @@ _WRITTEN, _NO_ANSWER, _NO_MEMORY, _NO_ROOM, _NOT_UTF8 = range(5)
 
 
 class Error(Exception):
-    """The library returned a status that this module doesn't know."""
+    """A call returned a status that it never returns, or that this module doesn't know."""
 
     def __init__(self, status):
         super().__init__(f"unexpected status {status}")

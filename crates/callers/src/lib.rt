@@ -1,7 +1,7 @@
-//! Four short callers of `Demangler`, as examples of how its contract is used. `demangle` lends its result, so its
-//! clause `kept` says what the value has after the loan. From that clause each function here gets a plain clause for
-//! its own caller. `ask` and `entered_by` end the loan. `answer_after` passes the loan on. `component_of` ends the
-//! loan and lends a component.
+//! Four short callers of `Demangler`, as examples of how its contract is used. The result of `demangle` borrows the
+//! demangler, so its clause `kept` says what the demangler has when that borrow has ended. From that clause each
+//! function here gets a plain clause for its own caller. `ask` and `entered_by` end the borrow. `answer_after` returns
+//! the borrowed result. `component_of` ends the borrow, and returns a borrowed component.
 #![tactic(auto)]
 
 ghost use Rattle.std.specs.Prelude.{◌≡◌, ◌≤◌, ◌*◌, IfOk, OnOk, OnErr, MatchResult, ⊤, option_map, length};
@@ -21,7 +21,7 @@ use std::alloc::{AllocError, Global};
 #[cfg(test)]
 mod tests;
 
-/// Demangles a symbol and ends the loan of the result. The value keeps the result, with the symbol's counts and
+/// Demangles a symbol and drops the result. The value keeps the result, with the symbol's counts and
 /// components. After an error the value keeps nothing: no text and no component, and both counts are 0.
 pub fn ask(demangler: &mut Demangler, alloc: Global, symbol: &str) -> Result<(), AllocError>
     ensures answer { OnOk result (IsAnswer symbol.now demangler.new.text) }
@@ -61,7 +61,7 @@ pub fn answer_after<'a>(
 )
     ensures before { IfOk result.0 (IsAnswerLen before.now) }
     ensures answer { IfOk result.1 (λ found. IsAnswer symbol.now (option_map (λ text. text.now) found)) }
-    // `last` is the value after the loan of the result.
+    // `last` is the value after the borrow by the result.
     ensures* kept { sem 𝓛 (follows_so the_row the_row demangler.entry.ghost_name none (λ _ _. ⊤)
         (λ last. MatchResult result.1
         (λ found. (last.text ≡ option_map (λ text. text.now) found) × IsPrepared symbol.now last)
@@ -74,7 +74,7 @@ pub fn answer_after<'a>(
     (len, demangler.demangle(alloc, symbol))
 }
 
-/// Returns the component of a symbol with the index `i`, from 0 on, lent until the next call. A component is the
+/// Returns the component of a symbol with the index `i`, from 0 on, borrowed until the next call. A component is the
 /// printing of a tree that the symbol's reading leaves in the substitution table. Returns `None` past the last
 /// component, and if the symbol has no result.
 pub fn component_of<'a>(
@@ -84,7 +84,7 @@ pub fn component_of<'a>(
     i: usize,
 ) -> Result<Option<&'a [u8]>, AllocError>
     ensures component { IfOk result (λ found. IsComponent symbol.now i (option_map (λ text. text.now) found)) }
-    // `last` is the value after the loan of the component.
+    // `last` is the value after the borrow by the component.
     ensures* kept { sem 𝓛 (follows_so the_row the_row demangler.entry.ghost_name none (λ _ _. ⊤)
         (λ last. MatchResult result
         (λ _. IsAnswer symbol.now last.text × IsPrepared symbol.now last)

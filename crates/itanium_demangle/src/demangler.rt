@@ -255,8 +255,8 @@ impl Demangler {
         Ok(true)
     }
 
-    /// Returns the result of the last symbol, lent until the next call. Returns `None` if that symbol had none, after
-    /// an error, and before the first symbol.
+    /// Returns the result of the last symbol, borrowed until the next call. Returns `None` if that symbol had none,
+    /// after an error, and before the first symbol.
     pub fn text(&self) -> Option<&str>
         ensures value { option_map (λ text. text.now) result ≡ self.now.text }
     {
@@ -266,8 +266,8 @@ impl Demangler {
         }
     }
 
-    /// Returns the buffer that holds the result of the last symbol, lent until the next call. Returns `None` if there
-    /// is no result.
+    /// Returns the buffer that holds the result of the last symbol, borrowed until the next call. Returns `None` if
+    /// there is no result.
     ///
     /// The result is all of the buffer's output. The buffer's saved shapes are those of the trees that the symbol
     /// leaves in the substitution table, and their texts are the components. No scope and no mark is open.
@@ -334,7 +334,7 @@ impl Demangler {
         self.signature
     }
 
-    /// Returns the name of a symbol as `prepare` reads it, lent until the next call, or `None` if it has none. The
+    /// Returns the name of a symbol as `prepare` reads it, borrowed until the next call, or `None` if it has none. The
     /// value keeps the name for `text`. Returns an error if an allocation fails; then the value keeps nothing. A text
     /// without the prefix of a symbol is never an error.
     pub fn demangle<'a>(
@@ -344,7 +344,7 @@ impl Demangler {
     ) -> Result<Option<&'a str>, AllocError>
         ensures answer { IfOk result (λ found. IsAnswer symbol.now (option_map (λ text. text.now) found)) }
         ensures no_prefix { spec.after_prefix symbol.now ≡ None → result ≡ Ok None }
-        // `last` is the value after the loan. It keeps the text that was returned, with the counts, components and
+        // `last` is the value after the borrow. It keeps the text that was returned, with the counts, components and
         // shapes of `prepare`. After an error it keeps nothing.
         ensures* kept { sem 𝓛 (follows_so the_row the_row self.entry.ghost_name none (λ _ _. ⊤)
             (λ last. MatchResult result
@@ -355,7 +355,7 @@ impl Demangler {
         Ok(self.text())
     }
 
-    /// Returns the signature of a symbol as `prepare_signature` reads it, lent until the next call. Returns the
+    /// Returns the signature of a symbol as `prepare_signature` reads it, borrowed until the next call. Returns the
     /// symbol's name if it has no signature, and `None` if it has neither. The value keeps the result for `text`.
     /// Returns an error if an allocation fails; then the value keeps nothing.
     pub fn demangle_signature<'a>(
@@ -366,7 +366,7 @@ impl Demangler {
         ensures answer { IfOk result (λ found. (signature : Bool) × IsSignatureOrName signature symbol.now
             (option_map (λ text. text.now) found)) }
         ensures no_prefix { spec.after_prefix symbol.now ≡ None → result ≡ Ok None }
-        // `last` is the value after the loan, as for `demangle`. It also keeps which of the two was returned.
+        // `last` is the value after the borrow, as for `demangle`. It also keeps which of the two was returned.
         ensures* kept { sem 𝓛 (follows_so the_row the_row self.entry.ghost_name none (λ _ _. ⊤)
             (λ last. MatchResult result
             (λ found. (last.text ≡ option_map (λ text. text.now) found) × IsPreparedSignature symbol.now last)

@@ -24,9 +24,9 @@
 //! }
 //! ```
 //!
-//! The name is lent until the next call. Use one `Demangler` for many symbols: each keeps its buffer from one symbol
-//! to the next. `demangle_signature` returns the name with the parameters of the function, such as `Foo::bar()`. If a
-//! symbol has no signature, it returns what `demangle` returns.
+//! The name is borrowed until the next call. Use one `Demangler` for many symbols: each keeps its buffer from one
+//! symbol to the next. `demangle_signature` returns the name with the parameters of the function, such as `Foo::bar()`.
+//! If a symbol has no signature, it returns what `demangle` returns.
 //!
 //! `itanium_productions` reads the symbol, and `itanium_grammar` defines its result. The proofs of this crate show
 //! that the readers agree with the grammar. Begin with `demangler.rt`.
