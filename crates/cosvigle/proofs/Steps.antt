@@ -5,7 +5,7 @@ use Rattle.std.proofs.lemmas.List.{length-drop, drop_all}
 use Rattle.std.proofs.Math.Seq.{drop-cons}
 use Rattle.itanium_syntax.specs.Bytes.{begins}
 use Rattle.cosvigle.specs.declared.options.Flags.{Flags}
-use Rattle.cosvigle.specs.declared.options.Stop.TheVariants as stop
+use Rattle.cosvigle.specs.declared.options.Instead.TheVariants as instead
 use Rattle.cosvigle.specs.declared.options.Step.{Step}
 use Rattle.cosvigle.specs.declared.options.Step.TheVariants.{Go, Value, Stop as Stopping}
 use Rattle.cosvigle.specs.Options.{letter_step, format_step, letters, with_value, valued_step}
@@ -64,13 +64,13 @@ valued_value flags next letter len bytes more is =
     ap (λ t. if t then letter_step flags letter else with_value (letter_step flags letter) (drop (len + 1) bytes)) (ne_eqb len (length bytes) more)
     ∙ ap (λ s. with_value s (drop (len + 1) bytes)) is
 
-no_value : (step : Step) (value : List ℕ) → ((next : Flags) → step ≡ Value next → ⊥) → with_value step value ≡ Stopping stop.Valued
+no_value : (step : Step) (value : List ℕ) → ((next : Flags) → step ≡ Value next → ⊥) → with_value step value ≡ Stopping instead.UnexpectedValue
 no_value (Go flags) value none = refl
 no_value (Value flags) value none = absurd (none flags refl)
 no_value (Stopping by) value none = refl
 
 pub valued_none : (flags : Flags) (letter len : ℕ) (bytes : List ℕ) → len ≢ length bytes → ((next : Flags) → letter_step flags letter ≡ Value next → ⊥)
-    → valued_step flags letter len bytes ≡ Stopping stop.Valued
+    → valued_step flags letter len bytes ≡ Stopping instead.UnexpectedValue
 valued_none flags letter len bytes more none =
     ap (λ t. if t then letter_step flags letter else with_value (letter_step flags letter) (drop (len + 1) bytes)) (ne_eqb len (length bytes) more)
     ∙ no_value (letter_step flags letter) (drop (len + 1) bytes) none

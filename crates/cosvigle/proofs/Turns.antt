@@ -4,7 +4,7 @@ use Rattle.std.proofs.lemmas.List.{length-map, get_or-map, take_rest, map-append
 use Rattle.std.proofs.Math.Seq.{drop-cons}
 use Rattle.std.specs.Borrow.{Bor}
 use Rattle.cosvigle.specs.declared.options.Flags.{Flags}
-use Rattle.cosvigle.specs.declared.options.Stop.{Stop}
+use Rattle.cosvigle.specs.declared.options.Instead.{Instead}
 use Rattle.cosvigle.specs.declared.options.Step.{Step}
 use Rattle.cosvigle.specs.declared.options.Step.TheVariants.{Go, Value, Stop as Stopping}
 use Rattle.cosvigle.specs.declared.options.Kind.{Kind}
@@ -47,11 +47,11 @@ go_turn arguments at none all step flags symbols word kind inside is kind_is so_
     ∙ ap (λ k. read (of_kind k flags symbols word argument) (drop (at + 1) (texts arguments))) kind_is
 
 -- nothing is read after a stop
-read_stopped : (stop : Stop) (word : List ℕ) (arguments : List (List ℕ)) → read (stopped stop word) arguments ≡ stopped stop word
+read_stopped : (stop : Instead) (word : List ℕ) (arguments : List (List ℕ)) → read (stopped stop word) arguments ≡ stopped stop word
 read_stopped stop word [] = refl
 read_stopped stop word (argument ∷ arguments) = read_stopped stop word arguments
 
-pub stop_turn : (arguments : List (Bor (List ℕ))) (at : ℕ) (none : Bor (List ℕ)) (all : State) (step : Step) (stop : Stop) (symbols : List (List ℕ)) (word : List ℕ)
+pub stop_turn : (arguments : List (Bor (List ℕ))) (at : ℕ) (none : Bor (List ℕ)) (all : State) (step : Step) (stop : Instead) (symbols : List (List ℕ)) (word : List ℕ)
     → at < length arguments → step ≡ Stopping stop → all ≡ read (reading step symbols word) (drop at (texts arguments)) → all ≡ stopped stop word
 stop_turn arguments at none all step stop symbols word inside is so_far =
     turned arguments at none all (reading step symbols word) inside so_far

@@ -3,18 +3,18 @@ use Rattle.std.specs.Prelude.{◌≡◌, ℕ, ◌+◌, List, [], ◌∷◌, ◌+
 use Rattle.std.specs.Borrow.{Bor}
 use Rattle.itanium_syntax.specs.Bytes.{is, one_of, begins}
 use Rattle.cosvigle.specs.declared.options.Flags.{Flags}
-use Rattle.cosvigle.specs.declared.options.Stop.{Stop}
-use Rattle.cosvigle.specs.declared.options.Stop.TheVariants as stop
+use Rattle.cosvigle.specs.declared.options.Instead.{Instead}
+use Rattle.cosvigle.specs.declared.options.Instead.TheVariants as instead
 use Rattle.cosvigle.specs.declared.options.Step.{Step}
 use Rattle.cosvigle.specs.declared.options.Step.TheVariants.{Go, Value, Stop as Stopping}
 use Rattle.cosvigle.specs.declared.options.Kind.{Kind}
 use Rattle.cosvigle.specs.declared.options.Kind.TheVariants.{End, Name, Letters, Symbol}
 use Rattle.cosvigle.specs.declared.options.Asked.{Asked}
-use Rattle.cosvigle.specs.declared.options.Asked.TheVariants.{Answers, Stopped}
+use Rattle.cosvigle.specs.declared.options.Asked.TheVariants.{Names, Stopped}
 use Rattle.symfilter_engine.specs.declared.symbols.Printing.{Printing}
 use Rattle.symfilter_engine.specs.declared.symbols.Printing.TheVariants.{Names, Signatures}
-use Rattle.cosvigle.specs.declared.names.Found.{Found}
-use Rattle.cosvigle.specs.declared.names.Found.TheVariants.{Nothing, Front, Several, Whole}
+use Rattle.cosvigle.specs.declared.option_names.Found.{Found}
+use Rattle.cosvigle.specs.declared.option_names.Found.TheVariants.{Nothing, Front, Several, Whole}
 
 -- the texts are the same
 abbrev pub same : List ℕ → List ℕ → Bool
@@ -41,7 +41,7 @@ abbrev pub format_step : Flags → List ℕ → Step
 format_step flags format =
     if same (codes "auto") format || same (codes "gnu-v3") format then Go (with_plain false flags) else
     if same (codes "none") format then Go (with_plain true flags) else
-    Stopping stop.Format
+    Stopping instead.UnknownFormat
 
 -- what the option with a letter asks for
 abbrev pub letter_step : Flags → ℕ → Step
@@ -53,10 +53,10 @@ letter_step flags letter =
     if is "P" letter then Go (with_printing Signatures flags) else
     if one_of (codes "irR") letter then Go flags else
     if is "s" letter then Value flags else
-    if is "t" letter then Stopping stop.Types else
-    if is "h" letter then Stopping stop.Help else
-    if is "v" letter then Stopping stop.Version else
-    Stopping stop.Unknown
+    if is "t" letter then Stopping instead.TypesAlone else
+    if is "h" letter then Stopping instead.Help else
+    if is "v" letter then Stopping instead.Version else
+    Stopping instead.UnknownOption
 
 -- what letters ask for, after what has been read: what follows one that takes a value is that value
 abbrev pub letters : Step → List ℕ → Step
@@ -110,8 +110,8 @@ name_len (b ∷ bytes) = if is "=" b then 0 else 1 + name_len bytes
 -- what an option asks for that is given a value
 abbrev pub with_value : Step → List ℕ → Step
 with_value (Value flags) value = format_step flags value
-with_value (Go flags) value = Stopping stop.Valued
-with_value (Stopping by) value = Stopping stop.Valued
+with_value (Go flags) value = Stopping instead.UnexpectedValue
+with_value (Stopping by) value = Stopping instead.UnexpectedValue
 
 -- what the option with a letter asks for, where so many bytes are its name, and after a `=` the others are its value
 abbrev pub valued_step : Flags → ℕ → ℕ → List ℕ → Step
@@ -121,8 +121,8 @@ valued_step flags letter len bytes =
 
 -- what the option found asks for
 abbrev pub found_step : Flags → Found → ℕ → List ℕ → Step
-found_step flags Nothing len bytes = Stopping stop.Unknown
-found_step flags Several len bytes = Stopping stop.Several
+found_step flags Nothing len bytes = Stopping instead.UnknownOption
+found_step flags Several len bytes = Stopping instead.AmbiguousOption
 found_step flags (Front letter) len bytes = valued_step flags letter len bytes
 found_step flags (Whole letter) len bytes = valued_step flags letter len bytes
 
@@ -150,7 +150,7 @@ pub data State : Type 0 where
   -- `--`, and all that follows is a symbol
   ended : Flags → List (List ℕ) → State
   -- what stops the reading, and the argument that does
-  stopped : Stop → List ℕ → State
+  stopped : Instead → List ℕ → State
 
 -- one argument more, of this kind, after these flags
 abbrev pub of_kind : Kind → Flags → List (List ℕ) → List ℕ → List ℕ → State
@@ -182,16 +182,16 @@ texts arguments = map (λ argument. argument.now) arguments
 
 -- what is asked after these were read
 abbrev pub Asks : State → Asked → Type 0
-Asks (reading (Go flags) symbols word) (Answers chosen given) = (chosen ≡ flags) × (texts given.items ≡ symbols)
-Asks (reading (Value flags) symbols word) (Stopped by argument) = (by ≡ stop.Unvalued) × (argument.now ≡ word)
+Asks (reading (Go flags) symbols word) (Names chosen given) = (chosen ≡ flags) × (texts given.items ≡ symbols)
+Asks (reading (Value flags) symbols word) (Stopped by argument) = (by ≡ instead.MissingValue) × (argument.now ≡ word)
 Asks (reading (Stopping stop) symbols word) (Stopped by argument) = (by ≡ stop) × (argument.now ≡ word)
-Asks (ended flags symbols) (Answers chosen given) = (chosen ≡ flags) × (texts given.items ≡ symbols)
+Asks (ended flags symbols) (Names chosen given) = (chosen ≡ flags) × (texts given.items ≡ symbols)
 Asks (stopped stop word) (Stopped by argument) = (by ≡ stop) × (argument.now ≡ word)
 Asks (reading (Go flags) symbols word) (Stopped by argument) = ⊥
-Asks (reading (Value flags) symbols word) (Answers chosen given) = ⊥
-Asks (reading (Stopping stop) symbols word) (Answers chosen given) = ⊥
+Asks (reading (Value flags) symbols word) (Names chosen given) = ⊥
+Asks (reading (Stopping stop) symbols word) (Names chosen given) = ⊥
 Asks (ended flags symbols) (Stopped by argument) = ⊥
-Asks (stopped stop word) (Answers chosen given) = ⊥
+Asks (stopped stop word) (Names chosen given) = ⊥
 
 -- all arguments, and what they ask
 abbrev pub IsAsked : List (List ℕ) → Asked → Type 0

@@ -1,4 +1,4 @@
--- Standard output, and which fault is told.
+-- Standard output, and which fault is reported.
 use Rattle.std.specs.Prelude.{◌≡◌, Bool, Option, Some, None, Result, Ok, Err, if◌then◌else◌}
 use Rattle.std.specs.IoError.{error_kind}
 use Rattle.std.specs.declared.io.Error.{Error}
@@ -15,11 +15,11 @@ inner_of output = output.inner
 abbrev pub is_closed : {W : Type 0} → Output W → Bool
 is_closed output = output.closed
 
--- the fault that is told: any but a failed write to a reader that has gone
-abbrev pub told : FilterFault → Bool → Option FilterFault
-told Read closed = Some Read
-told Write closed = if closed then None else Some Write
-told Memory closed = Some Memory
+-- the fault that is reported: any but a failed write to a reader that has gone
+abbrev pub reported : FilterFault → Bool → Option FilterFault
+reported Read closed = Some Read
+reported Write closed = if closed then None else Some Write
+reported Memory closed = Some Memory
 
 -- a write has failed since its reader has gone
 abbrev pub IsBroken : {T : Type 0} → Result T Error → Type 0

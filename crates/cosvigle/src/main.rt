@@ -15,7 +15,7 @@ ghost use Rattle.std.specs.Prelude.{◌≡◌};
 mod arguments;
 mod files;
 mod help;
-mod names;
+mod option_names;
 mod options;
 mod output;
 
@@ -23,8 +23,8 @@ use arguments::{Printed, answer_of, set_line};
 use files::{file_name, is_text, words_in};
 use help::{HELP, VERSION};
 use itanium_demangle::Demangler;
-use options::{Asked, Flags, Stop, read_arguments};
-use output::{Output, told};
+use options::{Asked, Flags, Instead, read_arguments};
+use output::{Output, reported};
 use std::alloc::AllocError;
 use std::env::{Env, FillError};
 use std::io::{ErrorKind, Read, Stdout, Write};
@@ -33,7 +33,7 @@ use std::{fs, str};
 use symfilter_engine::{FilterFault, Replacement, Tally, filter_by, replace};
 
 /// The exit status if the arguments can't be read, and nothing is done.
-const NOT_ASKED: u8 = 2;
+const USAGE_ERROR: u8 = 2;
 
 /// The most files that arguments may name as `@FILE`.
 const MOST_FILES: u32 = 2000;
@@ -64,7 +64,7 @@ fn replacement(flags: Flags) -> Replacement
 }
 
 /// Returns what is printed for an argument. If `plain` is set, that is the argument itself.
-fn printed<'a>(
+fn output_of<'a>(
     rt: &HostRuntime,
     demangler: &'a mut Demangler,
     flags: Flags,
@@ -80,7 +80,7 @@ fn printed<'a>(
 }
 
 /// Prints the name of each symbol, or the symbol itself if it has no name, one a line.
-fn print_answers(
+fn print_names(
     rt: &HostRuntime,
     output: &mut Output<Stdout>,
     flags: Flags,
@@ -89,7 +89,7 @@ fn print_answers(
     let mut demangler = Demangler::new();
     let mut line = Vec::new(rt.alloc());
     for symbol in symbols {
-        let answer = printed(rt, &mut demangler, flags, symbol)?;
+        let answer = output_of(rt, &mut demangler, flags, symbol)?;
         set_line(&mut line, answer)?;
         put(output, &line)?;
     }
@@ -97,7 +97,7 @@ fn print_answers(
 }
 
 /// Copies standard input to standard output unchanged.
-fn copy_plain(rt: &HostRuntime, output: &mut Output<Stdout>) -> Result<(), FilterFault> {
+fn copy_input(rt: &HostRuntime, output: &mut Output<Stdout>) -> Result<(), FilterFault> {
     let mut chunk = vec![in rt.alloc(); 0u8; COPIED_LEN]?;
     let mut input = rt.stdin();
     for _ in 0..u64::MAX {
@@ -111,9 +111,13 @@ fn copy_plain(rt: &HostRuntime, output: &mut Output<Stdout>) -> Result<(), Filte
 }
 
 /// Copies standard input to standard output, and replaces symbols by names. If `plain` is set, nothing is replaced.
-fn copy(rt: &HostRuntime, output: &mut Output<Stdout>, flags: Flags) -> Result<(), FilterFault> {
+fn replace_input(
+    rt: &HostRuntime,
+    output: &mut Output<Stdout>,
+    flags: Flags,
+) -> Result<(), FilterFault> {
     if flags.plain {
-        return copy_plain(rt, output);
+        return copy_input(rt, output);
     }
     // Neither the source nor the sink has a buffer: the engine reads and writes whole chunks.
     let mut source = Tally::new(rt.stdin());
@@ -137,41 +141,45 @@ fn refuse(rt: &HostRuntime, before: &str, argument: &[u8], after: &str) -> u8 {
     ] {
         let _ = errors.write_all(part);
     }
-    NOT_ASKED
+    USAGE_ERROR
 }
 
 /// Does what an option asks instead of reading symbols, and returns the exit status.
-fn stop(
+fn do_instead(
     rt: &HostRuntime,
     output: &mut Output<Stdout>,
-    stop: Stop,
+    instead: Instead,
     argument: &[u8],
 ) -> Result<u8, FilterFault> {
-    let status = match stop {
-        Stop::Help => {
+    let status = match instead {
+        Instead::Help => {
             put(output, HELP.as_bytes())?;
             0
         }
-        Stop::Version => {
+        Instead::Version => {
             put(output, VERSION.as_bytes())?;
             0
         }
-        Stop::Unknown => refuse(rt, "no option ", argument, ""),
-        Stop::Several => refuse(rt, "more than one option begins with ", argument, ""),
-        Stop::Valued => refuse(rt, "no value is taken: ", argument, ""),
-        Stop::Unvalued => refuse(rt, "a value is missing: ", argument, ""),
-        Stop::Types => refuse(rt, "types alone aren't read: ", argument, ""),
-        Stop::Format => refuse(rt, "no such format: ", argument, ""),
+        Instead::UnknownOption => refuse(rt, "no option ", argument, ""),
+        Instead::AmbiguousOption => refuse(rt, "more than one option begins with ", argument, ""),
+        Instead::UnexpectedValue => refuse(rt, "no value is taken: ", argument, ""),
+        Instead::MissingValue => refuse(rt, "a value is missing: ", argument, ""),
+        Instead::TypesAlone => refuse(rt, "types alone aren't read: ", argument, ""),
+        Instead::UnknownFormat => refuse(rt, "no such format: ", argument, ""),
     };
     Ok(status)
 }
 
 /// Does what the arguments ask, and returns the exit status.
-fn answer(rt: &HostRuntime, output: &mut Output<Stdout>, asked: &Asked) -> Result<u8, FilterFault> {
+fn execute(
+    rt: &HostRuntime,
+    output: &mut Output<Stdout>,
+    asked: &Asked,
+) -> Result<u8, FilterFault> {
     match asked {
-        Asked::Stopped(by, argument) => return stop(rt, output, *by, argument),
-        Asked::Answers(flags, symbols) if symbols.is_empty() => copy(rt, output, *flags)?,
-        Asked::Answers(flags, symbols) => print_answers(rt, output, *flags, symbols)?,
+        Asked::Stopped(by, argument) => return do_instead(rt, output, *by, argument),
+        Asked::Names(flags, symbols) if symbols.is_empty() => replace_input(rt, output, *flags)?,
+        Asked::Names(flags, symbols) => print_names(rt, output, *flags, symbols)?,
     }
     Ok(0)
 }
@@ -263,14 +271,14 @@ fn run(rt: &HostRuntime, output: &mut Output<Stdout>) -> Result<u8, FilterFault>
     };
     let arguments = slices_of(rt, &words)?;
     let asked = read_arguments(rt.alloc(), &arguments)?;
-    answer(rt, output, &asked)
+    execute(rt, output, &asked)
 }
 
 fn main(rt: HostRuntime) -> ExitCode {
     let mut output = Output::new(rt.stdout());
     match run(&rt, &mut output) {
         Ok(status) => ExitCode::from(status),
-        Err(fault) => match told(fault, output.is_closed()) {
+        Err(fault) => match reported(fault, output.is_closed()) {
             None => ExitCode::SUCCESS,
             Some(fault) => {
                 let _ = eprintln!(rt; "cosvigle: {}", fault.reason());

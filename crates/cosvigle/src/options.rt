@@ -3,7 +3,7 @@ ghost use Rattle.std.specs.Prelude.{◌≡◌, ◌≤◌, length, IfOk};
 ghost use Rattle.cosvigle.specs.Options as spec;
 ghost use Rattle.cosvigle.specs.Options.{reading, texts, Asks, IsAsked};
 
-use super::names::{Found, find_name};
+use super::option_names::{Found, find_name};
 use std::alloc::{AllocError, Global};
 use symfilter_engine::Printing;
 
@@ -22,23 +22,23 @@ pub struct Flags {
 
 /// What the program does instead of reading symbols.
 #[derive(Clone, Copy, Debug, PartialEq, Eq)]
-pub enum Stop {
+pub enum Instead {
     /// Prints the help.
     Help,
     /// Prints the version.
     Version,
     /// Reports that no option has this letter or name.
-    Unknown,
+    UnknownOption,
     /// Reports that the names of several options begin with the given bytes.
-    Several,
+    AmbiguousOption,
     /// Reports that an option has a value and takes none.
-    Valued,
+    UnexpectedValue,
     /// Reports that an option has no value and takes one.
-    Unvalued,
+    MissingValue,
     /// Reports that types alone aren't read.
-    Types,
+    TypesAlone,
     /// Reports that no format has this name.
-    Format,
+    UnknownFormat,
 }
 
 /// The state after the options that have been read.
@@ -49,16 +49,16 @@ pub enum Step {
     /// The options choose these flags, and the next argument is the format.
     Value(Flags),
     /// No further option is read.
-    Stop(Stop),
+    Stop(Instead),
 }
 
 /// What the arguments ask.
 #[derive(Drop)]
 pub enum Asked<'a> {
     /// Print the names of these symbols. If there are none, replace the symbols of standard input.
-    Answers(Flags, Vec<&'a [u8]>),
+    Names(Flags, Vec<&'a [u8]>),
     /// Stop, because of this argument.
-    Stopped(Stop, &'a [u8]),
+    Stopped(Instead, &'a [u8]),
 }
 
 /// Returns the state after the format that the bytes name.
@@ -78,7 +78,7 @@ fn format_step(flags: Flags, format: &[u8]) -> Step
             plain: true,
             printing: flags.printing,
         }),
-        _ => Step::Stop(Stop::Format),
+        _ => Step::Stop(Instead::UnknownFormat),
     }
 }
 
@@ -119,10 +119,10 @@ fn letter_step(flags: Flags, letter: u8) -> Step
         }),
         b'i' | b'r' | b'R' => Step::Go(flags),
         b's' => Step::Value(flags),
-        b't' => Step::Stop(Stop::Types),
-        b'h' => Step::Stop(Stop::Help),
-        b'v' => Step::Stop(Stop::Version),
-        _ => Step::Stop(Stop::Unknown),
+        b't' => Step::Stop(Instead::TypesAlone),
+        b'h' => Step::Stop(Instead::Help),
+        b'v' => Step::Stop(Instead::Version),
+        _ => Step::Stop(Instead::UnknownOption),
     }
 }
 
@@ -169,7 +169,7 @@ fn valued_step(flags: Flags, letter: u8, len: usize, bytes: &[u8]) -> Step
     }
     match step {
         Step::Value(next) => format_step(next, &bytes[len + 1..]),
-        _ => Step::Stop(Stop::Valued),
+        _ => Step::Stop(Instead::UnexpectedValue),
     }
 }
 
@@ -182,8 +182,8 @@ fn name_step(flags: Flags, bytes: &[u8]) -> Step
     match find_name(&bytes[..len]) {
         Found::Whole(letter) => valued_step(flags, letter, len, bytes),
         Found::Front(letter) => valued_step(flags, letter, len, bytes),
-        Found::Several => Step::Stop(Stop::Several),
-        Found::Nothing => Step::Stop(Stop::Unknown),
+        Found::Several => Step::Stop(Instead::AmbiguousOption),
+        Found::Nothing => Step::Stop(Instead::UnknownOption),
     }
 }
 
@@ -218,8 +218,8 @@ fn asked_at_end<'a>(step: Step, symbols: Vec<&'a [u8]>, word: &'a [u8]) -> Asked
     ensures asked { Asks (reading step (texts symbols.entry.items) word.now) result }
 {
     match step {
-        Step::Go(flags) => Asked::Answers(flags, symbols),
-        Step::Value(_) => Asked::Stopped(Stop::Unvalued, word),
+        Step::Go(flags) => Asked::Names(flags, symbols),
+        Step::Value(_) => Asked::Stopped(Instead::MissingValue, word),
         Step::Stop(stop) => Asked::Stopped(stop, word),
     }
 }
@@ -251,7 +251,7 @@ pub fn read_arguments<'a>(alloc: Global, arguments: &[&'a [u8]]) -> Result<Asked
         match kind_of(argument) {
             Kind::End => {
                 symbols.extend_from_slice(&arguments[at + 1..])?;
-                return Ok(Asked::Answers(flags, symbols));
+                return Ok(Asked::Names(flags, symbols));
             }
             Kind::Name => {
                 step = name_step(flags, &argument[2..]);

@@ -67,8 +67,8 @@ impl<W: Write> Write for Output<W> {
 }
 
 /// Returns the fault to report. Returns `None` for a failed write to a reader that has gone.
-pub fn told(fault: FilterFault, closed: bool) -> Option<FilterFault>
-    ensures value { result ≡ spec.told fault closed }
+pub fn reported(fault: FilterFault, closed: bool) -> Option<FilterFault>
+    ensures value { result ≡ spec.reported fault closed }
 {
     match fault {
         FilterFault::Write if closed => None,

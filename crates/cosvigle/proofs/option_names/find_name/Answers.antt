@@ -1,6 +1,6 @@
 use Rattle.std.proofs.Common.{codes, ap, ◌∙◌}
 use Rattle.cosvigle.specs.Options.{look_at}
-use Rattle.cosvigle.proofs.names.find_name.Goals as goal
+use Rattle.cosvigle.proofs.option_names.find_name.Goals as goal
 
 pub returns : goal.returns
 returns c =
