@@ -1,4 +1,4 @@
-//! Reads symbols, one per line, and prints the demangled name of each, or the name itself.
+//! Reads symbols, one per line, and prints the demangled name of each, or the symbol itself if it has none.
 
 use std::io::{self, BufRead, Write};
 

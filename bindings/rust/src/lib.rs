@@ -9,9 +9,12 @@
 //! # Ok::<(), cosvigle::Error>(())
 //! ```
 //!
-//! A program must keep to three rules of the library's header, `cosvigle.h`. The program's `malloc`, `realloc` and
-//! `free` belong to the same allocator, which aligns a block whose size is a multiple of 2, 4, 8 or 16 to that number.
-//! No call is made from a signal handler. No call is made in the forked child of a process with threads.
+//! A program must keep to three rules of the library's header, `cosvigle.h`:
+//!
+//! - `malloc`, `realloc` and `free` must come from one allocator. It must align a block to n if its size is a multiple
+//!   of n, for n = 2, 4, 8 and 16.
+//! - No call may be made from a signal handler.
+//! - No call may be made in the forked child of a process with threads.
 
 use std::ffi::c_void;
 use std::fmt;
@@ -78,9 +81,9 @@ const NOT_UTF8: c_int = 4;
 pub enum Error {
     /// An allocation failed.
     NoMemory,
-    /// A call returned a status that it should never return, or a result that contradicts its status. The number is
-    /// that status. It need not be one that this crate doesn't know: 0 comes with a result that isn't UTF-8 or is
-    /// longer than the memory for it, 1 and 4 for a text, and 3 if the memory is too small a second time.
+    /// A call returned a status that this crate doesn't know, or one that contradicts the result. The number is that
+    /// status. A known status is here in these cases: 0 if the result isn't UTF-8 or is longer than the memory given;
+    /// 1 or 4 from a call over a text; 3 if the memory is too small even after it was enlarged.
     Status(i32),
 }
 
