@@ -1,7 +1,7 @@
 # Builds and installs the programs, the libraries for C, their headers and the manual page. The builds are proved ones, by
 # the Rattle toolchain. `make install` builds what is missing, or older than its sources, too.
 #
-#     make -j4                                 half an hour where nothing is proved yet
+#     make -j4                                 twenty to sixty minutes where nothing is proved yet
 #     make -j4 cosvigle                        the program alone
 #     make install PREFIX=/usr DESTDIR=/tmp/x  PREFIX: /usr/local unless given; DESTDIR: put in front, for packages;
 #                  LIBDIR=/usr/lib64           BINDIR, LIBDIR, INCLUDEDIR, MANDIR: below PREFIX unless given

@@ -76,8 +76,9 @@ typedef struct {
 int cosvigle_ask(cosvigle_handle *handle, const char *symbol, size_t len, char *out, size_t capacity, size_t *needed);
 
 /* Writes the signature of a symbol, that is its demangled name with its parameters: foo(int) for _Z3fooi. If the
- * symbol has no signature, its demangled name is written. The status doesn't say which of the two it was. Everything
- * else is as for cosvigle_ask, and one handle serves both calls. */
+ * symbol has no signature, its demangled name is written. The status doesn't say which of the two it was. A
+ * suffix right after the parameters is kept: foo(int).cold for _Z3fooi.cold. Statuses, needed and the handle are as
+ * for cosvigle_ask, and one handle serves both calls. */
 int cosvigle_ask_signature(cosvigle_handle *handle, const char *symbol, size_t len, char *out, size_t capacity,
                            size_t *needed);
 
