@@ -10,7 +10,7 @@ use Rattle.cosvigle.specs.declared.options.Step.TheVariants.{Go, Value, Stop as 
 use Rattle.cosvigle.specs.declared.options.Kind.{Kind}
 use Rattle.cosvigle.specs.declared.options.Kind.TheVariants.{End, Name, Letters, Symbol}
 use Rattle.cosvigle.specs.declared.options.Asked.{Asked}
-use Rattle.cosvigle.specs.declared.options.Asked.TheVariants.{Names, Stopped}
+use Rattle.cosvigle.specs.declared.options.Asked.TheVariants.{Symbols, Stopped}
 use Rattle.symfilter_engine.specs.declared.symbols.Printing.{Printing}
 use Rattle.symfilter_engine.specs.declared.symbols.Printing.TheVariants.{Names, Signatures}
 use Rattle.cosvigle.specs.declared.option_names.Found.{Found}
@@ -182,16 +182,16 @@ texts arguments = map (λ argument. argument.now) arguments
 
 -- what is asked after these were read
 abbrev pub Asks : State → Asked → Type 0
-Asks (reading (Go flags) symbols word) (Names chosen given) = (chosen ≡ flags) × (texts given.items ≡ symbols)
+Asks (reading (Go flags) symbols word) (Symbols chosen given) = (chosen ≡ flags) × (texts given.items ≡ symbols)
 Asks (reading (Value flags) symbols word) (Stopped by argument) = (by ≡ instead.MissingValue) × (argument.now ≡ word)
 Asks (reading (Stopping stop) symbols word) (Stopped by argument) = (by ≡ stop) × (argument.now ≡ word)
-Asks (ended flags symbols) (Names chosen given) = (chosen ≡ flags) × (texts given.items ≡ symbols)
+Asks (ended flags symbols) (Symbols chosen given) = (chosen ≡ flags) × (texts given.items ≡ symbols)
 Asks (stopped stop word) (Stopped by argument) = (by ≡ stop) × (argument.now ≡ word)
 Asks (reading (Go flags) symbols word) (Stopped by argument) = ⊥
-Asks (reading (Value flags) symbols word) (Names chosen given) = ⊥
-Asks (reading (Stopping stop) symbols word) (Names chosen given) = ⊥
+Asks (reading (Value flags) symbols word) (Symbols chosen given) = ⊥
+Asks (reading (Stopping stop) symbols word) (Symbols chosen given) = ⊥
 Asks (ended flags symbols) (Stopped by argument) = ⊥
-Asks (stopped stop word) (Names chosen given) = ⊥
+Asks (stopped stop word) (Symbols chosen given) = ⊥
 
 -- all arguments, and what they ask
 abbrev pub IsAsked : List (List ℕ) → Asked → Type 0

@@ -6,7 +6,7 @@
 //! standard output. In both cases standard error says what failed. If the reader of standard output has gone, the
 //! status is 0 and nothing more is written.
 //!
-//! `symfilter_engine` replaces the symbols in a text, and `itanium_demangle` reads those in arguments. Begin with
+//! `symfilter_engine` replaces the symbols in a text, and reads each symbol that is an argument. Begin with
 //! `main` below, and with `options.rt`: `specs/Options` defines what each command line means.
 #![tactic(auto)]
 
@@ -79,8 +79,8 @@ fn output_of<'a>(
     answer_of(rt.alloc(), demangler, replacement(flags), argument)
 }
 
-/// Prints the name of each symbol, or the symbol itself if it has no name, one a line.
-fn print_names(
+/// Prints for each symbol its name or its signature, or the symbol itself if it has none. Each is on a line.
+fn print_symbols(
     rt: &HostRuntime,
     output: &mut Output<Stdout>,
     flags: Flags,
@@ -178,8 +178,8 @@ fn execute(
 ) -> Result<u8, FilterFault> {
     match asked {
         Asked::Stopped(by, argument) => return do_instead(rt, output, *by, argument),
-        Asked::Names(flags, symbols) if symbols.is_empty() => replace_input(rt, output, *flags)?,
-        Asked::Names(flags, symbols) => print_names(rt, output, *flags, symbols)?,
+        Asked::Symbols(flags, symbols) if symbols.is_empty() => replace_input(rt, output, *flags)?,
+        Asked::Symbols(flags, symbols) => print_symbols(rt, output, *flags, symbols)?,
     }
     Ok(0)
 }

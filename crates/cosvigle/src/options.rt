@@ -55,8 +55,8 @@ pub enum Step {
 /// What the arguments ask.
 #[derive(Drop)]
 pub enum Asked<'a> {
-    /// Print the names of these symbols. If there are none, replace the symbols of standard input.
-    Names(Flags, Vec<&'a [u8]>),
+    /// Print what is printed for each of these symbols. If there are none, replace the symbols of standard input.
+    Symbols(Flags, Vec<&'a [u8]>),
     /// Stop, because of this argument.
     Stopped(Instead, &'a [u8]),
 }
@@ -218,7 +218,7 @@ fn asked_at_end<'a>(step: Step, symbols: Vec<&'a [u8]>, word: &'a [u8]) -> Asked
     ensures asked { Asks (reading step (texts symbols.entry.items) word.now) result }
 {
     match step {
-        Step::Go(flags) => Asked::Names(flags, symbols),
+        Step::Go(flags) => Asked::Symbols(flags, symbols),
         Step::Value(_) => Asked::Stopped(Instead::MissingValue, word),
         Step::Stop(stop) => Asked::Stopped(stop, word),
     }
@@ -251,7 +251,7 @@ pub fn read_arguments<'a>(alloc: Global, arguments: &[&'a [u8]]) -> Result<Asked
         match kind_of(argument) {
             Kind::End => {
                 symbols.extend_from_slice(&arguments[at + 1..])?;
-                return Ok(Asked::Names(flags, symbols));
+                return Ok(Asked::Symbols(flags, symbols));
             }
             Kind::Name => {
                 step = name_step(flags, &argument[2..]);

@@ -8,5 +8,5 @@ pub mod LineEnds
 pub mod Chunks
 pub mod Copying
 mod Shown
-mod Signs
+mod PrefixChars
 mod WordTurns

@@ -10,8 +10,8 @@ use Rattle.std.specs.Prelude.{All}
 use Rattle.itanium_syntax.specs.Bytes.{is, begins}
 use Rattle.symfilter_engine.specs.Shown.{IsShown}
 use Rattle.symfilter_engine.proofs.Shown.{each_shown}
-use Rattle.symfilter_engine.specs.Replaced.{is_word_byte, IsWordByte, begins_word, ends_word, IsDot, ends_in_dot, sign_len, sign_of}
-use Rattle.symfilter_engine.specs.Replaced.{past_sign, symbol_at, symbol_in, IsWordAnswer, answered, unanswered}
+use Rattle.symfilter_engine.specs.Replaced.{is_word_byte, IsWordByte, begins_word, ends_word, IsDot, ends_in_dot, prefix_chars_len, prefix_chars}
+use Rattle.symfilter_engine.specs.Replaced.{past_prefix_chars, symbol_at, symbol_in, IsWordAnswer, answered, unanswered}
 use Rattle.symfilter_engine.specs.Replaced.{no_symbol, IsReplaced, no_byte, other, one_word}
 use Rattle.symfilter_engine.specs.Progress.{underscore, capital_z, HasNoPrefix, AreWordBytes, IsBoundary}
 use Rattle.symfilter_engine.specs.declared.symbols.Replacement.{Replacement}
@@ -200,12 +200,12 @@ symbol_has_prefix strip bytes symbol is none =
           (λ rest front no. after_underscore (codes "_Z") rest front no has_prefix)
     ]
 
--- past the sign
+-- past the prefix characters
 no_prefix-drop : (n : ℕ) (word : List ℕ) → HasNoPrefix word → HasNoPrefix (drop n word)
 no_prefix-drop n word none = no_prefix-right (take n word) (drop n word) (subst HasNoPrefix (sym (take-append-drop n word)) none)
 
 word_has_prefix : (strip : Bool) (word symbol : List ℕ) → symbol_in strip word ≡ Some symbol → HasNoPrefix word → ⊥
-word_has_prefix strip word symbol is none = symbol_has_prefix strip (past_sign word) symbol is (no_prefix-drop (sign_len word) word none)
+word_has_prefix strip word symbol is none = symbol_has_prefix strip (past_prefix_chars word) symbol is (no_prefix-drop (prefix_chars_len word) word none)
 
 -- what is written for a word: the word itself, where no prefix is in it
 record WordText (how : Replacement) (word : List ℕ) : Type 0 where
@@ -216,7 +216,7 @@ record WordText (how : Replacement) (word : List ℕ) : Type 0 where
 symbol_text : (how : Replacement) (word symbol : List ℕ) → symbol_in how.strip word ≡ Some symbol → (found : Option (List ℕ)) → IsShown how.printing symbol found → WordText how word
 symbol_text how word symbol is None none = record { answer = word; is_answer = unanswered is none; same = λ _. refl }
 symbol_text how word symbol is (Some text) has =
-    record { answer = sign_of word ++ text; is_answer = answered is has; same = λ none. absurd (word_has_prefix how.strip word symbol is none) }
+    record { answer = prefix_chars word ++ text; is_answer = answered is has; same = λ none. absurd (word_has_prefix how.strip word symbol is none) }
 
 word_text : (how : Replacement) (word : List ℕ) (found : Option (List ℕ)) → symbol_in how.strip word ≡ found → WordText how word
 word_text how word None is = record { answer = word; is_answer = no_symbol is; same = λ _. refl }

@@ -1,5 +1,5 @@
 -- Where prefixes and words stand.
-use Rattle.std.proofs.Common.{◌≡◌, ◌≢◌, ℕ, suc, ◌+◌, ◌-◌, ◌<◌, ◌≤◌, List, [], ◌∷◌, ◌++◌, Bool, true, false, ◌&&◌, ◌||◌}
+use Rattle.std.proofs.Common.{◌≡◌, ◌≢◌, ℕ, suc, ◌+◌, ◌-◌, min, ◌<◌, ◌≤◌, List, [], ◌∷◌, ◌++◌, Bool, true, false, ◌&&◌, ◌||◌}
 use Rattle.std.proofs.Common.{◌==◌, Some, None, Result, Ok, Err, OnOk, ◌⊎◌, inl, inr, if◌then◌else◌, nat_le, codes}
 use Rattle.std.proofs.Common.{length, take, drop, get_or, refl, sym, ap, subst, ◌∙◌, arith, append_assoc, append-nil}
 use Rattle.std.proofs.lemmas.List.{length-drop, length-take-le, get_or-take, get_or-drop, get_or_past, take-append-drop, take-take, take_all, take_rest, take_more, drop-take, drop-drop}
@@ -9,7 +9,7 @@ use Rattle.std.proofs.lemmas.Bool.{false≢true, and_parts, or_cases, eqb-true, 
 use Rattle.std.proofs.lemmas.Str.{IsUtf8-from_ascii}
 use Rattle.std.specs.Prelude.{All, IsUtf8}
 use Rattle.itanium_syntax.specs.Bytes.{is, is_between, is_digit, one_of, begins}
-use Rattle.symfilter_engine.specs.Replaced.{is_word_byte, IsWordByte, IsDot, ends_in_dot, sign_len, past_sign, symbol_in, IsWordAnswer, IsReplaced, no_byte, one_word}
+use Rattle.symfilter_engine.specs.Replaced.{is_word_byte, IsWordByte, IsDot, ends_in_dot, prefix_chars_len, past_prefix_chars, symbol_in, IsWordAnswer, IsReplaced, no_byte, one_word}
 use Rattle.symfilter_engine.specs.Progress.{underscore, capital_z, HasNone, IsFirst, HasNoPrefix, IsFirstPrefix, AreWordBytes, IsBoundary, IsPastWord, Extends, AppendsReplaced}
 use Rattle.symfilter_engine.proofs.ReplacedText.{no_prefix-left, more_replaced, unprefixed}
 use Rattle.symfilter_engine.specs.declared.symbols.Replacement.{Replacement}
@@ -120,7 +120,7 @@ word_byte_ascii byte is =
         ]
         | inr digit ↦ omega (arith, between_below 48 57 byte digit)
       ]
-      | inr sign ↦ elim (or_cases (byte == 95) ((byte == 36) || ((byte == 46) || false)) sign) [
+      | inr mark ↦ elim (or_cases (byte == 95) ((byte == 36) || ((byte == 46) || false)) mark) [
         | inl one ↦ omega (arith, eqb-true byte 95 one)
         | inr more ↦ elim (or_cases (byte == 36) ((byte == 46) || false) more) [
           | inl two ↦ omega (arith, eqb-true byte 36 two)
@@ -184,8 +184,8 @@ which false false false first second symbol is = absurd (cc)
 
 pub symbol_words : (strip : Bool) (word symbol : List ℕ) → symbol_in strip word ≡ Some symbol → All IsWordByte word → All IsWordByte symbol
 symbol_words strip word symbol is all =
-    let bytes = past_sign word in
-    let rest : All IsWordByte bytes = All-drop IsWordByte (sign_len word) word all in
+    let bytes = past_prefix_chars word in
+    let rest : All IsWordByte bytes = All-drop IsWordByte (prefix_chars_len word) word all in
     elim (which (begins (codes "_Z") bytes) (begins (codes "__Z") bytes) (strip && begins (codes "___Z") bytes) bytes (drop 1 bytes) symbol is) [
       | inl whole ↦ All-same IsWordByte symbol bytes whole rest
       | inr less ↦ All-same IsWordByte symbol (drop 1 bytes) less (All-drop IsWordByte 1 bytes rest)
@@ -252,45 +252,69 @@ stays_replaced how text old output done from more start end kept low high ordere
     inside low high ordered first second so_far none (more_parts output text done from start kept low)
     (part text start end, replaced, more_parts output text done start end (omega (arith, kept, low)) ordered)
 
--- the sign of a word is appended with what stands before it, and the dots at its end are yet to be
-answer_placed : (output text answer : List ℕ) (done start sign stem end : ℕ) → done ≤ start → sign ≤ stem → start + stem ≤ end
-    → (output ++ (part text done (start + sign) ++ answer)) ++ part text (start + stem) end
-    ≡ (output ++ part text done start) ++ ((take sign (part text start end) ++ answer) ++ drop stem (part text start end))
-answer_placed output text answer done start sign stem end first second third =
+-- the prefix characters of a word are appended with what stands before it, and the dots at its end are yet to be
+answer_placed : (output text answer : List ℕ) (done start chars stem end : ℕ) → done ≤ start → chars ≤ stem → start + stem ≤ end
+    → (output ++ (part text done (start + chars) ++ answer)) ++ part text (start + stem) end
+    ≡ (output ++ part text done start) ++ ((take chars (part text start end) ++ answer) ++ drop stem (part text start end))
+answer_placed output text answer done start chars stem end first second third =
     let before = part text done start in
-    let front = take sign (part text start end) in
+    let front = take chars (part text start end) in
     let dots = drop stem (part text start end) in
-    let front_is : front ≡ part text start (start + sign) =
-    take-take sign (end - start) (drop start text) (omega (arith, second, third)) ∙ ap (λ n. take n (drop start text)) (omega arith) in
+    let front_is : front ≡ part text start (start + chars) =
+    take-take chars (end - start) (drop start text) (omega (arith, second, third)) ∙ ap (λ n. take n (drop start text)) (omega arith) in
     let dots_are : part text (start + stem) end ≡ dots =
     sym (ap (λ n. drop stem (take n (drop start text))) (omega (arith, third)) ∙ drop-take stem (end - (start + stem)) (drop start text)
     ∙ ap (take (end - (start + stem))) (drop-drop stem start text)) in
-    let whole : part text done (start + sign) ≡ before ++ front =
-    sym (ap (λ l. before ++ l) front_is ∙ parts_joined text done start (start + sign) first (omega arith)) in
-    append_assoc output (part text done (start + sign) ++ answer) (part text (start + stem) end)
-    ∙ ap (λ l. output ++ l) (ap (λ l. (part text done (start + sign) ++ answer) ++ l) dots_are ∙ ap (λ l. (l ++ answer) ++ dots) whole
+    let whole : part text done (start + chars) ≡ before ++ front =
+    sym (ap (λ l. before ++ l) front_is ∙ parts_joined text done start (start + chars) first (omega arith)) in
+    append_assoc output (part text done (start + chars) ++ answer) (part text (start + stem) end)
+    ∙ ap (λ l. output ++ l) (ap (λ l. (part text done (start + chars) ++ answer) ++ l) dots_are ∙ ap (λ l. (l ++ answer) ++ dots) whole
     ∙ ap (λ l. l ++ dots) (append_assoc before front answer) ∙ append_assoc before (front ++ answer) dots)
     ∙ sym (append_assoc output before ((front ++ answer) ++ dots))
 
 -- one more word is answered
-pub answer_replaced : (how : Replacement) (text old output answer after : List ℕ) (done from more start sign stem end : ℕ) → done ≤ from → from ≤ start → start ≤ from + more
+pub answer_replaced : (how : Replacement) (text old output answer after : List ℕ) (done from more start chars stem end : ℕ) → done ≤ from → from ≤ start → start ≤ from + more
     → start < end → end ≤ length text → IsBoundary text from → IsBoundary text start → AppendsReplaced how (take from text) old (output ++ part text done from)
     → HasNoPrefix (take more (drop from text)) → All IsWordByte (part text start end) → All IsDot (drop stem (part text start end))
-    → ends_in_dot (take stem (part text start end)) ≡ false → sign ≤ stem → start + stem ≤ end
-    → IsWordAnswer how (take stem (part text start end)) (take sign (take stem (part text start end)) ++ answer)
-    → after ≡ output ++ (part text done (start + sign) ++ answer)
+    → ends_in_dot (take stem (part text start end)) ≡ false → chars ≤ stem → start + stem ≤ end
+    → IsWordAnswer how (take stem (part text start end)) (take chars (take stem (part text start end)) ++ answer)
+    → after ≡ output ++ (part text done (start + chars) ++ answer)
     → AppendsReplaced how (take end text) old (after ++ part text (start + stem) end)
-answer_replaced how text old output answer after done from more start sign stem end kept low high some inside first second so_far none all dotted undotted sign_in stem_in is_answer after_is =
+answer_replaced how text old output answer after done from more start chars stem end kept low high some inside first second so_far none all dotted undotted chars_in stem_in is_answer after_is =
     let word = part text start end in
-    let front = take sign (take stem word) in
+    let front = take chars (take stem word) in
     turn_replaced how text old (output ++ part text done from) (output ++ part text done start) (after ++ part text (start + stem) end) from more start end
     inside low high (omega (arith, some)) first second so_far none (more_parts output text done from start kept low) (
       (front ++ answer) ++ drop stem word,
       word_replaced how word (front ++ answer) stem (omega (arith, some, part_len text start end inside)) all dotted undotted is_answer,
       ap (λ l. l ++ part text (start + stem) end) after_is
-          ∙ answer_placed output text answer done start sign stem end (omega (arith, kept, low)) sign_in stem_in
-          ∙ ap (λ l. (output ++ part text done start) ++ ((l ++ answer) ++ drop stem word)) (sym (take-take sign stem word sign_in)),
+          ∙ answer_placed output text answer done start chars stem end (omega (arith, kept, low)) chars_in stem_in
+          ∙ ap (λ l. (output ++ part text done start) ++ ((l ++ answer) ++ drop stem word)) (sym (take-take chars stem word chars_in)),
     )
+
+-- the byte at a word's end is in no word, and stays
+pub end_past : (how : Replacement) (text old output : List ℕ) (done end past : ℕ) → done ≤ end → end ≤ length text → past ≡ min (end + 1) (length text)
+    → is_word_byte (get_or text end 0) ≡ false → AppendsReplaced how (take end text) old (output ++ part text done end)
+    → AppendsReplaced how (take past text) old (output ++ part text done past)
+end_past how text old output done end past kept inside past_is ended (written, replaced, output_is) =
+    let rest : List ℕ = part text end past in
+    let none : HasNoPrefix rest =
+    no_prefix-take (drop end text) (past - end) (omega (arith, past_is, inside, length-drop end text)) (λ k low _ _. absurd (omega (arith, low, past_is))) in
+    let up_to : IsReplaced how (take (end + (past - end)) text) (written ++ rest) =
+    more_replaced how text written rest end (past - end) inside (λ _ _. ended) replaced (unprefixed how rest none) in (
+      written ++ rest,
+      subst (λ n. IsReplaced how (take n text) (written ++ rest)) (omega (arith, past_is, inside)) up_to,
+      more_parts output text done end past kept (omega (arith, past_is, inside)) ∙ ap (λ l. l ++ rest) output_is ∙ append_assoc old written rest,
+    )
+
+-- the place after it is a boundary
+pub boundary_past : (text : List ℕ) (end past : ℕ) → end ≤ length text → past ≡ min (end + 1) (length text)
+    → is_word_byte (get_or text end 0) ≡ false → IsBoundary text past
+boundary_past text end past inside past_is ended some word =
+    elim (cases_lt end (length text)) [
+      | inl low ↦ absurd (false≢true (sym ended ∙ ap (λ k. is_word_byte (get_or text k 0)) (omega (arith, low, past_is)) ∙ word))
+      | inr high ↦ subst (λ k. is_word_byte (get_or text k 0) ≡ false) (omega (arith, high, inside, past_is)) ended
+    ]
 
 -- no prefix is left
 rest_replaced : (how : Replacement) (text old before after : List ℕ) (done : ℕ) → done ≤ length text → IsBoundary text done

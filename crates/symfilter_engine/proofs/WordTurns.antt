@@ -14,7 +14,7 @@ use Rattle.symfilter_engine.specs.Progress.{GoesOn, HasCopiedWords, HasFiltered,
 use Rattle.symfilter_engine.proofs.Chunks.{nothing_read}
 use Rattle.symfilter_engine.proofs.Copying.{all_read}
 use Rattle.symfilter_engine.proofs.ReplacedText.{IsReplaced-append, whole_parted, whole-append, replaced_of, split_of}
-use Rattle.symfilter_engine.proofs.Signs.{stem_plain, plain_some}
+use Rattle.symfilter_engine.proofs.PrefixChars.{stem_plain, plain_some}
 use Rattle.symfilter_engine.specs.declared.symbols.Replacement.{Replacement}
 
 -- all bytes have a replaced text, also where a word goes on in them

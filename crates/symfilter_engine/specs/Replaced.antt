@@ -31,19 +31,19 @@ ends_in_dot [] = false
 ends_in_dot (byte ∷ []) = is "." byte
 ends_in_dot (byte ∷ next ∷ bytes) = ends_in_dot (next ∷ bytes)
 
--- how many bytes may stand in front of the symbol in a word, and stay: a dot, `$` or `__imp_`
-abbrev pub sign_len : List ℕ → ℕ
-sign_len word =
+-- how many prefix characters a word has, which are in front of its symbol and stay: a dot, `$` or `__imp_`
+abbrev pub prefix_chars_len : List ℕ → ℕ
+prefix_chars_len word =
     if begins_one_of (codes ".$") word then 1 else
     if begins (codes "__imp_") word then 6 else 0
 
 -- these bytes
-abbrev pub sign_of : List ℕ → List ℕ
-sign_of word = take (sign_len word) word
+abbrev pub prefix_chars : List ℕ → List ℕ
+prefix_chars word = take (prefix_chars_len word) word
 
 -- the word without them
-abbrev pub past_sign : List ℕ → List ℕ
-past_sign word = drop (sign_len word) word
+abbrev pub past_prefix_chars : List ℕ → List ℕ
+past_prefix_chars word = drop (prefix_chars_len word) word
 
 -- the symbol that the bytes are: they begin with `_Z` or `__Z`. Where an underscore is stripped, they may begin with
 -- `___Z`, and the first underscore is dropped.
@@ -52,17 +52,17 @@ symbol_at strip bytes =
     if begins (codes "_Z") bytes || begins (codes "__Z") bytes then Some bytes else
     if strip && begins (codes "___Z") bytes then Some (drop 1 bytes) else None
 
--- the symbol in a word without the dots at its end: what follows the sign, if that is a symbol
+-- the symbol in a word without the dots at its end: what follows its prefix characters, if that is a symbol
 abbrev pub symbol_in : Bool → List ℕ → Option (List ℕ)
-symbol_in strip word = symbol_at strip (past_sign word)
+symbol_in strip word = symbol_at strip (past_prefix_chars word)
 
 -- a word without the dots at its end, and what is written for it
 pub data IsWordAnswer (how : Replacement) (word : List ℕ) : List ℕ → Type 0 where
-  -- its sign stays, and its symbol has a demangled name
+  -- its prefix characters stay, and its symbol has a demangled name
   answered : {symbol text : List ℕ}
       → symbol_in how.strip word ≡ Some symbol
       → IsShown how.printing symbol (Some text)
-      → IsWordAnswer how word (sign_of word ++ text)
+      → IsWordAnswer how word (prefix_chars word ++ text)
   -- it stays, where its symbol has none
   unanswered : {symbol : List ℕ}
       → symbol_in how.strip word ≡ Some symbol

@@ -29,9 +29,9 @@ fn stem_len(word: &[u8]) -> usize
 /// Returns the length in bytes of the prefix characters of a word, which are in front of its symbol: `.`, `$`,
 /// `__imp_` or nothing.
 #[inline(always)]
-fn sign_len(word: &[u8]) -> usize
+fn prefix_chars_len(word: &[u8]) -> usize
     ensures bound { result ≤ length word.now }
-    ensures value { result ≡ spec.sign_len word.now }
+    ensures value { result ≡ spec.prefix_chars_len word.now }
 {
     match word {
         [b'.' | b'$', ..] => 1,
@@ -53,14 +53,15 @@ fn symbol_at(strip: bool, bytes: &[u8]) -> Option<&[u8]>
     }
 }
 
-/// The number of bytes of a word that show whether it may hold a symbol: six of its prefix characters, and `___Z`.
-const SHOWN_LEN: usize = 10;
+/// The number of bytes at the start of a word that show whether it may hold a symbol: six prefix characters, and
+/// `___Z`.
+const START_LEN: usize = 10;
 
 /// Returns whether a word that begins with these bytes may hold a symbol.
 pub(crate) fn may_hold_symbol(strip: bool, bytes: &[u8]) -> bool
     ensures value { result ≡ spec.may_hold_symbol strip bytes.now }
 {
-    bytes.len() < SHOWN_LEN || symbol_at(strip, &bytes[sign_len(bytes)..]).is_some()
+    bytes.len() < START_LEN || symbol_at(strip, &bytes[prefix_chars_len(bytes)..]).is_some()
 }
 
 /// Returns what is printed for the symbol in a word, and the length in bytes of the prefix characters, which stay. The
@@ -78,14 +79,14 @@ fn word_answer<'a>(
         IsWordAnswer how word.now (take answer.0 word.now ++ answer.1.now))) }
     ensures none { IfOk result (λ found. IfNone found (IsWordAnswer how word.now word.now)) }
 {
-    let front = sign_len(word);
-    let Some(symbol) = symbol_at(how.strip, &word[front..]) else {
+    let kept = prefix_chars_len(word);
+    let Some(symbol) = symbol_at(how.strip, &word[kept..]) else {
         return Ok(None);
     };
     let symbol = unsafe { str::from_utf8_unchecked(symbol) };
     prepare_shown(alloc, demangler, how.printing, symbol)?;
     match demangler.text() {
-        Some(answer) => Ok(Some((front, answer))),
+        Some(answer) => Ok(Some((kept, answer))),
         None => Ok(None),
     }
 }
@@ -107,11 +108,13 @@ fn append_each_word(
     while let Some(more) = first_prefix(&text[from..]) {
         let place = from + more;
         let start = word_start(text, from, place);
-        from = word_end(text, place);
-        let word = &text[start..from];
+        let end = word_end(text, place);
+        // The byte at the word's end is no word byte, so the search goes on after it.
+        from = (end + 1).min(text.len());
+        let word = &text[start..end];
         let stem = stem_len(word);
-        if let Some((front, answer)) = word_answer(alloc, demangler, how, &word[..stem])? {
-            output.add_pair(&text[done..start + front], answer.as_bytes())?;
+        if let Some((kept, answer)) = word_answer(alloc, demangler, how, &word[..stem])? {
+            output.add_pair(&text[done..start + kept], answer.as_bytes())?;
             done = start + stem;
         }
     }

@@ -1,7 +1,7 @@
 use Rattle.std.proofs.Common.{◌+◌, ◌<◌, length, drop, get_or, [], refl, sym, subst, ◌∙◌, arith}
 use Rattle.std.proofs.lemmas.List.{take_rest}
 use Rattle.cosvigle.specs.declared.options.Kind.TheVariants.{End, Name, Letters, Symbol}
-use Rattle.cosvigle.specs.declared.options.Asked.TheVariants.{Names, Stopped}
+use Rattle.cosvigle.specs.declared.options.Asked.TheVariants.{Symbols, Stopped}
 use Rattle.cosvigle.specs.Options.{Asks, texts}
 use Rattle.cosvigle.proofs.Turns.{value_turn, go_turn, stop_turn, read_ended, next_symbol, symbols_after}
 use Rattle.cosvigle.proofs.options.read_arguments.Goals as goal
@@ -34,7 +34,7 @@ returns-in-End c =
     ∙ read_ended c.in-Go.flags (texts c.loop-at.symbols.items) (drop (at + 1) (texts all)) in
     record {
       asked =
-          subst (λ s. Asks s (Names c.in-Go.flags c.extend_from_slice.new.self)) (sym read_all)
+          subst (λ s. Asks s (Symbols c.in-Go.flags c.extend_from_slice.new.self)) (sym read_all)
           (refl, symbols_after c.loop-at.symbols.items c.extend_from_slice.new.self.items all (at + 1) c.in_ok-extend_from_slice-in-End.ensures.items);
     }
 

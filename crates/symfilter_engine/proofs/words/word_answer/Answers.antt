@@ -8,32 +8,32 @@ use Rattle.symfilter_engine.proofs.words.word_answer.Goals as goal
 pub returns-in_default-clause-none : goal.returns-in_default-clause-none
 returns-in_default-clause-none c =
     let word = c.args.word.now in
-    let front = c.sign_len-front.result in
-    no_symbol (sym (c.in_default.ensures.value ∙ ap (symbol_at c.args.how.strip) (take_rest word front ∙ ap (λ n. drop n word) c.sign_len-front.ensures.value)))
+    let front = c.prefix_chars_len-kept.result in
+    no_symbol (sym (c.in_default.ensures.value ∙ ap (symbol_at c.args.how.strip) (take_rest word front ∙ ap (λ n. drop n word) c.prefix_chars_len-kept.ensures.value)))
 
 pub from_utf8_unchecked-symbol-requires : goal.from_utf8_unchecked-symbol-requires
 from_utf8_unchecked-symbol-requires c =
     let word = c.args.word.now in
-    let front = c.sign_len-front.result in
-    let is = c.in-Some.ensures.value ∙ ap (symbol_at c.args.how.strip) (take_rest word front ∙ ap (λ n. drop n word) c.sign_len-front.ensures.value) in
+    let front = c.prefix_chars_len-kept.result in
+    let is = c.in-Some.ensures.value ∙ ap (symbol_at c.args.how.strip) (take_rest word front ∙ ap (λ n. drop n word) c.prefix_chars_len-kept.ensures.value) in
     word_utf8 c.in-Some.symbol.now (symbol_words c.args.how.strip word c.in-Some.symbol.now (sym is) c.requires)
 
 pub returns-in-Some-text-clause-some : goal.returns-in-Some-text-clause-some
 returns-in-Some-text-clause-some c =
     let word = c.args.word.now in
-    let front = c.sign_len-front.result in
+    let front = c.prefix_chars_len-kept.result in
     let answer = c.in-Some-text.answer.now in
     let symbol = c.from_utf8_unchecked-symbol.result.now in
-    let is = c.in-Some.ensures.value ∙ ap (symbol_at c.args.how.strip) (take_rest word front ∙ ap (λ n. drop n word) c.sign_len-front.ensures.value) in
+    let is = c.in-Some.ensures.value ∙ ap (symbol_at c.args.how.strip) (take_rest word front ∙ ap (λ n. drop n word) c.prefix_chars_len-kept.ensures.value) in
     let has : IsShown c.args.how.printing c.in-Some.symbol.now (Some answer) =
     subst (λ s. IsShown c.args.how.printing s (Some answer)) c.from_utf8_unchecked-symbol.ensures (subst (IsShown c.args.how.printing symbol) (sym c.in-Some-text.ensures.value) c.in_ok-prepare_shown.ensures.shown) in
-    subst (λ l. IsWordAnswer c.args.how word (l ++ answer)) (sym (ap (λ n. take n word) c.sign_len-front.ensures.value)) (answered (sym is) has)
+    subst (λ l. IsWordAnswer c.args.how word (l ++ answer)) (sym (ap (λ n. take n word) c.prefix_chars_len-kept.ensures.value)) (answered (sym is) has)
 
 pub returns-in-None-clause-none : goal.returns-in-None-clause-none
 returns-in-None-clause-none c =
     let word = c.args.word.now in
-    let front = c.sign_len-front.result in
+    let front = c.prefix_chars_len-kept.result in
     let symbol = c.from_utf8_unchecked-symbol.result.now in
-    let is = c.in-Some.ensures.value ∙ ap (symbol_at c.args.how.strip) (take_rest word front ∙ ap (λ n. drop n word) c.sign_len-front.ensures.value) in
+    let is = c.in-Some.ensures.value ∙ ap (symbol_at c.args.how.strip) (take_rest word front ∙ ap (λ n. drop n word) c.prefix_chars_len-kept.ensures.value) in
     unanswered (sym is)
     (subst (λ s. IsShown c.args.how.printing s None) c.from_utf8_unchecked-symbol.ensures (subst (IsShown c.args.how.printing symbol) (sym c.in-None.ensures.value) c.in_ok-prepare_shown.ensures.shown))

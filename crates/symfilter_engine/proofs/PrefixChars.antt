@@ -6,7 +6,7 @@ use Rattle.std.specs.Prelude.{is_some, nat_lt}
 use Rattle.std.proofs.lemmas.Bool.{false≢true, and_parts, and_from, and_right, or_cases, or_left, or_parts, or_right, eqb-true, ltb-false, cases_Bool, false_from_ne_true}
 use Rattle.std.proofs.lemmas.List.{length-drop, drop-append-le}
 use Rattle.itanium_syntax.specs.Bytes.{begins, begins_one_of}
-use Rattle.symfilter_engine.specs.Replaced.{sign_len, past_sign, symbol_at, symbol_in, may_hold_symbol}
+use Rattle.symfilter_engine.specs.Replaced.{prefix_chars_len, past_prefix_chars, symbol_at, symbol_in, may_hold_symbol}
 
 -- bytes that begin with a word are as long
 begins-len : (word bytes : List ℕ) → begins word bytes ≡ true → length word ≤ length bytes
@@ -44,9 +44,9 @@ is_symbol-front strip bytes rest long =
     ∙ ap (λ t. (begins (codes "_Z") bytes || begins (codes "__Z") bytes) || (strip && t)) (begins-front (codes "___Z") bytes rest (omega (arith, long)))
 
 -- ten bytes show it of a word
-sign_len-front : (word rest : List ℕ) → 6 ≤ length word → sign_len (word ++ rest) ≡ sign_len word
-sign_len-front [] rest long = absurd (omega (arith, long))
-sign_len-front (byte ∷ word) rest long =
+prefix_chars_len-front : (word rest : List ℕ) → 6 ≤ length word → prefix_chars_len (word ++ rest) ≡ prefix_chars_len word
+prefix_chars_len-front [] rest long = absurd (omega (arith, long))
+prefix_chars_len-front (byte ∷ word) rest long =
     ap (λ t. if begins_one_of (codes ".$") (byte ∷ word) then 1 else (if t then 6 else 0)) (begins-front (codes "__imp_") (byte ∷ word) rest long)
 
 which_len : (x y : Bool) → (if x then 1 else (if y then 6 else 0)) ≤ 6
@@ -54,15 +54,15 @@ which_len true y = omega arith
 which_len false true = omega arith
 which_len false false = omega arith
 
-sign_len-most : (word : List ℕ) → sign_len word ≤ 6
-sign_len-most word = which_len (begins_one_of (codes ".$") word) (begins (codes "__imp_") word)
+prefix_chars_len-most : (word : List ℕ) → prefix_chars_len word ≤ 6
+prefix_chars_len-most word = which_len (begins_one_of (codes ".$") word) (begins (codes "__imp_") word)
 
-shown : (strip : Bool) (word rest : List ℕ) → 10 ≤ length word → is_symbol strip (past_sign (word ++ rest)) ≡ is_symbol strip (past_sign word)
+shown : (strip : Bool) (word rest : List ℕ) → 10 ≤ length word → is_symbol strip (past_prefix_chars (word ++ rest)) ≡ is_symbol strip (past_prefix_chars word)
 shown strip word rest long =
-    let most = sign_len-most word in
-    ap (λ n. is_symbol strip (drop n (word ++ rest))) (sign_len-front word rest (omega (arith, long)))
-    ∙ ap (is_symbol strip) (drop-append-le (sign_len word) word rest (omega (arith, most, long)))
-    ∙ is_symbol-front strip (drop (sign_len word) word) rest (omega (arith, most, long, length-drop (sign_len word) word))
+    let most = prefix_chars_len-most word in
+    ap (λ n. is_symbol strip (drop n (word ++ rest))) (prefix_chars_len-front word rest (omega (arith, long)))
+    ∙ ap (is_symbol strip) (drop-append-le (prefix_chars_len word) word rest (omega (arith, most, long)))
+    ∙ is_symbol-front strip (drop (prefix_chars_len word) word) rest (omega (arith, most, long, length-drop (prefix_chars_len word) word))
 
 -- a symbol stays one where more bytes follow
 is_symbol-append : (strip : Bool) (bytes rest : List ℕ) → is_symbol strip bytes ≡ true → is_symbol strip (bytes ++ rest) ≡ true
@@ -112,7 +112,7 @@ not_imported strip bytes is =
           begins-apart (codes "__") (codes "Z") (codes "mp_") bytes 95 105 (λ e. absurd (omega (arith, e))) both.1
     ]
 
--- the sign of a word with a symbol stays where more bytes follow
+-- the prefix characters of a word with a symbol stays where more bytes follow
 abbrev len_of : Bool → Bool → ℕ
 len_of x y = if x then 1 else (if y then 6 else 0)
 
@@ -120,30 +120,30 @@ len_same : (x y z : Bool) → (x ≡ false → y ≡ z) → len_of x y ≡ len_o
 len_same true y z same = refl
 len_same false y z same = ap (len_of false) (same refl)
 
-no_sign : (x y : Bool) → x ≡ false → y ≡ false → len_of x y ≡ 0
-no_sign true y one two = absurd (false≢true (sym one))
-no_sign false true one two = absurd (false≢true (sym two))
-no_sign false false one two = refl
+no_chars : (x y : Bool) → x ≡ false → y ≡ false → len_of x y ≡ 0
+no_chars true y one two = absurd (false≢true (sym one))
+no_chars false true one two = absurd (false≢true (sym two))
+no_chars false false one two = refl
 
-sign_len-append : (strip : Bool) (word rest : List ℕ) → is_symbol strip (past_sign word) ≡ true → sign_len (word ++ rest) ≡ sign_len word
-sign_len-append strip [] rest is = absurd (false≢true ((and_parts strip false is).1))
-sign_len-append strip (byte ∷ word) rest is =
+prefix_chars_len-append : (strip : Bool) (word rest : List ℕ) → is_symbol strip (past_prefix_chars word) ≡ true → prefix_chars_len (word ++ rest) ≡ prefix_chars_len word
+prefix_chars_len-append strip [] rest is = absurd (false≢true ((and_parts strip false is).1))
+prefix_chars_len-append strip (byte ∷ word) rest is =
     let whole : List ℕ = byte ∷ word in
-    let sign : Bool = begins_one_of (codes ".$") whole in
-    len_same sign (begins (codes "__imp_") (whole ++ rest)) (begins (codes "__imp_") whole) (λ none.
+    let one : Bool = begins_one_of (codes ".$") whole in
+    len_same one (begins (codes "__imp_") (whole ++ rest)) (begins (codes "__imp_") whole) (λ none.
     elim (cases_Bool (begins (codes "__imp_") whole)) [
       | inl imported ↦ begins-append (codes "__imp_") whole rest imported ∙ sym imported
       | inr other ↦
-          let here : is_symbol strip whole ≡ true = subst (λ n. is_symbol strip (drop n whole) ≡ true) (no_sign sign (begins (codes "__imp_") whole) none other) is in
+          let here : is_symbol strip whole ≡ true = subst (λ n. is_symbol strip (drop n whole) ≡ true) (no_chars one (begins (codes "__imp_") whole) none other) is in
           not_imported strip (whole ++ rest) (is_symbol-append strip whole rest here) ∙ sym other
     ])
 
-symbol_stays : (strip : Bool) (word rest : List ℕ) → is_symbol strip (past_sign word) ≡ true → is_symbol strip (past_sign (word ++ rest)) ≡ true
+symbol_stays : (strip : Bool) (word rest : List ℕ) → is_symbol strip (past_prefix_chars word) ≡ true → is_symbol strip (past_prefix_chars (word ++ rest)) ≡ true
 symbol_stays strip word rest is =
-    let some = symbol_some strip (past_sign word) is in
-    ap (λ n. is_symbol strip (drop n (word ++ rest))) (sign_len-append strip word rest is)
-    ∙ ap (is_symbol strip) (drop-append-le (sign_len word) word rest (omega (arith, some, length-drop (sign_len word) word)))
-    ∙ is_symbol-append strip (past_sign word) rest is
+    let some = symbol_some strip (past_prefix_chars word) is in
+    ap (λ n. is_symbol strip (drop n (word ++ rest))) (prefix_chars_len-append strip word rest is)
+    ∙ ap (is_symbol strip) (drop-append-le (prefix_chars_len word) word rest (omega (arith, some, length-drop (prefix_chars_len word) word)))
+    ∙ is_symbol-append strip (past_prefix_chars word) rest is
 
 none_of : (found : Option (List ℕ)) → is_some found ≡ false → found ≡ None
 none_of None without = refl
@@ -154,10 +154,10 @@ pub stem_plain : (strip : Bool) (word rest stem dots : List ℕ) → may_hold_sy
 stem_plain strip word rest stem dots plain same =
     let parts = or_parts (nat_lt (length word) 10) (is_some (symbol_in strip word)) plain in
     let long : 10 ≤ length word = ltb-false (length word) 10 parts.0 in
-    let none : is_symbol strip (past_sign word) ≡ false = sym (symbol_at-is strip (past_sign word)) ∙ parts.1 in
+    let none : is_symbol strip (past_prefix_chars word) ≡ false = sym (symbol_at-is strip (past_prefix_chars word)) ∙ parts.1 in
     none_of (symbol_in strip stem) (false_from_ne_true (is_some (symbol_in strip stem)) (λ yes.
-    let stays = symbol_stays strip stem dots (sym (symbol_at-is strip (past_sign stem)) ∙ yes) in
-    false≢true (sym none ∙ sym (shown strip word rest long) ∙ ap (λ l. is_symbol strip (past_sign l)) same ∙ stays)))
+    let stays = symbol_stays strip stem dots (sym (symbol_at-is strip (past_prefix_chars stem)) ∙ yes) in
+    false≢true (sym none ∙ sym (shown strip word rest long) ∙ ap (λ l. is_symbol strip (past_prefix_chars l)) same ∙ stays)))
 
 -- such a word has a byte
 pub plain_some : (strip : Bool) (word : List ℕ) → may_hold_symbol strip word ≡ false → 0 < length word
