@@ -235,15 +235,14 @@ pub(crate) fn read_nested_name(
 {
     match name_quals(reader.rest) {
         // Most names have no qualifiers. This arm keeps none on the stack while the prefix is read.
-        (None, rest) => {
-            reader.rest = rest;
+        None => {
             read_prefix(reader, depth, context)?;
             reader.quals = None;
         }
-        (quals, rest) => {
+        Some((quals, rest)) => {
             reader.rest = rest;
             read_prefix(reader, depth, context)?;
-            reader.quals = quals;
+            reader.quals = Some(quals);
         }
     }
     Ok(())

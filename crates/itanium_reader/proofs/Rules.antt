@@ -8,7 +8,7 @@ use Rattle.itanium_reader.proofs.Unfold.{expression_opens, no_expression, primar
 use Rattle.itanium_reader.proofs.Unfold.{no_thunk, special_opens, pack_opens, no_pack, type_opens, no_type}
 use Rattle.itanium_reader.proofs.Unfold.{substitution_opens, parameter_opens, unqualified_opens, symbol_opens}
 use Rattle.itanium_reader.proofs.Unfold.{signature_opens, no_signature}
-use Rattle.itanium_reader.proofs.Unfold.{nested_opens, internal_source_opens, outer_source_opens}
+use Rattle.itanium_reader.proofs.Unfold.{nested_opens, nested_plain, internal_source_opens, outer_source_opens}
 use Rattle.itanium_reader.proofs.Unfold.{first_named, first_source_opens}
 use Rattle.itanium_reader.proofs.Turns.{no_attached, no_tags}
 use Rattle.itanium_reader.proofs.Loops.{loop_start}
@@ -39,7 +39,7 @@ pub ruleset unqualified_names = (fronts, lasts, unqualified_opens, internal_sour
 
 pub ruleset outer_names = (buffers, lasts, unqualified_opens, outer_source_opens)
 
-pub ruleset nested_names = (buffers, nested_opens)
+pub ruleset nested_names = (buffers, nested_opens, nested_plain)
 
 pub ruleset bare_names = (fronts, bare_name_opens, no_bare_name)
 

@@ -15,6 +15,7 @@ use Rattle.itanium_syntax.specs.Offsets.{thunk_offsets}
 use Rattle.itanium_syntax.specs.Scalars.{index_of, source_name}
 use Rattle.itanium_syntax.specs.Context.{opens_scope, inside_type, inside_pack, inside_lambda, inside_local, inside_encoding, inside_params}
 use Rattle.itanium_syntax.specs.Names.{begins_special, encoding_case, name_case, unqualified_case, tag_case, source_text}
+use Rattle.demangle_quals.specs.Quals.{no_quals}
 use Rattle.itanium_syntax.specs.Names.{free_case, first_case, substitution_case}
 use Rattle.itanium_syntax.specs.Calls.{begins_source}
 use Rattle.itanium_syntax.specs.Names.{past_internal, past_name_quals, name_quals, saves_first}
@@ -349,6 +350,13 @@ nested_opens unqualified args x s = then_named (first_as (first_case (past_name_
     then_named : (first : Option (Shape × ParserState)) → (first >>= λ f. later f >>= with_quals (name_quals s.rest)) ≡ ((first >>= later) >>= with_quals (name_quals s.rest))
     then_named None = refl
     then_named (Some f) = refl
+
+-- where there are none, the rest is read at once
+pub nested_plain : (unqualified : ParsesName) (args : Parses Shape) (x : Context) (s : ParserState) → past_name_quals s.rest ≡ s.rest → name_quals s.rest ≡ no_quals
+    → parse_nested unqualified args x s ≡ (parse_after_quals unqualified args x s >>= with_quals no_quals)
+nested_plain unqualified args x s rest quals =
+    nested_opens unqualified args x s ∙ ap (λ bytes. parse_after_quals unqualified args x (with_rest bytes s) >>= with_quals (name_quals s.rest)) rest
+    ∙ ap (λ q. parse_after_quals unqualified args x s >>= with_quals q) quals
 
 -- a call that hands on why what it called has stopped: then the whole isn't parsed either
 pub stops : (after : Reader) {inner whole : Option (Shape × ParserState)} (e : Stop) → Gives (Err e) after inner → (inner ≡ None → whole ≡ None) → Gives (Err e) after whole

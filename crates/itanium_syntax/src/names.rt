@@ -1,6 +1,5 @@
 //! The cases of names (Itanium C++ ABI 5.1.2): which one the next bytes select. If several fit, the first one counts.
-ghost use Rattle.std.specs.Prelude.{◌≡◌, ◌≤◌, ◌+◌, length, IfSome, Some, None, true};
-ghost use Rattle.std.specs.Option.{unwrap_or};
+ghost use Rattle.std.specs.Prelude.{◌≡◌, ◌≤◌, ◌+◌, length, IfSome, IfNone, Some, None, true};
 ghost use Rattle.demangle_quals.specs.Quals.{no_quals};
 ghost use Rattle.itanium_syntax.specs.Names as spec;
 ghost use Rattle.itanium_syntax.specs.Scalars.{source_name};
@@ -234,21 +233,23 @@ pub fn source_text(name: &[u8]) -> &[u8]
     }
 }
 
-/// Reads the qualifiers of a `<nested-name>`: `<CV-qualifiers>` and a `<ref-qualifier>`, or an `H`. Returns the
-/// qualifiers and the bytes after them. The qualifiers are `None` if there are none or an `H`.
+/// Reads the qualifiers of a `<nested-name>`: `<CV-qualifiers>` and a `<ref-qualifier>`, or an `H`, which stands for no
+/// qualifier. Returns the qualifiers and the bytes after them, or `None` if none of these letters is next.
 #[inline(always)]
-pub fn name_quals(bytes: &[u8]) -> (Option<Quals>, &[u8])
-    ensures quals { unwrap_or result.0 no_quals ≡ spec.name_quals bytes.now }
-    ensures rest { result.1.now ≡ spec.past_name_quals bytes.now }
-    ensures within { length result.1.now ≤ length bytes.now }
+pub fn name_quals(bytes: &[u8]) -> Option<(Quals, &[u8])>
+    ensures quals { IfSome result (λ found. found.0 ≡ spec.name_quals bytes.now) }
+    ensures rest { IfSome result (λ found. found.1.now ≡ spec.past_name_quals bytes.now) }
+    ensures within { IfSome result (λ found. length found.1.now ≤ length bytes.now) }
+    ensures none_quals { IfNone result (spec.name_quals bytes.now ≡ no_quals) }
+    ensures none_rest { IfNone result (spec.past_name_quals bytes.now ≡ bytes.now) }
 {
     match bytes {
-        [b'H', rest @ ..] => (None, rest),
+        [b'H', rest @ ..] => Some((Quals::none(), rest)),
         [b'r' | b'V' | b'K' | b'R' | b'O', ..] => {
             let (words, rest) = cv_quals(bytes);
             let (reference, rest) = ref_qualifier(rest);
-            (Some(Quals { reference, ..words }), rest)
+            Some((Quals { reference, ..words }, rest))
         }
-        _ => (None, bytes),
+        _ => None,
     }
 }

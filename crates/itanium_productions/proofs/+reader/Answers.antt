@@ -685,17 +685,17 @@ names::read_first-returns-in_ok-copy_found-in-ParameterFirst-clause-run t c = gr
 pub names::read_first-returns-in_ok-reader-in-StdFirst-clause-last : goal.names::read_first-returns-in_ok-reader-in-StdFirst-clause-last
 names::read_first-returns-in_ok-reader-in-StdFirst-clause-last t c = grind (arith, first_segments)
 
-pub names::read_nested_name-returns-in_err-read_prefix-in-None-default-clause-reads : goal.names::read_nested_name-returns-in_err-read_prefix-in-None-default-clause-reads
-names::read_nested_name-returns-in_err-read_prefix-in-None-default-clause-reads t c = grind (arith, nested_names)
+pub names::read_nested_name-returns-in_err-read_prefix-in-None-clause-reads : goal.names::read_nested_name-returns-in_err-read_prefix-in-None-clause-reads
+names::read_nested_name-returns-in_err-read_prefix-in-None-clause-reads t c = grind (arith, nested_names)
 
-pub names::read_nested_name-returns-in_err-read_prefix-in_default-clause-reads : goal.names::read_nested_name-returns-in_err-read_prefix-in_default-clause-reads
-names::read_nested_name-returns-in_err-read_prefix-in_default-clause-reads t c = grind (arith, nested_names)
+pub names::read_nested_name-returns-in_err-read_prefix-in-Some-clause-reads : goal.names::read_nested_name-returns-in_err-read_prefix-in-Some-clause-reads
+names::read_nested_name-returns-in_err-read_prefix-in-Some-clause-reads t c = grind (arith, nested_names)
 
-pub names::read_nested_name-returns-in_ok-read_prefix-in-None-default-clause-reads : goal.names::read_nested_name-returns-in_ok-read_prefix-in-None-default-clause-reads
-names::read_nested_name-returns-in_ok-read_prefix-in-None-default-clause-reads t c = grind (arith, nested_names)
+pub names::read_nested_name-returns-in_ok-read_prefix-in-None-clause-reads : goal.names::read_nested_name-returns-in_ok-read_prefix-in-None-clause-reads
+names::read_nested_name-returns-in_ok-read_prefix-in-None-clause-reads t c = grind (arith, nested_names)
 
-pub names::read_nested_name-returns-in_ok-read_prefix-in_default-clause-reads : goal.names::read_nested_name-returns-in_ok-read_prefix-in_default-clause-reads
-names::read_nested_name-returns-in_ok-read_prefix-in_default-clause-reads t c = grind (arith, nested_names)
+pub names::read_nested_name-returns-in_ok-read_prefix-in-Some-clause-reads : goal.names::read_nested_name-returns-in_ok-read_prefix-in-Some-clause-reads
+names::read_nested_name-returns-in_ok-read_prefix-in-Some-clause-reads t c = grind (arith, nested_names)
 
 pub names::read_prefix-loop-reader-init : goal.names::read_prefix-loop-reader-init
 names::read_prefix-loop-reader-init t c = grind (arith, common_steps)
