@@ -53,6 +53,25 @@ fn symbol_at(strip: bool, bytes: &[u8]) -> Option<&[u8]>
     }
 }
 
+/// Returns the symbol in a word, and the length in bytes of the prefix characters in front of it. Returns `None` if the
+/// word has no symbol. The word has no dots at its end.
+#[inline(always)]
+fn symbol_in(strip: bool, word: &[u8]) -> Option<(usize, &[u8])>
+    ensures bound { IfSome result (λ found. found.0 ≤ length word.now) }
+    ensures kept { IfSome result (λ found. found.0 ≡ spec.prefix_chars_len word.now) }
+    ensures value { option_map (λ found. found.1.now) result ≡ spec.symbol_in strip word.now }
+{
+    // Most words begin with their symbol.
+    if let [b'_', b'Z', ..] = word {
+        return Some((0, word));
+    }
+    let kept = prefix_chars_len(word);
+    match symbol_at(strip, &word[kept..]) {
+        Some(symbol) => Some((kept, symbol)),
+        None => None,
+    }
+}
+
 /// The number of bytes at the start of a word that show whether it may hold a symbol: six prefix characters, and
 /// `___Z`.
 const START_LEN: usize = 10;
@@ -61,7 +80,7 @@ const START_LEN: usize = 10;
 pub(crate) fn may_hold_symbol(strip: bool, bytes: &[u8]) -> bool
     ensures value { result ≡ spec.may_hold_symbol strip bytes.now }
 {
-    bytes.len() < START_LEN || symbol_at(strip, &bytes[prefix_chars_len(bytes)..]).is_some()
+    bytes.len() < START_LEN || symbol_in(strip, bytes).is_some()
 }
 
 /// Returns what is printed for the symbol in a word, and the length in bytes of the prefix characters, which stay. The
@@ -79,8 +98,7 @@ fn word_answer<'a>(
         IsWordAnswer how word.now (take answer.0 word.now ++ answer.1.now))) }
     ensures none { IfOk result (λ found. IfNone found (IsWordAnswer how word.now word.now)) }
 {
-    let kept = prefix_chars_len(word);
-    let Some(symbol) = symbol_at(how.strip, &word[kept..]) else {
+    let Some((kept, symbol)) = symbol_in(how.strip, word) else {
         return Ok(None);
     };
     let symbol = unsafe { str::from_utf8_unchecked(symbol) };

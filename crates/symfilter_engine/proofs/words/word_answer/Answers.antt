@@ -1,39 +1,27 @@
-use Rattle.std.proofs.Common.{◌++◌, Some, None, take, drop, sym, subst, ap, ◌∙◌}
-use Rattle.std.proofs.lemmas.List.{take_rest}
+use Rattle.std.proofs.Common.{◌++◌, Some, None, take, sym, subst, ap}
 use Rattle.symfilter_engine.specs.Shown.{IsShown}
-use Rattle.symfilter_engine.specs.Replaced.{symbol_at, IsWordAnswer, no_symbol, answered, unanswered}
+use Rattle.symfilter_engine.specs.Replaced.{IsWordAnswer, no_symbol, answered, unanswered}
 use Rattle.symfilter_engine.proofs.WordPlaces.{symbol_words, word_utf8}
 use Rattle.symfilter_engine.proofs.words.word_answer.Goals as goal
 
 pub returns-in_default-clause-none : goal.returns-in_default-clause-none
-returns-in_default-clause-none c =
-    let word = c.args.word.now in
-    let front = c.prefix_chars_len-kept.result in
-    no_symbol (sym (c.in_default.ensures.value ∙ ap (symbol_at c.args.how.strip) (take_rest word front ∙ ap (λ n. drop n word) c.prefix_chars_len-kept.ensures.value)))
+returns-in_default-clause-none c = no_symbol (sym c.in_default.ensures.value)
 
 pub from_utf8_unchecked-symbol-requires : goal.from_utf8_unchecked-symbol-requires
 from_utf8_unchecked-symbol-requires c =
-    let word = c.args.word.now in
-    let front = c.prefix_chars_len-kept.result in
-    let is = c.in-Some.ensures.value ∙ ap (symbol_at c.args.how.strip) (take_rest word front ∙ ap (λ n. drop n word) c.prefix_chars_len-kept.ensures.value) in
-    word_utf8 c.in-Some.symbol.now (symbol_words c.args.how.strip word c.in-Some.symbol.now (sym is) c.requires)
+    word_utf8 c.in-Some.symbol.now (symbol_words c.args.how.strip c.args.word.now c.in-Some.symbol.now (sym c.in-Some.ensures.value) c.requires)
 
 pub returns-in-Some-text-clause-some : goal.returns-in-Some-text-clause-some
 returns-in-Some-text-clause-some c =
     let word = c.args.word.now in
-    let front = c.prefix_chars_len-kept.result in
     let answer = c.in-Some-text.answer.now in
     let symbol = c.from_utf8_unchecked-symbol.result.now in
-    let is = c.in-Some.ensures.value ∙ ap (symbol_at c.args.how.strip) (take_rest word front ∙ ap (λ n. drop n word) c.prefix_chars_len-kept.ensures.value) in
     let has : IsShown c.args.how.printing c.in-Some.symbol.now (Some answer) =
     subst (λ s. IsShown c.args.how.printing s (Some answer)) c.from_utf8_unchecked-symbol.ensures (subst (IsShown c.args.how.printing symbol) (sym c.in-Some-text.ensures.value) c.in_ok-prepare_shown.ensures.shown) in
-    subst (λ l. IsWordAnswer c.args.how word (l ++ answer)) (sym (ap (λ n. take n word) c.prefix_chars_len-kept.ensures.value)) (answered (sym is) has)
+    subst (λ l. IsWordAnswer c.args.how word (l ++ answer)) (sym (ap (λ n. take n word) c.in-Some.ensures.kept)) (answered (sym c.in-Some.ensures.value) has)
 
 pub returns-in-None-clause-none : goal.returns-in-None-clause-none
 returns-in-None-clause-none c =
-    let word = c.args.word.now in
-    let front = c.prefix_chars_len-kept.result in
     let symbol = c.from_utf8_unchecked-symbol.result.now in
-    let is = c.in-Some.ensures.value ∙ ap (symbol_at c.args.how.strip) (take_rest word front ∙ ap (λ n. drop n word) c.prefix_chars_len-kept.ensures.value) in
-    unanswered (sym is)
+    unanswered (sym c.in-Some.ensures.value)
     (subst (λ s. IsShown c.args.how.printing s None) c.from_utf8_unchecked-symbol.ensures (subst (IsShown c.args.how.printing symbol) (sym c.in-None.ensures.value) c.in_ok-prepare_shown.ensures.shown))
