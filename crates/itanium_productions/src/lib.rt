@@ -1,6 +1,7 @@
-//! The readers of all productions that have other productions as parts. Most are named after their production, which
-//! stands above them in the ABI's notation. Productions without parts, such as `<source-name>` and `<substitution>`,
-//! are methods of `Reader` in `itanium_reader`.
+//! The mutually recursive readers: each production that can contain itself through others, such as `<type>` and
+//! `<name>`, is read here. Most readers are named after their production, which stands above them in the ABI's
+//! notation. A production that contains none of these, such as `<source-name>` or `<substitution>`, is read by a
+//! method of `Reader` in `itanium_reader`.
 //!
 //! The readers call one another, so they are proved together. Each equals its function in `specs/Parser` of
 //! `itanium_reader`. Only `itanium_demangle` uses this crate. `itanium_demangle` proves that the parser agrees with

@@ -7,7 +7,8 @@ use std::alloc::{AllocError, AllocFailed};
 /// Why a reader stops before its production has ended.
 #[derive(Clone, Copy, Debug, PartialEq, Eq)]
 pub enum Stop {
-    /// The bytes aren't read as the production.
+    /// The bytes aren't the production within the limits: they begin another one, too many productions nest, or the
+    /// text is longer than `MAX_TEXT` bytes.
     Unread,
     /// An allocation failed.
     Memory,
