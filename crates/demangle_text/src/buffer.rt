@@ -3,7 +3,7 @@ ghost use Rattle.std.specs.Prelude.{◌≡◌, ℕ, ◌+◌, ◌-◌, ◌^◌, �
 ghost use Rattle.std.specs.Prelude.{OnOk, OnErr, slice_range, slice_index, is_some, codes};
 ghost use Rattle.demangle_text.specs.Shape.{gap_after};
 
-use crate::moves::Lists;
+use crate::moves::KeptPieces;
 use crate::parts::add_text;
 use crate::ranges::Ranges;
 use crate::shape::{Kind, Mark, Piece, Place};
@@ -18,7 +18,7 @@ pub struct Buffer {
     pub(crate) output: Text,
     // The saved shapes and the arguments of all scopes, and the spill with those of their texts that a move would have
     // torn.
-    pub(crate) lists: Lists,
+    pub(crate) lists: KeptPieces,
     // The index at which the arguments of each scope begin.
     pub(crate) starts: Vec<usize>,
     // The length of the output at the innermost mark, in bytes.
@@ -70,7 +70,7 @@ impl Buffer {
     {
         Buffer {
             output: Text::new(alloc),
-            lists: Lists {
+            lists: KeptPieces {
                 spill: Text::new(alloc),
                 saved: Ranges::new(alloc),
                 args: Ranges::new(alloc),

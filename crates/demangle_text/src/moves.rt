@@ -10,13 +10,13 @@ use std::alloc::AllocError;
 // The saved pieces, the arguments of all scopes, and the spill. The spill has those of their texts that a move would
 // tear.
 #[derive(Drop)]
-pub(crate) struct Lists {
+pub(crate) struct KeptPieces {
     pub(crate) spill: Text,
     pub(crate) saved: Ranges,
     pub(crate) args: Ranges,
 }
 
-impl Lists {
+impl KeptPieces {
     // Spills the texts of all pieces of both lists that a move of the block would tear.
     pub(crate) fn set_apart(&mut self, output: &[u8], block: Block) -> Result<(), AllocError>
         requires saved { All (IsPiece output.now self.old.spill) self.old.saved }

@@ -1,6 +1,6 @@
 use Rattle.std.proofs.Common.{refl, ◌∙◌}
 use Rattle.demangle_text.proofs.States.{All-extends, shapes-extends, Extends-trans}
-use Rattle.demangle_text.proofs.moves.Lists.set_apart.Goals as goal
+use Rattle.demangle_text.proofs.moves.KeptPieces.set_apart.Goals as goal
 
 pub returns-in_err-evict-clause-spilled : goal.returns-in_err-evict-clause-spilled
 returns-in_err-evict-clause-spilled c =
