@@ -20,6 +20,10 @@ fn stem_len(word: &[u8]) -> usize
     ensures stem { ends_in_dot (take result word.now) ≡ false }
 {
     let mut len = word.len();
+    // Most words have no dot at their end.
+    if len == 0 || word[len - 1] != b'.' {
+        return len;
+    }
     while len > 0 && word[len - 1] == b'.' {
         len -= 1;
     }
@@ -58,16 +62,16 @@ fn symbol_at(strip: bool, bytes: &[u8]) -> Option<&[u8]>
 #[inline(always)]
 fn symbol_in(strip: bool, word: &[u8]) -> Option<(usize, &[u8])>
     ensures bound { IfSome result (λ found. found.0 ≤ length word.now) }
-    ensures kept { IfSome result (λ found. found.0 ≡ spec.prefix_chars_len word.now) }
+    ensures prefix_len { IfSome result (λ found. found.0 ≡ spec.prefix_chars_len word.now) }
     ensures value { option_map (λ found. found.1.now) result ≡ spec.symbol_in strip word.now }
 {
     // Most words begin with their symbol.
     if let [b'_', b'Z', ..] = word {
         return Some((0, word));
     }
-    let kept = prefix_chars_len(word);
-    match symbol_at(strip, &word[kept..]) {
-        Some(symbol) => Some((kept, symbol)),
+    let prefix_len = prefix_chars_len(word);
+    match symbol_at(strip, &word[prefix_len..]) {
+        Some(symbol) => Some((prefix_len, symbol)),
         None => None,
     }
 }
@@ -98,13 +102,13 @@ fn word_answer<'a>(
         IsWordAnswer how word.now (take answer.0 word.now ++ answer.1.now))) }
     ensures none { IfOk result (λ found. IfNone found (IsWordAnswer how word.now word.now)) }
 {
-    let Some((kept, symbol)) = symbol_in(how.strip, word) else {
+    let Some((prefix_len, symbol)) = symbol_in(how.strip, word) else {
         return Ok(None);
     };
     let symbol = unsafe { str::from_utf8_unchecked(symbol) };
     prepare_shown(alloc, demangler, how.printing, symbol)?;
     match demangler.text() {
-        Some(answer) => Ok(Some((kept, answer))),
+        Some(answer) => Ok(Some((prefix_len, answer))),
         None => Ok(None),
     }
 }
@@ -131,8 +135,8 @@ fn append_each_word(
         from = (end + 1).min(text.len());
         let word = &text[start..end];
         let stem = stem_len(word);
-        if let Some((kept, answer)) = word_answer(alloc, demangler, how, &word[..stem])? {
-            output.add_pair(&text[done..start + kept], answer.as_bytes())?;
+        if let Some((prefix_len, answer)) = word_answer(alloc, demangler, how, &word[..stem])? {
+            output.add_pair(&text[done..start + prefix_len], answer.as_bytes())?;
             done = start + stem;
         }
     }

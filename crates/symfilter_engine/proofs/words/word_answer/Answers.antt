@@ -18,7 +18,7 @@ returns-in-Some-text-clause-some c =
     let symbol = c.from_utf8_unchecked-symbol.result.now in
     let has : IsShown c.args.how.printing c.in-Some.symbol.now (Some answer) =
     subst (λ s. IsShown c.args.how.printing s (Some answer)) c.from_utf8_unchecked-symbol.ensures (subst (IsShown c.args.how.printing symbol) (sym c.in-Some-text.ensures.value) c.in_ok-prepare_shown.ensures.shown) in
-    subst (λ l. IsWordAnswer c.args.how word (l ++ answer)) (sym (ap (λ n. take n word) c.in-Some.ensures.kept)) (answered (sym c.in-Some.ensures.value) has)
+    subst (λ l. IsWordAnswer c.args.how word (l ++ answer)) (sym (ap (λ n. take n word) c.in-Some.ensures.prefix_len)) (answered (sym c.in-Some.ensures.value) has)
 
 pub returns-in-None-clause-none : goal.returns-in-None-clause-none
 returns-in-None-clause-none c =
