@@ -229,8 +229,8 @@ impl Demangler {
     /// A signature is a counted production itself: at most `MAX_DEPTH` counted productions nest, the signature
     /// included, and none of them prints more than `MAX_TEXT` bytes. The result has at most `MAX_TEXT` bytes and those
     /// from the dot on, if it is a signature. Counts and components are those of the reading whose printing was kept.
-    /// If there is no result, the counts are those of the second reading, as a name: at most twice the number of the
-    /// symbol's bytes, and at most that number.
+    /// If there is no result, the counts are those of the second reading, as a name. For a symbol of n bytes, `entered`
+    /// is at most 2 · n then, and `most_saved` at most n.
     ///
     /// Returns an error if an allocation fails. Then the value has no result, and it can be used again.
     pub fn prepare_signature(&mut self, alloc: Global, symbol: &str) -> Result<bool, AllocError>

@@ -16,7 +16,7 @@
 //!             Ok(()) => ExitCode::SUCCESS,
 //!             Err(_) => ExitCode::FAILURE,
 //!         },
-//!         // The text isn't a symbol, or the symbol has no name.
+//!         // The symbol has no name: it is no mangled one, or isn't read.
 //!         Ok(None) => ExitCode::SUCCESS,
 //!         // An allocation failed.
 //!         Err(_) => ExitCode::FAILURE,
