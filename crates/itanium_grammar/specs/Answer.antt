@@ -43,7 +43,8 @@ start bytes = record { rest = bytes; saved = []; scopes = [] }
 abbrev pub suffix : List ℕ → List ℕ
 suffix rest = if begins (codes ".") rest then rest else []
 
--- what follows the prefix of a symbol: read as a signature, in which the words of qualifiers are printed, or as a name
+-- what follows the prefix of a symbol: read as a signature if the first argument is true, and else as a name. In a
+-- signature the words of qualifiers are shown, as `inside_local` has it of a local name.
 abbrev pub Mangled : Bool → Position → Tree → Position → Cost → Type 0
 Mangled true p = Signature (inside_local initial) p
 Mangled false p = Symbol initial p
@@ -144,8 +145,8 @@ HasSavedOf signature symbol answer shapes = HasEach shape_of signature symbol an
 abbrev pub HasSaved : List ℕ → Option (List ℕ) → List Shape → Type 0
 HasSaved symbol answer shapes = HasSavedOf false symbol answer shapes
 
--- the greatest length of a printing in bytes. A signature: max_text. A name: 2 · max_text + 28, since a construction
--- vtable prints two types and 28 bytes of words
+-- the greatest length of a printing in bytes. A signature: max_text, which is 1,048,576. A name: 2 · max_text + 28,
+-- since a construction vtable prints two types and 28 bytes of words
 abbrev pub longest_printing : Bool → ℕ
 longest_printing true = 1048576
 longest_printing false = 2097180

@@ -1,4 +1,4 @@
--- The grammar: which front of the bytes is which tree (Itanium C++ ABI 5.1). A case without a constructor isn't read.
+-- The grammar: which bytes are read as which tree (Itanium C++ ABI 5.1). A case without a constructor isn't read.
 --
 -- x is a context. p, q, r and s are positions, one after another. t, u, v and parent are trees, ts is a list of trees,
 -- o, m and n are operands. c, d and e are costs. i, k and number are numbers. bytes, rest, value and text are bytes.
@@ -67,8 +67,9 @@ pub record Position : Type 0 where
   pub saved : List Tree
   pub scopes : List (List Tree)
 
--- what a reading costs: how many counted productions it holds, how many of these nest, the greatest length to which a
--- tree was saved, and the greatest number of bytes that the tree of a counted production prints
+-- what a reading costs: how many counted productions it holds, how many of these nest, the greatest length of the
+-- substitution table right after a tree was saved, or 0, and the greatest number of bytes that the tree of a counted
+-- production prints
 pub record Cost : Type 0 where
   pub count : ℕ
   pub depth : ℕ

@@ -1,5 +1,6 @@
--- What a symbol says, as a tree, and the shape of its printing. Each tree has a shape here. What can't be printed isn't
--- read: the grammar asks `may_be_element`, `may_be_member`, `has_literal` and `is_plain`.
+-- What a symbol says, as a tree, and the shape of its printing: a text, with the places where a later step may change
+-- it (`demangle_text/specs/Shape`). Each tree has a shape here. What can't be printed isn't read: the grammar asks
+-- `may_be_element`, `may_be_member`, `has_literal` and `is_plain`.
 use Rattle.std.specs.Prelude.{ℕ, ◌+◌, Bool, true, false, not, List, [], ◌∷◌, ◌++◌, map, length, codes, decimal, Option, Some, None, if◌then◌else◌}
 use Rattle.demangle_text.specs.Shape.{Shape, plain_shape, with_own, flagged, appended, text}
 use Rattle.demangle_quals.specs.declared.quals.Quals.{Quals}
@@ -246,7 +247,7 @@ bare_shape t = bare_in (shape_of t) t
 abbrev pub printing : Tree → List ℕ
 printing t = text (shape_of t)
 
--- the text that a name prints; where its own qualifiers wait, without them
+-- the text that a name prints; if the first argument is true, without its own qualifiers, which are printed later
 abbrev pub name_printing : Bool → Tree → List ℕ
 name_printing true t = text (bare_shape t)
 name_printing false t = printing t

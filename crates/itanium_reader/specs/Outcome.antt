@@ -13,8 +13,8 @@ use Rattle.itanium_reader.specs.declared.reader.Reader.{Reader}
 use Rattle.itanium_reader.specs.declared.stop.Stop.{Stop}
 use Rattle.itanium_reader.specs.declared.stop.Stop.TheVariants.{Unread, Memory}
 
--- the parser's state that a reader stands for: it notes the most that were saved at a moment where one is taken back,
--- or would be. Since then none was, so no more were saved than now
+-- the parser's state that a reader stands for. `most_noted` changes only where a component is removed, or would be.
+-- Since then the table has only grown, so the peak is the greater of `most_noted` and the length now.
 abbrev pub state : Reader → ParserState
 state r = record {
   rest = r.rest.now;
@@ -63,7 +63,8 @@ Leaves (Ok u) after parsed = parsed ≡ Some (state after)
 Leaves (Err Unread) after parsed = parsed ≡ None
 Leaves (Err Memory) after parsed = Unit {0}
 
--- a counted production is entered where at most d may be open, and as many less one in it; or none may be open
+-- a counted production is entered where at most d may nest: then d is not 0, at most d - 1 may nest inside it, and the
+-- count rises by one. Otherwise d is 0, and nothing changes.
 abbrev pub Enters : Result ℕ Stop → ℕ → ParserState → ParserState → Type 0
 Enters (Ok inner) d before after = (0 < d) × (inner ≡ d - 1) × (after ≡ enter before)
 Enters (Err Unread) d before after = (d ≡ 0) × (after ≡ before)
@@ -74,7 +75,8 @@ abbrev pub Measures : Result (Unit {0}) Stop → Shape → Type 0
 Measures (Ok u) t = is_wide t ≡ false
 Measures (Err e) t = (e ≡ Unread) × (is_wide t ≡ true)
 
--- The count of productions can rise by two for each byte that is left, and by `more`: what a run can enter at most.
+-- The count of productions doesn't overflow: if two were entered for each byte that is left, and `more` besides, it
+-- would still fit 64 bits.
 abbrev pub HasRoom : ℕ → ParserState → Type 0
 HasRoom more s = s.entered + 2 * length s.rest + more < 2 ^ 64
 

@@ -14,7 +14,7 @@ abbreviation_of bytes =
     if begins (codes "o") bytes then Some Ostream else
     if begins (codes "d") bytes then Some Iostream else None
 
--- what is printed
+-- what is printed, as the Rust crate itanium-demangle prints it: `Si` and `Sd` in full, and `So` as `std::ostream`
 abbrev pub abbreviation_text : Abbreviation → List ℕ
 abbreviation_text Allocator = codes "std::allocator"
 abbreviation_text BasicString = codes "std::basic_string"

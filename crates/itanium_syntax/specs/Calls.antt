@@ -11,11 +11,11 @@ use Rattle.itanium_syntax.specs.Scalars.{numeral}
 unfoldable pub sequence_id : List ℕ → Option (ℕ × List ℕ)
 sequence_id bytes = numeral Base36 bytes
 
--- a <source-name> is next
+-- a <source-name> is next that is an unqualified name
 abbrev pub begins_source : List ℕ → Bool
 begins_source bytes = begins_between "1" "9" bytes
 
--- a fact for the case of qualifiers
+-- P, if the case is qualifiers
 abbrev pub OnCv : TypeCase → Type 0 → Type 0
 OnCv CvType P = P
 OnCv other P = Unit {0}

@@ -1,4 +1,8 @@
--- What a production hands down to those inside it.
+-- What a production hands down to those inside it: four flags, all off at the start of a symbol's name.
+--   shown: words such as ` const` are printed after a name. On in a local or an external name, and in a signature.
+--   pack: a pack expansion prints no `...`. On in an argument pack, and in the parameters of a signature.
+--   lambda: a template parameter prints `auto`. On in the parameters of a lambda.
+--   in_type: the template arguments of a name open no scope. On in a type, but not in an encoding inside it.
 use Rattle.std.specs.Prelude.{Bool, true, false, not, ◌&&◌}
 use Rattle.itanium_syntax.specs.declared.context.Context.{Context}
 use Rattle.itanium_syntax.specs.declared.encodings.EncodingEnd.{EncodingEnd}
@@ -29,7 +33,7 @@ abbrev pub inside_encoding : Context → Context
 inside_encoding x = record x { shown = true; in_type = false }
 
 -- the context inside the parameters of an encoding that ends so: those of a signature have no dots where a pack is
--- expanded
+-- expanded, as if they were in an argument pack
 abbrev pub inside_params : EncodingEnd → Context → Context
 inside_params AtSymbolEnd x = inside_pack x
 inside_params end x = x

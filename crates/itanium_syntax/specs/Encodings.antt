@@ -12,7 +12,8 @@ abbrev pub begins_identifier : List ℕ → Bool
 begins_identifier bytes =
     begins_digit bytes || begins_between "A" "Z" bytes || begins (codes "_") bytes || begins_between "a" "z" bytes
 
--- whether an encoding ends here: right after its name, at the E of the name around it, or where a symbol ends
+-- whether an encoding that ends so is at its end before these bytes: right after its name, at the E of the name around
+-- it, or where a symbol ends
 abbrev pub is_here : EncodingEnd → List ℕ → Bool
 is_here AfterName bytes = true
 is_here AtE bytes = begins (codes "E") bytes

@@ -68,7 +68,7 @@ abbrev pub begins_destructor : List ℕ → Bool
 begins_destructor bytes =
     begins (codes "D") bytes && (begins_between "0" "2" (drop 1 bytes) || begins_between "4" "5" (drop 1 bytes))
 
--- an <unqualified-name> that is no <ctor-dtor-name>, so it can stand without a parent
+-- an <unqualified-name> that is no <ctor-dtor-name>, so it needs no parent. `NoName`: none, and this isn't read.
 abbrev pub free_case : List ℕ → FreeCase
 free_case bytes =
     if begins_between "1" "9" bytes then SourceName else
@@ -85,7 +85,7 @@ unqualified_case in_parent bytes =
     if in_parent && begins_destructor bytes then DestructorName else
     FreeName
 
--- an <abi-tag> or none
+-- an <abi-tag>, or `NoTag`: the tags have ended
 abbrev pub tag_case : List ℕ → TagCase
 tag_case bytes = if begins (codes "B") bytes && begins_digit (drop 1 bytes) then NextTag else NoTag
 

@@ -31,7 +31,7 @@ unfoldable pub weighted : ℕ → List ℕ → ℕ
 weighted n [] = 0
 weighted n (d ∷ ds) = d * n ^ length ds + weighted n ds
 
--- one digit or more, as many as stand there: their number, which fits 64 bits, and what follows
+-- one digit or more, as many as are next: the number that they write, which fits 64 bits, and the bytes after them
 abbrev pub numeral : Radix → List ℕ → Option (ℕ × List ℕ)
 numeral r bytes =
     let ds = front_digits r bytes in
@@ -47,7 +47,7 @@ unfoldable pub source_name : List ℕ → Option (List ℕ × List ℕ)
 source_name bytes = option_and_then (λ n.
     if nat_lt 0 n.0 && nat_le n.0 (length n.1) then Some (take n.0 n.1, drop n.0 n.1) else None) (number bytes)
 
--- the number that follows the one that was read, which fits 64 bits
+-- the number that was read, plus one, if that fits 64 bits
 abbrev pub following : Option (ℕ × List ℕ) → Option (ℕ × List ℕ)
 following None = None
 following (Some (n, rest)) = if nat_lt (n + 1) (2 ^ 64) then Some (n + 1, rest) else None
@@ -57,13 +57,13 @@ abbrev pub ended : {A : Type 0} → Option (A × List ℕ) → Option (A × List
 ended None = None
 ended (Some (value, rest)) = if begins (codes "_") rest then Some (value, drop 1 rest) else None
 
--- [<numeral>] _: 0 where the numeral is left out, else the number that follows it
+-- [<numeral>] _: 0 without the numeral, and otherwise the numeral plus 1
 unfoldable pub index_of : Radix → List ℕ → Option (ℕ × List ℕ)
 index_of r bytes =
     if begins (codes "_") bytes then Some (0, drop 1 bytes) else ended (following (numeral r bytes))
 
--- [<nonnegative number>] _ of an <unnamed-type-name>, a <closure-type-name> or a default argument: 1 where the number
--- is left out, else the second number after it
+-- [<nonnegative number>] _ of an <unnamed-type-name>, a <closure-type-name> or a default argument: 1 without the
+-- number, and otherwise the number plus 2
 unfoldable pub ordinal : List ℕ → Option (ℕ × List ℕ)
 ordinal bytes = following (index_of Decimal bytes)
 

@@ -71,8 +71,8 @@ pub data IsWordAnswer (how : Replacement) (word : List ℕ) : List ℕ → Type 
   -- it stays, where it has no symbol
   no_symbol : symbol_in how.strip word ≡ None → IsWordAnswer how word word
 
--- a word that begins with these bytes may hold a symbol: it begins with one, or they are too few to show that it
--- doesn't
+-- a word that begins with these bytes may hold a symbol: it begins with one, or there are fewer than ten bytes. No more
+-- than ten are needed to see that it doesn't.
 abbrev pub may_hold_symbol : Bool → List ℕ → Bool
 may_hold_symbol strip bytes = nat_lt (length bytes) 10 || is_some (symbol_in strip bytes)
 
