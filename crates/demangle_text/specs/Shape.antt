@@ -45,7 +45,7 @@ text_len s = length (form_text s.form)
 abbrev pub plain_shape : List ℕ → Shape
 plain_shape t = record { form = Plain t; own = (0, length t); templ = false; ctor = false }
 
--- the index where bytes go: `Close` is the end of a group, `Suffix` that of `before`; in a plain text both are its end
+-- the index where bytes go: `Close` ends the group; `Suffix`, or `Close` without a group, ends `before` or a plain text
 abbrev pub place_in : Place → Form → ℕ
 place_in Start form = 0
 place_in End form = length (form_text form)
@@ -68,7 +68,7 @@ abbrev pub moved : ℕ → ℕ → ℕ × ℕ → ℕ × ℕ
 moved at n (from, to) =
     if nat_le at from then (from + n, to + n) else (if nat_le to at then (from, to) else (from, to + n))
 
--- the base name of a function is its whole text
+-- the base name in a form: of a function the whole text, and otherwise the range that is given
 abbrev pub own_in : Form → ℕ × ℕ → ℕ × ℕ
 own_in (Plain t) own = own
 own_in (Declared Array before group after) own = own
