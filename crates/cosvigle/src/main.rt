@@ -100,6 +100,7 @@ fn print_symbols(
 fn copy_input(rt: &HostRuntime, output: &mut Output<Stdout>) -> Result<(), FilterFault> {
     let mut chunk = vec![in rt.alloc(); 0u8; COPIED_LEN]?;
     let mut input = rt.stdin();
+    // The bound is never reached; each loop needs one.
     for _ in 0..u64::MAX {
         match input.read(&mut chunk) {
             Ok(0) => return Ok(()),
@@ -237,6 +238,7 @@ fn expanded(rt: &HostRuntime, arguments: Vec<Vec<u8>>) -> Result<Option<Vec<Vec<
     left.reverse();
     let mut all = Vec::new(rt.alloc());
     let mut files = MOST_FILES;
+    // The bound is never reached; each loop needs one.
     for _ in 0..u64::MAX {
         let Some(argument) = left.pop() else {
             break;

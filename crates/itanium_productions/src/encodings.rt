@@ -26,7 +26,7 @@ use itanium_syntax::encodings::{
 use itanium_syntax::names::{EncodingCase, encoding_case};
 use itanium_syntax::numerals::ordinal;
 
-/// Reads a `<type>` and removes its text from the output. The substitutions that it saved and the scopes that it
+/// Reads a `<type>` and removes its text from the output. The components that it saved and the scopes that it
 /// opened stay.
 #[tactic(auto, using(itanium_reader::proofs::Rules::buffers))]
 #[cycle(reader)]

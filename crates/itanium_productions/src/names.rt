@@ -170,9 +170,8 @@ pub(crate) fn read_free_segment(
     Ok(())
 }
 
-/// Reads the first segment of a `<nested-name>`. Returns `true` if the segment isn't saved yet and becomes a
-/// substitution when another segment follows. Returns `false` for `St` and a `<substitution>`, which never become a
-/// new substitution.
+/// Reads the first segment of a `<nested-name>`. Returns `true` if the segment isn't saved yet and becomes a component
+/// when another segment follows. Returns `false` for `St` and a `<substitution>`, which never become a new component.
 #[tactic(auto, using(itanium_reader::proofs::Rules::first_segments))]
 #[cycle(reader)]
 #[inline(always)]

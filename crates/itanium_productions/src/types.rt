@@ -21,8 +21,8 @@ use itanium_syntax::types::{
     function_case, params_case, type_case, types_case,
 };
 
-/// Reads `<template-args>` if they follow the type in `found`, and saves the type with its arguments as a
-/// substitution. If no `I` follows, nothing changes.
+/// Reads `<template-args>` if they follow the type in `found`, and saves the type with its arguments as a component.
+/// If no `I` follows, nothing changes.
 #[tactic(auto, using(itanium_reader::proofs::Rules::fronts))]
 #[cycle(reader)]
 #[inline(always)]
@@ -145,7 +145,7 @@ pub(crate) fn read_array_type(
     reader.save_array(dimension)
 }
 
-/// Reads `P <type>`, `R <type>` or `O <type>`, and saves the pointer or reference as a substitution.
+/// Reads `P <type>`, `R <type>` or `O <type>`, and saves the pointer or reference as a component.
 #[tactic(auto, using(itanium_reader::proofs::Rules::buffers))]
 #[cycle(reader)]
 pub(crate) fn read_pointer(

@@ -17,7 +17,7 @@ use itanium_syntax::types::ref_qualifier;
 use std::alloc::AllocError;
 
 impl<'a> Reader<'a> {
-    /// Replaces the type in `found` by a pointer or a reference to it, and saves that as a substitution. The method
+    /// Replaces the type in `found` by a pointer or a reference to it, and saves that as a component. The method
     /// isn't inlined, to keep the stack frame of types small.
     #[inline(never)]
     pub fn save_pointer(&mut self, kind: Pointer) -> Result<(), AllocError>
@@ -44,7 +44,7 @@ impl<'a> Reader<'a> {
         Ok(())
     }
 
-    /// Replaces the type in `found` by its pack expansion, and saves that as a substitution. `...` is appended unless
+    /// Replaces the type in `found` by its pack expansion, and saves that as a component. `...` is appended unless
     /// `in_pack` is true.
     pub fn save_expansion(&mut self, in_pack: bool) -> Result<(), AllocError>
         requires living { IsLiving self.old.buffer.value self.old.found }
@@ -60,7 +60,7 @@ impl<'a> Reader<'a> {
         self.save_found()
     }
 
-    /// Replaces the type in `found` by an array of it, and saves that as a substitution. Returns `Stop::Unread` for an
+    /// Replaces the type in `found` by an array of it, and saves that as a component. Returns `Stop::Unread` for an
     /// array of functions.
     pub fn save_array(&mut self, dimension: Option<u64>) -> Result<(), Stop>
         requires living { IsLiving self.old.buffer.value self.old.found }
@@ -79,7 +79,7 @@ impl<'a> Reader<'a> {
     }
 
     /// Replaces the type in `found` by a pointer to a member of `class` of that type, and saves the pointer as a
-    /// substitution. Returns `Stop::Unread` if the member's type is an array.
+    /// component. Returns `Stop::Unread` if the member's type is an array.
     pub fn save_member(&mut self, class: Piece) -> Result<(), Stop>
         requires class { IsLiving self.old.buffer.value class }
         requires living { IsLiving self.old.buffer.value self.old.found }

@@ -32,7 +32,7 @@ impl<'a> Reader<'a> {
     }
 
     /// Reads a `<source-name>` and its ABI tags, and appends `::` and the name to the parent in `found`. If `unsaved`
-    /// is true, the parent is saved as a substitution first.
+    /// is true, the parent is saved as a component first.
     #[inline(always)]
     pub fn read_source_segment(&mut self, unsaved: bool) -> Result<(), Stop>
         requires living { IsLiving self.old.buffer.value self.old.found }
