@@ -4,11 +4,11 @@ use Rattle.std.proofs.lemmas.List.{length-map, get_or-map, take_rest, map-append
 use Rattle.std.proofs.Math.Seq.{drop-cons}
 use Rattle.std.specs.Borrow.{Bor}
 use Rattle.cosvigle.specs.declared.options.Flags.{Flags}
-use Rattle.cosvigle.specs.declared.options.Instead.{Instead}
-use Rattle.cosvigle.specs.declared.options.Step.{Step}
-use Rattle.cosvigle.specs.declared.options.Step.TheVariants.{Go, Value, Stop as Stopping}
+use Rattle.cosvigle.specs.declared.options.EarlyExit.{EarlyExit}
+use Rattle.cosvigle.specs.declared.options.OptionState.{OptionState}
+use Rattle.cosvigle.specs.declared.options.OptionState.TheVariants.{Go, Value, Stop as Stopping}
 use Rattle.cosvigle.specs.declared.options.Kind.{Kind}
-use Rattle.cosvigle.specs.Options.{State, reading, ended, stopped, of_kind, next, read, texts, format_step, kind_of}
+use Rattle.cosvigle.specs.Options.{State, reading, ended, stopped, of_kind, next, read, texts, after_format, kind_of}
 
 -- this argument, and those after it
 argument_at : (arguments : List (Bor (List ℕ))) (at : ℕ) (none : Bor (List ℕ)) → at < length arguments
@@ -25,8 +25,8 @@ turned arguments at none all state inside so_far =
     ∙ ap (λ n. read (next state (get_or arguments at none).now) (drop n (texts arguments))) place
 
 -- it is a value
-pub value_turn : (arguments : List (Bor (List ℕ))) (at : ℕ) (none : Bor (List ℕ)) (all : State) (step result : Step) (flags : Flags) (symbols : List (List ℕ)) (word : List ℕ)
-    → at < length arguments → step ≡ Value flags → result ≡ format_step flags (get_or arguments at none).now
+pub value_turn : (arguments : List (Bor (List ℕ))) (at : ℕ) (none : Bor (List ℕ)) (all : State) (step result : OptionState) (flags : Flags) (symbols : List (List ℕ)) (word : List ℕ)
+    → at < length arguments → step ≡ Value flags → result ≡ after_format flags (get_or arguments at none).now
     → all ≡ read (reading step symbols word) (drop at (texts arguments))
     → all ≡ read (reading result symbols (get_or arguments at none).now) (drop (at + 1) (texts arguments))
 value_turn arguments at none all step result flags symbols word inside is result_is so_far =
@@ -36,7 +36,7 @@ value_turn arguments at none all step result flags symbols word inside is result
     ∙ ap (λ s. read (reading s symbols argument) (drop (at + 1) (texts arguments))) (sym result_is)
 
 -- it is none
-pub go_turn : (arguments : List (Bor (List ℕ))) (at : ℕ) (none : Bor (List ℕ)) (all : State) (step : Step) (flags : Flags) (symbols : List (List ℕ)) (word : List ℕ) (kind : Kind)
+pub go_turn : (arguments : List (Bor (List ℕ))) (at : ℕ) (none : Bor (List ℕ)) (all : State) (step : OptionState) (flags : Flags) (symbols : List (List ℕ)) (word : List ℕ) (kind : Kind)
     → at < length arguments → step ≡ Go flags → kind_of (get_or arguments at none).now ≡ kind
     → all ≡ read (reading step symbols word) (drop at (texts arguments))
     → all ≡ read (of_kind kind flags symbols word (get_or arguments at none).now) (drop (at + 1) (texts arguments))
@@ -47,11 +47,11 @@ go_turn arguments at none all step flags symbols word kind inside is kind_is so_
     ∙ ap (λ k. read (of_kind k flags symbols word argument) (drop (at + 1) (texts arguments))) kind_is
 
 -- nothing is read after a stop
-read_stopped : (stop : Instead) (word : List ℕ) (arguments : List (List ℕ)) → read (stopped stop word) arguments ≡ stopped stop word
+read_stopped : (stop : EarlyExit) (word : List ℕ) (arguments : List (List ℕ)) → read (stopped stop word) arguments ≡ stopped stop word
 read_stopped stop word [] = refl
 read_stopped stop word (argument ∷ arguments) = read_stopped stop word arguments
 
-pub stop_turn : (arguments : List (Bor (List ℕ))) (at : ℕ) (none : Bor (List ℕ)) (all : State) (step : Step) (stop : Instead) (symbols : List (List ℕ)) (word : List ℕ)
+pub stop_turn : (arguments : List (Bor (List ℕ))) (at : ℕ) (none : Bor (List ℕ)) (all : State) (step : OptionState) (stop : EarlyExit) (symbols : List (List ℕ)) (word : List ℕ)
     → at < length arguments → step ≡ Stopping stop → all ≡ read (reading step symbols word) (drop at (texts arguments)) → all ≡ stopped stop word
 stop_turn arguments at none all step stop symbols word inside is so_far =
     turned arguments at none all (reading step symbols word) inside so_far

@@ -25,13 +25,14 @@ abbrev pub symbol_of : Bool → List ℕ → List ℕ
 symbol_of strip argument = stripped strip (drop (import_len argument) argument)
 
 -- an argument, and what is printed for it
-pub data IsArgumentAnswer (how : Replacement) (argument : List ℕ) : List ℕ → Type 0 where
+pub data IsArgumentAnswer (options : Replacement) (argument : List ℕ) : List ℕ → Type 0 where
   -- what stands in front of its symbol, and what is printed for that
-  answered : {text : List ℕ} → IsUtf8 (symbol_of how.strip argument)
-      → IsShown how.printing (symbol_of how.strip argument) (Some text)
-      → IsArgumentAnswer how argument (take (import_len argument) argument ++ text)
+  answered : {text : List ℕ} → IsUtf8 (symbol_of options.strip argument)
+      → IsShown options.printing (symbol_of options.strip argument) (Some text)
+      → IsArgumentAnswer options argument (take (import_len argument) argument ++ text)
   -- the argument itself, where nothing is printed for its symbol
-  unanswered : IsUtf8 (symbol_of how.strip argument) → IsShown how.printing (symbol_of how.strip argument) None
-      → IsArgumentAnswer how argument argument
+  unanswered : IsUtf8 (symbol_of options.strip argument)
+      → IsShown options.printing (symbol_of options.strip argument) None
+      → IsArgumentAnswer options argument argument
   -- or isn't UTF-8
-  not_utf8 : ¬ (IsUtf8 (symbol_of how.strip argument)) → IsArgumentAnswer how argument argument
+  not_utf8 : ¬ (IsUtf8 (symbol_of options.strip argument)) → IsArgumentAnswer options argument argument

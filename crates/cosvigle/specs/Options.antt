@@ -3,10 +3,10 @@ use Rattle.std.specs.Prelude.{◌≡◌, ℕ, ◌+◌, List, [], ◌∷◌, ◌+
 use Rattle.std.specs.Borrow.{Bor}
 use Rattle.itanium_syntax.specs.Bytes.{is, one_of, begins}
 use Rattle.cosvigle.specs.declared.options.Flags.{Flags}
-use Rattle.cosvigle.specs.declared.options.Instead.{Instead}
-use Rattle.cosvigle.specs.declared.options.Instead.TheVariants as instead
-use Rattle.cosvigle.specs.declared.options.Step.{Step}
-use Rattle.cosvigle.specs.declared.options.Step.TheVariants.{Go, Value, Stop as Stopping}
+use Rattle.cosvigle.specs.declared.options.EarlyExit.{EarlyExit}
+use Rattle.cosvigle.specs.declared.options.EarlyExit.TheVariants as instead
+use Rattle.cosvigle.specs.declared.options.OptionState.{OptionState}
+use Rattle.cosvigle.specs.declared.options.OptionState.TheVariants.{Go, Value, Stop as Stopping}
 use Rattle.cosvigle.specs.declared.options.Kind.{Kind}
 use Rattle.cosvigle.specs.declared.options.Kind.TheVariants.{End, Name, Letters, Symbol}
 use Rattle.cosvigle.specs.declared.options.Asked.{Asked}
@@ -37,15 +37,15 @@ abbrev pub with_printing : Printing → Flags → Flags
 with_printing printing flags = record flags { printing = printing }
 
 -- what a format asks for
-abbrev pub format_step : Flags → List ℕ → Step
-format_step flags format =
+abbrev pub after_format : Flags → List ℕ → OptionState
+after_format flags format =
     if same (codes "auto") format || same (codes "gnu-v3") format then Go (with_plain false flags) else
     if same (codes "none") format then Go (with_plain true flags) else
     Stopping instead.UnknownFormat
 
 -- what the option with a letter asks for
-abbrev pub letter_step : Flags → ℕ → Step
-letter_step flags letter =
+abbrev pub after_letter : Flags → ℕ → OptionState
+after_letter flags letter =
     if is "_" letter then Go (with_strip true flags) else
     if is "n" letter then Go (with_strip false flags) else
     if is "l" letter then Go (with_lines true flags) else
@@ -59,34 +59,34 @@ letter_step flags letter =
     Stopping instead.UnknownOption
 
 -- what letters ask for, after what has been read: what follows one that takes a value is that value
-abbrev pub letters : Step → List ℕ → Step
+abbrev pub letters : OptionState → List ℕ → OptionState
 letters (Go flags) [] = Go flags
-letters (Go flags) (b ∷ bytes) = letters (letter_step flags b) bytes
+letters (Go flags) (b ∷ bytes) = letters (after_letter flags b) bytes
 letters (Value flags) [] = Value flags
-letters (Value flags) (b ∷ bytes) = format_step flags (b ∷ bytes)
+letters (Value flags) (b ∷ bytes) = after_format flags (b ∷ bytes)
 letters (Stopping stop) bytes = Stopping stop
 
 -- an argument with `-`, and letters after it
-abbrev pub letters_step : Flags → List ℕ → Step
-letters_step flags argument = letters (Go flags) (drop 1 argument)
+abbrev pub after_letters : Flags → List ℕ → OptionState
+after_letters flags argument = letters (Go flags) (drop 1 argument)
 
 -- one more option whose name begins with the bytes
-abbrev pub one_more : Found → ℕ → Found
-one_more Nothing letter = Front letter
-one_more (Front first) letter = if first == letter then Front first else Several
-one_more Several letter = Several
-one_more (Whole first) letter = Whole first
+abbrev pub with_match : Found → ℕ → Found
+with_match Nothing letter = Front letter
+with_match (Front first) letter = if first == letter then Front first else Several
+with_match Several letter = Several
+with_match (Whole first) letter = Whole first
 
 -- an option's name, and its letter
-abbrev pub look_at : Found → List ℕ → List ℕ → ℕ → Found
-look_at found bytes name letter =
-    if begins bytes name then (if length name == length bytes then Whole letter else one_more found letter) else found
+abbrev pub match_name : Found → List ℕ → List ℕ → ℕ → Found
+match_name found bytes name letter =
+    if begins bytes name then (if length name == length bytes then Whole letter else with_match found letter) else found
 
 -- the options whose names begin with the bytes: a whole name counts alone
-abbrev pub find_name : List ℕ → Found
-find_name bytes =
-    look_at (look_at (look_at (look_at (look_at (look_at (look_at
-    (look_at (look_at (look_at (look_at (look_at (look_at (look_at Nothing
+abbrev pub find_option : List ℕ → Found
+find_option bytes =
+    match_name (match_name (match_name (match_name (match_name (match_name (match_name
+    (match_name (match_name (match_name (match_name (match_name (match_name (match_name Nothing
     bytes (codes "strip-underscore") 95)
     bytes (codes "no-strip-underscores") 110)
     bytes (codes "no-params") 112)
@@ -108,27 +108,27 @@ name_len [] = 0
 name_len (b ∷ bytes) = if is "=" b then 0 else 1 + name_len bytes
 
 -- what an option asks for that is given a value
-abbrev pub with_value : Step → List ℕ → Step
-with_value (Value flags) value = format_step flags value
+abbrev pub with_value : OptionState → List ℕ → OptionState
+with_value (Value flags) value = after_format flags value
 with_value (Go flags) value = Stopping instead.UnexpectedValue
 with_value (Stopping by) value = Stopping instead.UnexpectedValue
 
 -- what the option with a letter asks for, where so many bytes are its name, and after a `=` the others are its value
-abbrev pub valued_step : Flags → ℕ → ℕ → List ℕ → Step
-valued_step flags letter len bytes =
-    if len == length bytes then letter_step flags letter else
-    with_value (letter_step flags letter) (drop (len + 1) bytes)
+abbrev pub after_valued : Flags → ℕ → ℕ → List ℕ → OptionState
+after_valued flags letter len bytes =
+    if len == length bytes then after_letter flags letter else
+    with_value (after_letter flags letter) (drop (len + 1) bytes)
 
 -- what the option found asks for
-abbrev pub found_step : Flags → Found → ℕ → List ℕ → Step
+abbrev pub found_step : Flags → Found → ℕ → List ℕ → OptionState
 found_step flags Nothing len bytes = Stopping instead.UnknownOption
 found_step flags Several len bytes = Stopping instead.AmbiguousOption
-found_step flags (Front letter) len bytes = valued_step flags letter len bytes
-found_step flags (Whole letter) len bytes = valued_step flags letter len bytes
+found_step flags (Front letter) len bytes = after_valued flags letter len bytes
+found_step flags (Whole letter) len bytes = after_valued flags letter len bytes
 
 -- what follows `--`: a name, and a value after `=`
-abbrev pub name_step : Flags → List ℕ → Step
-name_step flags bytes = found_step flags (find_name (take (name_len bytes) bytes)) (name_len bytes) bytes
+abbrev pub after_name : Flags → List ℕ → OptionState
+after_name flags bytes = found_step flags (find_option (take (name_len bytes) bytes)) (name_len bytes) bytes
 
 -- the argument begins with `-`, and isn't that alone
 abbrev pub begins_option : List ℕ → Bool
@@ -146,23 +146,23 @@ kind_of argument =
 -- what has been read of arguments
 pub data State : Type 0 where
   -- options and symbols: what the former choose, the latter, and the argument that was read last, if it was an option's
-  reading : Step → List (List ℕ) → List ℕ → State
+  reading : OptionState → List (List ℕ) → List ℕ → State
   -- `--`, and all that follows is a symbol
   ended : Flags → List (List ℕ) → State
   -- what stops the reading, and the argument that does
-  stopped : Instead → List ℕ → State
+  stopped : EarlyExit → List ℕ → State
 
 -- one argument more, of this kind, after these flags
 abbrev pub of_kind : Kind → Flags → List (List ℕ) → List ℕ → List ℕ → State
 of_kind End flags symbols word argument = ended flags symbols
-of_kind Name flags symbols word argument = reading (name_step flags (drop 2 argument)) symbols argument
-of_kind Letters flags symbols word argument = reading (letters_step flags argument) symbols argument
+of_kind Name flags symbols word argument = reading (after_name flags (drop 2 argument)) symbols argument
+of_kind Letters flags symbols word argument = reading (after_letters flags argument) symbols argument
 of_kind Symbol flags symbols word argument = reading (Go flags) (symbols ++ argument ∷ []) word
 
 -- one argument more
 abbrev pub next : State → List ℕ → State
 next (reading (Go flags) symbols word) argument = of_kind (kind_of argument) flags symbols word argument
-next (reading (Value flags) symbols word) argument = reading (format_step flags argument) symbols argument
+next (reading (Value flags) symbols word) argument = reading (after_format flags argument) symbols argument
 next (reading (Stopping stop) symbols word) argument = stopped stop word
 next (ended flags symbols) argument = ended flags (symbols ++ argument ∷ [])
 next (stopped stop word) argument = stopped stop word

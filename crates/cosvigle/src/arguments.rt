@@ -46,14 +46,14 @@ pub struct Printed<'a> {
 pub fn answer_of<'a>(
     alloc: Global,
     demangler: &'a mut Demangler,
-    how: Replacement,
+    options: Replacement,
     argument: &'a [u8],
 ) -> Result<Printed<'a>, AllocError>
     ensures answer { IfOk result (λ printed.
-        IsArgumentAnswer how argument.now (printed.front.now ++ printed.text.now)) }
+        IsArgumentAnswer options argument.now (printed.front.now ++ printed.text.now)) }
 {
     let len = import_len(argument);
-    let symbol = stripped(how.strip, &argument[len..]);
+    let symbol = stripped(options.strip, &argument[len..]);
     if !is_utf8(symbol) {
         return Ok(Printed {
             front: b"",
@@ -61,7 +61,7 @@ pub fn answer_of<'a>(
         });
     }
     let symbol = unsafe { str::from_utf8_unchecked(symbol) };
-    prepare_shown(alloc, demangler, how.printing, symbol)?;
+    prepare_shown(alloc, demangler, options.printing, symbol)?;
     match demangler.text() {
         Some(answer) => Ok(Printed {
             front: &argument[..len],

@@ -23,7 +23,7 @@ use arguments::{Printed, answer_of, set_line};
 use files::{file_name, is_text, words_in};
 use help::{HELP, VERSION};
 use itanium_demangle::Demangler;
-use options::{Asked, Flags, Instead, read_arguments};
+use options::{Asked, EarlyExit, Flags, read_arguments};
 use output::{Output, reported};
 use std::alloc::AllocError;
 use std::env::{Env, FillError};
@@ -149,24 +149,24 @@ fn refuse(rt: &HostRuntime, before: &str, argument: &[u8], after: &str) -> u8 {
 fn do_instead(
     rt: &HostRuntime,
     output: &mut Output<Stdout>,
-    instead: Instead,
+    instead: EarlyExit,
     argument: &[u8],
 ) -> Result<u8, FilterFault> {
     let status = match instead {
-        Instead::Help => {
+        EarlyExit::Help => {
             put(output, HELP.as_bytes())?;
             0
         }
-        Instead::Version => {
+        EarlyExit::Version => {
             put(output, VERSION.as_bytes())?;
             0
         }
-        Instead::UnknownOption => refuse(rt, "no option ", argument, ""),
-        Instead::AmbiguousOption => refuse(rt, "more than one option begins with ", argument, ""),
-        Instead::UnexpectedValue => refuse(rt, "no value is taken: ", argument, ""),
-        Instead::MissingValue => refuse(rt, "a value is missing: ", argument, ""),
-        Instead::TypesAlone => refuse(rt, "types alone aren't read: ", argument, ""),
-        Instead::UnknownFormat => refuse(rt, "no such format: ", argument, ""),
+        EarlyExit::UnknownOption => refuse(rt, "no option ", argument, ""),
+        EarlyExit::AmbiguousOption => refuse(rt, "more than one option begins with ", argument, ""),
+        EarlyExit::UnexpectedValue => refuse(rt, "no value is taken: ", argument, ""),
+        EarlyExit::MissingValue => refuse(rt, "a value is missing: ", argument, ""),
+        EarlyExit::TypesAlone => refuse(rt, "types alone aren't read: ", argument, ""),
+        EarlyExit::UnknownFormat => refuse(rt, "no such format: ", argument, ""),
     };
     Ok(status)
 }

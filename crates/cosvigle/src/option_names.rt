@@ -17,8 +17,8 @@ pub enum Found {
 }
 
 /// Adds an option whose name begins with the bytes to the options found.
-fn one_more(found: Found, letter: u8) -> Found
-    ensures value { result ≡ spec.one_more found letter }
+fn with_match(found: Found, letter: u8) -> Found
+    ensures value { result ≡ spec.with_match found letter }
 {
     match found {
         Found::Nothing => Found::Front(letter),
@@ -43,8 +43,8 @@ fn begins(bytes: &[u8], front: &[u8]) -> bool
 }
 
 /// Adds the option with this name and letter to the options found, if its name begins with the bytes.
-fn look_at(found: Found, bytes: &[u8], name: &[u8], letter: u8) -> Found
-    ensures value { result ≡ spec.look_at found bytes.now name.now letter }
+fn match_name(found: Found, bytes: &[u8], name: &[u8], letter: u8) -> Found
+    ensures value { result ≡ spec.match_name found bytes.now name.now letter }
 {
     if !begins(name, bytes) {
         return found;
@@ -52,25 +52,25 @@ fn look_at(found: Found, bytes: &[u8], name: &[u8], letter: u8) -> Found
     if name.len() == bytes.len() {
         return Found::Whole(letter);
     }
-    one_more(found, letter)
+    with_match(found, letter)
 }
 
 /// Returns the options whose names begin with the bytes.
-pub fn find_name(bytes: &[u8]) -> Found
-    ensures value { result ≡ spec.find_name bytes.now }
+pub fn find_option(bytes: &[u8]) -> Found
+    ensures value { result ≡ spec.find_option bytes.now }
 {
-    let found = look_at(Found::Nothing, bytes, b"strip-underscore", b'_');
-    let found = look_at(found, bytes, b"no-strip-underscores", b'n');
-    let found = look_at(found, bytes, b"no-params", b'p');
-    let found = look_at(found, bytes, b"params", b'P');
-    let found = look_at(found, bytes, b"no-verbose", b'i');
-    let found = look_at(found, bytes, b"no-recurse-limit", b'r');
-    let found = look_at(found, bytes, b"no-recursion-limit", b'r');
-    let found = look_at(found, bytes, b"recurse-limit", b'R');
-    let found = look_at(found, bytes, b"recursion-limit", b'R');
-    let found = look_at(found, bytes, b"types", b't');
-    let found = look_at(found, bytes, b"format", b's');
-    let found = look_at(found, bytes, b"lines", b'l');
-    let found = look_at(found, bytes, b"help", b'h');
-    look_at(found, bytes, b"version", b'v')
+    let found = match_name(Found::Nothing, bytes, b"strip-underscore", b'_');
+    let found = match_name(found, bytes, b"no-strip-underscores", b'n');
+    let found = match_name(found, bytes, b"no-params", b'p');
+    let found = match_name(found, bytes, b"params", b'P');
+    let found = match_name(found, bytes, b"no-verbose", b'i');
+    let found = match_name(found, bytes, b"no-recurse-limit", b'r');
+    let found = match_name(found, bytes, b"no-recursion-limit", b'r');
+    let found = match_name(found, bytes, b"recurse-limit", b'R');
+    let found = match_name(found, bytes, b"recursion-limit", b'R');
+    let found = match_name(found, bytes, b"types", b't');
+    let found = match_name(found, bytes, b"format", b's');
+    let found = match_name(found, bytes, b"lines", b'l');
+    let found = match_name(found, bytes, b"help", b'h');
+    match_name(found, bytes, b"version", b'v')
 }

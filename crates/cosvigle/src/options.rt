@@ -3,7 +3,7 @@ ghost use Rattle.std.specs.Prelude.{◌≡◌, ◌≤◌, length, IfOk};
 ghost use Rattle.cosvigle.specs.Options as spec;
 ghost use Rattle.cosvigle.specs.Options.{reading, texts, Asks, IsAsked};
 
-use super::option_names::{Found, find_name};
+use super::option_names::{Found, find_option};
 use std::alloc::{AllocError, Global};
 use symfilter_engine::Printing;
 
@@ -22,7 +22,7 @@ pub struct Flags {
 
 /// What the program does instead of reading symbols.
 #[derive(Clone, Copy, Debug, PartialEq, Eq)]
-pub enum Instead {
+pub enum EarlyExit {
     /// Prints the help.
     Help,
     /// Prints the version.
@@ -43,13 +43,13 @@ pub enum Instead {
 
 /// The state after the options that have been read.
 #[derive(Clone, Copy, Debug, PartialEq, Eq)]
-pub enum Step {
+pub enum OptionState {
     /// The options choose these flags.
     Go(Flags),
     /// The options choose these flags, and the next argument is the format.
     Value(Flags),
     /// No further option is read.
-    Stop(Instead),
+    Stop(EarlyExit),
 }
 
 /// What the arguments ask.
@@ -58,90 +58,90 @@ pub enum Asked<'a> {
     /// Print what is printed for each of these symbols. If there are none, replace the symbols of standard input.
     Symbols(Flags, Vec<&'a [u8]>),
     /// Stop, because of this argument.
-    Stopped(Instead, &'a [u8]),
+    Stopped(EarlyExit, &'a [u8]),
 }
 
 /// Returns the state after the format that the bytes name.
-fn format_step(flags: Flags, format: &[u8]) -> Step
-    ensures value { result ≡ spec.format_step flags format.now }
+fn after_format(flags: Flags, format: &[u8]) -> OptionState
+    ensures value { result ≡ spec.after_format flags format.now }
 {
     match format {
-        [b'a', b'u', b't', b'o'] | [b'g', b'n', b'u', b'-', b'v', b'3'] => Step::Go(Flags {
+        [b'a', b'u', b't', b'o'] | [b'g', b'n', b'u', b'-', b'v', b'3'] => OptionState::Go(Flags {
             strip: flags.strip,
             lines: flags.lines,
             plain: false,
             printing: flags.printing,
         }),
-        [b'n', b'o', b'n', b'e'] => Step::Go(Flags {
+        [b'n', b'o', b'n', b'e'] => OptionState::Go(Flags {
             strip: flags.strip,
             lines: flags.lines,
             plain: true,
             printing: flags.printing,
         }),
-        _ => Step::Stop(Instead::UnknownFormat),
+        _ => OptionState::Stop(EarlyExit::UnknownFormat),
     }
 }
 
 /// Returns the state after the option with this letter.
-fn letter_step(flags: Flags, letter: u8) -> Step
-    ensures value { result ≡ spec.letter_step flags letter }
+fn after_letter(flags: Flags, letter: u8) -> OptionState
+    ensures value { result ≡ spec.after_letter flags letter }
 {
     match letter {
-        b'_' => Step::Go(Flags {
+        b'_' => OptionState::Go(Flags {
             strip: true,
             lines: flags.lines,
             plain: flags.plain,
             printing: flags.printing,
         }),
-        b'n' => Step::Go(Flags {
+        b'n' => OptionState::Go(Flags {
             strip: false,
             lines: flags.lines,
             plain: flags.plain,
             printing: flags.printing,
         }),
-        b'l' => Step::Go(Flags {
+        b'l' => OptionState::Go(Flags {
             strip: flags.strip,
             lines: true,
             plain: flags.plain,
             printing: flags.printing,
         }),
-        b'p' => Step::Go(Flags {
+        b'p' => OptionState::Go(Flags {
             strip: flags.strip,
             lines: flags.lines,
             plain: flags.plain,
             printing: Printing::Names,
         }),
-        b'P' => Step::Go(Flags {
+        b'P' => OptionState::Go(Flags {
             strip: flags.strip,
             lines: flags.lines,
             plain: flags.plain,
             printing: Printing::Signatures,
         }),
-        b'i' | b'r' | b'R' => Step::Go(flags),
-        b's' => Step::Value(flags),
-        b't' => Step::Stop(Instead::TypesAlone),
-        b'h' => Step::Stop(Instead::Help),
-        b'v' => Step::Stop(Instead::Version),
-        _ => Step::Stop(Instead::UnknownOption),
+        b'i' | b'r' | b'R' => OptionState::Go(flags),
+        b's' => OptionState::Value(flags),
+        b't' => OptionState::Stop(EarlyExit::TypesAlone),
+        b'h' => OptionState::Stop(EarlyExit::Help),
+        b'v' => OptionState::Stop(EarlyExit::Version),
+        _ => OptionState::Stop(EarlyExit::UnknownOption),
     }
 }
 
 /// Returns the state after the options whose letters follow the `-` of an argument. What follows the letter of an
 /// option that takes a value is that value.
-fn letters_step(flags: Flags, argument: &[u8]) -> Step
-    ensures value { result ≡ spec.letters_step flags argument.now }
+fn after_letters(flags: Flags, argument: &[u8]) -> OptionState
+    ensures value { result ≡ spec.after_letters flags argument.now }
 {
     let mut flags = flags;
     for at in 1..argument.len() {
-        match letter_step(flags, argument[at]) {
-            Step::Go(next) => flags = next,
-            Step::Value(next) if at + 1 < argument.len() => {
-                return format_step(next, &argument[at + 1..]);
+        match after_letter(flags, argument[at]) {
+            OptionState::Go(next) => flags = next,
+            OptionState::Value(next) if at + 1 < argument.len() => {
+                return after_format(next, &argument[at + 1..]);
             }
             step => return step,
         }
     }
-    Step::Go(flags)
+    OptionState::Go(flags)
 }
 
 /// Returns how many bytes are in front of the first `=`, or the number of all bytes if there is no `=`.
@@ -159,31 +159,31 @@ fn name_len(bytes: &[u8]) -> usize
 
 /// Returns the state after the option with this letter. The first `len` bytes are the option's name, and what follows
 /// a `=` after them is its value.
-fn valued_step(flags: Flags, letter: u8, len: usize, bytes: &[u8]) -> Step
+fn after_valued(flags: Flags, letter: u8, len: usize, bytes: &[u8]) -> OptionState
     requires { len ≤ length bytes.now }
-    ensures value { result ≡ spec.valued_step flags letter len bytes.now }
+    ensures value { result ≡ spec.after_valued flags letter len bytes.now }
 {
-    let step = letter_step(flags, letter);
+    let step = after_letter(flags, letter);
     if len == bytes.len() {
         return step;
     }
     match step {
-        Step::Value(next) => format_step(next, &bytes[len + 1..]),
-        _ => Step::Stop(Instead::UnexpectedValue),
+        OptionState::Value(next) => after_format(next, &bytes[len + 1..]),
+        _ => OptionState::Stop(EarlyExit::UnexpectedValue),
     }
 }
 
 /// Returns the state after the option whose name follows `--`. The name may be shortened to a beginning that no other
 /// option has. What follows a `=` is the option's value.
-fn name_step(flags: Flags, bytes: &[u8]) -> Step
-    ensures value { result ≡ spec.name_step flags bytes.now }
+fn after_name(flags: Flags, bytes: &[u8]) -> OptionState
+    ensures value { result ≡ spec.after_name flags bytes.now }
 {
     let len = name_len(bytes);
-    match find_name(&bytes[..len]) {
-        Found::Whole(letter) => valued_step(flags, letter, len, bytes),
-        Found::Front(letter) => valued_step(flags, letter, len, bytes),
-        Found::Several => Step::Stop(Instead::AmbiguousOption),
-        Found::Nothing => Step::Stop(Instead::UnknownOption),
+    match find_option(&bytes[..len]) {
+        Found::Whole(letter) => after_valued(flags, letter, len, bytes),
+        Found::Front(letter) => after_valued(flags, letter, len, bytes),
+        Found::Several => OptionState::Stop(EarlyExit::AmbiguousOption),
+        Found::Nothing => OptionState::Stop(EarlyExit::UnknownOption),
     }
 }
 
@@ -214,13 +214,13 @@ fn kind_of(argument: &[u8]) -> Kind
 
 /// Returns what the arguments ask after the last of them. `step` is the state, and `word` the argument that was read
 /// last.
-fn asked_at_end<'a>(step: Step, symbols: Vec<&'a [u8]>, word: &'a [u8]) -> Asked<'a>
+fn asked_at_end<'a>(step: OptionState, symbols: Vec<&'a [u8]>, word: &'a [u8]) -> Asked<'a>
     ensures asked { Asks (reading step (texts symbols.entry.items) word.now) result }
 {
     match step {
-        Step::Go(flags) => Asked::Symbols(flags, symbols),
-        Step::Value(_) => Asked::Stopped(Instead::MissingValue, word),
-        Step::Stop(stop) => Asked::Stopped(stop, word),
+        OptionState::Go(flags) => Asked::Symbols(flags, symbols),
+        OptionState::Value(_) => Asked::Stopped(EarlyExit::MissingValue, word),
+        OptionState::Stop(stop) => Asked::Stopped(stop, word),
     }
 }
 
@@ -228,7 +228,7 @@ fn asked_at_end<'a>(step: Step, symbols: Vec<&'a [u8]>, word: &'a [u8]) -> Asked
 pub fn read_arguments<'a>(alloc: Global, arguments: &[&'a [u8]]) -> Result<Asked<'a>, AllocError>
     ensures asked { IfOk result (IsAsked (texts arguments.now)) }
 {
-    let mut step = Step::Go(Flags {
+    let mut step = OptionState::Go(Flags {
         strip: false,
         lines: false,
         plain: false,
@@ -240,13 +240,13 @@ pub fn read_arguments<'a>(alloc: Global, arguments: &[&'a [u8]]) -> Result<Asked
     for at in 0..arguments.len() {
         let argument = arguments[at];
         let flags = match step {
-            Step::Go(flags) => flags,
-            Step::Value(flags) => {
-                step = format_step(flags, argument);
+            OptionState::Go(flags) => flags,
+            OptionState::Value(flags) => {
+                step = after_format(flags, argument);
                 word = argument;
                 continue;
             }
-            Step::Stop(stop) => return Ok(Asked::Stopped(stop, word)),
+            OptionState::Stop(stop) => return Ok(Asked::Stopped(stop, word)),
         };
         match kind_of(argument) {
             Kind::End => {
@@ -254,11 +254,11 @@ pub fn read_arguments<'a>(alloc: Global, arguments: &[&'a [u8]]) -> Result<Asked
                 return Ok(Asked::Symbols(flags, symbols));
             }
             Kind::Name => {
-                step = name_step(flags, &argument[2..]);
+                step = after_name(flags, &argument[2..]);
                 word = argument;
             }
             Kind::Letters => {
-                step = letters_step(flags, argument);
+                step = after_letters(flags, argument);
                 word = argument;
             }
             Kind::Symbol => symbols.push(argument)?,

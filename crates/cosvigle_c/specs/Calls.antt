@@ -30,7 +30,7 @@ pub record LacksRoom (printing : Printing) (symbol old new : List ℕ) (needed :
   pub short : IsShort text old new needed
 
 -- the filtered text of the lines is written
-pub record WritesLines (lines old new : List ℕ) (needed : ℕ) : Type 0 where
+pub record WritesWhole (lines old new : List ℕ) (needed : ℕ) : Type 0 where
   pub text : List ℕ
   pub filtered : IsAnswered Names lines text
   pub fills : Fills text old new needed

@@ -10,14 +10,14 @@ use Rattle.demangle_text.proofs.Tails.{kept_only-copy}
 pub record IsBlock (s mid : Store) (text : List ℕ) (at from to : ℕ) : Type 0 where
   pub keeps : KeepsAll s mid
   pub store : IsStore mid
-  pub inner : mid.frame_main ≤ at
+  pub inner : mid.marked_len ≤ at
   pub low : at ≤ length mid.output_text
   pub ordered : from ≤ to
   pub within : to ≤ length mid.output_text
   pub has : take at mid.output_text ++ slice_range mid.output_text from to ≡ take at s.output_text ++ text
 
 -- a part of the output, where it stands
-pub IsBlock-here : (s : Store) (spilled : Bool) (at from to : ℕ) → IsStore s → s.frame_main ≡ at → spilled ≡ false → from ≤ to
+pub IsBlock-here : (s : Store) (spilled : Bool) (at from to : ℕ) → IsStore s → s.marked_len ≡ at → spilled ≡ false → from ≤ to
     → to ≤ length (home_bytes s.output_text s.spill_text spilled) → IsBlock s s (slice_range (home_bytes s.output_text s.spill_text spilled) from to) at from to
 IsBlock-here s spilled at from to i mark home ordered within =
     let here = ap (home_bytes s.output_text s.spill_text) home in
@@ -32,7 +32,7 @@ IsBlock-here s spilled at from to i mark home ordered within =
     }
 
 -- a copy of a text at the end
-pub IsBlock-copied : (s : Store) (t output : List ℕ) (at from to : ℕ) → IsStore s → s.frame_main ≡ at
+pub IsBlock-copied : (s : Store) (t output : List ℕ) (at from to : ℕ) → IsStore s → s.marked_len ≡ at
     → output ≡ s.output_text ++ t → from ≡ length s.output_text → to ≡ length output → IsBlock s (record s { output_text = output }) t at from to
 IsBlock-copied s t output at from to i mark is starts ends =
     let long = ap length is ∙ length-append s.output_text t in

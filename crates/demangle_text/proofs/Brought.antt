@@ -12,11 +12,11 @@ use Rattle.demangle_text.proofs.States.{KeepsAll-longer, IsStore-longer, Extends
 use Rattle.demangle_text.proofs.Tails.{IsSplice-inserted, IsSplice-copied, length-text}
 
 -- whether a piece ends the output is asked by the output's length
-pub tail-is : (s b : Store) (p : Piece) (len : ℕ) → s ≡ b → len ≡ length s.output_text → IsTailAt s.frame_main len p → IsTail b p
-tail-is s b p len same by h = subst (λ (v : Store). IsTail v p) same (subst (λ (k : ℕ). IsTailAt s.frame_main k p) by h)
+pub tail-is : (s b : Store) (p : Piece) (len : ℕ) → s ≡ b → len ≡ length s.output_text → IsTailAt s.marked_len len p → IsTail b p
+tail-is s b p len same by h = subst (λ (v : Store). IsTail v p) same (subst (λ (k : ℕ). IsTailAt s.marked_len k p) by h)
 
-pub is-tail : (s b : Store) (p : Piece) (len : ℕ) → s ≡ b → len ≡ length s.output_text → IsTail b p → IsTailAt s.frame_main len p
-is-tail s b p len same by h = subst (λ (k : ℕ). IsTailAt s.frame_main k p) (sym by) (subst (λ (v : Store). IsTail v p) (sym same) h)
+pub is-tail : (s b : Store) (p : Piece) (len : ℕ) → s ≡ b → len ≡ length s.output_text → IsTail b p → IsTailAt s.marked_len len p
+is-tail s b p len same by h = subst (λ (k : ℕ). IsTailAt s.marked_len k p) (sym by) (subst (λ (v : Store). IsTail v p) (sym same) h)
 
 -- one that ends it already
 pub IsBrought-stays : (output spill : List ℕ) (mark : ℕ) (p : Piece) → p.from_byte ≤ p.to_byte → IsTailAt mark (length output) p → IsBrought output spill mark p output p.from_byte
@@ -59,7 +59,7 @@ module _ (s : Store) (mid bytes output : List ℕ) (i : IsStore s) (e : Extends 
   pub IsEdit-extended : IsEdit s (record s { output_text = output })
   IsEdit-extended = subst (λ (v : List ℕ). IsEdit s (record s { output_text = v })) (sym all) (IsEdit-keeps s _ (KeepsAll-longer s (e.more ++ bytes) i))
 
-pub IsSplice-extended : (s t : Store) (p : Piece) (mid bytes : List ℕ) (from : ℕ) → IsLiving s p → IsBrought s.output_text s.spill_text s.frame_main p mid from
+pub IsSplice-extended : (s t : Store) (p : Piece) (mid bytes : List ℕ) (from : ℕ) → IsLiving s p → IsBrought s.output_text s.spill_text s.marked_len p mid from
     → t.output_text ≡ mid ++ bytes → IsSplice s t p (p.to_byte - p.from_byte) bytes from
 unfolding IsLiving
 IsSplice-extended s t p mid bytes from lies b is =

@@ -65,10 +65,10 @@ le_trans : (a b c : ℕ) → a ≤ b → b ≤ c → a ≤ c
 le_trans a b c h k = omega arith
 
 -- a call that moves a block: the kept pieces go with it, and what is older than the frame stays
-module _ (s t : Store) (low from to dest : ℕ) (m : Moves s.output_text t.output_text low from to dest) (inner : s.frame_main ≤ low)
+module _ (s t : Store) (low from to dest : ℕ) (m : Moves s.output_text t.output_text low from to dest) (inner : s.marked_len ≤ low)
     (saved_apart : All (IsApart low from to) s.saved_pieces) (args_apart : All (IsApart low from to) s.arg_pieces)
     (by_side : t.spill_text ≡ s.spill_text) (by_saved : t.saved_pieces ≡ map (carried low from dest) s.saved_pieces) (by_args : t.arg_pieces ≡ map (carried low from dest) s.arg_pieces)
-    (by_starts : t.scope_starts ≡ s.scope_starts) (by_frame_main : t.frame_main ≡ s.frame_main) where
+    (by_starts : t.scope_starts ≡ s.scope_starts) (by_marked_len : t.marked_len ≡ s.marked_len) where
   IsStore-moved : IsStore s → IsStore t
   IsStore-moved i =
       let n : length t.arg_pieces ≡ length s.arg_pieces = ap length by_args ∙ length-map s.arg_pieces (carried low from dest) in
@@ -105,7 +105,7 @@ module _ (s t : Store) (low from to dest : ℕ) (m : Moves s.output_text t.outpu
       saved_same = rw (by_side, by_saved) (shapes-carried s.output_text t.output_text s.spill_text low from to dest m s.saved_pieces i.saved_lie saved_apart);
       scopes_same = rw (by_side, by_args, by_starts) (ap (parts_at s.scope_starts) (shapes-carried s.output_text t.output_text s.spill_text low from to dest m s.arg_pieces i.args_lie args_apart));
     };
-    front = front_below s.output_text t.output_text s.frame_main low inner m.below;
+    front = front_below s.output_text t.output_text s.marked_len low inner m.below;
   }
 
 -- bytes are inserted: all after them moves on
@@ -179,7 +179,7 @@ module _ (s : Store) (m spill : List ℕ) (saved args : List Piece) (same : m �
   module _ (low from to dest : ℕ) (output : List ℕ) (saved' args' : List Piece) (i : IsStore s)
       (saved_apart : All (IsApart low from to) saved) (args_apart : All (IsApart low from to) args)
       (by_saved : saved' ≡ map (carried low from dest) saved) (by_args : args' ≡ map (carried low from dest) args)
-      (moves : Moves s.output_text output low from to dest) (inner : s.frame_main ≤ low) where
+      (moves : Moves s.output_text output low from to dest) (inner : s.marked_len ≤ low) where
     abbrev after_move : Store
     after_move = record s { output_text = output; spill_text = spill; saved_pieces = saved'; arg_pieces = args' }
 

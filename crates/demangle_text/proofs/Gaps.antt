@@ -24,7 +24,7 @@ module _ (s : Store) (m spill : List ℕ) (saved args saved' args' : List Piece)
     (same : m ≡ s.output_text) (a : IsSpilled m s.spill_text spill s.saved_pieces saved s.arg_pieces args)
     (saved_apart : All (IsApart at at len) saved) (args_apart : All (IsApart at at len) args)
     (by_saved : saved' ≡ map (carried at at dest) saved) (by_args : args' ≡ map (carried at at dest) args)
-    (i : IsStore s) (inner : s.frame_main ≤ at) (within : at ≤ length s.output_text)
+    (i : IsStore s) (inner : s.marked_len ≤ at) (within : at ≤ length s.output_text)
     (by_len : len ≡ length s.output_text) (by_dest : dest ≡ at + n) where
   abbrev gapped : List ℕ → Store
   gapped output = record s { output_text = output; spill_text = spill; saved_pieces = saved'; arg_pieces = args' }

@@ -120,13 +120,13 @@ parts_at-push (s ∷ t ∷ rest) xs x h some =
     both ∙ sym (with_arg-more x (slice_range xs s t) (parts_at (t ∷ rest) xs) some)
 
 -- a buffer whose arguments or their places change, and nothing else
-module _ (s new : Store) (output : new.output_text ≡ s.output_text) (spill : new.spill_text ≡ s.spill_text) (frame_main : new.frame_main ≡ s.frame_main) where
+module _ (s new : Store) (output : new.output_text ≡ s.output_text) (spill : new.spill_text ≡ s.spill_text) (marked_len : new.marked_len ≡ s.marked_len) where
   shape_same : shape new ≡ shape s
   unfolding shape
   shape_same = ap (λ (ts : List ℕ). λ (p : Piece). shape_in ts new.spill_text p) output ∙ ap (λ (ts : List ℕ). λ (p : Piece). shape_in s.output_text ts p) spill
 
-  frame_fits : IsStore s → new.frame_main ≤ length new.output_text
-  frame_fits i = rw (frame_main, output) i.main_frame
+  frame_fits : IsStore s → new.marked_len ≤ length new.output_text
+  frame_fits i = rw (marked_len, output) i.main_frame
 
   -- the scopes, by the arguments and their places
   scopes_are : (args : List Piece) (starts : List ℕ) → new.arg_pieces ≡ args → new.scope_starts ≡ starts → scopes new ≡ parts_at starts (map (shape s) args)

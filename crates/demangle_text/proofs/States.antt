@@ -119,7 +119,7 @@ KeepsAll-grown s m n i =
         saved_same = map_same (IsPiece s.output_text s.spill_text) f g same s.saved_pieces i.saved_lie;
         scopes_same = ap (parts_at s.scope_starts) (map_same (IsPiece s.output_text s.spill_text) f g same s.arg_pieces i.args_lie);
       };
-      front = take-append-le s.frame_main s.output_text m i.main_frame;
+      front = take-append-le s.marked_len s.output_text m i.main_frame;
     }
 
 IsStore-grown : (s : Store) (m n : List ℕ) → IsStore s → IsStore (grown s m n)
@@ -147,9 +147,9 @@ IsStore-longer s m i = subst IsStore (longer-is s m) (IsStore-grown s m [] i)
 pub KeepsAll-elsewhere : (s t : Store) → t.output_text ≡ s.output_text → Extends s.spill_text t.spill_text
     → map (shape_in t.output_text t.spill_text) t.saved_pieces ≡ map (shape_in s.output_text s.spill_text) s.saved_pieces
     → map (shape_in t.output_text t.spill_text) t.arg_pieces ≡ map (shape_in s.output_text s.spill_text) s.arg_pieces
-    → t.scope_starts ≡ s.scope_starts → t.frame_main ≡ s.frame_main → KeepsAll s t
+    → t.scope_starts ≡ s.scope_starts → t.marked_len ≡ s.marked_len → KeepsAll s t
 unfolding IsLiving shape saved scopes main_bytes frame frame_start Frame
-KeepsAll-elsewhere s t by_main by_side by_saved by_args by_starts by_frame_main =
+KeepsAll-elsewhere s t by_main by_side by_saved by_args by_starts by_marked_len =
     record {
       pieces = λ p h. record {
         living = rw by_main (IsPiece-extends s.output_text s.spill_text t.spill_text by_side p h);
@@ -157,7 +157,7 @@ KeepsAll-elsewhere s t by_main by_side by_saved by_args by_starts by_frame_main 
       };
       frame_same = cc;
       lists = record { saved_same = by_saved; scopes_same = cc };
-      front = ap (take s.frame_main) by_main;
+      front = ap (take s.marked_len) by_main;
     }
 
 -- a piece of the output that ends it, by its text
@@ -185,21 +185,21 @@ below_end : (output spill : List ℕ) (end n : ℕ) (h : Bool) → end ≡ lengt
 below_end output spill end n h by_main within e = omega (arith, by_main, rw e at within)
 
 -- a mark is opened at the end of the output
-pub Opens-here : (s : Store) (m : Mark) → IsStore s → m.inside_main ≡ length s.output_text → m.outside_main ≡ s.frame_main
-    → Opens s (record s { frame_main = m.inside_main }) m
+pub Opens-here : (s : Store) (m : Mark) → IsStore s → m.inside_len ≡ length s.output_text → m.outside_len ≡ s.marked_len
+    → Opens s (record s { marked_len = m.inside_len }) m
 unfolding IsLiving shape saved scopes main_bytes frame frame_start inside outside IsOlder Frame
 Opens-here s m i by_main outer = record {
   pieces = λ p h. record { living = h; shape_is = refl };
-  older = λ p h. below_end s.output_text s.spill_text m.inside_main p.to_byte p.spilled by_main h.within;
+  older = λ p h. below_end s.output_text s.spill_text m.inside_len p.to_byte p.spilled by_main h.within;
   inside_is = refl;
   outside_is = outer;
   lists = record { saved_same = refl; scopes_same = refl };
   nested = omega (arith, by_main, i.main_frame);
-  front = take_all m.inside_main s.output_text (omega (arith, by_main));
+  front = take_all m.inside_len s.output_text (omega (arith, by_main));
 }
 
 -- a mark is closed after an edit inside it
-pub Closes-edit : (s t : Store) (m : Mark) → frame s ≡ inside m → IsEdit s t → Closes s (record t { frame_main = m.outside_main }) m
+pub Closes-edit : (s t : Store) (m : Mark) → frame s ≡ inside m → IsEdit s t → Closes s (record t { marked_len = m.outside_len }) m
 unfolding IsLiving shape saved scopes main_bytes frame outside Frame
 Closes-edit s t m innermost e = record {
   pieces = λ p h o.
@@ -224,12 +224,12 @@ Stands-ordered s p from to lies stands = omega (arith, lies.ordered, stands.begi
 pub Stands-tail : (s : Store) (p : Piece) (P : Type 0) → IsLiving s p → ((from : ℕ) → frame_start (frame s) ≤ from → Stands p from (length (main_bytes s)) → P)
     → (StandsBefore s p (length (main_bytes s)) → P) → P
 unfolding IsLiving Stands main_bytes frame frame_start Frame
-Stands-tail s p P lies tail before = by p.spilled (leb s.frame_main p.from_byte) (leb (length s.output_text) p.to_byte) refl refl refl
+Stands-tail s p P lies tail before = by p.spilled (leb s.marked_len p.from_byte) (leb (length s.output_text) p.to_byte) refl refl refl
   where
     within : p.spilled ≡ false → p.to_byte ≤ length s.output_text
     within home = subst (λ (h : Bool). p.to_byte ≤ length (home_bytes s.output_text s.spill_text h)) home lies.within
 
-    by : (spilled inner ends : Bool) → p.spilled ≡ spilled → leb s.frame_main p.from_byte ≡ inner → leb (length s.output_text) p.to_byte ≡ ends → P
+    by : (spilled inner ends : Bool) → p.spilled ≡ spilled → leb s.marked_len p.from_byte ≡ inner → leb (length s.output_text) p.to_byte ≡ ends → P
     by true inner ends home from to = before (λ a b at. cc)
     by false true true home from to =
         tail p.from_byte (leb-true _ _ from) (record { in_main = home; begins = refl; ends = omega (arith, within home, leb-true _ _ to) })
@@ -286,16 +286,16 @@ main_split s p lies i =
 
 -- the same as it was
 pub unchanged : (s new : Store) → new.output_text ≡ s.output_text → new.spill_text ≡ s.spill_text → new.saved_pieces ≡ s.saved_pieces → new.arg_pieces ≡ s.arg_pieces
-    → new.scope_starts ≡ s.scope_starts → new.frame_main ≡ s.frame_main → KeepsAll s new
+    → new.scope_starts ≡ s.scope_starts → new.marked_len ≡ s.marked_len → KeepsAll s new
 unfolding IsLiving shape
-unchanged s new by_main by_side by_saved by_args by_starts by_frame_main =
+unchanged s new by_main by_side by_saved by_args by_starts by_marked_len =
     let e : new ≡ s = λ j. record {
       output_text = by_main j;
       spill_text = by_side j;
       saved_pieces = by_saved j;
       arg_pieces = by_args j;
       scope_starts = by_starts j;
-      frame_main = by_frame_main j;
+      marked_len = by_marked_len j;
     } in
     rw e (record {
       pieces = λ p h. record { living = h; shape_is = refl };

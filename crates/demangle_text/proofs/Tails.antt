@@ -86,7 +86,7 @@ IsSplice-taken s p lies i =
 pub IsEditOf-spliced : (b n : Store) (p q : Piece) (at from : ℕ) (bytes : List ℕ) → IsSplice b n p at bytes from → IsAt q from (length n.output_text) → IsEditOf b n p q (length bytes)
 unfolding main_bytes frame frame_start Frame Stands
 IsEditOf-spliced b n p q at from bytes s stands = record {
-  front = front_below b.output_text n.output_text b.frame_main from s.inner s.front;
+  front = front_below b.output_text n.output_text b.marked_len from s.inner s.front;
   ends = record { from = from; inner = s.inner; front = s.front; stands = stands };
   in_place = λ i inner there.
       let tail : IsTail b p = record { in_main = there.in_main; inner = omega (arith, inner, there.begins); ends = there.ends } in
@@ -95,7 +95,7 @@ IsEditOf-spliced b n p q at from bytes s stands = record {
 }
 
 -- a copy with the bytes in it, of a piece that doesn't
-pub IsSplice-copied : (s t : Store) (p : Piece) (at : ℕ) (bytes : List ℕ) (from : ℕ) → (IsTail s p → ⊥) → s.frame_main ≤ length s.output_text → from ≡ length s.output_text
+pub IsSplice-copied : (s t : Store) (p : Piece) (at : ℕ) (bytes : List ℕ) (from : ℕ) → (IsTail s p → ⊥) → s.marked_len ≤ length s.output_text → from ≡ length s.output_text
     → t.output_text ≡ s.output_text ++ (take at (piece_text s.output_text s.spill_text p) ++ (bytes ++ drop at (piece_text s.output_text s.spill_text p))) → IsSplice s t p at bytes from
 IsSplice-copied s t p at bytes from apart inner starts is =
     let text = piece_text s.output_text s.spill_text p in
@@ -182,7 +182,7 @@ pub IsJoinOf-joint : (b n : Store) (first second q : Piece) (bytes : List ℕ) (
     → IsJoinOf b n first second q (length bytes)
 unfolding main_bytes frame frame_start Frame Stands
 IsJoinOf-joint b n first second q bytes from lies two_lies s stands = record {
-  front = front_below b.output_text n.output_text b.frame_main from s.inner s.front;
+  front = front_below b.output_text n.output_text b.marked_len from s.inner s.front;
   ends = record { from = from; inner = s.inner; front = s.front; stands = stands };
   in_place = λ i middle inner one two.
       let meet : IsAdjacent b first second =

@@ -7,7 +7,7 @@ use Rattle.demangle_text.specs.declared.shape.Kind.TheVariants.{Array, Function}
 use Rattle.demangle_text.specs.declared.shape.Place.{Place}
 use Rattle.demangle_text.specs.declared.shape.Place.TheVariants.{Start, Close, Suffix, End}
 use Rattle.demangle_text.specs.declared.shape.Piece.{Piece}
-use Rattle.demangle_text.specs.declared.ranges.Kept.{Kept}
+use Rattle.demangle_text.specs.declared.piece_list.Entry.{Entry}
 use Rattle.demangle_text.specs.Shape.{Form, Plain, Declared, Shape}
 
 -- how a text is cut
@@ -165,14 +165,14 @@ pub record Store : Type 0 where
   pub saved_pieces : List Piece
   pub arg_pieces : List Piece
   pub scope_starts : List ℕ
-  pub frame_main : ℕ
+  pub marked_len : ℕ
 
 -- what is kept lies in the texts
 pub record IsStore (s : Store) : Type 0 where
   pub saved_lie : All (IsPiece s.output_text s.spill_text) s.saved_pieces
   pub args_lie : All (IsPiece s.output_text s.spill_text) s.arg_pieces
   pub starts_fit : AreStarts s.scope_starts (length s.arg_pieces)
-  pub main_frame : s.frame_main ≤ length s.output_text
+  pub main_frame : s.marked_len ≤ length s.output_text
 
 -- the piece ends a output of this length, from the mark's byte or later
 pub record IsTailAt (mark end : ℕ) (p : Piece) : Type 0 where
@@ -182,7 +182,7 @@ pub record IsTailAt (mark end : ℕ) (p : Piece) : Type 0 where
 
 -- the piece lies in the output, from the innermost mark or later up to the end
 abbrev pub IsTail : Store → Piece → Type 0
-IsTail s p = IsTailAt s.frame_main (length s.output_text) p
+IsTail s p = IsTailAt s.marked_len (length s.output_text) p
 
 -- the text begins with the other
 pub record Extends (old new : List ℕ) : Type 0 where
@@ -218,11 +218,11 @@ abbrev pub EndsBy : ℕ → Piece → Type 0
 EndsBy end p = p.spilled ≡ false → p.to_byte ≤ end
 
 -- the pieces of a list
-abbrev pub pieces_of : List Kept → List Piece
+abbrev pub pieces_of : List Entry → List Piece
 pieces_of kept = map (λ k. k.piece) kept
 
 -- the bytes that stand beside them
-abbrev pub reaches_of : List Kept → List ℕ
+abbrev pub reaches_of : List Entry → List ℕ
 reaches_of kept = map (λ k. k.reach) kept
 
 -- each of the first pieces of a list ends by the byte that stands at its index, and so do all before it
@@ -250,7 +250,7 @@ carried low from dest p =
 pub record IsAdjacent (s : Store) (first second : Piece) : Type 0 where
   pub first_in_main : first.spilled ≡ false
   pub second_in_main : second.spilled ≡ false
-  pub inner : s.frame_main ≤ first.from_byte
+  pub inner : s.marked_len ≤ first.from_byte
   pub meets : first.to_byte ≡ second.from_byte
   pub ends : second.to_byte ≡ length s.output_text
 
@@ -260,7 +260,7 @@ pub record IsSplice (old new : Store) (p : Piece) (at : ℕ) (bytes : List ℕ) 
   pub text : drop from new.output_text
       ≡ take at (piece_text old.output_text old.spill_text p)
       ++ (bytes ++ drop at (piece_text old.output_text old.spill_text p))
-  pub inner : old.frame_main ≤ from
+  pub inner : old.marked_len ≤ from
   pub front : take from new.output_text ≡ take from old.output_text
   pub in_place : IsTail old p → (from ≡ p.from_byte) × (length new.output_text ≡ length old.output_text + length bytes)
 
@@ -270,7 +270,7 @@ pub record IsJoint (old new : Store) (first : Piece) (bytes : List ℕ) (second 
   pub within : from ≤ length new.output_text
   pub text : drop from new.output_text
       ≡ piece_text old.output_text old.spill_text first ++ bytes ++ piece_text old.output_text old.spill_text second
-  pub inner : old.frame_main ≤ from
+  pub inner : old.marked_len ≤ from
   pub front : take from new.output_text ≡ take from old.output_text
   pub in_place : IsAdjacent old first second
       → (from ≡ first.from_byte) × (length new.output_text ≡ length old.output_text + length bytes)

@@ -48,16 +48,16 @@ outermost = 0
 -- the frame inside the innermost open mark
 unfoldable pub frame : Store → Frame
 unfolding Frame
-frame b = b.frame_main
+frame b = b.marked_len
 
 -- the frame inside a mark, and the one outside it
 unfoldable pub inside : Mark → Frame
 unfolding Frame
-inside m = m.inside_main
+inside m = m.inside_len
 
 unfoldable pub outside : Mark → Frame
 unfolding Frame
-outside m = m.outside_main
+outside m = m.outside_len
 
 -- the byte of the output at which a frame begins
 unfoldable pub frame_start : Frame → ℕ

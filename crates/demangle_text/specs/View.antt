@@ -10,7 +10,7 @@ store_of a = record {
   saved_pieces = a.lists.saved;
   arg_pieces = a.lists.args;
   scope_starts = a.starts.items;
-  frame_main = a.frame_main;
+  marked_len = a.marked_len;
 }
 
 -- what holds of the fields between calls

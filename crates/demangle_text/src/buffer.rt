@@ -5,7 +5,7 @@ ghost use Rattle.demangle_text.specs.Shape.{gap_after};
 
 use crate::moves::KeptPieces;
 use crate::parts::add_text;
-use crate::ranges::Ranges;
+use crate::piece_list::PieceList;
 use crate::shape::{Kind, Mark, Piece, Place};
 use growing_text::Text;
 use std::alloc::{AllocError, Global};
@@ -22,7 +22,7 @@ pub struct Buffer {
     // The index at which the arguments of each scope begin.
     pub(crate) starts: Vec<usize>,
     // The length of the output at the innermost mark, in bytes.
-    pub(crate) frame_main: usize,
+    pub(crate) marked_len: usize,
 }
 
 impl Model for Buffer {
@@ -72,11 +72,11 @@ impl Buffer {
             output: Text::new(alloc),
             lists: KeptPieces {
                 spill: Text::new(alloc),
-                saved: Ranges::new(alloc),
-                args: Ranges::new(alloc),
+                saved: PieceList::new(alloc),
+                args: PieceList::new(alloc),
             },
             starts: Vec::new(alloc),
-            frame_main: 0,
+            marked_len: 0,
         }
     }
 
@@ -95,7 +95,7 @@ impl Buffer {
         self.starts.clear();
         self.output.clear();
         self.lists.spill.clear();
-        self.frame_main = 0;
+        self.marked_len = 0;
     }
 
     /// Opens a mark at the end of the output, which becomes the innermost mark. All living pieces are older than the
@@ -107,10 +107,10 @@ impl Buffer {
         ensures mark { frame_start (inside result) ≡ length (main_bytes self.old) }
     {
         let mark = Mark {
-            inside_main: self.output.len(),
-            outside_main: self.frame_main,
+            inside_len: self.output.len(),
+            outside_len: self.marked_len,
         };
-        self.frame_main = mark.inside_main;
+        self.marked_len = mark.inside_len;
         mark
     }
 
@@ -143,8 +143,8 @@ impl Buffer {
             ≡ take (frame_start (inside mark)) (main_bytes self.old) ++ text (shape self.old piece.old)) }
         ensures stands { OnOk result (Stands piece.new (frame_start (inside mark)) (length (main_bytes self.new))) }
     {
-        self.keep_only(mark.inside_main, piece)?;
-        self.frame_main = mark.outside_main;
+        self.keep_only(mark.inside_len, piece)?;
+        self.marked_len = mark.outside_len;
         Ok(())
     }
 
@@ -393,7 +393,7 @@ impl Buffer {
             self.insert_at(second.from_byte, bytes)?;
             return Ok(Piece::whole_at(first.from_byte, self.output.len()));
         }
-        if second.is_tail(self.frame_main, self.output.len())
+        if second.is_tail(self.marked_len, self.output.len())
             && (first.spilled || first.to_byte <= second.from_byte)
         {
             self.insert_piece(second.from_byte, first, bytes)?;

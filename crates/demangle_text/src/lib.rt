@@ -20,7 +20,7 @@ mod buffer;
 mod lists;
 mod moves;
 mod parts;
-mod ranges;
+mod piece_list;
 mod shape;
 mod splices;
 

@@ -2,7 +2,7 @@
 ghost use Rattle.std.specs.Prelude.{◌≡◌, ◌<◌, ◌≤◌, length, All, map, OnOk, true, false};
 ghost use Rattle.demangle_text.specs.Pieces.{IsPiece, IsApart, IsSpilled, Extends, shape_in};
 
-use crate::ranges::{Block, Ranges};
+use crate::piece_list::{Block, PieceList};
 use crate::shape::Piece;
 use growing_text::Text;
 use std::alloc::AllocError;
@@ -12,8 +12,8 @@ use std::alloc::AllocError;
 #[derive(Drop)]
 pub(crate) struct KeptPieces {
     pub(crate) spill: Text,
-    pub(crate) saved: Ranges,
-    pub(crate) args: Ranges,
+    pub(crate) saved: PieceList,
+    pub(crate) args: PieceList,
 }
 
 impl KeptPieces {
@@ -43,7 +43,7 @@ fn is_torn(piece: Piece, block: Block) -> bool
 }
 
 // Returns the total length in bytes of the pieces of a list that a move of the block would tear.
-pub(crate) fn torn_len(pieces: &Ranges, block: Block) -> usize
+pub(crate) fn torn_len(pieces: &PieceList, block: Block) -> usize
     requires ordered { All (λ p. p.from_byte ≤ p.to_byte) pieces.now }
 {
     let mut n: usize = 0;
@@ -62,7 +62,7 @@ pub(crate) fn torn_len(pieces: &Ranges, block: Block) -> usize
 fn evict(
     output: &[u8],
     spill: &mut Text,
-    pieces: &mut Ranges,
+    pieces: &mut PieceList,
     block: Block,
 ) -> Result<(), AllocError>
     requires lie { All (IsPiece output.now spill.old) pieces.old }

@@ -54,9 +54,9 @@ pub struct Piece {
 #[derive(Drop)]
 pub struct Mark {
     // The length of the output at this mark, and at the mark outside it, in bytes.
-    pub(crate) inside_main: usize,
-    pub(crate) outside_main: usize,
-    ghost main_nested: { outside_main ≤ inside_main },
+    pub(crate) inside_len: usize,
+    pub(crate) outside_len: usize,
+    ghost ordered: { outside_len ≤ inside_len },
 }
 
 impl Piece {

@@ -5,7 +5,7 @@ ghost use Rattle.std.specs.Prelude.{◌≡◌, ◌+◌, ◌-◌, ◌^◌, ◌<�
 use crate::buffer::Buffer;
 use crate::moves::torn_len;
 use crate::parts::{add_text, at_end, taken_back};
-use crate::ranges::Block;
+use crate::piece_list::Block;
 use crate::shape::Piece;
 use std::alloc::AllocError;
 
@@ -30,7 +30,7 @@ impl Buffer {
     // Makes the text of a piece all of the output since the innermost mark.
     #[inline(always)]
     pub(crate) fn keep_only(&mut self, at: usize, piece: &mut Piece) -> Result<(), AllocError>
-        requires mark { self.old.frame_main ≡ at }
+        requires mark { self.old.marked_len ≡ at }
         requires living { IsLiving self.old piece.old }
         ensures edit { OnOk result (IsEdit self.old self.new) }
         ensures output { OnOk result (self.new.output_text ≡ take at self.old.output_text
@@ -61,7 +61,7 @@ impl Buffer {
         from: usize,
         to: usize,
     ) -> Result<(), AllocError>
-        requires mark { self.old.frame_main ≡ at }
+        requires mark { self.old.marked_len ≡ at }
         requires ordered { from ≤ to }
         requires within { to ≤ length (home_bytes self.old.output_text self.old.spill_text spilled) }
         ensures edit { OnOk result (IsEdit self.old self.new) }
@@ -94,7 +94,7 @@ impl Buffer {
     // Inserts bytes at a place of the output, at the innermost mark or later. What is after the place moves on.
     #[inline(always)]
     pub(crate) fn insert_at(&mut self, at: usize, bytes: &[u8]) -> Result<(), AllocError>
-        requires inner { self.old.frame_main ≤ at }
+        requires inner { self.old.marked_len ≤ at }
         requires within { at ≤ length self.old.output_text }
         ensures edit { OnOk result (IsEdit self.old self.new) }
         ensures err { OnErr result (KeepsAll self.old self.new) }
@@ -114,7 +114,7 @@ impl Buffer {
     // moves on.
     #[inline(never)]
     fn open_gap(&mut self, at: usize, n: usize) -> Result<(), AllocError>
-        requires inner { self.old.frame_main ≤ at }
+        requires inner { self.old.marked_len ≤ at }
         requires within { at ≤ length self.old.output_text }
         ensures gap { OnOk result (IsGap self.old self.new at n) }
         ensures err { OnErr result (KeepsAll self.old self.new) }
@@ -149,7 +149,7 @@ impl Buffer {
         ensures err { OnErr result (KeepsAll self.old self.new) }
         ensures main_err { OnErr result (self.new.output_text ≡ self.old.output_text) }
     {
-        if piece.is_tail(self.frame_main, self.output.len()) {
+        if piece.is_tail(self.marked_len, self.output.len()) {
             self.open_gap(piece.from_byte + at, n)?;
             return Ok(piece.from_byte);
         }
@@ -177,7 +177,7 @@ impl Buffer {
         ensures main_err { OnErr result (self.new.output_text ≡ self.old.output_text) }
     {
         let len = self.output.len();
-        let from = at_end(&mut self.output, &self.lists.spill, self.frame_main, piece)?;
+        let from = at_end(&mut self.output, &self.lists.spill, self.marked_len, piece)?;
         let added = self.output.add(bytes);
         taken_back(&mut self.output, len, added)?;
         Ok(from)
@@ -201,7 +201,7 @@ impl Buffer {
         ensures main_err { OnErr result (self.new.output_text ≡ self.old.output_text) }
     {
         let len = self.output.len();
-        let from = at_end(&mut self.output, &self.lists.spill, self.frame_main, piece)?;
+        let from = at_end(&mut self.output, &self.lists.spill, self.marked_len, piece)?;
         let added = self.output.add(bytes);
         taken_back(&mut self.output, len, added)?;
         let added = add_text(
@@ -223,7 +223,7 @@ impl Buffer {
         first: Piece,
         bytes: &[u8],
     ) -> Result<(), AllocError>
-        requires inner { self.old.frame_main ≤ at }
+        requires inner { self.old.marked_len ≤ at }
         requires within { at ≤ length self.old.output_text }
         requires living { IsLiving self.old first }
         requires before { EndsBy at first }
@@ -256,7 +256,7 @@ impl Buffer {
         ensures other { IsAdjacent self.now first second → result ≡ true }
     {
         !first.spilled
-            && self.frame_main <= first.from_byte
+            && self.marked_len <= first.from_byte
             && first.to_byte == second.from_byte
             && !second.spilled
             && second.to_byte == self.output.len()

@@ -14,8 +14,8 @@ use Rattle.itanium_syntax.specs.Specials.{special_case, special_text, special_cl
 use Rattle.itanium_syntax.specs.Names.{segment_case}
 use Rattle.itanium_syntax.specs.Names.{source_text, encoding_case, name_case, name_quals, tag_case}
 use Rattle.itanium_reader.specs.Parser.{shows_words}
-use Rattle.itanium_syntax.specs.Context.{inside_lambda, inside_local, inside_encoding, inside_params}
-use Rattle.itanium_syntax.specs.Encodings.{is_here}
+use Rattle.itanium_syntax.specs.Context.{inside_lambda, showing_words, inside_encoding, inside_params}
+use Rattle.itanium_syntax.specs.Encodings.{ends_here}
 use Rattle.itanium_syntax.proofs.Fronts.{alone_after_name, initializer_after, after_drop, source_takes, after-le}
 use Rattle.itanium_grammar.specs.Tree.{Tree, bare_shape, own_quals, thunk_of, with_args, trees, unnamed_text, literal_operator_text, shape_of, name_printing}
 use Rattle.itanium_grammar.specs.Grammar.{Position, Cost, with_rest, SpecialAs, special_encoding}
@@ -25,10 +25,10 @@ use Rattle.itanium_grammar.specs.Grammar.{SubstitutionAs, Substitution, Argument
 use Rattle.itanium_grammar.specs.Grammar.{Unqualified, FirstAs, Name, NameAs, Local, EntityAs, EncodingAs}
 use Rattle.itanium_grammar.specs.Grammar.{ReturnAs, EncodingParamsAs, UnscopedAs, AttachedAs, Nested, SegmentsAs}
 use Rattle.itanium_grammar.specs.Grammar.{abbreviation_substitution, component_substitution}
-use Rattle.itanium_grammar.specs.Grammar.{auto_parameter, scope_parameter, parameter, no_tag, next_tag, FreeAs}
-use Rattle.itanium_grammar.specs.Grammar.{source_free, unnamed_type_free, lambda_free, conversion_free}
-use Rattle.itanium_grammar.specs.Grammar.{literal_operator_free, operator_free, constructor_unqualified}
-use Rattle.itanium_grammar.specs.Grammar.{destructor_unqualified, free_unqualified, unqualified, parameter_first}
+use Rattle.itanium_grammar.specs.Grammar.{auto_parameter, scope_parameter, parameter, no_tag, next_tag, OrdinaryAs}
+use Rattle.itanium_grammar.specs.Grammar.{ordinary_source, ordinary_unnamed_type, ordinary_lambda, ordinary_conversion}
+use Rattle.itanium_grammar.specs.Grammar.{ordinary_literal_operator, ordinary_operator, constructor_unqualified}
+use Rattle.itanium_grammar.specs.Grammar.{destructor_unqualified, ordinary_unqualified, unqualified, parameter_first}
 use Rattle.itanium_grammar.specs.Grammar.{std_first, substitution_first, name_first, name, nested_name, local_name}
 use Rattle.itanium_grammar.specs.Grammar.{local, string_literal_entity, default_argument_entity, name_entity}
 use Rattle.itanium_grammar.specs.Grammar.{name_encoding, no_return_type, some_return_type, no_encoding_params, some_encoding_params}
@@ -36,10 +36,10 @@ use Rattle.itanium_grammar.specs.Grammar.{unscoped_name, std_name, substitution_
 use Rattle.itanium_grammar.specs.Grammar.{args_attached, nested, end_of_segments, args_segment, name_segment}
 use Rattle.itanium_grammar.proofs.Progress.{unqualified_takes, args_takes}
 use Rattle.itanium_grammar.specs.Cases.{EncodingEnd, AfterName, AtE, AtSymbolEnd, EncodingCase, SpecialCase, ReturnCase, EncodingParamsCase, EntityCase}
-use Rattle.itanium_grammar.specs.Cases.{SubstitutionCase, TagCase, UnqualifiedCase, FreeCase, FirstCase, NameCase}
+use Rattle.itanium_grammar.specs.Cases.{SubstitutionCase, TagCase, UnqualifiedCase, OrdinaryCase, FirstCase, NameCase}
 use Rattle.itanium_grammar.specs.Cases.{UnscopedCase, AttachedCase, SegmentCase}
-use Rattle.itanium_reader.specs.Parser.{ParserState, after_turn, loop, ◌>>=◌, tag_as, tag_turn, parse_tags, free_as}
-use Rattle.itanium_reader.specs.Parser.{parse_free, parse_type, substitution_as, parse_substitution, parameter_as}
+use Rattle.itanium_reader.specs.Parser.{ParserState, after_turn, loop, ◌>>=◌, tag_as, tag_turn, parse_tags, ordinary_as}
+use Rattle.itanium_reader.specs.Parser.{parse_ordinary, parse_type, substitution_as, parse_substitution, parameter_as}
 use Rattle.itanium_reader.specs.Parser.{parse_parameter, unqualified_as, parse_unqualified, first_as, attached_by}
 use Rattle.itanium_reader.specs.Parser.{attached_as, unscoped_as, segment_as, segment_turn, parse_nested, return_as}
 use Rattle.itanium_reader.specs.Parser.{signature_as, special_as, parse_special, encoding_by, thunk_by, at_symbol_end}
@@ -101,21 +101,21 @@ pub parse_tags_complete : {t u : Tree} {p q : Position} → TaggedAs (tag_case p
 parse_tags_complete {p = p} a e m = tags_complete (length p.rest + 1) _ _ _ _ a e m (omega arith)
 
 module _ (d : ℕ) (lists : ArgsComplete d) (kinds : TypesComplete d) where
-  pub free_met : {case : FreeCase} {x : Context} {p q : Position} {t : Tree} {c : Cost} → FreeAs case x p t q c → Small d c → (e m : ℕ)
-      → Met text_len (free_as case (parse_type d x) (parse_type d (inside_lambda x)) (state_at p e m)) (reached shape_of t q c e m)
-  free_met (source_free {bytes = b} found) deep e m = met (rw (found, ← shape-plain_text (source_text b)) (same_read refl refl refl (omega arith) (omega arith)))
-  free_met (unnamed_type_free {k = k} found) deep e m = met (rw (found, ← shape-plain_text (unnamed_text k)) (same_read refl refl refl (omega arith) (omega arith)))
-  free_met (lambda_free {ts = ts} {k = k} params found) deep e m =
+  pub ordinary_met : {case : OrdinaryCase} {x : Context} {p q : Position} {t : Tree} {c : Cost} → OrdinaryAs case x p t q c → Small d c → (e m : ℕ)
+      → Met text_len (ordinary_as case (parse_type d x) (parse_type d (inside_lambda x)) (state_at p e m)) (reached shape_of t q c e m)
+  ordinary_met (ordinary_source {bytes = b} found) deep e m = met (rw (found, ← shape-plain_text (source_text b)) (same_read refl refl refl (omega arith) (omega arith)))
+  ordinary_met (ordinary_unnamed_type {k = k} found) deep e m = met (rw (found, ← shape-plain_text (unnamed_text k)) (same_read refl refl refl (omega arith) (omega arith)))
+  ordinary_met (ordinary_lambda {ts = ts} {k = k} params found) deep e m =
       let begun = plain_shape (codes "{lambda(") in
       let list = listed_each true begun (map shape_of ts) in
       let whole = lambda_built (map shape_of ts) k ∙ sym (shape-lambda_of ts k) in
       met_then _ (typed_params_met AtE false d kinds params deep e m begun)
       (subst (λ (s : Shape). text_len list ≤ text_len s) whole (lambda_longer k list))
       (met (rw found (same_read whole refl refl refl refl)))
-  free_met (conversion_free {t = t} a) deep e m = met (rw (kinds _ _ _ _ _ a deep e m, ← shape-conversion_to t) refl)
-  free_met (literal_operator_free {bytes = b} found) deep e m =
+  ordinary_met (ordinary_conversion {t = t} a) deep e m = met (rw (kinds _ _ _ _ _ a deep e m, ← shape-conversion_to t) refl)
+  ordinary_met (ordinary_literal_operator {bytes = b} found) deep e m =
       met (rw (found, ← shape-plain_text (literal_operator_text b)) (same_read refl refl refl (omega arith) (omega arith)))
-  free_met (operator_free {text = o} found) deep e m =
+  ordinary_met (ordinary_operator {text = o} found) deep e m =
       met (rw (found, ← shape-plain_text (codes "operator" ++ o)) (same_read refl refl refl (omega arith) (omega arith)))
 
   unqualified_as_met : {case : UnqualifiedCase} {x : Context} {parent : Option Tree} {p q : Position} {t : Tree} {c : Cost} → UnqualifiedAs case x parent p t q c → Small d c → (e m : ℕ)
@@ -124,9 +124,9 @@ module _ (d : ℕ) (lists : ArgsComplete d) (kinds : TypesComplete d) where
       met (rw (← shape-ctor_dtor_of parent false, parse_tags_complete tags e m) (same_read refl refl refl (omega arith) (omega arith)))
   unqualified_as_met (destructor_unqualified {parent = parent} tags) deep e m =
       met (rw (← shape-ctor_dtor_of parent true, parse_tags_complete tags e m) (same_read refl refl refl (omega arith) (omega arith)))
-  unqualified_as_met (free_unqualified {x = x} {p = p} {r = r} {u = u} {parent = parent} {c = c} a tags) deep e m =
-      let named : Met text_len (parse_free (parse_type d x) (parse_type d (inside_lambda x)) (state_at p e m)) (reached shape_of u r c e m) =
-      met_then _ (free_met a deep e m) (tags_longer tags) (met (parse_tags_complete tags (e + c.count) (max m c.peak))) in
+  unqualified_as_met (ordinary_unqualified {x = x} {p = p} {r = r} {u = u} {parent = parent} {c = c} a tags) deep e m =
+      let named : Met text_len (parse_ordinary (parse_type d x) (parse_type d (inside_lambda x)) (state_at p e m)) (reached shape_of u r c e m) =
+      met_then _ (ordinary_met a deep e m) (tags_longer tags) (met (parse_tags_complete tags (e + c.count) (max m c.peak))) in
       met_then _ named (in_parent_longer parent u) (met (same_read (sym (shape-in_parent parent u)) refl refl refl refl))
 
   pub unqualified_met : {x : Context} {parent : Option Tree} {p q : Position} {t : Tree} {c : Cost} → Unqualified x parent p t q c → Small d c → (e m : ℕ)
@@ -200,7 +200,7 @@ module _ (d : ℕ) (lists : ArgsComplete d) (kinds : TypesComplete d) where
       → Met bare_len (parse_nested (parse_unqualified (parse_type d x) (parse_type d (inside_lambda x))) (parse_args d x true) x (state_at p e m)) (reached bare_of t q c e m)
   unfolding parse_nested
   nested_met (nested {x = x} {p = p} {q = q} {u = u} {c = c} a b) deep e m =
-      let bare = bare-nested_of u (name_quals p.rest) x.shown in
+      let bare = bare-nested_of u (name_quals p.rest) x.words_shown in
       let same_len = ap text_len bare in
       let longer = segment_longer b in
       met_then _ (first_met a (omega arith) e m) (omega arith)
@@ -237,7 +237,7 @@ names_complete d bares x p q t c a deep e m =
     let narrow = name_narrow a in
     let same_len = ap text_len whole in
     let read = bares x p q t bare.cost bare.reading (omega (arith, bare.depth_is, bare.width_in)) e m in
-    let g : Shape × ParserState = (with_name_qualifiers (bare_shape t) (own_quals t) (shows_words (name_case p.rest) x.shown), state_at q (e + bare.cost.count) (max m bare.cost.peak)) in
+    let g : Shape × ParserState = (with_name_qualifiers (bare_shape t) (own_quals t) (shows_words (name_case p.rest) x.words_shown), state_at q (e + bare.cost.count) (max m bare.cost.peak)) in
     rw read (fits g (omega arith) ∙ same_read whole refl refl (omega (arith, bare.count_is)) (omega (arith, bare.peak_is)))
 
 module _ (d : ℕ) (kinds : TypesComplete d) (bares : BareNamesComplete d) (thunks : ThunksComplete d) where
@@ -302,7 +302,7 @@ module _ (d : ℕ) (kinds : TypesComplete d) (bares : BareNamesComplete d) (thun
       met_fits (met_as (thunk_by_met p found a (omega arith) (e + 1) m) (same_read refl refl refl (omega arith) refl)) (omega arith)
 
   -- a signature
-  pub signature_by_met : {x : Context} {p q : Position} {t : Tree} {c : Cost} → EncodingAs (encoding_case AtSymbolEnd p.rest) AtSymbolEnd x p t q c → is_here AtSymbolEnd q.rest ≡ true → Small d c → (e m : ℕ)
+  pub signature_by_met : {x : Context} {p q : Position} {t : Tree} {c : Cost} → EncodingAs (encoding_case AtSymbolEnd p.rest) AtSymbolEnd x p t q c → ends_here AtSymbolEnd q.rest ≡ true → Small d c → (e m : ℕ)
       → Met text_len (parse_encoding d AtSymbolEnd x (state_at p e m) >>= at_symbol_end) (reached shape_of t q c e m)
   signature_by_met a here deep e m = met_then _ (encoding_met a deep e m) (omega arith) (met (rw here refl))
 
@@ -315,7 +315,7 @@ module _ (d : ℕ) (kinds : TypesComplete d) (bares : BareNamesComplete d) (thun
       rw (bares _ _ _ _ _ a deep e m) (same_read (ap (λ s. (s, own_quals u)) (sym (bare-local_in t u))) refl refl refl refl)
 
   pub local_met : {x : Context} {p q : Position} {t : Tree} {c : Cost} → Local true x p t q c → Small d c → (e m : ℕ)
-      → Met bare_len (parse_local (parse_encoding d AtE (inside_encoding x)) (parse_bare_name d (inside_local x)) (state_at p e m)) (reached bare_of t q c e m)
+      → Met bare_len (parse_local (parse_encoding d AtE (inside_encoding x)) (parse_bare_name d (showing_words x)) (state_at p e m)) (reached bare_of t q c e m)
   unfolding parse_local
   local_met (local {c = c} a b) deep e m =
       met_then _ (encoding_met a (omega arith) e m) (entity_longer b)
@@ -324,7 +324,7 @@ module _ (d : ℕ) (kinds : TypesComplete d) (bares : BareNamesComplete d) (thun
 module _ (d : ℕ) (lists : ArgsComplete d) (kinds : TypesComplete d) (bares : BareNamesComplete d) (thunks : ThunksComplete d) where
   pub name_as_met : {case : NameCase} {x : Context} {p q : Position} {t : Tree} {c : Cost} → NameAs case true x p t q c → Small d c → (e m : ℕ)
       → Met bare_len (name_as case (parse_unqualified (parse_type d x) (parse_type d (inside_lambda x))) (parse_args d x true)
-      (parse_local (parse_encoding d AtE (inside_encoding x)) (parse_bare_name d (inside_local x))) x (state_at p e m))
+      (parse_local (parse_encoding d AtE (inside_encoding x)) (parse_bare_name d (showing_words x))) x (state_at p e m))
       (reached bare_of t q c e m)
   name_as_met (nested_name a) deep e m = nested_met d lists kinds a deep e m
   name_as_met (local_name a) deep e m = local_met d kinds bares thunks a deep e m

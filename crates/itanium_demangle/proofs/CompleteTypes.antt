@@ -56,8 +56,8 @@ pub type_as_met : (d : ℕ) → TypesComplete d → NamesComplete d → ArgsComp
 type_as_met d kinds names lists (builtin_type {p = p}) deep e m =
     met (same_read (sym (shape-plain_text (builtin_text p.rest))) refl refl (omega arith) (omega arith))
 type_as_met d kinds names lists (expansion_type {x = x} {q = q} {t = t} a) deep e m =
-    met (rw (kinds _ _ _ _ _ a (omega arith) e m, ← shape-expanded x.pack t)
-    (same_read refl (one_more q.saved (expanded x.pack t)) refl (omega arith) (omega (arith, length-map q.saved shape_of))))
+    met (rw (kinds _ _ _ _ _ a (omega arith) e m, ← shape-expanded x.dots_hidden t)
+    (same_read refl (one_more q.saved (expanded x.dots_hidden t)) refl (omega arith) (omega (arith, length-map q.saved shape_of))))
 type_as_met d kinds names lists (vendor_type {p = p} {bytes = b} found none) deep e m =
     met (rw (found, none, ← shape-plain_text (source_text b)) (same_read refl (one_more p.saved (plain_text (source_text b))) refl (omega arith) (omega (arith, length-map p.saved shape_of))))
 type_as_met d kinds names lists (array_type {q = q} {t = t} {dimension = n} found a there) deep e m =

@@ -12,7 +12,7 @@ use Rattle.itanium_grammar.specs.Tree.{tagged_with, with_args, local_in, string_
 use Rattle.itanium_grammar.specs.Tree.{in_parent, thunk_of, offset_text}
 use Rattle.itanium_grammar.specs.Grammar.{Position, Cost, TaggedAs, UnqualifiedAs, Unqualified, AttachedAs}
 use Rattle.itanium_grammar.specs.Grammar.{SegmentsAs, EntityAs, no_tag, next_tag, constructor_unqualified}
-use Rattle.itanium_grammar.specs.Grammar.{destructor_unqualified, free_unqualified, unqualified, none_attached}
+use Rattle.itanium_grammar.specs.Grammar.{destructor_unqualified, ordinary_unqualified, unqualified, none_attached}
 use Rattle.itanium_grammar.specs.Grammar.{args_attached, end_of_segments, args_segment, name_segment}
 use Rattle.itanium_grammar.specs.Grammar.{string_literal_entity, default_argument_entity, name_entity}
 use Rattle.itanium_grammar.specs.Cases.{TagCase, UnqualifiedCase, AttachedCase, SegmentCase, EntityCase}
@@ -101,7 +101,7 @@ unqualified_as_longer : {case : UnqualifiedCase} {x : Context} {parent u : Tree}
     → UnqualifiedAs case x (Some parent) p u q c → text_len (shape_of parent) ≤ text_len (shape_of u)
 unqualified_as_longer (constructor_unqualified {parent = parent} tags) = let here = ctor_of_longer parent false in let more = tags_longer tags in omega arith
 unqualified_as_longer (destructor_unqualified {parent = parent} tags) = let here = ctor_of_longer parent true in let more = tags_longer tags in omega arith
-unqualified_as_longer (free_unqualified {u = u} {parent = Some parent} a tags) = name_in_longer parent u
+unqualified_as_longer (ordinary_unqualified {u = u} {parent = Some parent} a tags) = name_in_longer parent u
 
 pub unqualified_longer : {x : Context} {parent u : Tree} {p q : Position} {c : Cost} → Unqualified x (Some parent) p u q c → text_len (shape_of parent) ≤ text_len (shape_of u)
 unqualified_longer (unqualified a) = unqualified_as_longer a

@@ -5,7 +5,7 @@ use Rattle.demangle_text.specs.Shape.{Shape, text_len}
 use Rattle.itanium_syntax.specs.declared.context.Context.{Context}
 use Rattle.itanium_grammar.specs.Tree.{Tree, shape_of}
 use Rattle.itanium_grammar.specs.Grammar.{Position, Cost, Name, Thunk, Symbol, Signature, Args, Pack, Expression, TypeOf}
-use Rattle.itanium_syntax.specs.Context.{inside_local}
+use Rattle.itanium_syntax.specs.Context.{showing_words}
 use Rattle.itanium_grammar.specs.Cases.{EncodingEnd, AfterName}
 use Rattle.itanium_grammar.specs.Answer.{Mangled, initial}
 use Rattle.itanium_grammar.proofs.Agreement.{one_signature}
@@ -119,7 +119,7 @@ signatures d x =
 
 -- what follows the prefix of a symbol, as a signature or else as a name
 pub mangled : (full : Bool) (d : ℕ) → IsParserOf (Mangled full) (Mangled full) shape_of d (parse_mangled d full)
-mangled true d = signatures d (inside_local initial)
+mangled true d = signatures d (showing_words initial)
 mangled false d = symbols d initial
 
 lists : (d : ℕ) (x : Context) (of_name : Bool) → IsParserOf (Args of_name x) (Args of_name x) shape_of_args d (parse_args d x of_name)

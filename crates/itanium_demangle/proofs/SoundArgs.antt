@@ -4,7 +4,7 @@ use Rattle.std.proofs.lemmas.Option.{same_Some, option_and_then_some}
 use Rattle.std.specs.Prelude.{option_map, List, Option, None, if◌then◌else◌, ◌++◌}
 use Rattle.demangle_text.specs.Shape.{Shape, plain_shape}
 use Rattle.itanium_syntax.specs.declared.context.Context.{Context}
-use Rattle.itanium_syntax.specs.Context.{opens_scope, inside_pack}
+use Rattle.itanium_syntax.specs.Context.{opens_scope, hiding_dots}
 use Rattle.itanium_syntax.specs.Args.{args_case}
 use Rattle.itanium_syntax.proofs.Fronts.{after_drop, after-le}
 use Rattle.itanium_grammar.specs.Tree.{Tree, shape_of}
@@ -116,7 +116,7 @@ args_sound d each_is each x of_name p e m y is =
 pub packs_sound : (d : ℕ) → ArgumentsComplete d → ArgumentsSound d → PacksSound (suc d)
 unfolding parse_pack parse_argument parse_primary parse_encoding parse_special parse_name
 packs_sound d each_is each x p e m y is =
-    let inside = inside_pack x in
+    let inside = hiding_dots x in
     option_and_then_some _ (parse_packed (parse_argument d inside) (state_at p (e + 1) m)) y is (λ u read through.
     option_and_then_some _ (parse_loop (list_turn add_nowhere (parse_argument d inside)) (true, plain_shape []) (state_at (skip 1 p) (e + 1) m)) u read
     (λ z list _.

@@ -16,10 +16,10 @@ use Rattle.itanium_grammar.specs.Grammar.{address_expression, unary_expression, 
 use Rattle.itanium_grammar.specs.Grammar.{greater_expression, conditional_expression, parameter_expression}
 use Rattle.itanium_grammar.specs.Grammar.{literal_expression, expression_argument, pack_argument, literal_argument}
 use Rattle.itanium_grammar.specs.Grammar.{type_argument}
-use Rattle.itanium_grammar.specs.Cases.{AtE, LiteralCase, ExternalName, ValueLiteral, NoLiteral, ExpressionCase}
+use Rattle.itanium_grammar.specs.Cases.{AtE, LiteralCase, ExternalName, ValueLiteral, UnreadLiteral, ExpressionCase}
 use Rattle.itanium_grammar.specs.Cases.{PreExpression, AddressExpression, UnaryExpression, PostExpression}
 use Rattle.itanium_grammar.specs.Cases.{BinaryExpression, GreaterExpression, ConditionalExpression}
-use Rattle.itanium_grammar.specs.Cases.{ParameterExpression, LiteralExpression, NoExpression, ArgumentCase}
+use Rattle.itanium_grammar.specs.Cases.{ParameterExpression, LiteralExpression, UnreadExpression, ArgumentCase}
 use Rattle.itanium_grammar.specs.Cases.{ExpressionArgument, PackArgument, LiteralArgument, ConstraintArgument}
 use Rattle.itanium_grammar.specs.Cases.{TypeArgument}
 use Rattle.itanium_reader.specs.Parser.{ParserState, parse_type, parse_name, parse_special, parse_pack, parse_encoding}
@@ -59,7 +59,7 @@ module _ (d : ℕ) (complete : TypesComplete d) (bares_are : BareNamesComplete d
       option_and_then_some _ (literal_value i.next.rest) y there (λ v value made.
       option_and_then_some _ (literal_step (shape_of i.tree) v.0) y made (λ w literal _.
       record { tree = _; next = _; cost = _; reading = value_literal i.reading value (value_sound (shape_of i.tree) v.0 w literal); deep = i.deep })))
-  literal_sound NoLiteral x p e m y is = cc
+  literal_sound UnreadLiteral x p e m y is = cc
 
   pub primary_sound : (x : Context) (p : Position) (e m : ℕ) (y : Shape × ParserState) → parse_primary d x (state_at p e m) ≡ Some y → Within (LiteralAs (literal_case p.rest) x p) d
   unfolding parse_primary
@@ -125,7 +125,7 @@ module _ (d : ℕ) (complete : TypesComplete d) (bares_are : BareNamesComplete d
       let i = parameter_sound x p e m y is in record { tree = _; next = _; cost = _; reading = parameter_expression i.reading; deep = omega arith }
   expression_as_sound LiteralExpression x p e m y is =
       let i = primary_sound d complete bares_are thunks_are kinds bares thunks x p e m y is in record { tree = _; next = _; cost = _; reading = literal_expression i.reading; deep = i.deep }
-  expression_as_sound NoExpression x p e m y is = cc
+  expression_as_sound UnreadExpression x p e m y is = cc
 
   pub expressions_sound : ExpressionsSound (suc d)
   unfolding parse_expression parse_primary parse_encoding parse_special parse_name

@@ -10,23 +10,23 @@ use Rattle.itanium_syntax.specs.Abbreviations.{abbreviation_of}
 use Rattle.itanium_syntax.specs.Offsets.{thunk_offsets, past_base_offset}
 use Rattle.itanium_syntax.specs.Specials.{special_case}
 use Rattle.itanium_syntax.specs.Names.{source_text, encoding_case, name_case, unscoped_case, first_case, segment_case}
-use Rattle.itanium_syntax.specs.Names.{unqualified_case, free_case, tag_case, substitution_case, past_internal}
+use Rattle.itanium_syntax.specs.Names.{unqualified_case, ordinary_case, tag_case, substitution_case, past_internal}
 use Rattle.itanium_syntax.specs.Names.{past_name_quals, saves_first}
 use Rattle.itanium_syntax.specs.Args.{attached_case}
 use Rattle.itanium_syntax.proofs.Fronts.{initializer_after, after_drop, source_takes, after-le}
 use Rattle.itanium_grammar.specs.Tree.{Tree, bare_shape, own_quals, plain_text, abbreviation, ctor_dtor_of, tagged_with, with_args, trees, shape_of}
 use Rattle.itanium_grammar.specs.Grammar.{Position, Cost, with_rest, skip, save, last_of, past_initializer, both}
 use Rattle.itanium_grammar.specs.Grammar.{saving, SubstitutionAs, Substitution, ArgumentNamed, Parameter, TaggedAs}
-use Rattle.itanium_grammar.specs.Grammar.{FreeAs, UnqualifiedAs, Unqualified, FirstAs, NameAs, Name, nothing, SpecialAs}
+use Rattle.itanium_grammar.specs.Grammar.{OrdinaryAs, UnqualifiedAs, Unqualified, FirstAs, NameAs, Name, nothing, SpecialAs}
 use Rattle.itanium_grammar.specs.Grammar.{Signature, signature, Thunk, special_encoding, type_special, name_special}
 use Rattle.itanium_grammar.specs.Grammar.{temporary_special, construction_special, thunk_special, thunk, name_alone}
 use Rattle.itanium_grammar.specs.Grammar.{Local, EntityAs, EncodingAs, ReturnAs, EncodingParamsAs}
 use Rattle.itanium_grammar.specs.Grammar.{UnscopedAs, AttachedAs, Nested, SegmentsAs, Args}
 use Rattle.itanium_grammar.specs.Grammar.{abbreviation_substitution, component_substitution}
-use Rattle.itanium_grammar.specs.Grammar.{auto_parameter, scope_parameter, parameter, no_tag, next_tag, source_free}
-use Rattle.itanium_grammar.specs.Grammar.{unnamed_type_free, lambda_free, conversion_free, literal_operator_free}
-use Rattle.itanium_grammar.specs.Grammar.{operator_free, constructor_unqualified, destructor_unqualified}
-use Rattle.itanium_grammar.specs.Grammar.{free_unqualified, unqualified, parameter_first, std_first, substitution_first}
+use Rattle.itanium_grammar.specs.Grammar.{auto_parameter, scope_parameter, parameter, no_tag, next_tag, ordinary_source}
+use Rattle.itanium_grammar.specs.Grammar.{ordinary_unnamed_type, ordinary_lambda, ordinary_conversion, ordinary_literal_operator}
+use Rattle.itanium_grammar.specs.Grammar.{ordinary_operator, constructor_unqualified, destructor_unqualified}
+use Rattle.itanium_grammar.specs.Grammar.{ordinary_unqualified, unqualified, parameter_first, std_first, substitution_first}
 use Rattle.itanium_grammar.specs.Grammar.{name_first, name, nested_name, local_name, local, string_literal_entity}
 use Rattle.itanium_grammar.specs.Grammar.{default_argument_entity, name_entity, name_encoding, no_return_type}
 use Rattle.itanium_grammar.specs.Grammar.{some_return_type, no_encoding_params, some_encoding_params, unscoped_name, std_name}
@@ -34,19 +34,19 @@ use Rattle.itanium_grammar.specs.Grammar.{substitution_name, global_name, none_a
 use Rattle.itanium_grammar.specs.Grammar.{end_of_segments, args_segment, name_segment}
 use Rattle.itanium_grammar.proofs.Progress.{unqualified_takes, args_takes}
 use Rattle.itanium_grammar.specs.Cases.{EncodingEnd, AtE, AtSymbolEnd, EncodingCase, SpecialEncoding, NameEncoding, FullEncoding, SpecialCase, TypeSpecial, NameSpecial}
-use Rattle.itanium_grammar.specs.Cases.{TemporarySpecial, ConstructionSpecial, ThunkSpecial, NoSpecial, ReturnCase}
+use Rattle.itanium_grammar.specs.Cases.{TemporarySpecial, ConstructionSpecial, ThunkSpecial, UnreadSpecial, ReturnCase}
 use Rattle.itanium_grammar.specs.Cases.{NoReturnType, SomeReturnType, EncodingParamsCase, NoEncodingParams, SomeEncodingParams}
-use Rattle.itanium_grammar.specs.Cases.{EntityCase, StringLiteralEntity, DefaultArgumentEntity, NameEntity, NoEntity}
+use Rattle.itanium_grammar.specs.Cases.{EntityCase, StringLiteralEntity, DefaultArgumentEntity, NameEntity, UnreadEntity}
 use Rattle.itanium_grammar.specs.Cases.{SubstitutionCase, AbbreviationSubstitution, ComponentSubstitution, TagCase}
-use Rattle.itanium_grammar.specs.Cases.{NoTag, NextTag, UnqualifiedCase, ConstructorName, DestructorName, FreeName}
-use Rattle.itanium_grammar.specs.Cases.{FreeCase, SourceName, UnnamedTypeName, LambdaName, ConversionName}
-use Rattle.itanium_grammar.specs.Cases.{LiteralOperatorName, OperatorName, NoName, FirstCase, ParameterFirst, StdFirst}
+use Rattle.itanium_grammar.specs.Cases.{NoTag, NextTag, UnqualifiedCase, ConstructorName, DestructorName, OrdinaryName}
+use Rattle.itanium_grammar.specs.Cases.{OrdinaryCase, SourceName, UnnamedTypeName, LambdaName, ConversionName}
+use Rattle.itanium_grammar.specs.Cases.{LiteralOperatorName, OperatorName, UnreadName, FirstCase, ParameterFirst, StdFirst}
 use Rattle.itanium_grammar.specs.Cases.{SubstitutionFirst, NameFirst, NameCase, NestedName, LocalName, UnscopedName}
 use Rattle.itanium_grammar.specs.Cases.{UnscopedCase, StdName, SubstitutionName, PlainName, AttachedCase, NoneAttached}
 use Rattle.itanium_grammar.specs.Cases.{ArgsAttached, SegmentCase, EndOfSegments, ArgsSegment, NameSegment}
 use Rattle.itanium_reader.specs.Parser.{ParserState, after_turn, loop, ◌>>=◌, next_segment, substitution_as}
 use Rattle.itanium_reader.specs.Parser.{parse_substitution, parameter_as, parse_parameter, tag_as, tag_turn, parse_tags}
-use Rattle.itanium_reader.specs.Parser.{typed_params_as, free_as, parse_free, ctor_dtor_as, unqualified_as}
+use Rattle.itanium_reader.specs.Parser.{typed_params_as, ordinary_as, parse_ordinary, ctor_dtor_as, unqualified_as}
 use Rattle.itanium_reader.specs.Parser.{parse_unqualified, first_as, fitting, attached_by, attached_as, template_as}
 use Rattle.itanium_reader.specs.Parser.{unscoped_as, segment_as, segment_turn, parse_segments, parse_nested, return_as}
 use Rattle.itanium_reader.specs.Parser.{signature_as, special_as, parse_special, encoding_by, thunk_by, at_symbol_end}
@@ -61,13 +61,13 @@ use Rattle.itanium_demangle.proofs.Readings.{ThunksComplete, ThunksSound}
 use Rattle.itanium_demangle.proofs.Waiting.{same_return, whole_name}
 use Rattle.itanium_demangle.proofs.Whole.{with_own_quals}
 use Rattle.itanium_demangle.proofs.Fitting.{Met, met_is, met_passed, met_passed_bare, passed}
-use Rattle.itanium_demangle.proofs.CompleteNames.{substitution_complete, parameter_complete, free_met, unqualified_met}
+use Rattle.itanium_demangle.proofs.CompleteNames.{substitution_complete, parameter_complete, ordinary_met, unqualified_met}
 use Rattle.itanium_demangle.proofs.CompleteNames.{first_met, segments_met, encoding_met, thunk_by_met, signature_by_met, name_as_met}
 use Rattle.itanium_demangle.proofs.CompleteNames.{bare_names_complete, names_complete, thunks_complete}
 use Rattle.itanium_syntax.specs.Types.{params_case}
 use Rattle.itanium_syntax.specs.Operators.{operator_here}
-use Rattle.itanium_syntax.specs.Context.{inside_lambda, inside_local, inside_encoding, inside_params}
-use Rattle.itanium_syntax.specs.Encodings.{is_here, of_thunk, return_case, encoding_params_case, entity_case}
+use Rattle.itanium_syntax.specs.Context.{inside_lambda, showing_words, inside_encoding, inside_params}
+use Rattle.itanium_syntax.specs.Encodings.{ends_here, for_thunk, return_case, encoding_params_case, entity_case}
 use Rattle.itanium_reader.specs.Parser.{shows_words}
 use Rattle.demangle_quals.specs.declared.quals.Quals.{Quals}
 use Rattle.demangle_edit.specs.Built.{params_opened}
@@ -176,38 +176,38 @@ ctor_dtor_sound : (destructor : Bool) (parent : Tree) (p : Position) (e m : ℕ)
 ctor_dtor_sound destructor parent p e m y is = parse_tags_sound (ctor_dtor_of parent destructor) (skip 2 p) e m y (rw (shape-ctor_dtor_of parent destructor) is)
 
 module _ (d : ℕ) (complete : TypesComplete d) (lists_are : ArgsComplete d) (kinds : TypesSound d) where
-  free_sound : (case : FreeCase) (x : Context) (p : Position) (e m : ℕ) (y : Shape × ParserState)
-      → free_as case (parse_type d x) (parse_type d (inside_lambda x)) (state_at p e m) ≡ Some y → Found (FreeAs case x p) shape_of d e m y
-  free_sound NoName x p e m y is = cc
-  free_sound SourceName x p e m y is =
+  ordinary_sound : (case : OrdinaryCase) (x : Context) (p : Position) (e m : ℕ) (y : Shape × ParserState)
+      → ordinary_as case (parse_type d x) (parse_type d (inside_lambda x)) (state_at p e m) ≡ Some y → Found (OrdinaryAs case x p) shape_of d e m y
+  ordinary_sound UnreadName x p e m y is = cc
+  ordinary_sound SourceName x p e m y is =
       option_and_then_some _ (source_name p.rest) y is (λ b found _.
-      let w : Within (FreeAs SourceName x p) d = record { tree = _; next = _; cost = _; reading = source_free found; deep = omega arith } in
-      record { within = w; is = met_is (free_met d lists_are complete w.reading w.deep e m) is })
-  free_sound UnnamedTypeName x p e m y is =
+      let w : Within (OrdinaryAs SourceName x p) d = record { tree = _; next = _; cost = _; reading = ordinary_source found; deep = omega arith } in
+      record { within = w; is = met_is (ordinary_met d lists_are complete w.reading w.deep e m) is })
+  ordinary_sound UnnamedTypeName x p e m y is =
       option_and_then_some _ (ordinal (drop 2 p.rest)) y is (λ b found _.
-      let w : Within (FreeAs UnnamedTypeName x p) d = record { tree = _; next = _; cost = _; reading = unnamed_type_free found; deep = omega arith } in
-      record { within = w; is = met_is (free_met d lists_are complete w.reading w.deep e m) is })
-  free_sound LambdaName x p e m y is =
+      let w : Within (OrdinaryAs UnnamedTypeName x p) d = record { tree = _; next = _; cost = _; reading = ordinary_unnamed_type found; deep = omega arith } in
+      record { within = w; is = met_is (ordinary_met d lists_are complete w.reading w.deep e m) is })
+  ordinary_sound LambdaName x p e m y is =
       option_and_then_some _ (typed_params_as (params_case AtE (drop 2 p.rest)) AtE false (parse_type d (inside_lambda x)) (plain_shape (codes "{lambda(")) (state_at (skip 2 p) e m)) y is (λ z params ends.
       let listed = typed_params_sound AtE false d complete kinds (params_case AtE (drop 2 p.rest)) (inside_lambda x) (plain_shape (codes "{lambda(")) (skip 2 p) e m z params in
       let o = listed.within in
       let there = rw listed.is at ends in
       option_and_then_some _ (ordinal (drop 1 o.next.rest)) y there (λ b found _.
-      let w : Within (FreeAs LambdaName x p) d = record { tree = _; next = _; cost = _; reading = lambda_free o.reading found; deep = omega (arith, o.deep) } in
-      record { within = w; is = met_is (free_met d lists_are complete w.reading w.deep e m) is }))
-  free_sound ConversionName x p e m y is =
+      let w : Within (OrdinaryAs LambdaName x p) d = record { tree = _; next = _; cost = _; reading = ordinary_lambda o.reading found; deep = omega (arith, o.deep) } in
+      record { within = w; is = met_is (ordinary_met d lists_are complete w.reading w.deep e m) is }))
+  ordinary_sound ConversionName x p e m y is =
       option_and_then_some _ (parse_type d x (state_at (skip 2 p) e m)) y is (λ z inner _.
       let i = (kinds x (skip 2 p) e m z inner).within in
-      let w : Within (FreeAs ConversionName x p) d = record { tree = _; next = _; cost = _; reading = conversion_free i.reading; deep = omega (arith, i.deep) } in
-      record { within = w; is = met_is (free_met d lists_are complete w.reading w.deep e m) is })
-  free_sound LiteralOperatorName x p e m y is =
+      let w : Within (OrdinaryAs ConversionName x p) d = record { tree = _; next = _; cost = _; reading = ordinary_conversion i.reading; deep = omega (arith, i.deep) } in
+      record { within = w; is = met_is (ordinary_met d lists_are complete w.reading w.deep e m) is })
+  ordinary_sound LiteralOperatorName x p e m y is =
       option_and_then_some _ (source_name (drop 2 p.rest)) y is (λ b found _.
-      let w : Within (FreeAs LiteralOperatorName x p) d = record { tree = _; next = _; cost = _; reading = literal_operator_free found; deep = omega arith } in
-      record { within = w; is = met_is (free_met d lists_are complete w.reading w.deep e m) is })
-  free_sound OperatorName x p e m y is =
+      let w : Within (OrdinaryAs LiteralOperatorName x p) d = record { tree = _; next = _; cost = _; reading = ordinary_literal_operator found; deep = omega arith } in
+      record { within = w; is = met_is (ordinary_met d lists_are complete w.reading w.deep e m) is })
+  ordinary_sound OperatorName x p e m y is =
       option_and_then_some _ (operator_here p.rest) y is (λ b found _.
-      let w : Within (FreeAs OperatorName x p) d = record { tree = _; next = _; cost = _; reading = operator_free found; deep = omega arith } in
-      record { within = w; is = met_is (free_met d lists_are complete w.reading w.deep e m) is })
+      let w : Within (OrdinaryAs OperatorName x p) d = record { tree = _; next = _; cost = _; reading = ordinary_operator found; deep = omega arith } in
+      record { within = w; is = met_is (ordinary_met d lists_are complete w.reading w.deep e m) is })
 
   unqualified_as_sound : (case : UnqualifiedCase) (x : Context) (parent : Option Tree) (p : Position) (e m : ℕ) (y : Shape × ParserState)
       → unqualified_as case (parse_type d x) (parse_type d (inside_lambda x)) (option_map shape_of parent) (state_at p e m) ≡ Some y → Within (UnqualifiedAs case x parent p) d
@@ -217,13 +217,13 @@ module _ (d : ℕ) (complete : TypesComplete d) (lists_are : ArgsComplete d) (ki
   unqualified_as_sound DestructorName x None p e m y is = cc
   unqualified_as_sound DestructorName x (Some parent) p e m y is =
       let t = ctor_dtor_sound true parent p e m y is in record { tree = _; next = _; cost = _; reading = destructor_unqualified t.reading; deep = omega arith }
-  unqualified_as_sound FreeName x parent p e m y is =
-      option_and_then_some _ (parse_free (parse_type d x) (parse_type d (inside_lambda x)) (state_at p e m)) y is (λ v named _.
-      option_and_then_some _ (free_as (free_case p.rest) (parse_type d x) (parse_type d (inside_lambda x)) (state_at p e m)) v named (λ z first tags.
-      let found = free_sound (free_case p.rest) x p e m z first in
+  unqualified_as_sound OrdinaryName x parent p e m y is =
+      option_and_then_some _ (parse_ordinary (parse_type d x) (parse_type d (inside_lambda x)) (state_at p e m)) y is (λ v named _.
+      option_and_then_some _ (ordinary_as (ordinary_case p.rest) (parse_type d x) (parse_type d (inside_lambda x)) (state_at p e m)) v named (λ z first tags.
+      let found = ordinary_sound (ordinary_case p.rest) x p e m z first in
       let i = found.within in
       let t = parse_tags_sound i.tree i.next (e + i.cost.count) (max m i.cost.peak) v (rw found.is at tags) in
-      record { tree = _; next = _; cost = _; reading = free_unqualified i.reading t.reading; deep = omega (arith, i.deep) }))
+      record { tree = _; next = _; cost = _; reading = ordinary_unqualified i.reading t.reading; deep = omega (arith, i.deep) }))
 
   pub unqualified_sound : (x : Context) (parent : Option Tree) (p : Position) (e m : ℕ) (y : Shape × ParserState)
       → parse_unqualified (parse_type d x) (parse_type d (inside_lambda x)) (option_map shape_of parent) (state_at p e m) ≡ Some y → Found (Unqualified x parent p) shape_of d e m y
@@ -410,7 +410,7 @@ names_sound d bares_are bares x p e m y is =
     option_and_then_some _ (parse_bare_name d x (state_at p e m)) y is (λ z read through.
     let found = bares x p e m z read in
     let i = found.within in
-    let g : Shape × ParserState = (with_name_qualifiers (bare_shape i.tree) (own_quals i.tree) (shows_words (name_case p.rest) x.shown), state_at i.next (e + i.cost.count) (max m i.cost.peak)) in
+    let g : Shape × ParserState = (with_name_qualifiers (bare_shape i.tree) (own_quals i.tree) (shows_words (name_case p.rest) x.words_shown), state_at i.next (e + i.cost.count) (max m i.cost.peak)) in
     let there : fitting g ≡ Some y = rw found.is at through in
     let narrow = (passed g y there).1 in
     let same_len = ap text_len (whole_name i.reading) in
@@ -448,7 +448,7 @@ module _ (d : ℕ) (complete : TypesComplete d) (bares_are : BareNamesComplete d
       record { tree = _; next = _; cost = _; reading = construction_special i.reading offset o.reading; deep = omega (arith, i.deep, o.deep) })))
   special_as_sound ThunkSpecial end x p e m y is =
       let i = (thunks end x p e m y is).within in record { tree = _; next = _; cost = _; reading = thunk_special i.reading; deep = i.deep }
-  special_as_sound NoSpecial end x p e m y is = cc
+  special_as_sound UnreadSpecial end x p e m y is = cc
 
   pub special_sound : (end : EncodingEnd) (x : Context) (p : Position) (e m : ℕ) (y : Shape × ParserState) → parse_special d end x (state_at p e m) ≡ Some y → Within (SpecialAs (special_case p.rest) end x p) d
   unfolding parse_special
@@ -480,7 +480,7 @@ module _ (d : ℕ) (complete : TypesComplete d) (bares_are : BareNamesComplete d
   pub thunks_sound : ThunksSound (suc d)
   unfolding parse_thunk parse_special parse_name
   thunks_sound end x p e m y is =
-      let inner = of_thunk end in
+      let inner = for_thunk end in
       option_and_then_some _ (thunk_by (encoding_by inner (parse_type d x) (parse_type d (inside_params inner x)) (parse_bare_name d x) (parse_thunk d inner x) x) (state_at p (e + 1) m)) y is (λ u thunked through.
       option_and_then_some _ (thunk_offsets (drop 1 p.rest)) u thunked (λ o offsets more.
       option_and_then_some _ (encoding_as (encoding_case inner o.1) inner (parse_special d inner x) (parse_name d x) (parse_bare_name d x) (parse_type d x) (parse_type d (inside_params inner x)) (state_at (with_rest o.1 p) (e + 1) m)) u more (λ z read _.
@@ -496,7 +496,7 @@ module _ (d : ℕ) (complete : TypesComplete d) (bares_are : BareNamesComplete d
       option_and_then_some _ (parse_encoding d AtSymbolEnd x (state_at p e m)) u ended (λ z read more.
       let found = encoding_sound AtSymbolEnd x p e m z read in
       let i = found.within in
-      let here = (cond_some (is_here AtSymbolEnd i.next.rest) _ u (rw found.is at more)).0 in
+      let here = (cond_some (ends_here AtSymbolEnd i.next.rest) _ u (rw found.is at more)).0 in
       let narrow = met_passed (signature_by_met d complete bares_are thunks_are i.reading here i.deep e m) ended through in
       record { tree = _; next = _; cost = _; reading = signature i.reading here; deep = omega (arith, i.deep, narrow) }))
 
@@ -512,17 +512,17 @@ module _ (d : ℕ) (complete : TypesComplete d) (bares_are : BareNamesComplete d
       option_and_then_some _ (parse_bare_name d x (state_at (skip 1 p) e m)) y is (λ z read _.
       let i = (bares x (skip 1 p) e m z read).within in
       record { tree = _; next = _; cost = _; reading = name_entity i.reading; deep = i.deep })
-  entity_sound NoEntity x t p e m y is = cc
+  entity_sound UnreadEntity x t p e m y is = cc
 
   local_sound : (x : Context) (p : Position) (e m : ℕ) (y : (Shape × Quals) × ParserState)
-      → parse_local (parse_encoding d AtE (inside_encoding x)) (parse_bare_name d (inside_local x)) (state_at p e m) ≡ Some y
+      → parse_local (parse_encoding d AtE (inside_encoding x)) (parse_bare_name d (showing_words x)) (state_at p e m) ≡ Some y
       → Within (Local true x p) d
   unfolding parse_local
   local_sound x p e m y is =
       option_and_then_some _ (parse_encoding d AtE (inside_encoding x) (state_at p e m)) y is (λ z read more.
       let found = encoding_sound AtE (inside_encoding x) p e m z read in
       let i = found.within in
-      let o = entity_sound (entity_case i.next.rest) (inside_local x) i.tree i.next (e + i.cost.count) (max m i.cost.peak) y (rw found.is at more) in
+      let o = entity_sound (entity_case i.next.rest) (showing_words x) i.tree i.next (e + i.cost.count) (max m i.cost.peak) y (rw found.is at more) in
       record { tree = _; next = _; cost = _; reading = local i.reading o.reading; deep = omega (arith, i.deep, o.deep) })
 
 module _ (d : ℕ) (complete : TypesComplete d) (lists_are : ArgsComplete d) (bares_are : BareNamesComplete d)
@@ -530,7 +530,7 @@ module _ (d : ℕ) (complete : TypesComplete d) (lists_are : ArgsComplete d) (ba
     (thunks : ThunksSound d) where
   name_as_sound : (case : NameCase) (x : Context) (p : Position) (e m : ℕ) (y : (Shape × Quals) × ParserState)
       → name_as case (parse_unqualified (parse_type d x) (parse_type d (inside_lambda x))) (parse_args d x true)
-      (parse_local (parse_encoding d AtE (inside_encoding x)) (parse_bare_name d (inside_local x))) x (state_at p e m) ≡ Some y
+      (parse_local (parse_encoding d AtE (inside_encoding x)) (parse_bare_name d (showing_words x))) x (state_at p e m) ≡ Some y
       → Within (NameAs case true x p) d
   name_as_sound NestedName x p e m y is =
       let i = nested_sound d complete lists_are kinds lists x (skip 1 p) e m y is in record { tree = _; next = _; cost = _; reading = nested_name i.reading; deep = i.deep }
@@ -544,7 +544,7 @@ pub bare_names_sound : (d : ℕ) → ArgsComplete d → TypesComplete d → Bare
 unfolding parse_bare_name parse_encoding parse_special parse_name
 bare_names_sound d lists_are complete bares_are thunks_are lists kinds bares thunks x p e m y is =
     option_and_then_some _ (name_as (name_case p.rest) (parse_unqualified (parse_type d x) (parse_type d (inside_lambda x))) (parse_args d x true)
-    (parse_local (parse_encoding d AtE (inside_encoding x)) (parse_bare_name d (inside_local x))) x (state_at p (e + 1) m)) y is (λ z read through.
+    (parse_local (parse_encoding d AtE (inside_encoding x)) (parse_bare_name d (showing_words x))) x (state_at p (e + 1) m)) y is (λ z read through.
     let r = name_as_sound d complete lists_are bares_are thunks_are kinds lists bares thunks (name_case p.rest) x p (e + 1) m z read in
     let narrow = met_passed_bare (name_as_met d lists_are complete bares_are thunks_are r.reading r.deep (e + 1) m) read through in
     let w : Within (Name true x p) (suc d) = record { tree = _; next = _; cost = _; reading = name r.reading; deep = omega (arith, r.deep, narrow) } in

@@ -13,14 +13,14 @@ use Rattle.itanium_syntax.specs.Names.{name_case}
 use Rattle.itanium_syntax.specs.Encodings.{return_case}
 use Rattle.itanium_reader.specs.Parser.{shows_words}
 use Rattle.itanium_grammar.specs.Tree.{Tree, shape_of, bare_shape, own_quals, local_in, nested_of, string_literal_of, default_argument_of}
-use Rattle.itanium_grammar.specs.Grammar.{Position, Cost, TaggedAs, FreeAs, UnqualifiedAs, Unqualified, UnscopedAs}
-use Rattle.itanium_grammar.specs.Grammar.{AttachedAs, Name, NameAs, EntityAs, no_tag, next_tag, source_free}
-use Rattle.itanium_grammar.specs.Grammar.{unnamed_type_free, lambda_free, conversion_free, literal_operator_free}
-use Rattle.itanium_grammar.specs.Grammar.{operator_free, constructor_unqualified, destructor_unqualified}
-use Rattle.itanium_grammar.specs.Grammar.{free_unqualified, unqualified, std_name, substitution_name, global_name}
+use Rattle.itanium_grammar.specs.Grammar.{Position, Cost, TaggedAs, OrdinaryAs, UnqualifiedAs, Unqualified, UnscopedAs}
+use Rattle.itanium_grammar.specs.Grammar.{AttachedAs, Name, NameAs, EntityAs, no_tag, next_tag, ordinary_source}
+use Rattle.itanium_grammar.specs.Grammar.{ordinary_unnamed_type, ordinary_lambda, ordinary_conversion, ordinary_literal_operator}
+use Rattle.itanium_grammar.specs.Grammar.{ordinary_operator, constructor_unqualified, destructor_unqualified}
+use Rattle.itanium_grammar.specs.Grammar.{ordinary_unqualified, unqualified, std_name, substitution_name, global_name}
 use Rattle.itanium_grammar.specs.Grammar.{none_attached, args_attached, name, nested_name, local_name, unscoped_name}
 use Rattle.itanium_grammar.specs.Grammar.{nested, local, string_literal_entity, default_argument_entity, name_entity}
-use Rattle.itanium_grammar.specs.Cases.{EncodingEnd, NameCase, NestedName, LocalName, UnscopedName, TagCase, FreeCase, UnqualifiedCase, UnscopedCase, AttachedCase, EntityCase}
+use Rattle.itanium_grammar.specs.Cases.{EncodingEnd, NameCase, NestedName, LocalName, UnscopedName, TagCase, OrdinaryCase, UnqualifiedCase, UnscopedCase, AttachedCase, EntityCase}
 
 -- a name without own qualifiers
 pub record HasNoOwn (t : Tree) : Type 0 where
@@ -32,21 +32,21 @@ unfolding shape_of
 tagged_none no_tag none = none
 tagged_none (next_tag found tags) none = tagged_none tags (record { quals = refl; bare = refl })
 
-free_none : {case : FreeCase} {x : Context} {p q : Position} {t : Tree} {c : Cost} → FreeAs case x p t q c → HasNoOwn t
+ordinary_none : {case : OrdinaryCase} {x : Context} {p q : Position} {t : Tree} {c : Cost} → OrdinaryAs case x p t q c → HasNoOwn t
 unfolding shape_of
-free_none (source_free found) = record { quals = refl; bare = refl }
-free_none (unnamed_type_free found) = record { quals = refl; bare = refl }
-free_none (lambda_free a found) = record { quals = refl; bare = refl }
-free_none (conversion_free a) = record { quals = refl; bare = refl }
-free_none (literal_operator_free found) = record { quals = refl; bare = refl }
-free_none (operator_free found) = record { quals = refl; bare = refl }
+ordinary_none (ordinary_source found) = record { quals = refl; bare = refl }
+ordinary_none (ordinary_unnamed_type found) = record { quals = refl; bare = refl }
+ordinary_none (ordinary_lambda a found) = record { quals = refl; bare = refl }
+ordinary_none (ordinary_conversion a) = record { quals = refl; bare = refl }
+ordinary_none (ordinary_literal_operator found) = record { quals = refl; bare = refl }
+ordinary_none (ordinary_operator found) = record { quals = refl; bare = refl }
 
 unqualified_as_none : {case : UnqualifiedCase} {x : Context} {parent : Option Tree} {p q : Position} {t : Tree} {c : Cost} → UnqualifiedAs case x parent p t q c → HasNoOwn t
 unfolding shape_of
 unqualified_as_none (constructor_unqualified tags) = tagged_none tags (record { quals = refl; bare = refl })
 unqualified_as_none (destructor_unqualified tags) = tagged_none tags (record { quals = refl; bare = refl })
-unqualified_as_none (free_unqualified {parent = None} a tags) = tagged_none tags (free_none a)
-unqualified_as_none (free_unqualified {parent = Some parent} a tags) = record { quals = refl; bare = refl }
+unqualified_as_none (ordinary_unqualified {parent = None} a tags) = tagged_none tags (ordinary_none a)
+unqualified_as_none (ordinary_unqualified {parent = Some parent} a tags) = record { quals = refl; bare = refl }
 
 unqualified_none : {x : Context} {parent : Option Tree} {p q : Position} {t : Tree} {c : Cost} → Unqualified x parent p t q c → HasNoOwn t
 unqualified_none (unqualified a) = unqualified_as_none a
@@ -120,16 +120,16 @@ mutual
   unfolding shape_of
 
   pub whole_name : {waits : Bool} {x : Context} {p q : Position} {t : Tree} {c : Cost} → Name waits x p t q c
-      → with_name_qualifiers (bare_shape t) (own_quals t) (shows_words (name_case p.rest) x.shown) ≡ shape_of t
+      → with_name_qualifiers (bare_shape t) (own_quals t) (shows_words (name_case p.rest) x.words_shown) ≡ shape_of t
   whole_name (name a) = whole_name_as a
 
   whole_name_as : {case : NameCase} {waits : Bool} {x : Context} {p q : Position} {t : Tree} {c : Cost} → NameAs case waits x p t q c
-      → with_name_qualifiers (bare_shape t) (own_quals t) (shows_words case x.shown) ≡ shape_of t
+      → with_name_qualifiers (bare_shape t) (own_quals t) (shows_words case x.words_shown) ≡ shape_of t
   whole_name_as (nested_name (nested a b)) = refl
   whole_name_as (local_name (local a b)) = whole_entity b refl
   whole_name_as (unscoped_name a) = let none = unscoped_none a in rw (none.quals, none.bare) refl
 
-  whole_entity : {case : EntityCase} {waits : Bool} {x : Context} {t u : Tree} {p q : Position} {c : Cost} → EntityAs case waits x t p u q c → x.shown ≡ true
+  whole_entity : {case : EntityCase} {waits : Bool} {x : Context} {t u : Tree} {p q : Position} {c : Cost} → EntityAs case waits x t p u q c → x.words_shown ≡ true
       → with_name_qualifiers (bare_shape u) (own_quals u) true ≡ shape_of u
   whole_entity string_literal_entity on = refl
   whole_entity (default_argument_entity {t = t} {u = u} {number = k} {rest = r} found a) on =
@@ -156,7 +156,7 @@ quals_flags bare quals shown = go (has_quals quals)
 pub same_return : (end : EncodingEnd) {waits : Bool} {x : Context} {p q : Position} {t : Tree} {c : Cost} → Name waits x p t q c → (bytes : List ℕ)
     → return_case end (bare_shape t).templ (bare_shape t).ctor bytes ≡ return_case end (shape_of t).templ (shape_of t).ctor bytes
 same_return end {x = x} {p = p} {t = t} a bytes =
-    let flags = quals_flags (bare_shape t) (own_quals t) (shows_words (name_case p.rest) x.shown) in
+    let flags = quals_flags (bare_shape t) (own_quals t) (shows_words (name_case p.rest) x.words_shown) in
     ap₂ (λ templ ctor. return_case end templ ctor bytes)
     (sym flags.0 ∙ ap (λ (s : Shape). s.templ) (whole_name a))
     (sym flags.1 ∙ ap (λ (s : Shape). s.ctor) (whole_name a))

@@ -1,7 +1,7 @@
 -- What a reader says of trees.
 use Rattle.std.specs.Prelude.{◌≡◌, ℕ, ◌+◌, max, map, Bool, true, false, Result, Ok, Err}
 use Rattle.demangle_text.specs.State.{IsLiving, shape}
-use Rattle.itanium_syntax.specs.Context.{inside_local}
+use Rattle.itanium_syntax.specs.Context.{showing_words}
 use Rattle.itanium_grammar.specs.Tree.{shape_of}
 use Rattle.itanium_grammar.specs.Cases.{AfterName}
 use Rattle.itanium_grammar.specs.Grammar.{Position, Cost}
@@ -54,7 +54,7 @@ StandsFor r p = state r ≡ state_at p r.entered (state r).most_saved
 
 -- what follows the prefix of a symbol, as the readers read it: as a signature, or else as a name
 abbrev pub parse_mangled : ℕ → Bool → Parses Shape
-parse_mangled depth true = parse_signature depth (inside_local initial)
+parse_mangled depth true = parse_signature depth (showing_words initial)
 parse_mangled depth false = parse_encoding depth AfterName initial
 
 -- what a reader of symbols says of trees

@@ -42,10 +42,10 @@ fn read_signature(reader: &mut Reader, depth: usize, context: Context) -> Result
 {
     let depth = reader.enter(depth)?;
     read_encoding(reader, depth, context, EncodingEnd::AtSymbolEnd)?;
-    if !EncodingEnd::AtSymbolEnd.is_here(reader.rest) {
+    if !EncodingEnd::AtSymbolEnd.ends_here(reader.rest) {
         return Err(Stop::Unread);
     }
-    reader.measure()
+    reader.check_width()
 }
 
 /// Reads `<mangled-name>` after its prefix: as a signature if `signature` is true, and as a name otherwise. At most
@@ -67,7 +67,7 @@ pub(crate) fn read_mangled_name(
     ensures saved { SavedBounds 1 result (state reader.old) (state reader.new) }
 {
     if signature {
-        read_signature(reader, depth, INITIAL.inside_local())
+        read_signature(reader, depth, INITIAL.showing_words())
     } else {
         read_symbol(reader, depth, INITIAL)
     }

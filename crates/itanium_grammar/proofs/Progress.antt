@@ -5,7 +5,7 @@ use Rattle.itanium_syntax.specs.declared.context.Context.{Context}
 use Rattle.itanium_syntax.specs.declared.numerals.Radix.TheVariants.{Decimal, Base36}
 use Rattle.itanium_grammar.specs.Cases.{EncodingEnd, EncodingCase, SpecialCase, LiteralCase, ExpressionCase, NameCase, ReturnCase}
 use Rattle.itanium_grammar.specs.Cases.{EncodingParamsCase, EntityCase, UnscopedCase, AttachedCase, FirstCase, SegmentCase}
-use Rattle.itanium_grammar.specs.Cases.{UnqualifiedCase, FreeCase, TagCase, SubstitutionCase, ArgsCase, ArgumentCase}
+use Rattle.itanium_grammar.specs.Cases.{UnqualifiedCase, OrdinaryCase, TagCase, SubstitutionCase, ArgsCase, ArgumentCase}
 use Rattle.itanium_grammar.specs.Cases.{TypeCase, CvCase, ParamsCase, TypesCase}
 use Rattle.itanium_syntax.specs.Names.{first_case, segment_case, unqualified_case}
 use Rattle.itanium_syntax.specs.Args.{args_case}
@@ -31,8 +31,8 @@ use Rattle.itanium_grammar.specs.Grammar.{EncodingParamsAs, UnscopedAs, Attached
 use Rattle.itanium_grammar.specs.Grammar.{ArgumentsAs, ArgumentAs, TypeOf, TypeAs, CvAs, Function, ParamsAs, TypesAs}
 use Rattle.itanium_grammar.specs.Grammar.{TypeAttachedAs, abbreviation_substitution}
 use Rattle.itanium_grammar.specs.Grammar.{component_substitution, parameter, no_tag, next_tag}
-use Rattle.itanium_grammar.specs.Grammar.{source_free, unnamed_type_free, lambda_free, conversion_free}
-use Rattle.itanium_grammar.specs.Grammar.{literal_operator_free, operator_free, FreeAs, free_unqualified}
+use Rattle.itanium_grammar.specs.Grammar.{ordinary_source, ordinary_unnamed_type, ordinary_lambda, ordinary_conversion}
+use Rattle.itanium_grammar.specs.Grammar.{ordinary_literal_operator, ordinary_operator, OrdinaryAs, ordinary_unqualified}
 use Rattle.itanium_grammar.specs.Grammar.{constructor_unqualified, destructor_unqualified, unqualified, parameter_first}
 use Rattle.itanium_grammar.specs.Grammar.{std_first, substitution_first, name_first, name, nested_name, local_name}
 use Rattle.itanium_grammar.specs.Grammar.{local, string_literal_entity, default_argument_entity, name_entity}
@@ -115,21 +115,21 @@ mutual
   attached_after (none_attached {p = p}) = after_none p.rest
   attached_after (args_attached a) = args_after a
 
-  free_takes : {case : FreeCase} {x : Context} {p q : Position} {t : Tree} {c : Cost} → FreeAs case x p t q c → Takes q.rest p.rest
-  free_takes (source_free {p = p} {bytes = b} {rest = r} found) = source_takes p.rest (b, r) found
-  free_takes (unnamed_type_free {p = p} {k = k} {rest = r} found) = after_takes (after_drop 2 p.rest) (ordinal_takes (drop 2 p.rest) (k, r) found)
-  free_takes (lambda_free {p = p} {q = q} {k = k} {rest = r} params found) =
+  ordinary_takes : {case : OrdinaryCase} {x : Context} {p q : Position} {t : Tree} {c : Cost} → OrdinaryAs case x p t q c → Takes q.rest p.rest
+  ordinary_takes (ordinary_source {p = p} {bytes = b} {rest = r} found) = source_takes p.rest (b, r) found
+  ordinary_takes (ordinary_unnamed_type {p = p} {k = k} {rest = r} found) = after_takes (after_drop 2 p.rest) (ordinal_takes (drop 2 p.rest) (k, r) found)
+  ordinary_takes (ordinary_lambda {p = p} {q = q} {k = k} {rest = r} params found) =
       let front = after_then (after_then (after_drop 2 p.rest) (params_after params)) (after_drop 1 q.rest) in
       after_takes front (ordinal_takes (drop 1 q.rest) (k, r) found)
-  free_takes (conversion_free {p = p} a) = after_takes (after_drop 2 p.rest) (type_takes a)
-  free_takes (literal_operator_free {p = p} {bytes = b} {rest = r} found) = after_takes (after_drop 2 p.rest) (source_takes (drop 2 p.rest) (b, r) found)
-  free_takes (operator_free {p = p} {text = o} found) = operator_takes p.rest o found
+  ordinary_takes (ordinary_conversion {p = p} a) = after_takes (after_drop 2 p.rest) (type_takes a)
+  ordinary_takes (ordinary_literal_operator {p = p} {bytes = b} {rest = r} found) = after_takes (after_drop 2 p.rest) (source_takes (drop 2 p.rest) (b, r) found)
+  ordinary_takes (ordinary_operator {p = p} {text = o} found) = operator_takes p.rest o found
 
   pub unqualified_as_takes : {case : UnqualifiedCase} {x : Context} {parent : Option Tree} {p q : Position} {t : Tree} {c : Cost} → unqualified_case (is_some parent) p.rest ≡ case
       → UnqualifiedAs case x parent p t q c → Takes q.rest p.rest
   unqualified_as_takes case (constructor_unqualified {p = p} tags) = takes_then (takes_drop 2 p.rest (omega arith) (constructor_some p.rest case)) (tagged_after tags)
   unqualified_as_takes case (destructor_unqualified {p = p} tags) = takes_then (takes_drop 2 p.rest (omega arith) (destructor_some p.rest case)) (tagged_after tags)
-  unqualified_as_takes case (free_unqualified a tags) = takes_then (free_takes a) (tagged_after tags)
+  unqualified_as_takes case (ordinary_unqualified a tags) = takes_then (ordinary_takes a) (tagged_after tags)
 
   pub unqualified_takes : {x : Context} {parent : Option Tree} {p q : Position} {t : Tree} {c : Cost} → Unqualified x parent p t q c → Takes q.rest p.rest
   unqualified_takes (unqualified {p = p} a) = after_takes (internal_after p.rest) (unqualified_as_takes refl a)

@@ -5,13 +5,13 @@ use Rattle.std.proofs.Math.Seq.{take-append_seam}
 use Rattle.demangle_quals.specs.declared.quals.Quals.{Quals}
 use Rattle.itanium_syntax.specs.declared.context.Context.{Context}
 use Rattle.itanium_grammar.specs.Cases.{EncodingEnd, ArgsCase, ArgumentCase, AttachedCase, CvCase, EntityCase, ExpressionCase}
-use Rattle.itanium_grammar.specs.Cases.{FirstCase, FreeCase, LiteralCase, NameCase, ParamsCase, ReturnCase}
+use Rattle.itanium_grammar.specs.Cases.{FirstCase, OrdinaryCase, LiteralCase, NameCase, ParamsCase, ReturnCase}
 use Rattle.itanium_grammar.specs.Cases.{SegmentCase, EncodingParamsCase, SpecialCase, SubstitutionCase, EncodingCase}
 use Rattle.itanium_grammar.specs.Cases.{TagCase, TypeCase, TypesCase, UnqualifiedCase, UnscopedCase}
 use Rattle.itanium_grammar.specs.Tree.{Tree, Operand}
 use Rattle.itanium_grammar.specs.Grammar.{Position, Cost, scopes_inside, SubstitutionAs, Parameter, TaggedAs, Name}
 use Rattle.itanium_grammar.specs.Grammar.{NameAs, Local, EntityAs, EncodingAs, SpecialAs, Thunk, ReturnAs}
-use Rattle.itanium_grammar.specs.Grammar.{EncodingParamsAs, UnscopedAs, AttachedAs, FreeAs, UnqualifiedAs, Unqualified}
+use Rattle.itanium_grammar.specs.Grammar.{EncodingParamsAs, UnscopedAs, AttachedAs, OrdinaryAs, UnqualifiedAs, Unqualified}
 use Rattle.itanium_grammar.specs.Grammar.{FirstAs, Nested, SegmentsAs, Args, ArgumentsAs, Pack, PackedAs, ArgumentAs}
 use Rattle.itanium_grammar.specs.Grammar.{LiteralAs, Expression, OperandOf, ExpressionAs, TypeOf, TypeAs, CvAs}
 use Rattle.itanium_grammar.specs.Grammar.{Function, ParamsAs, TypesAs, TypeAttachedAs, abbreviation_substitution}
@@ -21,9 +21,9 @@ use Rattle.itanium_grammar.specs.Grammar.{default_argument_entity, name_entity, 
 use Rattle.itanium_grammar.specs.Grammar.{type_special, name_special, temporary_special, construction_special}
 use Rattle.itanium_grammar.specs.Grammar.{thunk_special, thunk, name_alone, no_return_type}
 use Rattle.itanium_grammar.specs.Grammar.{some_return_type, no_encoding_params, some_encoding_params, std_name, substitution_name}
-use Rattle.itanium_grammar.specs.Grammar.{global_name, none_attached, args_attached, source_free, unnamed_type_free}
-use Rattle.itanium_grammar.specs.Grammar.{lambda_free, conversion_free, literal_operator_free, operator_free}
-use Rattle.itanium_grammar.specs.Grammar.{constructor_unqualified, destructor_unqualified, free_unqualified}
+use Rattle.itanium_grammar.specs.Grammar.{global_name, none_attached, args_attached, ordinary_source, ordinary_unnamed_type}
+use Rattle.itanium_grammar.specs.Grammar.{ordinary_lambda, ordinary_conversion, ordinary_literal_operator, ordinary_operator}
+use Rattle.itanium_grammar.specs.Grammar.{constructor_unqualified, destructor_unqualified, ordinary_unqualified}
 use Rattle.itanium_grammar.specs.Grammar.{unqualified, parameter_first, std_first, substitution_first, name_first}
 use Rattle.itanium_grammar.specs.Grammar.{nested, end_of_segments, args_segment, name_segment, args, end_of_arguments}
 use Rattle.itanium_grammar.specs.Grammar.{one_more_argument, pack, end_of_pack, one_more_packed, expression_argument}
@@ -119,18 +119,18 @@ mutual
   attached_keeps none_attached = keeps_all _
   attached_keeps (args_attached a) = args_keeps a
 
-  free_keeps : {case : FreeCase} {x : Context} {p : Position} {t : Tree} {q : Position} {c : Cost} → FreeAs case x p t q c → Keeps p.scopes q.scopes
-  free_keeps (source_free a) = keeps_all _
-  free_keeps (unnamed_type_free a) = keeps_all _
-  free_keeps (lambda_free a b) = params_keeps a
-  free_keeps (conversion_free a) = type_keeps a
-  free_keeps (literal_operator_free a) = keeps_all _
-  free_keeps (operator_free a) = keeps_all _
+  ordinary_keeps : {case : OrdinaryCase} {x : Context} {p : Position} {t : Tree} {q : Position} {c : Cost} → OrdinaryAs case x p t q c → Keeps p.scopes q.scopes
+  ordinary_keeps (ordinary_source a) = keeps_all _
+  ordinary_keeps (ordinary_unnamed_type a) = keeps_all _
+  ordinary_keeps (ordinary_lambda a b) = params_keeps a
+  ordinary_keeps (ordinary_conversion a) = type_keeps a
+  ordinary_keeps (ordinary_literal_operator a) = keeps_all _
+  ordinary_keeps (ordinary_operator a) = keeps_all _
 
   unqualified_as_keeps : {case : UnqualifiedCase} {x : Context} {parent : Option Tree} {p : Position} {t : Tree} {q : Position} {c : Cost} → UnqualifiedAs case x parent p t q c → Keeps p.scopes q.scopes
   unqualified_as_keeps (constructor_unqualified a) = tagged_keeps a
   unqualified_as_keeps (destructor_unqualified a) = tagged_keeps a
-  unqualified_as_keeps (free_unqualified a b) = keeps_then (free_keeps a) (tagged_keeps b)
+  unqualified_as_keeps (ordinary_unqualified a b) = keeps_then (ordinary_keeps a) (tagged_keeps b)
 
   unqualified_keeps : {x : Context} {parent : Option Tree} {p : Position} {t : Tree} {q : Position} {c : Cost} → Unqualified x parent p t q c → Keeps p.scopes q.scopes
   unqualified_keeps (unqualified a) = unqualified_as_keeps a

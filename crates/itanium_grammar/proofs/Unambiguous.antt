@@ -6,16 +6,16 @@ use Rattle.demangle_quals.specs.declared.quals.Quals.{Quals}
 use Rattle.itanium_syntax.specs.declared.context.Context.{Context}
 use Rattle.itanium_grammar.specs.Cases.{EncodingEnd, AtE, EncodingCase, SpecialCase, LiteralCase, ExpressionCase, NameCase, ReturnCase}
 use Rattle.itanium_grammar.specs.Cases.{EncodingParamsCase, EntityCase, UnscopedCase, AttachedCase, FirstCase, SegmentCase}
-use Rattle.itanium_grammar.specs.Cases.{UnqualifiedCase, FreeCase, TagCase, SubstitutionCase, ArgsCase, ArgumentCase}
+use Rattle.itanium_grammar.specs.Cases.{UnqualifiedCase, OrdinaryCase, TagCase, SubstitutionCase, ArgsCase, ArgumentCase}
 use Rattle.itanium_grammar.specs.Cases.{TypeCase, CvCase, ParamsCase, TypesCase}
 use Rattle.itanium_syntax.specs.Names.{segment_case, encoding_case, source_text, tag_case, past_name_quals, name_quals, saves_first, first_case}
 use Rattle.itanium_syntax.specs.Scalars.{ordinal, index_of}
 use Rattle.itanium_syntax.specs.declared.numerals.Radix.TheVariants.{Base36}
-use Rattle.itanium_syntax.specs.Context.{inside_local}
+use Rattle.itanium_syntax.specs.Context.{showing_words}
 use Rattle.itanium_syntax.specs.Expressions.{is_external, literal_value, expression_text}
 use Rattle.itanium_syntax.specs.Offsets.{past_base_offset}
 use Rattle.itanium_syntax.specs.Specials.{special_text, special_close}
-use Rattle.itanium_syntax.specs.Encodings.{of_thunk, return_case, encoding_params_case, entity_case}
+use Rattle.itanium_syntax.specs.Encodings.{for_thunk, return_case, encoding_params_case, entity_case}
 use Rattle.itanium_syntax.specs.Args.{attached_case, args_case}
 use Rattle.itanium_syntax.specs.Types.{params_case, types_case, elaborated_text, with_reference, past_reference}
 use Rattle.itanium_grammar.specs.Tree.{Tree, worded, temporary_of, construction_of, thunk_of, Operand, operand}
@@ -39,9 +39,9 @@ use Rattle.itanium_grammar.specs.Grammar.{ReturnAs, EncodingParamsAs, UnscopedAs
 use Rattle.itanium_grammar.specs.Grammar.{Args, ArgumentsAs, ArgumentAs, TypeOf, TypeAs, CvAs, Function, ParamsAs}
 use Rattle.itanium_grammar.specs.Grammar.{TypesAs, TypeAttachedAs, abbreviation_substitution}
 use Rattle.itanium_grammar.specs.Grammar.{component_substitution, auto_parameter, scope_parameter}
-use Rattle.itanium_grammar.specs.Grammar.{parameter, no_tag, next_tag, source_free, unnamed_type_free, lambda_free}
-use Rattle.itanium_grammar.specs.Grammar.{conversion_free, literal_operator_free, operator_free, FreeAs}
-use Rattle.itanium_grammar.specs.Grammar.{free_unqualified, nothing, constructor_unqualified, destructor_unqualified}
+use Rattle.itanium_grammar.specs.Grammar.{parameter, no_tag, next_tag, ordinary_source, ordinary_unnamed_type, ordinary_lambda}
+use Rattle.itanium_grammar.specs.Grammar.{ordinary_conversion, ordinary_literal_operator, ordinary_operator, OrdinaryAs}
+use Rattle.itanium_grammar.specs.Grammar.{ordinary_unqualified, nothing, constructor_unqualified, destructor_unqualified}
 use Rattle.itanium_grammar.specs.Grammar.{unqualified, parameter_first, std_first, substitution_first, name_first, name}
 use Rattle.itanium_grammar.specs.Grammar.{nested_name, local_name, local, string_literal_entity}
 use Rattle.itanium_grammar.specs.Grammar.{default_argument_entity, name_entity, name_encoding, no_return_type}
@@ -130,7 +130,7 @@ mutual
   one_local : {waits : Bool} {x : Context} {p q r : Position} {t u : Tree} {c d : Cost} → Local waits x p t q c → Local waits x p u r d → Same t u q r c d
   one_local (local {waits = waits} {x = x} a b) (local {r = r} {u = v} {d = d} f h) =
       let first = one_encoding_as a f in
-      let same = one_entity b (along (λ s o. EntityAs (entity_case o.rest) waits (inside_local x) s o v r d) (sym first.tree) (sym first.next) h) in
+      let same = one_entity b (along (λ s o. EntityAs (entity_case o.rest) waits (showing_words x) s o v r d) (sym first.tree) (sym first.next) h) in
       record { tree = same.tree; next = same.next; cost = ap₂ both first.cost same.cost }
 
   one_entity : {case : EntityCase} {waits : Bool} {x : Context} {t u v : Tree} {p q r : Position} {c d : Cost}
@@ -170,7 +170,7 @@ mutual
   pub one_thunk : {end : EncodingEnd} {x : Context} {p q r : Position} {t u : Tree} {c d : Cost} → Thunk end x p t q c → Thunk end x p u r d → Same t u q r c d
   one_thunk (thunk {end = end} {x = x} {p = p} e a) (thunk {q = r} {t = u} {c = d} g b) =
       let found = some_pair_parts _ _ _ _ (sym g ∙ e) in
-      let same = one_encoding_as a (subst (λ v. EncodingAs (encoding_case (of_thunk end) v) (of_thunk end) x (with_rest v p) u r d) found.1 b) in
+      let same = one_encoding_as a (subst (λ v. EncodingAs (encoding_case (for_thunk end) v) (for_thunk end) x (with_rest v p) u r d) found.1 b) in
       same_counted printing (record { tree = ap₂ thunk_of (sym found.0) same.tree; next = same.next; cost = same.cost })
 
   one_return : {case : ReturnCase} {x : Context} {p q r : Position} {c d : Cost} → ReturnAs case x p q c → ReturnAs case x p r d → (q ≡ r) × (c ≡ d)
@@ -205,10 +205,10 @@ mutual
       let same = one_args a b in
       record { tree = ap (λ ts. with_args t (trees ts)) same.tree; next = same.next; cost = ap (both (saving p)) same.cost }
 
-  one_free : {case : FreeCase} {x : Context} {p q r : Position} {t u : Tree} {c d : Cost} → FreeAs case x p t q c → FreeAs case x p u r d → Same t u q r c d
-  one_free (source_free {p = p} e) (source_free g) = same_text source_text p (some_pair_parts _ _ _ _ (sym e ∙ g))
-  one_free (unnamed_type_free {p = p} e) (unnamed_type_free g) = same_text unnamed_text p (some_pair_parts _ _ _ _ (sym e ∙ g))
-  one_free (lambda_free a e) (lambda_free b g) =
+  one_ordinary : {case : OrdinaryCase} {x : Context} {p q r : Position} {t u : Tree} {c d : Cost} → OrdinaryAs case x p t q c → OrdinaryAs case x p u r d → Same t u q r c d
+  one_ordinary (ordinary_source {p = p} e) (ordinary_source g) = same_text source_text p (some_pair_parts _ _ _ _ (sym e ∙ g))
+  one_ordinary (ordinary_unnamed_type {p = p} e) (ordinary_unnamed_type g) = same_text unnamed_text p (some_pair_parts _ _ _ _ (sym e ∙ g))
+  one_ordinary (ordinary_lambda a e) (ordinary_lambda b g) =
       let params = one_params a b in
       let found = some_pair_parts _ _ _ _ (sym e ∙ ap (λ o. ordinal (drop 1 o.rest)) params.next ∙ g) in
       record {
@@ -216,9 +216,9 @@ mutual
         next = λ j. with_rest (found.1 j) (params.next j);
         cost = params.cost;
       }
-  one_free (conversion_free a) (conversion_free b) = same_made conversion_to (one_type a b)
-  one_free (literal_operator_free {p = p} e) (literal_operator_free g) = same_text literal_operator_text p (some_pair_parts _ _ _ _ (sym e ∙ g))
-  one_free (operator_free e) (operator_free g) =
+  one_ordinary (ordinary_conversion a) (ordinary_conversion b) = same_made conversion_to (one_type a b)
+  one_ordinary (ordinary_literal_operator {p = p} e) (ordinary_literal_operator g) = same_text literal_operator_text p (some_pair_parts _ _ _ _ (sym e ∙ g))
+  one_ordinary (ordinary_operator e) (ordinary_operator g) =
       record { tree = ap (λ s. plain_text (codes "operator" ++ s)) (same_Some _ _ (sym e ∙ g)); next = refl; cost = refl }
 
   one_unqualified_as : {case : UnqualifiedCase} {x : Context} {parent : Option Tree} {p q r : Position} {t u : Tree} {c d : Cost}
@@ -227,8 +227,8 @@ mutual
       let same = one_tagged a b in record { tree = same.0; next = same.1; cost = refl }
   one_unqualified_as (destructor_unqualified a) (destructor_unqualified b) =
       let same = one_tagged a b in record { tree = same.0; next = same.1; cost = refl }
-  one_unqualified_as (free_unqualified {parent = parent} a tags) (free_unqualified {r = r} {u = u} b others) =
-      let first = one_free a b in
+  one_unqualified_as (ordinary_unqualified {parent = parent} a tags) (ordinary_unqualified {r = r} {u = u} b others) =
+      let first = one_ordinary a b in
       let same = one_tagged tags (along (λ s o. TaggedAs (tag_case o.rest) s o u r) (sym first.tree) (sym first.next) others) in
       record { tree = ap (in_parent parent) same.0; next = same.1; cost = first.cost }
 
@@ -249,7 +249,7 @@ mutual
       let first = one_first a g in
       let takes = saves_first (first_case (past_name_quals p.rest)) in
       let same = one_segment_as b (along (λ s o. SegmentsAs (segment_case o.rest) takes x s o v r d) (sym first.tree) (ap past_initializer (sym first.next)) h) in
-      record { tree = ap (λ n. nested_of n (name_quals p.rest) x.shown) same.tree; next = same.next; cost = ap₂ both first.cost same.cost }
+      record { tree = ap (λ n. nested_of n (name_quals p.rest) x.words_shown) same.tree; next = same.next; cost = ap₂ both first.cost same.cost }
 
   one_segment_as : {case : SegmentCase} {x : Context} {takes : Bool} {s t u : Tree} {p q r : Position} {c d : Cost}
       → SegmentsAs case takes x s p t q c → SegmentsAs case takes x s p u r d → Same t u q r c d
@@ -346,7 +346,7 @@ mutual
   one_type_as : {case : TypeCase} {x : Context} {p q r : Position} {t u : Tree} {c d : Cost} → TypeAs case x p t q c → TypeAs case x p u r d
       → Same t u q r c d
   one_type_as builtin_type builtin_type = record { tree = refl; next = refl; cost = refl }
-  one_type_as (expansion_type {x = x} a) (expansion_type b) = same_saved (same_made (expanded x.pack) (one_type a b))
+  one_type_as (expansion_type {x = x} a) (expansion_type b) = same_saved (same_made (expanded x.dots_hidden) (one_type a b))
   one_type_as (vendor_type {p = p} e f) (vendor_type g h) =
       let found = some_pair_parts _ _ _ _ (sym e ∙ g) in
       let source = ap (λ v. plain_text (source_text v)) found.0 in

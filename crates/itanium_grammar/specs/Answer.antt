@@ -5,7 +5,7 @@ use Rattle.demangle_text.specs.Shape.{Shape}
 use Rattle.itanium_syntax.specs.declared.context.Context.{Context}
 use Rattle.itanium_grammar.specs.Tree.{Tree, shape_of, printing}
 use Rattle.itanium_syntax.specs.Bytes.{begins}
-use Rattle.itanium_syntax.specs.Context.{inside_local}
+use Rattle.itanium_syntax.specs.Context.{showing_words}
 use Rattle.itanium_grammar.specs.Grammar.{Position, Cost, Symbol, Signature}
 
 -- most counted productions that may nest
@@ -27,7 +27,7 @@ IsWithin cost = Fits max_depth cost
 
 -- the context of a symbol: nothing is on
 abbrev pub initial : Context
-initial = record { shown = false; pack = false; lambda = false; in_type = false }
+initial = record { words_shown = false; dots_hidden = false; lambda = false; in_type = false }
 
 -- <mangled-name> ::= _Z <encoding>, and the same after a further underscore: what follows the prefix
 abbrev pub after_prefix : List ℕ → Option (List ℕ)
@@ -44,9 +44,9 @@ abbrev pub suffix : List ℕ → List ℕ
 suffix rest = if begins (codes ".") rest then rest else []
 
 -- what follows the prefix of a symbol: read as a signature if the first argument is true, and else as a name. In a
--- signature the words of qualifiers are shown, as `inside_local` has it of a local name.
+-- signature the words of qualifiers are shown, as `showing_words` has it of a local name.
 abbrev pub Mangled : Bool → Position → Tree → Position → Cost → Type 0
-Mangled true p = Signature (inside_local initial) p
+Mangled true p = Signature (showing_words initial) p
 Mangled false p = Symbol initial p
 
 -- Below, a first argument `signature` selects what is meant: the symbol's signature if it is true, its name if not.

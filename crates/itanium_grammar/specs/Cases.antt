@@ -10,9 +10,9 @@ pub use Rattle.itanium_syntax.specs.declared.names.FirstCase.TheVariants.{Parame
 pub use Rattle.itanium_syntax.specs.declared.names.SegmentCase.{SegmentCase}
 pub use Rattle.itanium_syntax.specs.declared.names.SegmentCase.TheVariants.{EndOfSegments, ArgsSegment, NameSegment}
 pub use Rattle.itanium_syntax.specs.declared.names.UnqualifiedCase.{UnqualifiedCase}
-pub use Rattle.itanium_syntax.specs.declared.names.UnqualifiedCase.TheVariants.{ConstructorName, DestructorName, FreeName}
-pub use Rattle.itanium_syntax.specs.declared.names.FreeCase.{FreeCase}
-pub use Rattle.itanium_syntax.specs.declared.names.FreeCase.TheVariants.{SourceName, UnnamedTypeName, LambdaName, ConversionName, LiteralOperatorName, OperatorName, NoName}
+pub use Rattle.itanium_syntax.specs.declared.names.UnqualifiedCase.TheVariants.{ConstructorName, DestructorName, OrdinaryName}
+pub use Rattle.itanium_syntax.specs.declared.names.OrdinaryCase.{OrdinaryCase}
+pub use Rattle.itanium_syntax.specs.declared.names.OrdinaryCase.TheVariants.{SourceName, UnnamedTypeName, LambdaName, ConversionName, LiteralOperatorName, OperatorName, UnreadName}
 pub use Rattle.itanium_syntax.specs.declared.names.TagCase.{TagCase}
 pub use Rattle.itanium_syntax.specs.declared.names.TagCase.TheVariants.{NoTag, NextTag}
 pub use Rattle.itanium_syntax.specs.declared.encodings.EncodingEnd.{EncodingEnd}
@@ -22,7 +22,7 @@ pub use Rattle.itanium_syntax.specs.declared.encodings.ReturnCase.TheVariants.{N
 pub use Rattle.itanium_syntax.specs.declared.encodings.EncodingParamsCase.{EncodingParamsCase}
 pub use Rattle.itanium_syntax.specs.declared.encodings.EncodingParamsCase.TheVariants.{NoEncodingParams, SomeEncodingParams}
 pub use Rattle.itanium_syntax.specs.declared.encodings.EntityCase.{EntityCase}
-pub use Rattle.itanium_syntax.specs.declared.encodings.EntityCase.TheVariants.{StringLiteralEntity, DefaultArgumentEntity, NameEntity, NoEntity}
+pub use Rattle.itanium_syntax.specs.declared.encodings.EntityCase.TheVariants.{StringLiteralEntity, DefaultArgumentEntity, NameEntity, UnreadEntity}
 pub use Rattle.itanium_syntax.specs.declared.names.SubstitutionCase.{SubstitutionCase}
 pub use Rattle.itanium_syntax.specs.declared.names.SubstitutionCase.TheVariants.{AbbreviationSubstitution, ComponentSubstitution}
 pub use Rattle.itanium_syntax.specs.declared.args.AttachedCase.{AttachedCase}
@@ -32,7 +32,7 @@ pub use Rattle.itanium_syntax.specs.declared.args.ArgsCase.TheVariants.{EndOfArg
 pub use Rattle.itanium_syntax.specs.declared.args.ArgumentCase.{ArgumentCase}
 pub use Rattle.itanium_syntax.specs.declared.args.ArgumentCase.TheVariants.{ExpressionArgument, PackArgument, LiteralArgument, ConstraintArgument, TypeArgument}
 pub use Rattle.itanium_syntax.specs.declared.expressions.LiteralCase.{LiteralCase}
-pub use Rattle.itanium_syntax.specs.declared.expressions.LiteralCase.TheVariants.{ExternalName, ValueLiteral, NoLiteral}
+pub use Rattle.itanium_syntax.specs.declared.expressions.LiteralCase.TheVariants.{ExternalName, ValueLiteral, UnreadLiteral}
 pub use Rattle.itanium_syntax.specs.declared.expressions.ExpressionCase.{ExpressionCase}
 pub use Rattle.itanium_syntax.specs.declared.expressions.ExpressionCase.TheVariants.{PreExpression, AddressExpression}
 pub use Rattle.itanium_syntax.specs.declared.expressions.ExpressionCase.TheVariants.{UnaryExpression, PostExpression}
@@ -40,9 +40,9 @@ pub use Rattle.itanium_syntax.specs.declared.expressions.ExpressionCase.TheVaria
 pub use Rattle.itanium_syntax.specs.declared.expressions.ExpressionCase.TheVariants.{GreaterExpression}
 pub use Rattle.itanium_syntax.specs.declared.expressions.ExpressionCase.TheVariants.{ConditionalExpression}
 pub use Rattle.itanium_syntax.specs.declared.expressions.ExpressionCase.TheVariants.{ParameterExpression}
-pub use Rattle.itanium_syntax.specs.declared.expressions.ExpressionCase.TheVariants.{LiteralExpression, NoExpression}
+pub use Rattle.itanium_syntax.specs.declared.expressions.ExpressionCase.TheVariants.{LiteralExpression, UnreadExpression}
 pub use Rattle.itanium_syntax.specs.declared.specials.SpecialCase.{SpecialCase}
-pub use Rattle.itanium_syntax.specs.declared.specials.SpecialCase.TheVariants.{TypeSpecial, NameSpecial, TemporarySpecial, ConstructionSpecial, ThunkSpecial, NoSpecial}
+pub use Rattle.itanium_syntax.specs.declared.specials.SpecialCase.TheVariants.{TypeSpecial, NameSpecial, TemporarySpecial, ConstructionSpecial, ThunkSpecial, UnreadSpecial}
 pub use Rattle.itanium_syntax.specs.declared.types.TypeCase.{TypeCase}
 pub use Rattle.itanium_syntax.specs.declared.types.TypeCase.TheVariants.{BuiltinType, ExpansionType, VendorType}
 pub use Rattle.itanium_syntax.specs.declared.types.TypeCase.TheVariants.{ArrayType, FunctionType, MemberType}

@@ -25,8 +25,8 @@ use Rattle.itanium_grammar.specs.Cases.{EncodingParamsCase, NoEncodingParams, So
 use Rattle.itanium_grammar.specs.Cases.{DefaultArgumentEntity, NameEntity, UnscopedCase, StdName, SubstitutionName}
 use Rattle.itanium_grammar.specs.Cases.{PlainName, AttachedCase, NoneAttached, ArgsAttached, FirstCase, ParameterFirst}
 use Rattle.itanium_grammar.specs.Cases.{StdFirst, SubstitutionFirst, NameFirst, SegmentCase, EndOfSegments, ArgsSegment}
-use Rattle.itanium_grammar.specs.Cases.{NameSegment, UnqualifiedCase, ConstructorName, DestructorName, FreeName}
-use Rattle.itanium_grammar.specs.Cases.{FreeCase, SourceName, UnnamedTypeName, LambdaName, ConversionName}
+use Rattle.itanium_grammar.specs.Cases.{NameSegment, UnqualifiedCase, ConstructorName, DestructorName, OrdinaryName}
+use Rattle.itanium_grammar.specs.Cases.{OrdinaryCase, SourceName, UnnamedTypeName, LambdaName, ConversionName}
 use Rattle.itanium_grammar.specs.Cases.{LiteralOperatorName, OperatorName, TagCase, NoTag, NextTag, SubstitutionCase}
 use Rattle.itanium_grammar.specs.Cases.{AbbreviationSubstitution, ComponentSubstitution, ArgsCase, EndOfArguments}
 use Rattle.itanium_grammar.specs.Cases.{NextArgument, ArgumentCase, ExpressionArgument, PackArgument, LiteralArgument}
@@ -40,17 +40,17 @@ use Rattle.itanium_grammar.specs.Cases.{ParamsCase, NoParams, SomeParams, TypesC
 use Rattle.itanium_syntax.specs.Scalars.{source_name, index_of, ordinal, optional_number}
 use Rattle.itanium_syntax.specs.Operators.{operator_here}
 use Rattle.itanium_syntax.specs.Abbreviations.{abbreviation_of}
-use Rattle.itanium_syntax.specs.Context.{opens_scope, inside_type, inside_pack, inside_lambda, inside_local}
+use Rattle.itanium_syntax.specs.Context.{opens_scope, inside_type, hiding_dots, inside_lambda, showing_words}
 use Rattle.itanium_syntax.specs.Context.{inside_encoding, inside_params}
 use Rattle.itanium_syntax.specs.Names.{encoding_case, name_case, unscoped_case, first_case, segment_case}
-use Rattle.itanium_syntax.specs.Names.{unqualified_case, free_case, tag_case, past_internal, past_initializer_letter}
+use Rattle.itanium_syntax.specs.Names.{unqualified_case, ordinary_case, tag_case, past_internal, past_initializer_letter}
 use Rattle.itanium_syntax.specs.Names.{source_text, name_quals, past_name_quals, saves_first, substitution_case}
 use Rattle.itanium_syntax.specs.Bytes.{begins}
 use Rattle.itanium_syntax.specs.Expressions.{is_external, literal_case, literal_value, expression_text, expression_case}
 use Rattle.itanium_syntax.specs.declared.offsets.ThunkOffsets.{ThunkOffsets}
 use Rattle.itanium_syntax.specs.Offsets.{thunk_offsets, past_base_offset}
 use Rattle.itanium_syntax.specs.Specials.{special_case, special_text, special_close}
-use Rattle.itanium_syntax.specs.Encodings.{is_here, of_thunk, return_case, encoding_params_case, entity_case}
+use Rattle.itanium_syntax.specs.Encodings.{ends_here, for_thunk, return_case, encoding_params_case, entity_case}
 use Rattle.itanium_syntax.specs.Args.{attached_case, args_case, argument_case}
 use Rattle.itanium_syntax.specs.Types.{type_case, builtin_text, past_builtin, cv_quals, past_cv, with_reference, past_reference, cv_case, function_case, params_case, types_case, elaborated_text}
 use Rattle.itanium_grammar.specs.Tree.{Tree, worded, temporary_of, construction_of, thunk_of, Operand, operand}
@@ -202,7 +202,7 @@ mutual
   pub data Local : Bool → Context → Position → Tree → Position → Cost → Type 0 where
     local : {waits : Bool} {x : Context} {p q r : Position} {t u : Tree} {c d : Cost}
         → EncodingAs (encoding_case AtE p.rest) AtE (inside_encoding x) p t q c
-        → EntityAs (entity_case q.rest) waits (inside_local x) t q u r d
+        → EntityAs (entity_case q.rest) waits (showing_words x) t q u r d
         → Local waits x p u r (both c d)
 
   -- what follows the encoding of a <local-name>, with the E in front of it
@@ -272,7 +272,7 @@ mutual
     thunk : {end : EncodingEnd} {x : Context} {p q : Position} {t : Tree} {c : Cost} {offsets : ThunkOffsets}
         {rest : List ℕ}
         → thunk_offsets (drop 1 p.rest) ≡ Some (offsets, rest)
-        → EncodingAs (encoding_case (of_thunk end) rest) (of_thunk end) x (with_rest rest p) t q c
+        → EncodingAs (encoding_case (for_thunk end) rest) (for_thunk end) x (with_rest rest p) t q c
         → Thunk end x p (thunk_of offsets t) q (counted (length (printing (thunk_of offsets t))) c)
 
   -- the return type of an encoding, or none: it isn't printed, and what it saved and the scopes that it left stay
@@ -326,32 +326,32 @@ mutual
         → AttachedAs ArgsAttached x t p (with_args t (trees ts)) q (both (saving p) c)
 
   -- <unqualified-name> that asks for no parent, without its tags
-  pub data FreeAs : FreeCase → Context → Position → Tree → Position → Cost → Type 0 where
+  pub data OrdinaryAs : OrdinaryCase → Context → Position → Tree → Position → Cost → Type 0 where
     -- <source-name>
-    source_free : {x : Context} {p : Position} {bytes rest : List ℕ}
+    ordinary_source : {x : Context} {p : Position} {bytes rest : List ℕ}
         → source_name p.rest ≡ Some (bytes, rest)
-        → FreeAs SourceName x p (plain_text (source_text bytes)) (with_rest rest p) nothing
+        → OrdinaryAs SourceName x p (plain_text (source_text bytes)) (with_rest rest p) nothing
     -- <unnamed-type-name> ::= Ut [<nonnegative number>] _
-    unnamed_type_free : {x : Context} {p : Position} {k : ℕ} {rest : List ℕ}
+    ordinary_unnamed_type : {x : Context} {p : Position} {k : ℕ} {rest : List ℕ}
         → ordinal (drop 2 p.rest) ≡ Some (k, rest)
-        → FreeAs UnnamedTypeName x p (plain_text (unnamed_text k)) (with_rest rest p) nothing
+        → OrdinaryAs UnnamedTypeName x p (plain_text (unnamed_text k)) (with_rest rest p) nothing
     -- <closure-type-name> ::= Ul <lambda-sig> E [<nonnegative number>] _
-    lambda_free : {x : Context} {p q : Position} {ts : List Tree} {c : Cost} {k : ℕ} {rest : List ℕ}
+    ordinary_lambda : {x : Context} {p q : Position} {ts : List Tree} {c : Cost} {k : ℕ} {rest : List ℕ}
         → ParamsAs (params_case AtE (drop 2 p.rest)) AtE false (inside_lambda x) (skip 2 p) ts q c
         → ordinal (drop 1 q.rest) ≡ Some (k, rest)
-        → FreeAs LambdaName x p (lambda_of (trees ts) k) (with_rest rest q) c
+        → OrdinaryAs LambdaName x p (lambda_of (trees ts) k) (with_rest rest q) c
     -- <operator-name> ::= cv <type>
-    conversion_free : {x : Context} {p q : Position} {t : Tree} {c : Cost}
+    ordinary_conversion : {x : Context} {p q : Position} {t : Tree} {c : Cost}
         → TypeOf x (skip 2 p) t q c
-        → FreeAs ConversionName x p (conversion_to t) q c
+        → OrdinaryAs ConversionName x p (conversion_to t) q c
     -- <operator-name> ::= li <source-name>
-    literal_operator_free : {x : Context} {p : Position} {bytes rest : List ℕ}
+    ordinary_literal_operator : {x : Context} {p : Position} {bytes rest : List ℕ}
         → source_name (drop 2 p.rest) ≡ Some (bytes, rest)
-        → FreeAs LiteralOperatorName x p (plain_text (literal_operator_text bytes)) (with_rest rest p) nothing
+        → OrdinaryAs LiteralOperatorName x p (plain_text (literal_operator_text bytes)) (with_rest rest p) nothing
     -- <operator-name>, a code of two letters
-    operator_free : {x : Context} {p : Position} {text : List ℕ}
+    ordinary_operator : {x : Context} {p : Position} {text : List ℕ}
         → operator_here p.rest ≡ Some text
-        → FreeAs OperatorName x p (plain_text (codes "operator" ++ text)) (skip 2 p) nothing
+        → OrdinaryAs OperatorName x p (plain_text (codes "operator" ++ text)) (skip 2 p) nothing
 
   -- <unqualified-name>, in the parent that stands in front of it, if one does
   pub data UnqualifiedAs : UnqualifiedCase → Context → Option Tree → Position → Tree → Position → Cost → Type 0 where
@@ -364,10 +364,10 @@ mutual
         → TaggedAs (tag_case (drop 2 p.rest)) (ctor_dtor_of parent true) (skip 2 p) t q
         → UnqualifiedAs DestructorName x (Some parent) p t q nothing
     -- another name and [<abi-tags>], and then in its parent
-    free_unqualified : {x : Context} {p q r : Position} {t u : Tree} {parent : Option Tree} {c : Cost}
-        → FreeAs (free_case p.rest) x p t q c
+    ordinary_unqualified : {x : Context} {p q r : Position} {t u : Tree} {parent : Option Tree} {c : Cost}
+        → OrdinaryAs (ordinary_case p.rest) x p t q c
         → TaggedAs (tag_case q.rest) t q u r
-        → UnqualifiedAs FreeName x parent p (in_parent parent u) r c
+        → UnqualifiedAs OrdinaryName x parent p (in_parent parent u) r c
 
   -- [L] and an <unqualified-name>
   pub data Unqualified : Context → Option Tree → Position → Tree → Position → Cost → Type 0 where
@@ -400,7 +400,7 @@ mutual
         → FirstAs (first_case (past_name_quals p.rest)) x (with_rest (past_name_quals p.rest) p) t q c
         → SegmentsAs (segment_case (past_initializer q).rest) (saves_first (first_case (past_name_quals p.rest))) x t
         (past_initializer q) u r d
-        → Nested x p (nested_of u (name_quals p.rest) x.shown) r (both c d)
+        → Nested x p (nested_of u (name_quals p.rest) x.words_shown) r (both c d)
 
   -- one more segment of a <prefix> after what stands, or the E after it. The truth value says whether the E takes the
   -- last saved tree back
@@ -445,7 +445,7 @@ mutual
   -- <template-arg> ::= J <template-arg>* E: counted, with the context of a pack inside
   pub data Pack : Context → Position → Tree → Position → Cost → Type 0 where
     pack : {x : Context} {p q : Position} {ts : List Tree} {c : Cost}
-        → PackedAs (args_case (drop 1 p.rest)) (inside_pack x) (skip 1 p) ts q c
+        → PackedAs (args_case (drop 1 p.rest)) (hiding_dots x) (skip 1 p) ts q c
         → Pack x p (pack_of (trees ts)) q (counted (length (printing (pack_of (trees ts)))) c)
 
   -- one more <template-arg> of a pack, or the E after them; no scope is dropped between them
@@ -562,7 +562,7 @@ mutual
     -- Dp <type>: saved also in a pack, where no dots are printed
     expansion_type : {x : Context} {p q : Position} {t : Tree} {c : Cost}
         → TypeOf x (skip 2 p) t q c
-        → TypeAs ExpansionType x p (expanded x.pack t) (save (expanded x.pack t) q) (both c (saving q))
+        → TypeAs ExpansionType x p (expanded x.dots_hidden t) (save (expanded x.dots_hidden t) q) (both c (saving q))
     -- u <source-name>, without <template-args>
     vendor_type : {x : Context} {p : Position} {bytes rest : List ℕ}
         → source_name (drop 1 p.rest) ≡ Some (bytes, rest)
@@ -679,5 +679,5 @@ Symbol x p = EncodingAs (encoding_case AfterName p.rest) AfterName x p
 pub data Signature : Context → Position → Tree → Position → Cost → Type 0 where
   signature : {x : Context} {p q : Position} {t : Tree} {c : Cost}
       → EncodingAs (encoding_case AtSymbolEnd p.rest) AtSymbolEnd x p t q c
-      → is_here AtSymbolEnd q.rest ≡ true
+      → ends_here AtSymbolEnd q.rest ≡ true
       → Signature x p t q (counted (length (printing t)) c)

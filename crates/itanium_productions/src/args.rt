@@ -89,7 +89,7 @@ pub(crate) fn read_argument_pack(
 {
     let depth = reader.enter(depth)?;
     reader.skip(1);
-    let inside = context.inside_pack();
+    let inside = context.hiding_dots();
     let mut list = reader.buffer.push(b"")?;
     let mut first = true;
     loop {
@@ -97,14 +97,14 @@ pub(crate) fn read_argument_pack(
             ArgsCase::EndOfArguments => {
                 reader.skip(1);
                 reader.found = reader.buffer.whole(list);
-                reader.measure()?;
+                reader.check_width()?;
                 return Ok(());
             }
             ArgsCase::NextArgument => {
                 list = reader.separate_list(list, first)?;
                 framed_template_arg(reader, depth, inside)?;
                 list = append_piece(&mut reader.buffer, list, b"", reader.found)?;
-                if reader.is_wide(list) {
+                if reader.is_too_wide(list) {
                     return Err(Stop::Unread);
                 }
                 first = false;

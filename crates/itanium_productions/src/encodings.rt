@@ -3,7 +3,7 @@ ghost use Rattle.std.specs.Prelude.{OnOk};
 ghost use Rattle.std.specs.Option.{unwrap_or};
 ghost use Rattle.demangle_quals.specs.Quals.{no_quals};
 ghost use Rattle.demangle_text.specs.State.{IsLiving, shape, IsRun, SameFrame};
-ghost use Rattle.itanium_syntax.specs.Context.{inside_encoding, inside_local, inside_params};
+ghost use Rattle.itanium_syntax.specs.Context.{inside_encoding, showing_words, inside_params};
 ghost use Rattle.itanium_syntax.specs.Encodings.{return_case, entity_case};
 ghost use Rattle.itanium_grammar.specs.Cases.{AtE};
 ghost use Rattle.itanium_reader.specs.Parser as spec;
@@ -178,7 +178,7 @@ pub(crate) fn read_entity(
             reader.found = close_opened(&mut reader.buffer, opened, reader.found)?;
             Ok(())
         }
-        EntityCase::NoEntity => Err(Stop::Unread),
+        EntityCase::UnreadEntity => Err(Stop::Unread),
     }
 }
 
@@ -194,11 +194,11 @@ pub(crate) fn read_local_name(
     requires room { HasRoom 2 (state reader.old) }
     ensures reads { GivesBareName result reader.new (spec.parse_local
         (spec.parse_encoding depth AtE (inside_encoding context))
-        (spec.parse_bare_name depth (inside_local context)) (state reader.old)) }
+        (spec.parse_bare_name depth (showing_words context)) (state reader.old)) }
     ensures run { OnOk result (IsRun reader.old.buffer.value reader.new.buffer.value) }
     ensures bounds { TakesSome 1 result (state reader.old) (state reader.new) }
     ensures saved { SavedBounds 1 result (state reader.old) (state reader.new) }
 {
     read_encoding(reader, depth, context.inside_encoding(), EncodingEnd::AtE)?;
-    read_entity(reader, depth, context.inside_local(), reader.found)
+    read_entity(reader, depth, context.showing_words(), reader.found)
 }

@@ -41,7 +41,7 @@ pub(crate) fn read_expr_primary(
             reader.skip(1);
             read_literal(reader, depth, context)
         }
-        LiteralCase::NoLiteral => Err(Stop::Unread),
+        LiteralCase::UnreadLiteral => Err(Stop::Unread),
     }
 }
 
@@ -257,10 +257,10 @@ pub(crate) fn read_expression(
         ExpressionCase::ConditionalExpression => read_conditional(reader, depth, context),
         ExpressionCase::ParameterExpression => reader.read_template_param(context),
         ExpressionCase::LiteralExpression => read_expr_primary(reader, depth, context),
-        ExpressionCase::NoExpression => Err(Stop::Unread),
+        ExpressionCase::UnreadExpression => Err(Stop::Unread),
     };
     read?;
-    reader.measure()?;
+    reader.check_width()?;
     Ok(())
 }
 

@@ -3,9 +3,9 @@ ghost use Rattle.std.specs.Prelude.{◌≡◌, ◌++◌, length, None, Some, IfO
 ghost use Rattle.demangle_text.specs.State.{IsLiving, shape, IsRun, SameFrame, main_bytes};
 ghost use Rattle.demangle_text.specs.Shape.{text};
 ghost use Rattle.demangle_text.specs.Calls.{IsLast};
-ghost use Rattle.itanium_syntax.specs.Names.{free_case, first_case, unscoped_case, saves_first};
+ghost use Rattle.itanium_syntax.specs.Names.{ordinary_case, first_case, unscoped_case, saves_first};
 ghost use Rattle.itanium_syntax.specs.Context.{inside_lambda};
-ghost use Rattle.itanium_grammar.specs.Cases.{FreeName};
+ghost use Rattle.itanium_grammar.specs.Cases.{OrdinaryName};
 ghost use Rattle.itanium_reader.specs.Parser as spec;
 ghost use Rattle.itanium_reader.specs.Outcome.{state, Gives, GivesBareName, GivesName, GivesUnsaved, HasRoom, TakesSome};
 ghost use Rattle.itanium_reader.specs.Outcome.{SavedBounds};
@@ -20,8 +20,9 @@ use itanium_syntax::args::{AttachedCase, attached_case};
 use itanium_syntax::context::Context;
 use itanium_syntax::encodings::EncodingEnd;
 use itanium_syntax::names::{
-    FirstCase, FreeCase, NameCase, SegmentCase, UnqualifiedCase, UnscopedCase, begins_source,
-    first_case, free_case, name_case, name_quals, segment_case, unqualified_case, unscoped_case,
+    FirstCase, NameCase, OrdinaryCase, SegmentCase, UnqualifiedCase, UnscopedCase, begins_source,
+    first_case, name_case, name_quals, ordinary_case, segment_case, unqualified_case,
+    unscoped_case,
 };
 
 /// Reads `<closure-type-name> ::= Ul <lambda-sig> E [<nonnegative number>] _`, after its `Ul`. The production is rare.
@@ -47,44 +48,44 @@ pub(crate) fn read_closure_type_name(
 }
 
 /// Reads an `<unqualified-name>` that needs no parent, which is any but a `<ctor-dtor-name>`. ABI tags aren't read.
-#[tactic(auto, using(itanium_reader::proofs::Rules::free_names))]
+#[tactic(auto, using(itanium_reader::proofs::Rules::ordinary_names))]
 #[cycle(reader)]
-pub(crate) fn read_free_name(
+pub(crate) fn read_ordinary_name(
     reader: &mut Reader,
     depth: usize,
     context: Context,
 ) -> Result<(), Stop>
     requires room { HasRoom 0 (state reader.old) }
-    ensures reads { Gives result reader.new (spec.free_as (free_case reader.old.rest.now)
+    ensures reads { Gives result reader.new (spec.ordinary_as (ordinary_case reader.old.rest.now)
         (spec.parse_type depth context) (spec.parse_type depth (inside_lambda context)) (state reader.old)) }
     ensures run { OnOk result (IsRun reader.old.buffer.value reader.new.buffer.value) }
     ensures last { OnOk result (IsLast reader.new.buffer.value reader.new.found) }
     ensures bounds { TakesSome 0 result (state reader.old) (state reader.new) }
     ensures saved { SavedBounds 1 result (state reader.old) (state reader.new) }
 {
-    match free_case(reader.rest) {
+    match ordinary_case(reader.rest) {
         // No caller comes here with a `<source-name>`: each caller reads that case itself.
-        FreeCase::SourceName => reader.read_source_name(),
-        FreeCase::UnnamedTypeName => {
+        OrdinaryCase::SourceName => reader.read_source_name(),
+        OrdinaryCase::UnnamedTypeName => {
             reader.skip(2);
             reader.read_unnamed_type()
         }
-        FreeCase::LambdaName => {
+        OrdinaryCase::LambdaName => {
             reader.skip(2);
             read_closure_type_name(reader, depth, context.inside_lambda())
         }
-        FreeCase::ConversionName => {
+        OrdinaryCase::ConversionName => {
             reader.skip(2);
             read_type(reader, depth, context)?;
             reader.convert_found()?;
             Ok(())
         }
-        FreeCase::LiteralOperatorName => {
+        OrdinaryCase::LiteralOperatorName => {
             reader.skip(2);
             reader.read_literal_operator_name()
         }
-        FreeCase::OperatorName => reader.read_operator_name(),
-        FreeCase::NoName => Err(Stop::Unread),
+        OrdinaryCase::OperatorName => reader.read_operator_name(),
+        OrdinaryCase::UnreadName => Err(Stop::Unread),
     }
 }
 
@@ -109,7 +110,7 @@ pub(crate) fn read_unqualified_name(
     if begins_source(reader.rest) {
         reader.read_source_name()?;
     } else {
-        read_free_name(reader, depth, context)?;
+        read_ordinary_name(reader, depth, context)?;
     }
     reader.read_tags()
 }
@@ -138,7 +139,7 @@ pub(crate) fn read_segment(reader: &mut Reader, depth: usize, context: Context) 
     match unqualified_case(true, reader.rest) {
         UnqualifiedCase::ConstructorName => reader.read_ctor_dtor(false)?,
         UnqualifiedCase::DestructorName => reader.read_ctor_dtor(true)?,
-        UnqualifiedCase::FreeName => read_free_segment(reader, depth, context)?,
+        UnqualifiedCase::OrdinaryName => read_ordinary_segment(reader, depth, context)?,
     }
     reader.read_tags()
 }
@@ -147,7 +148,7 @@ pub(crate) fn read_segment(reader: &mut Reader, depth: usize, context: Context) 
 /// in `found`. The parent's text and `::` are printed before the name is read, so the name's text need not move.
 #[tactic(auto, using(itanium_reader::proofs::Rules::parents))]
 #[cycle(reader)]
-pub(crate) fn read_free_segment(
+pub(crate) fn read_ordinary_segment(
     reader: &mut Reader,
     depth: usize,
     context: Context,
@@ -155,7 +156,7 @@ pub(crate) fn read_free_segment(
     requires room { HasRoom 0 (state reader.old) }
     requires living { IsLiving reader.old.buffer.value reader.old.found }
     ensures reads { Gives result reader.new
-        (spec.untagged_as FreeName (spec.parse_type depth context) (spec.parse_type depth (inside_lambda context))
+        (spec.untagged_as OrdinaryName (spec.parse_type depth context) (spec.parse_type depth (inside_lambda context))
         (Some (shape reader.old.buffer.value reader.old.found)) (state reader.old)) }
     ensures run { OnOk result (IsRun reader.old.buffer.value reader.new.buffer.value) }
     ensures last { OnOk result (IsLast reader.new.buffer.value reader.new.found) }
@@ -164,7 +165,7 @@ pub(crate) fn read_free_segment(
 {
     let opened = open_parent(&mut reader.buffer, reader.found)?;
     let mark = reader.buffer.open();
-    read_free_name(reader, depth, context)?;
+    read_ordinary_name(reader, depth, context)?;
     reader.close_found(mark)?;
     reader.found = close_opened(&mut reader.buffer, opened, reader.found)?;
     Ok(())
@@ -175,7 +176,11 @@ pub(crate) fn read_free_segment(
 #[tactic(auto, using(itanium_reader::proofs::Rules::first_segments))]
 #[cycle(reader)]
 #[inline(always)]
-pub(crate) fn read_first(reader: &mut Reader, depth: usize, context: Context) -> Result<bool, Stop>
+pub(crate) fn read_first_segment(
+    reader: &mut Reader,
+    depth: usize,
+    context: Context,
+) -> Result<bool, Stop>
     requires room { HasRoom 2 (state reader.old) }
     ensures reads { GivesUnsaved result reader.new (spec.first_as (first_case reader.old.rest.now)
         (spec.unqualified_name depth context) context (state reader.old)) }
@@ -262,11 +267,11 @@ pub(crate) fn read_prefix(reader: &mut Reader, depth: usize, context: Context) -
     ensures bounds { TakesSome 1 result (state reader.old) (state reader.new) }
     ensures saved { SavedBounds 1 result (state reader.old) (state reader.new) }
 {
-    let mut unsaved = read_first(reader, depth, context)?;
+    let mut unsaved = read_first_segment(reader, depth, context)?;
     loop {
         if begins_source(reader.rest) {
             reader.read_source_segment(unsaved)?;
-            reader.measure()?;
+            reader.check_width()?;
             unsaved = true;
             continue;
         }
@@ -285,7 +290,7 @@ pub(crate) fn read_prefix(reader: &mut Reader, depth: usize, context: Context) -
                 read_segment(reader, depth, context)?;
             }
         }
-        reader.measure()?;
+        reader.check_width()?;
         unsaved = true;
     }
 }
@@ -337,7 +342,8 @@ pub(crate) fn read_unscoped_name(
 /// most `depth` counted productions may nest, this one included.
 ///
 /// If `bare` is true, the name's own qualifiers are left in `reader.quals` for the caller. Otherwise they are printed
-/// after the name: a reference always, a word such as ` const` only if `context.shown` is set or the name is local.
+/// after the name: a reference always, a word such as ` const` only if `context.words_shown` is set or the name is
+/// local.
 #[tactic(auto, using(crate::proofs::OwnQualifiers::names))]
 #[cycle(reader)]
 #[inline(always)]
@@ -349,7 +355,7 @@ pub fn read_name(
 ) -> Result<(), Stop>
     requires room { HasRoom 1 (state reader.old) }
     ensures reads { GivesName bare result reader.new depth context (state reader.old) }
-    ensures fits { OnOk result (spec.is_wide (shape reader.new.buffer.value reader.new.found) ≡ false) }
+    ensures fits { OnOk result (spec.is_too_wide (shape reader.new.buffer.value reader.new.found) ≡ false) }
     ensures run { OnOk result (IsRun reader.old.buffer.value reader.new.buffer.value) }
     ensures refused { depth ≡ 0 → reader.new.entered ≡ reader.old.entered }
     ensures bounds { TakesSome 1 result (state reader.old) (state reader.new) }
@@ -360,7 +366,7 @@ pub fn read_name(
         NameCase::NestedName => {
             reader.skip(1);
             read_nested_name(reader, depth, context)?;
-            context.shown
+            context.words_shown
         }
         NameCase::LocalName => {
             reader.skip(1);
@@ -370,16 +376,16 @@ pub fn read_name(
         NameCase::UnscopedName => {
             read_unscoped_name(reader, depth, context)?;
             reader.quals = None;
-            context.shown
+            context.words_shown
         }
     };
-    reader.measure()?;
+    reader.check_width()?;
     if bare {
         return Ok(());
     }
     if let Some(quals) = reader.quals {
         reader.print_quals(quals, shown)?;
-        reader.measure()?;
+        reader.check_width()?;
     }
     Ok(())
 }

@@ -136,10 +136,10 @@ pub(crate) fn read_thunk(
     reader.open_thunk()?;
     let begun = reader.found;
     let mark = reader.buffer.open();
-    read_encoding(reader, depth, context, end.of_thunk())?;
+    read_encoding(reader, depth, context, end.for_thunk())?;
     reader.close_found(mark)?;
     reader.print_worded(begun, b")}")?;
-    reader.measure()?;
+    reader.check_width()?;
     Ok(())
 }
 
@@ -165,6 +165,6 @@ pub fn read_special_name(
         SpecialCase::TemporarySpecial => read_temporary(reader, depth, context),
         SpecialCase::ConstructionSpecial => read_construction(reader, depth, context),
         SpecialCase::ThunkSpecial => read_thunk(reader, depth, context, end),
-        SpecialCase::NoSpecial => Err(Stop::Unread),
+        SpecialCase::UnreadSpecial => Err(Stop::Unread),
     }
 }

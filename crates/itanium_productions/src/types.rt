@@ -95,11 +95,11 @@ pub(crate) fn read_type(reader: &mut Reader, depth: usize, context: Context) -> 
         TypeCase::VendorType => reader.read_vendor_type()?,
         TypeCase::UnreadType => return Err(Stop::Unread),
     }
-    reader.measure()?;
+    reader.check_width()?;
     Ok(())
 }
 
-/// Reads `Dp <type>`. The `...` is printed unless `context.pack` is set.
+/// Reads `Dp <type>`. The `...` is printed unless `context.dots_hidden` is set.
 #[tactic(auto, using(itanium_reader::proofs::Rules::buffers))]
 #[cycle(reader)]
 pub(crate) fn read_expansion(
@@ -110,14 +110,14 @@ pub(crate) fn read_expansion(
     requires room { HasRoom 1 (state reader.old) }
     requires some { 0 < length reader.old.rest.now }
     ensures reads { Gives result reader.new
-        (spec.parse_expansion (spec.parse_type depth context) context.pack (state reader.old)) }
+        (spec.parse_expansion (spec.parse_type depth context) context.dots_hidden (state reader.old)) }
     ensures run { OnOk result (IsRun reader.old.buffer.value reader.new.buffer.value) }
     ensures bounds { TakesSome 0 result (state reader.old) (state reader.new) }
     ensures saved { SavedBounds 0 result (state reader.old) (state reader.new) }
 {
     reader.skip(2);
     read_type(reader, depth, context)?;
-    reader.save_expansion(context.pack)?;
+    reader.save_expansion(context.dots_hidden)?;
     Ok(())
 }
 
@@ -328,7 +328,7 @@ pub(crate) fn read_params(
                 list = reader.separate_list(list, first)?;
                 framed_type(reader, depth, context)?;
                 list = append_piece(&mut reader.buffer, list, b"", reader.found)?;
-                if reader.is_wide(list) {
+                if reader.is_too_wide(list) {
                     return Err(Stop::Unread);
                 }
                 first = false;

@@ -33,7 +33,7 @@ pub ruleset first_segments = (fronts, lasts, first_named, first_source_opens)
 
 pub ruleset words = (buffers, lasts, text_after-follows)
 
-pub ruleset free_names = (fronts, lasts, names_some)
+pub ruleset ordinary_names = (fronts, lasts, names_some)
 
 pub ruleset unqualified_names = (fronts, lasts, unqualified_opens, internal_source_opens)
 

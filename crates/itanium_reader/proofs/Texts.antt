@@ -14,7 +14,7 @@ use Rattle.demangle_edit.proofs.Insertions.{inserted_twice, inserted_thrice}
 use Rattle.itanium_syntax.specs.declared.offsets.Signed.{Signed}
 use Rattle.itanium_syntax.specs.declared.offsets.CallOffset.TheVariants as Offset
 use Rattle.itanium_grammar.specs.Answer.{max_text}
-use Rattle.itanium_reader.specs.Parser.{is_wide}
+use Rattle.itanium_reader.specs.Parser.{is_too_wide}
 use Rattle.itanium_grammar.specs.Tree.{offset_sign, offset_text, worded_shape}
 
 -- a range moves in front of a place as it does after it
@@ -49,10 +49,10 @@ not_longer short = grind (arith, nat_tests)
 pub longer : {n : ℕ} → max_text < n → nat_lt max_text n ≡ true
 longer long = grind (arith, nat_tests)
 
-pub not_wide : (t : Shape) → text_len t ≤ max_text → is_wide t ≡ false
+pub not_wide : (t : Shape) → text_len t ≤ max_text → is_too_wide t ≡ false
 not_wide t short = not_longer short
 
-pub wide_by : (t : Shape) → max_text < text_len t → is_wide t ≡ true
+pub wide_by : (t : Shape) → max_text < text_len t → is_too_wide t ≡ true
 wide_by t long = longer long
 
 -- words, a text after them, and the words that close it

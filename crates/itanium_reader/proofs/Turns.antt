@@ -9,7 +9,7 @@ use Rattle.demangle_edit.specs.Built.{arguments_closed}
 use Rattle.demangle_edit.proofs.Built.{begun_list, closed_attached}
 use Rattle.itanium_syntax.specs.declared.context.Context.{Context}
 use Rattle.itanium_syntax.specs.Scalars.{source_name}
-use Rattle.itanium_syntax.specs.Context.{opens_scope, inside_pack}
+use Rattle.itanium_syntax.specs.Context.{opens_scope, hiding_dots}
 use Rattle.itanium_syntax.specs.Names.{segment_case, tag_case, source_text}
 use Rattle.itanium_syntax.specs.Names.{past_initializer_letter}
 use Rattle.itanium_syntax.specs.Calls.{begins_source}
@@ -21,7 +21,7 @@ use Rattle.itanium_grammar.specs.Cases.{EncodingEnd, NoTag, NextTag}
 use Rattle.itanium_grammar.specs.Cases.{SegmentCase, EndOfSegments, ArgsSegment, NameSegment, EndOfArguments, NextArgument}
 use Rattle.itanium_grammar.specs.Cases.{EndOfTypes, NextType}
 use Rattle.itanium_grammar.specs.Answer.{max_text}
-use Rattle.itanium_reader.specs.Parser.{ParserState, Parses, ParsesName, ◌>>=◌, is_wide, fitting}
+use Rattle.itanium_reader.specs.Parser.{ParserState, Parses, ParsesName, ◌>>=◌, is_too_wide, fitting}
 use Rattle.itanium_reader.specs.Parser.{enter, with_rest, save, skip, begin_list, add_argument}
 use Rattle.itanium_reader.specs.Parser.{add_nowhere, taken_back, past_initializer}
 use Rattle.itanium_reader.specs.Parser.{tag_turn, parse_unqualified}
@@ -36,7 +36,7 @@ use Rattle.itanium_reader.proofs.Unfold.{source_opens, no_letter, args_opens, no
 
 -- a later segment is read, isn't too long, and is saved
 turn_read : (case : SegmentCase) (unqualified : ParsesName) (args : Parses Shape) (takes : Bool) (name : Shape) (s : ParserState) {next : Shape} {mid : ParserState} → (case ≡ EndOfSegments → ⊥)
-    → later_segment case unqualified args name s ≡ Some (next, mid) → is_wide next ≡ false
+    → later_segment case unqualified args name s ≡ Some (next, mid) → is_too_wide next ≡ false
     → segment_as case unqualified args (takes, name) s ≡ Some (goes_on (true, next), past_initializer (save next mid))
 turn_read EndOfSegments unqualified args takes name s later read fits = absurd (later refl)
 turn_read ArgsSegment unqualified args takes name s later read fits = rw (read, fits) refl
@@ -44,7 +44,7 @@ turn_read NameSegment unqualified args takes name s later read fits = rw (read, 
 
 -- one that is too long
 turn_wide : (case : SegmentCase) (unqualified : ParsesName) (args : Parses Shape) (takes : Bool) (name : Shape) (s : ParserState) {next : Shape} {mid : ParserState} → (case ≡ EndOfSegments → ⊥)
-    → later_segment case unqualified args name s ≡ Some (next, mid) → is_wide next ≡ true → segment_as case unqualified args (takes, name) s ≡ None
+    → later_segment case unqualified args name s ≡ Some (next, mid) → is_too_wide next ≡ true → segment_as case unqualified args (takes, name) s ≡ None
 turn_wide EndOfSegments unqualified args takes name s later read wide = absurd (later refl)
 turn_wide ArgsSegment unqualified args takes name s later read wide = rw (read, wide) refl
 turn_wide NameSegment unqualified args takes name s later read wide = rw (read, wide) refl
@@ -64,13 +64,13 @@ module _ {whole : Option (Shape × ParserState)} (unqualified : ParsesName) (arg
   segments_end case same left = loop_end so_far (rw (case, same, left) refl)
 
   pub segments_read : {next : Shape} {mid after : ParserState} → (segment_case s.rest ≡ EndOfSegments → ⊥) → later_segment (segment_case s.rest) unqualified args name s ≡ Some (next, mid)
-      → is_wide next ≡ false → length mid.rest < length s.rest → after ≡ past_initializer (save next mid) → length after.rest ≤ length mid.rest
+      → is_too_wide next ≡ false → length mid.rest < length s.rest → after ≡ past_initializer (save next mid) → length after.rest ≤ length mid.rest
       → LoopSoFar whole (segment_turn unqualified args) (true, next) after
   unfolding segment_turn
   segments_read {next} later found fits shorter left short = loop_more so_far (rw left (turn_read (segment_case s.rest) unqualified args takes name s later found fits)) (omega arith)
 
   pub segments_wide : {next : Shape} {mid : ParserState} → (segment_case s.rest ≡ EndOfSegments → ⊥) → later_segment (segment_case s.rest) unqualified args name s ≡ Some (next, mid)
-      → is_wide next ≡ true → whole ≡ None
+      → is_too_wide next ≡ true → whole ≡ None
   unfolding segment_turn
   segments_wide later found wide = loop_fail so_far (turn_wide (segment_case s.rest) unqualified args takes name s later found wide)
 
@@ -142,7 +142,7 @@ pack_end r = fitting (whole_shape r.0, r.1)
 
 -- a pack begins
 pub pack_start : (d : ℕ) (x : Context) (s : ParserState) {below : ℕ} {inside : Context} {list : Shape} {after : ParserState} → 0 < d → below ≡ d - 1
-    → inside ≡ inside_pack x → list ≡ plain_shape [] → after ≡ skip 1 (enter s)
+    → inside ≡ hiding_dots x → list ≡ plain_shape [] → after ≡ skip 1 (enter s)
     → ListSoFar (parse_pack d x s) (list_turn add_nowhere (parse_argument below inside)) pack_end (true, list) after
 pack_start d x s deep less within built left = rw (less, left, within, built) (list_start (pack_opens d x s deep ∙ ended_then _ whole_shape fitting))
 
@@ -156,16 +156,16 @@ module _ {whole : Option (Shape × ParserState)} (add_argument : Shape → Parse
   items_end case left = rw left (list_end so_far (rw case refl))
 
   pub items_more : {next found : Shape} {mid after : ParserState} → args_case s.rest ≡ NextArgument → item s ≡ Some (next, mid) → length mid.rest < length s.rest
-      → found ≡ listed_more first list next → is_wide found ≡ false → after ≡ add_argument next mid → after.rest ≡ mid.rest → ListSoFar whole (list_turn add_argument item) finish (false, found) after
+      → found ≡ listed_more first list next → is_too_wide found ≡ false → after ≡ add_argument next mid → after.rest ≡ mid.rest → ListSoFar whole (list_turn add_argument item) finish (false, found) after
   unfolding list_turn
   items_more {next} {found} case read shorter built fits left same =
-      let narrow : is_wide (listed_more first list next) ≡ false = ap is_wide (sym built) ∙ fits in
+      let narrow : is_too_wide (listed_more first list next) ≡ false = ap is_too_wide (sym built) ∙ fits in
       list_more so_far (rw (case, read, narrow, built, left) refl) (rw same shorter)
 
-  pub items_wide : {next found : Shape} {mid : ParserState} → args_case s.rest ≡ NextArgument → item s ≡ Some (next, mid) → found ≡ listed_more first list next → is_wide found ≡ true → whole ≡ None
+  pub items_wide : {next found : Shape} {mid : ParserState} → args_case s.rest ≡ NextArgument → item s ≡ Some (next, mid) → found ≡ listed_more first list next → is_too_wide found ≡ true → whole ≡ None
   unfolding list_turn
   items_wide {next} {found} case read built wide =
-      let long : is_wide (listed_more first list next) ≡ true = ap is_wide (sym built) ∙ wide in
+      let long : is_too_wide (listed_more first list next) ≡ true = ap is_too_wide (sym built) ∙ wide in
       list_fail so_far (rw (case, read, long) refl)
 
   pub items_fail : args_case s.rest ≡ NextArgument → item s ≡ None → whole ≡ None
@@ -175,16 +175,16 @@ module _ {whole : Option (Shape × ParserState)} (add_argument : Shape → Parse
 -- a pack ends
 pub pack_ends : {whole : Option (Shape × ParserState)} (item : Parses Shape) {first : Bool} {list found : Shape}
     {s after : ParserState} → ListSoFar whole (list_turn add_nowhere item) pack_end (first, list) s
-    → args_case s.rest ≡ EndOfArguments → found ≡ whole_shape list → is_wide found ≡ false → after ≡ skip 1 s → whole ≡ Some (found, after)
+    → args_case s.rest ≡ EndOfArguments → found ≡ whole_shape list → is_too_wide found ≡ false → after ≡ skip 1 s → whole ≡ Some (found, after)
 pack_ends item {list = list} {found = found} so_far case built fits left =
-    let narrow : is_wide (whole_shape list) ≡ false = ap is_wide (sym built) ∙ fits in
+    let narrow : is_too_wide (whole_shape list) ≡ false = ap is_too_wide (sym built) ∙ fits in
     items_end add_nowhere item pack_end so_far case left ∙ rw (narrow, sym built) refl
 
 pub pack_wide : {whole : Option (Shape × ParserState)} (item : Parses Shape) {first : Bool} {list found : Shape}
     {s : ParserState} → ListSoFar whole (list_turn add_nowhere item) pack_end (first, list) s
-    → args_case s.rest ≡ EndOfArguments → found ≡ whole_shape list → is_wide found ≡ true → whole ≡ None
+    → args_case s.rest ≡ EndOfArguments → found ≡ whole_shape list → is_too_wide found ≡ true → whole ≡ None
 pack_wide item {list = list} {found = found} so_far case built wide =
-    let long : is_wide (whole_shape list) ≡ true = ap is_wide (sym built) ∙ wide in
+    let long : is_too_wide (whole_shape list) ≡ true = ap is_too_wide (sym built) ∙ wide in
     items_end add_nowhere item pack_end so_far case refl ∙ rw long refl
 
 -- a list that is read whole is attached to a name
@@ -240,13 +240,13 @@ module _ {whole : Option (Shape × ParserState)} (add_argument : Shape → Parse
   pub attached_end : {last : Shape} {after : ParserState} → args_case s.rest ≡ EndOfArguments → last ≡ arguments_closed (appended list (arguments_opened name))
       → text_len last - front_len name ≤ max_text → after ≡ skip 1 s → whole ≡ Some (last, after)
   attached_end case built short left =
-      let fits : is_wide list_whole ≡ false = not_wide list_whole (omega (arith, short, ended_len built)) in
+      let fits : is_too_wide list_whole ≡ false = not_wide list_whole (omega (arith, short, ended_len built)) in
       items_end add_argument item (attached_to name) so_far.so_far case left ∙ rw (fits, sym (ended built)) refl
 
   pub attached_wide : {last : Shape} → args_case s.rest ≡ EndOfArguments → last ≡ arguments_closed (appended list (arguments_opened name))
       → max_text < text_len last - front_len name → whole ≡ None
   attached_wide case built long =
-      let wide : is_wide list_whole ≡ true = wide_by list_whole (omega (arith, long, ended_len built)) in
+      let wide : is_too_wide list_whole ≡ true = wide_by list_whole (omega (arith, long, ended_len built)) in
       items_end add_argument item (attached_to name) so_far.so_far case refl ∙ rw wide refl
 
   -- with one text more
@@ -264,7 +264,7 @@ module _ {whole : Option (Shape × ParserState)} (add_argument : Shape → Parse
       → after ≡ add_argument next mid → after.rest ≡ mid.rest → AttachedSoFar whole add_argument item name false more after
   attached_more {next} {all} {more} {mid} {after} case read shorter longer built short left same =
       let listed = listed_more first list_so_far next in
-      let fits : is_wide listed ≡ false = not_wide listed (omega (arith, short, more_len next longer built)) in record {
+      let fits : is_too_wide listed ≡ false = not_wide listed (omega (arith, short, more_len next longer built)) in record {
         own = listed.own;
         templ = so_far.templ;
         ctor = so_far.ctor;
@@ -291,17 +291,17 @@ module _ {whole : Option (Shape × ParserState)} (end : EncodingEnd) (of_functio
   typed_end case = loop_end so_far (rw case refl)
 
   pub typed_more : {next found : Shape} {after : ParserState} → types_case end of_function s.rest ≡ NextType → type s ≡ Some (next, after) → length after.rest < length s.rest
-      → found ≡ listed_more first list next → is_wide found ≡ false → LoopSoFar whole (typed_turn end of_function type) (false, found) after
+      → found ≡ listed_more first list next → is_too_wide found ≡ false → LoopSoFar whole (typed_turn end of_function type) (false, found) after
   unfolding typed_turn
   typed_more {next} case read shorter built fits =
-      let narrow : is_wide (listed_more first list next) ≡ false = ap is_wide (sym built) ∙ fits in
+      let narrow : is_too_wide (listed_more first list next) ≡ false = ap is_too_wide (sym built) ∙ fits in
       loop_more so_far (rw (case, read, narrow, built) refl) shorter
 
   pub typed_wide : {next found : Shape} {after : ParserState} → types_case end of_function s.rest ≡ NextType → type s ≡ Some (next, after)
-      → found ≡ listed_more first list next → is_wide found ≡ true → whole ≡ None
+      → found ≡ listed_more first list next → is_too_wide found ≡ true → whole ≡ None
   unfolding typed_turn
   typed_wide {next} case read built wide =
-      let long : is_wide (listed_more first list next) ≡ true = ap is_wide (sym built) ∙ wide in
+      let long : is_too_wide (listed_more first list next) ≡ true = ap is_too_wide (sym built) ∙ wide in
       loop_fail so_far (rw (case, read, long) refl)
 
   pub typed_fail : types_case end of_function s.rest ≡ NextType → type s ≡ None → whole ≡ None

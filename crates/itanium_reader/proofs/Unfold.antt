@@ -13,27 +13,27 @@ use Rattle.itanium_syntax.specs.declared.offsets.ThunkOffsets.{ThunkOffsets}
 use Rattle.itanium_syntax.specs.declared.offsets.ThunkOffsets.TheVariants.{Single, Covariant}
 use Rattle.itanium_syntax.specs.Offsets.{thunk_offsets}
 use Rattle.itanium_syntax.specs.Scalars.{index_of, source_name}
-use Rattle.itanium_syntax.specs.Context.{opens_scope, inside_type, inside_pack, inside_lambda, inside_local, inside_encoding, inside_params}
+use Rattle.itanium_syntax.specs.Context.{opens_scope, inside_type, hiding_dots, inside_lambda, showing_words, inside_encoding, inside_params}
 use Rattle.itanium_syntax.specs.Names.{begins_special, encoding_case, name_case, unqualified_case, tag_case, source_text}
 use Rattle.demangle_quals.specs.Quals.{no_quals}
-use Rattle.itanium_syntax.specs.Names.{free_case, first_case, substitution_case}
+use Rattle.itanium_syntax.specs.Names.{ordinary_case, first_case, substitution_case}
 use Rattle.itanium_syntax.specs.Calls.{begins_source}
 use Rattle.itanium_syntax.specs.Names.{past_internal, past_name_quals, name_quals, saves_first}
 use Rattle.itanium_syntax.specs.Expressions.{expression_case}
-use Rattle.itanium_syntax.specs.Encodings.{of_thunk, entity_case}
+use Rattle.itanium_syntax.specs.Encodings.{for_thunk, entity_case}
 use Rattle.itanium_syntax.specs.Types.{type_case}
 use Rattle.itanium_reader.specs.declared.reader.Reader.{Reader}
 use Rattle.itanium_reader.specs.declared.stop.Stop.{Stop}
 use Rattle.itanium_reader.specs.declared.stop.Stop.TheVariants.{Unread, Memory}
-use Rattle.itanium_reader.specs.Outcome.{Gives, Measures}
-use Rattle.itanium_grammar.specs.Cases.{UnqualifiedCase, FreeName, ConstructorName, DestructorName, SourceName, TagCase, NoTag, NextTag}
+use Rattle.itanium_reader.specs.Outcome.{Gives, ChecksWidth}
+use Rattle.itanium_grammar.specs.Cases.{UnqualifiedCase, OrdinaryName, ConstructorName, DestructorName, SourceName, TagCase, NoTag, NextTag}
 use Rattle.itanium_grammar.specs.Cases.{NameFirst, EncodingEnd, AfterName, AtE, AtSymbolEnd, SpecialEncoding, NameEncoding}
-use Rattle.itanium_reader.specs.Parser.{ParserState, Turn, Parses, ParsesName, ParsesBareName, ◌>>=◌, is_wide, fitting}
+use Rattle.itanium_reader.specs.Parser.{ParserState, Turn, Parses, ParsesName, ParsesBareName, ◌>>=◌, is_too_wide, fitting}
 use Rattle.itanium_grammar.specs.Tree.{offset_text, thunk_shape, worded_shape}
 use Rattle.itanium_reader.specs.Parser.{fitting_bare, enter, with_rest, skip, save}
 use Rattle.itanium_reader.specs.Parser.{past_initializer, substitution_as, parse_substitution}
 use Rattle.itanium_reader.specs.Parser.{parameter_as, parse_parameter, tag_turn, unqualified_as, parse_unqualified}
-use Rattle.itanium_reader.specs.Parser.{free_as, untagged_as, in_parent, parse_tags, parse_source, parse_source_in}
+use Rattle.itanium_reader.specs.Parser.{ordinary_as, untagged_as, in_parent, parse_tags, parse_source, parse_source_in}
 use Rattle.itanium_reader.specs.Parser.{goes_on, first_as, loop, after_turn, tag_as}
 use Rattle.itanium_reader.specs.Parser.{parse_segments, parse_after_quals, with_quals, parse_nested}
 use Rattle.itanium_reader.specs.Parser.{name_as, qualified_by, parse_bare_name, parse_name, encoding_as, parse_encoding}
@@ -45,7 +45,7 @@ use Rattle.itanium_reader.proofs.Texts.{tagged_in}
 
 pub bare_name_opens : (d : ℕ) (x : Context) (s : ParserState) → 0 < d → parse_bare_name d x s
     ≡ (name_as (name_case s.rest) (parse_unqualified (parse_type (d - 1) x) (parse_type (d - 1) (inside_lambda x))) (parse_args (d - 1) x true)
-    (parse_local (parse_encoding (d - 1) AtE (inside_encoding x)) (parse_bare_name (d - 1) (inside_local x))) x (enter s) >>= fitting_bare)
+    (parse_local (parse_encoding (d - 1) AtE (inside_encoding x)) (parse_bare_name (d - 1) (showing_words x))) x (enter s) >>= fitting_bare)
 unfolding parse_bare_name parse_encoding parse_special parse_name
 bare_name_opens zero x s h = absurd (omega arith)
 bare_name_opens (suc d) x s h = let less : suc d - 1 ≡ d = omega arith in rw less refl
@@ -73,7 +73,7 @@ unfolding parse_primary
 primary_opens d x s = refl
 
 thunk_level : (end : EncodingEnd) (x : Context) (s : ParserState) (d : ℕ) → 0 < d
-    → parse_thunk d end x s ≡ (thunk_by (parse_encoding (d - 1) (of_thunk end) x) (enter s) >>= fitting)
+    → parse_thunk d end x s ≡ (thunk_by (parse_encoding (d - 1) (for_thunk end) x) (enter s) >>= fitting)
 unfolding parse_thunk parse_encoding parse_special parse_name
 thunk_level end x s zero h = absurd (omega arith)
 thunk_level end x s (suc d) h = let less : suc d - 1 ≡ d = omega arith in rw less refl
@@ -114,22 +114,22 @@ thunk_by_words symbol s = by_offsets (thunk_offsets (drop 1 s.rest))
     by_offsets (Some f) = by_symbol f.0 (symbol (with_rest f.1 s))
 
 pub thunk_opens : (d : ℕ) (end : EncodingEnd) (x : Context) (s : ParserState) → 0 < d
-    → parse_thunk d end x s ≡ ((thunk_front (enter s) >>= after_words (parse_encoding (d - 1) (of_thunk end) x)) >>= fitting)
+    → parse_thunk d end x s ≡ ((thunk_front (enter s) >>= after_words (parse_encoding (d - 1) (for_thunk end) x)) >>= fitting)
 thunk_opens d end x s h =
-    thunk_level end x s d h ∙ ap (λ (read : Option (Shape × ParserState)). read >>= fitting) (thunk_by_words (parse_encoding (d - 1) (of_thunk end) x) (enter s))
+    thunk_level end x s d h ∙ ap (λ (read : Option (Shape × ParserState)). read >>= fitting) (thunk_by_words (parse_encoding (d - 1) (for_thunk end) x) (enter s))
 
 -- a thunk is read, and isn't too long
 pub thunk_read : (d : ℕ) (end : EncodingEnd) (x : Context) (s : ParserState) {front t found : Shape} {mid after : ParserState} → 0 < d → thunk_front (enter s) ≡ Some (front, mid)
-    → parse_encoding (d - 1) (of_thunk end) x mid ≡ Some (t, after) → found ≡ worded_shape (text front) t (codes ")}") → is_wide found ≡ false → parse_thunk d end x s ≡ Some (found, after)
+    → parse_encoding (d - 1) (for_thunk end) x mid ≡ Some (t, after) → found ≡ worded_shape (text front) t (codes ")}") → is_too_wide found ≡ false → parse_thunk d end x s ≡ Some (found, after)
 thunk_read d end x s {front} {t} deep words read built fits =
-    let narrow : is_wide (worded_shape (text front) t (codes ")}")) ≡ false = ap is_wide (sym built) ∙ fits in
+    let narrow : is_too_wide (worded_shape (text front) t (codes ")}")) ≡ false = ap is_too_wide (sym built) ∙ fits in
     thunk_opens d end x s deep ∙ rw (words, read, narrow, sym built) refl
 
 -- one that is
 pub thunk_wide : (d : ℕ) (end : EncodingEnd) (x : Context) (s : ParserState) {front t found : Shape} {mid after : ParserState} → 0 < d → thunk_front (enter s) ≡ Some (front, mid)
-    → parse_encoding (d - 1) (of_thunk end) x mid ≡ Some (t, after) → found ≡ worded_shape (text front) t (codes ")}") → is_wide found ≡ true → parse_thunk d end x s ≡ None
+    → parse_encoding (d - 1) (for_thunk end) x mid ≡ Some (t, after) → found ≡ worded_shape (text front) t (codes ")}") → is_too_wide found ≡ true → parse_thunk d end x s ≡ None
 thunk_wide d end x s {front} {t} deep words read built wide =
-    let long : is_wide (worded_shape (text front) t (codes ")}")) ≡ true = ap is_wide (sym built) ∙ wide in
+    let long : is_too_wide (worded_shape (text front) t (codes ")}")) ≡ true = ap is_too_wide (sym built) ∙ wide in
     thunk_opens d end x s deep ∙ rw (words, read, long) refl
 
 pub no_thunk : (end : EncodingEnd) (x : Context) (s : ParserState) → parse_thunk 0 end x s ≡ None
@@ -166,7 +166,7 @@ unfolding parse_args
 no_args x of_name s = refl
 
 pub pack_opens : (d : ℕ) (x : Context) (s : ParserState) → 0 < d
-    → parse_pack d x s ≡ (parse_packed (parse_argument (d - 1) (inside_pack x)) (enter s) >>= fitting)
+    → parse_pack d x s ≡ (parse_packed (parse_argument (d - 1) (hiding_dots x)) (enter s) >>= fitting)
 unfolding parse_pack parse_argument parse_primary parse_encoding parse_special parse_name
 pack_opens zero x s h = absurd (omega arith)
 pack_opens (suc d) x s h = let less : suc d - 1 ≡ d = omega arith in rw less refl
@@ -251,7 +251,7 @@ unqualified_opens type param parent s = go (unqualified_case (is_some parent) (p
     go ConstructorName (Some p) = refl
     go DestructorName None = refl
     go DestructorName (Some p) = refl
-    go FreeName parent = tags_placed parent (free_as (free_case inner.rest) type param inner)
+    go OrdinaryName parent = tags_placed parent (ordinary_as (ordinary_case inner.rest) type param inner)
 
 -- a <source-name> in its parent is read, and then its tags
 pub source_in_read : (parent : Shape) (s : ParserState) {name rest : List ℕ} {found : Shape} {mid after : ParserState} → source_name s.rest ≡ Some (name, rest)
@@ -268,7 +268,7 @@ no_letter b letter digit past = grind (arith, nat_tests)
 
 -- where a source name is next, no letter stands in front of it, and it is no constructor or destructor
 source_case : (in_parent : Bool) (bytes : List ℕ) → begins_source bytes ≡ true
-    → (past_internal bytes ≡ bytes) × (unqualified_case in_parent bytes ≡ FreeName) × (free_case bytes ≡ SourceName)
+    → (past_internal bytes ≡ bytes) × (unqualified_case in_parent bytes ≡ OrdinaryName) × (ordinary_case bytes ≡ SourceName)
 source_case in_parent [] h = cc
 source_case in_parent (b ∷ bytes) h = (
   rw (no_letter b 76 h (omega arith)) refl,
@@ -276,7 +276,7 @@ source_case in_parent (b ∷ bytes) h = (
   rw h refl,
 )
   where
-    no_constructor : (in_parent : Bool) → (if in_parent && false then ConstructorName else if in_parent && false then DestructorName else FreeName) ≡ FreeName
+    no_constructor : (in_parent : Bool) → (if in_parent && false then ConstructorName else if in_parent && false then DestructorName else OrdinaryName) ≡ OrdinaryName
     no_constructor true = refl
     no_constructor false = refl
 
@@ -364,5 +364,5 @@ stops after Unread none follows = follows none
 stops after Memory gives follows = tt
 
 -- a call that finds a text that is too long: then the whole isn't parsed
-pub too_long : (after : Reader) (t : Shape) {whole : Option (Shape × ParserState)} (e : Stop) → Measures (Err e) t → (is_wide t ≡ true → whole ≡ None) → Gives (Err e) after whole
+pub too_long : (after : Reader) (t : Shape) {whole : Option (Shape × ParserState)} (e : Stop) → ChecksWidth (Err e) t → (is_too_wide t ≡ true → whole ≡ None) → Gives (Err e) after whole
 too_long after t e wide follows = rw wide.0 (follows wide.1)

@@ -7,7 +7,7 @@ use Rattle.std.specs.Option.{unwrap_or}
 use Rattle.demangle_quals.specs.declared.quals.Quals.{Quals}
 use Rattle.demangle_quals.specs.Quals.{no_quals}
 use Rattle.itanium_syntax.specs.declared.context.Context.{Context}
-use Rattle.itanium_reader.specs.Parser.{ParserState, Parses, Turn, loop, enter, with_rest, save_unsaved, is_wide}
+use Rattle.itanium_reader.specs.Parser.{ParserState, Parses, Turn, loop, enter, with_rest, save_unsaved, is_too_wide}
 use Rattle.itanium_reader.specs.Parser.{parse_bare_name, parse_name}
 use Rattle.itanium_reader.specs.declared.reader.Reader.{Reader}
 use Rattle.itanium_reader.specs.declared.stop.Stop.{Stop}
@@ -71,9 +71,9 @@ Enters (Err Unread) d before after = (d ≡ 0) × (after ≡ before)
 Enters (Err Memory) d before after = ⊥
 
 -- the shape isn't too long, or it isn't read
-abbrev pub Measures : Result (Unit {0}) Stop → Shape → Type 0
-Measures (Ok u) t = is_wide t ≡ false
-Measures (Err e) t = (e ≡ Unread) × (is_wide t ≡ true)
+abbrev pub ChecksWidth : Result (Unit {0}) Stop → Shape → Type 0
+ChecksWidth (Ok u) t = is_too_wide t ≡ false
+ChecksWidth (Err e) t = (e ≡ Unread) × (is_too_wide t ≡ true)
 
 -- The count of productions doesn't overflow: if two were entered for each byte that is left, and `more` besides, it
 -- would still fit 64 bits.

@@ -21,16 +21,16 @@ use Rattle.itanium_syntax.specs.declared.offsets.ThunkOffsets.TheVariants.{Singl
 use Rattle.itanium_syntax.specs.Scalars.{source_name, index_of, ordinal, optional_number}
 use Rattle.itanium_syntax.specs.Operators.{operator_here}
 use Rattle.itanium_syntax.specs.Abbreviations.{abbreviation_of}
-use Rattle.itanium_syntax.specs.Context.{opens_scope, inside_type, inside_pack, inside_lambda, inside_local}
+use Rattle.itanium_syntax.specs.Context.{opens_scope, inside_type, hiding_dots, inside_lambda, showing_words}
 use Rattle.itanium_syntax.specs.Context.{inside_encoding, inside_params}
 use Rattle.itanium_syntax.specs.Names.{encoding_case, name_case, unscoped_case, first_case, segment_case}
-use Rattle.itanium_syntax.specs.Names.{unqualified_case, free_case, tag_case, past_internal, past_initializer_letter}
+use Rattle.itanium_syntax.specs.Names.{unqualified_case, ordinary_case, tag_case, past_internal, past_initializer_letter}
 use Rattle.itanium_syntax.specs.Names.{source_text, name_quals, past_name_quals, saves_first, substitution_case}
 use Rattle.itanium_syntax.specs.Bytes.{begins}
 use Rattle.itanium_syntax.specs.Expressions.{is_external, literal_case, literal_value, expression_text, expression_case}
 use Rattle.itanium_syntax.specs.Offsets.{thunk_offsets, past_base_offset}
 use Rattle.itanium_syntax.specs.Specials.{special_case, special_text, special_close}
-use Rattle.itanium_syntax.specs.Encodings.{is_here, of_thunk, return_case, encoding_params_case, entity_case}
+use Rattle.itanium_syntax.specs.Encodings.{ends_here, for_thunk, return_case, encoding_params_case, entity_case}
 use Rattle.itanium_syntax.specs.Args.{attached_case, args_case, argument_case}
 use Rattle.itanium_syntax.specs.Types.{type_case, builtin_text, past_builtin, cv_quals, past_cv, with_reference, past_reference, cv_case, function_case, params_case, types_case, elaborated_text}
 use Rattle.itanium_grammar.specs.Answer.{max_text}
@@ -39,20 +39,20 @@ use Rattle.itanium_grammar.specs.Tree.{post_shape, binary_shape, greater_shape, 
 use Rattle.itanium_grammar.specs.Tree.{conversion_shape, elaborated_shape, unnamed_text, literal_operator_text}
 use Rattle.itanium_grammar.specs.Cases.{EncodingEnd, AtE, AtSymbolEnd, EncodingCase, SpecialEncoding, NameEncoding}
 use Rattle.itanium_grammar.specs.Cases.{FullEncoding, SpecialCase, TypeSpecial, NameSpecial}
-use Rattle.itanium_grammar.specs.Cases.{TemporarySpecial, ConstructionSpecial, ThunkSpecial, NoSpecial, NameCase}
+use Rattle.itanium_grammar.specs.Cases.{TemporarySpecial, ConstructionSpecial, ThunkSpecial, UnreadSpecial, NameCase}
 use Rattle.itanium_grammar.specs.Cases.{NestedName, LocalName, UnscopedName, ReturnCase, NoReturnType, SomeReturnType}
 use Rattle.itanium_grammar.specs.Cases.{EncodingParamsCase, NoEncodingParams, SomeEncodingParams, EntityCase, StringLiteralEntity}
-use Rattle.itanium_grammar.specs.Cases.{DefaultArgumentEntity, NameEntity, NoEntity, UnscopedCase, StdName}
+use Rattle.itanium_grammar.specs.Cases.{DefaultArgumentEntity, NameEntity, UnreadEntity, UnscopedCase, StdName}
 use Rattle.itanium_grammar.specs.Cases.{SubstitutionName, PlainName, AttachedCase, NoneAttached, ArgsAttached, FirstCase}
 use Rattle.itanium_grammar.specs.Cases.{ParameterFirst, StdFirst, SubstitutionFirst, NameFirst, SegmentCase}
 use Rattle.itanium_grammar.specs.Cases.{EndOfSegments, ArgsSegment, NameSegment, UnqualifiedCase, ConstructorName}
-use Rattle.itanium_grammar.specs.Cases.{DestructorName, FreeName, FreeCase, SourceName, UnnamedTypeName, LambdaName}
-use Rattle.itanium_grammar.specs.Cases.{ConversionName, LiteralOperatorName, OperatorName, NoName, TagCase, NoTag}
+use Rattle.itanium_grammar.specs.Cases.{DestructorName, OrdinaryName, OrdinaryCase, SourceName, UnnamedTypeName, LambdaName}
+use Rattle.itanium_grammar.specs.Cases.{ConversionName, LiteralOperatorName, OperatorName, UnreadName, TagCase, NoTag}
 use Rattle.itanium_grammar.specs.Cases.{NextTag, SubstitutionCase, AbbreviationSubstitution, ComponentSubstitution}
 use Rattle.itanium_grammar.specs.Cases.{ArgsCase, EndOfArguments, NextArgument, LiteralCase, ExternalName, ValueLiteral}
-use Rattle.itanium_grammar.specs.Cases.{NoLiteral, ExpressionCase, PreExpression, AddressExpression, UnaryExpression}
+use Rattle.itanium_grammar.specs.Cases.{UnreadLiteral, ExpressionCase, PreExpression, AddressExpression, UnaryExpression}
 use Rattle.itanium_grammar.specs.Cases.{PostExpression, BinaryExpression, GreaterExpression, ConditionalExpression}
-use Rattle.itanium_grammar.specs.Cases.{ParameterExpression, LiteralExpression, NoExpression, ArgumentCase}
+use Rattle.itanium_grammar.specs.Cases.{ParameterExpression, LiteralExpression, UnreadExpression, ArgumentCase}
 use Rattle.itanium_grammar.specs.Cases.{ExpressionArgument, PackArgument, LiteralArgument, ConstraintArgument}
 use Rattle.itanium_grammar.specs.Cases.{TypeArgument, TypeCase, BuiltinType, ExpansionType, VendorType, ArrayType}
 use Rattle.itanium_grammar.specs.Cases.{FunctionType, MemberType, PointerType, CvType, ElaboratedType, ParameterType}
@@ -109,16 +109,16 @@ save_unsaved unsaved t s = record s {
 }
 
 -- the text of the shape is longer than the limit
-abbrev pub is_wide : Shape → Bool
-is_wide t = nat_lt max_text (text_len t)
+abbrev pub is_too_wide : Shape → Bool
+is_too_wide t = nat_lt max_text (text_len t)
 
 -- a shape that isn't too long; else nothing
 abbrev pub fitting : Shape × ParserState → Option (Shape × ParserState)
-fitting found = if is_wide found.0 then None else Some found
+fitting found = if is_too_wide found.0 then None else Some found
 
 -- a name without its own qualifiers that isn't too long; else nothing
 abbrev pub fitting_bare : (Shape × Quals) × ParserState → Option ((Shape × Quals) × ParserState)
-fitting_bare found = if is_wide found.0.0 then None else Some found
+fitting_bare found = if is_too_wide found.0.0 then None else Some found
 
 -- past the M of a data member's initializer
 abbrev pub past_initializer : ParserState → ParserState
@@ -282,18 +282,18 @@ abbrev pub parse_operator : Parses Shape
 parse_operator s = operator_here s.rest >>= λ text. Some (plain_shape (codes "operator" ++ text), skip 2 s)
 
 -- <unqualified-name> that asks for no parent, without its tags: types by the first parser, in a lambda by the second
-abbrev pub free_as : FreeCase → Parses Shape → Parses Shape → Parses Shape
-free_as SourceName type param s = parse_source s
-free_as UnnamedTypeName type param s = parse_unnamed_type (skip 2 s)
-free_as LambdaName type param s = parse_lambda param (skip 2 s)
-free_as ConversionName type param s = parse_conversion type (skip 2 s)
-free_as LiteralOperatorName type param s = parse_literal_operator (skip 2 s)
-free_as OperatorName type param s = parse_operator s
-free_as NoName type param s = None
+abbrev pub ordinary_as : OrdinaryCase → Parses Shape → Parses Shape → Parses Shape
+ordinary_as SourceName type param s = parse_source s
+ordinary_as UnnamedTypeName type param s = parse_unnamed_type (skip 2 s)
+ordinary_as LambdaName type param s = parse_lambda param (skip 2 s)
+ordinary_as ConversionName type param s = parse_conversion type (skip 2 s)
+ordinary_as LiteralOperatorName type param s = parse_literal_operator (skip 2 s)
+ordinary_as OperatorName type param s = parse_operator s
+ordinary_as UnreadName type param s = None
 
 -- such a name with its tags
-abbrev pub parse_free : Parses Shape → Parses Shape → Parses Shape
-parse_free type param s = free_as (free_case s.rest) type param s >>= λ name. parse_tags name.0 name.1
+abbrev pub parse_ordinary : Parses Shape → Parses Shape → Parses Shape
+parse_ordinary type param s = ordinary_as (ordinary_case s.rest) type param s >>= λ name. parse_tags name.0 name.1
 
 -- a source name with its tags
 abbrev pub parse_tagged_source : Parses Shape
@@ -312,8 +312,8 @@ ctor_dtor_as destructor (Some parent) s = parse_tags (qualified_ctor parent dest
 abbrev pub unqualified_as : UnqualifiedCase → Parses Shape → Parses Shape → Option Shape → Parses Shape
 unqualified_as ConstructorName type param parent s = ctor_dtor_as false parent s
 unqualified_as DestructorName type param parent s = ctor_dtor_as true parent s
-unqualified_as FreeName type param parent s =
-    parse_free type param s >>= λ name. Some (in_parent parent name.0, name.1)
+unqualified_as OrdinaryName type param parent s =
+    parse_ordinary type param s >>= λ name. Some (in_parent parent name.0, name.1)
 
 -- a constructor or a destructor of the parent, without its tags
 abbrev pub untagged_ctor : Bool → Option Shape → Parses Shape
@@ -324,8 +324,8 @@ untagged_ctor destructor (Some parent) s = Some (qualified_ctor parent destructo
 abbrev pub untagged_as : UnqualifiedCase → Parses Shape → Parses Shape → Option Shape → Parses Shape
 untagged_as ConstructorName type param parent s = untagged_ctor false parent s
 untagged_as DestructorName type param parent s = untagged_ctor true parent s
-untagged_as FreeName type param parent s =
-    free_as (free_case s.rest) type param s >>= λ name. Some (in_parent parent name.0, name.1)
+untagged_as OrdinaryName type param parent s =
+    ordinary_as (ordinary_case s.rest) type param s >>= λ name. Some (in_parent parent name.0, name.1)
 
 -- [L] <unqualified-name>
 unfoldable pub parse_unqualified : Parses Shape → Parses Shape → Option Shape → Parses Shape
@@ -441,14 +441,14 @@ encoding_end end type param name s =
 
 -- the words of a name's own qualifiers are shown inside a local name, so also of its entity
 abbrev pub shows_words : NameCase → Bool → Bool
-shows_words LocalName shown = true
+shows_words LocalName words_shown = true
 shows_words case shown = shown
 
 -- a name with its own qualifiers
 abbrev pub qualified_by : ParsesBareName → Context → Parses Shape
 qualified_by bare x s =
     bare s >>= λ name.
-    fitting (with_name_qualifiers name.0.0 name.0.1 (shows_words (name_case s.rest) x.shown), name.1)
+    fitting (with_name_qualifiers name.0.0 name.0.1 (shows_words (name_case s.rest) x.words_shown), name.1)
 
 -- words around a type or in front of a name
 abbrev pub parse_worded : Parses Shape → Parses Shape
@@ -478,7 +478,7 @@ special_as NameSpecial type name thunk s = parse_worded name s
 special_as TemporarySpecial type name thunk s = parse_temporary name s
 special_as ConstructionSpecial type name thunk s = parse_construction type s
 special_as ThunkSpecial type name thunk s = thunk s
-special_as NoSpecial type name thunk s = None
+special_as UnreadSpecial type name thunk s = None
 
 -- <special-name>
 abbrev pub special_by : Parses Shape → Parses Shape → Parses Shape → Parses Shape
@@ -529,7 +529,7 @@ entity_as DefaultArgumentEntity bare encoding s =
     Some ((default_arg_shape encoding found.0 entity.0.0, entity.0.1), entity.1)
 entity_as NameEntity bare encoding s =
     bare (skip 1 s) >>= λ entity. Some ((qualified encoding entity.0.0, entity.0.1), entity.1)
-entity_as NoEntity bare encoding s = None
+entity_as UnreadEntity bare encoding s = None
 
 -- what is after the Z of a <local-name>: an encoding, and a name in it
 unfoldable pub parse_local : Parses Shape → ParsesBareName → ParsesBareName
@@ -563,7 +563,7 @@ literal_by type s = type s >>= λ t. literal_end t.0 t.1
 abbrev pub literal_as : LiteralCase → Parses Shape → Parses Shape → Parses Shape
 literal_as ExternalName type encoding s = ended (encoding (skip 3 s))
 literal_as ValueLiteral type encoding s = type (skip 1 s) >>= λ t. literal_end t.0 t.1
-literal_as NoLiteral type encoding s = None
+literal_as UnreadLiteral type encoding s = None
 
 -- <expr-primary>, by what it is made of
 abbrev pub primary_by : Parses Shape → Parses Shape → Parses Shape
@@ -624,7 +624,7 @@ expression_as GreaterExpression expression primary x s = parse_greater expressio
 expression_as ConditionalExpression expression primary x s = parse_conditional expression s
 expression_as ParameterExpression expression primary x s = parse_parameter x s
 expression_as LiteralExpression expression primary x s = primary s
-expression_as NoExpression expression primary x s = None
+expression_as UnreadExpression expression primary x s = None
 
 -- <template-arg>, by what it begins with
 abbrev pub argument_as : ArgumentCase → Parses Shape → Parses Shape → Parses Shape → Parses Shape → Parses Shape
@@ -754,7 +754,7 @@ parse_expansion type in_pack s = type (skip 2 s) >>= λ found. saved_as (expansi
 -- <type>, by what it begins with
 abbrev pub type_as : TypeCase → Parses Shape → Parses Shape → Parses Shape → Context → Parses Shape
 type_as BuiltinType type name args x s = Some (plain_shape (builtin_text s.rest), with_rest (past_builtin s.rest) s)
-type_as ExpansionType type name args x s = parse_expansion type x.pack s
+type_as ExpansionType type name args x s = parse_expansion type x.dots_hidden s
 type_as VendorType type name args x s = parse_vendor s
 type_as ArrayType type name args x s = parse_array type s
 type_as FunctionType type name args x s = saved_by (parse_function type no_quals) s
@@ -778,7 +778,7 @@ unfoldable mutual
       (parse_local
       (encoding_in (parse_type d (inside_encoding x)) (parse_bare_name d (inside_encoding x))
       (parse_thunk d AtE (inside_encoding x)) (inside_encoding x))
-      (parse_bare_name d (inside_local x)))
+      (parse_bare_name d (showing_words x)))
       x (enter s) >>= fitting_bare
 
   -- <template-args>
@@ -795,12 +795,12 @@ unfoldable mutual
   pub parse_pack : ℕ → Context → Parses Shape
   parse_pack zero x s = None
   parse_pack (suc d) x s =
-      parse_packed (argument_by (parse_pack d (inside_pack x)) (parse_type d (inside_pack x))
-      (parse_expression d (inside_pack x))
-      (primary_by (parse_type d (inside_pack x))
-      (encoding_in (parse_type d (inside_encoding (inside_pack x)))
-      (parse_bare_name d (inside_encoding (inside_pack x))) (parse_thunk d AtE (inside_encoding (inside_pack x)))
-      (inside_encoding (inside_pack x)))))
+      parse_packed (argument_by (parse_pack d (hiding_dots x)) (parse_type d (hiding_dots x))
+      (parse_expression d (hiding_dots x))
+      (primary_by (parse_type d (hiding_dots x))
+      (encoding_in (parse_type d (inside_encoding (hiding_dots x)))
+      (parse_bare_name d (inside_encoding (hiding_dots x))) (parse_thunk d AtE (inside_encoding (hiding_dots x)))
+      (inside_encoding (hiding_dots x)))))
       (enter s) >>= fitting
 
   -- <type>
@@ -824,8 +824,8 @@ unfoldable mutual
   pub parse_thunk : ℕ → EncodingEnd → Context → Parses Shape
   parse_thunk zero end x s = None
   parse_thunk (suc d) end x s =
-      thunk_by (encoding_by (of_thunk end) (parse_type d x) (parse_type d (inside_params (of_thunk end) x))
-      (parse_bare_name d x) (parse_thunk d (of_thunk end) x) x) (enter s) >>= fitting
+      thunk_by (encoding_by (for_thunk end) (parse_type d x) (parse_type d (inside_params (for_thunk end) x))
+      (parse_bare_name d x) (parse_thunk d (for_thunk end) x) x) (enter s) >>= fitting
 
 -- <unqualified-name>, whose types nest at most d productions
 abbrev pub unqualified_name : ℕ → Context → ParsesName
@@ -855,7 +855,7 @@ parse_argument d x = argument_by (parse_pack d x) (parse_type d x) (parse_expres
 
 -- what was parsed, where a symbol ends after it
 abbrev pub at_symbol_end : Shape × ParserState → Option (Shape × ParserState)
-at_symbol_end found = if is_here AtSymbolEnd found.1.rest then Some found else None
+at_symbol_end found = if ends_here AtSymbolEnd found.1.rest then Some found else None
 
 -- what follows the prefix of a symbol, as a signature
 unfoldable pub parse_signature : ℕ → Context → Parses Shape

@@ -11,7 +11,7 @@ ghost use Rattle.itanium_syntax.specs.Types.{builtin_text, past_builtin};
 ghost use Rattle.itanium_grammar.specs.Answer.{max_text};
 ghost use Rattle.itanium_grammar.specs.Cases.{EndOfSegments};
 ghost use Rattle.itanium_reader.specs.Parser as spec;
-ghost use Rattle.itanium_reader.specs.Outcome.{state, Enters, Gives, Measures, OnlyTakes, HasRoom, TakesSome, SavedBounds};
+ghost use Rattle.itanium_reader.specs.Outcome.{state, Enters, Gives, ChecksWidth, OnlyTakes, HasRoom, TakesSome, SavedBounds};
 
 use crate::stop::Stop;
 use demangle_edit::Quals;
@@ -193,20 +193,20 @@ impl<'a> Reader<'a> {
 
     /// Returns whether the piece is longer than `MAX_TEXT` bytes.
     #[inline(always)]
-    pub fn is_wide(&self, piece: Piece) -> bool
+    pub fn is_too_wide(&self, piece: Piece) -> bool
         requires living { IsLiving self.now.buffer.value piece }
-        ensures value { result ≡ spec.is_wide (shape self.now.buffer.value piece) }
+        ensures value { result ≡ spec.is_too_wide (shape self.now.buffer.value piece) }
     {
         self.buffer.len(piece) > text_limit()
     }
 
     /// Returns `Stop::Unread` if `found` is longer than `MAX_TEXT` bytes.
     #[inline(always)]
-    pub fn measure(&self) -> Result<(), Stop>
+    pub fn check_width(&self) -> Result<(), Stop>
         requires living { IsLiving self.now.buffer.value self.now.found }
-        ensures fits { Measures result (shape self.now.buffer.value self.now.found) }
+        ensures fits { ChecksWidth result (shape self.now.buffer.value self.now.found) }
     {
-        if self.is_wide(self.found) {
+        if self.is_too_wide(self.found) {
             return Err(Stop::Unread);
         }
         Ok(())

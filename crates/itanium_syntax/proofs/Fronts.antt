@@ -24,7 +24,7 @@ use Rattle.itanium_syntax.specs.Cases.{LiteralOperatorName, OperatorName, PackAr
 use Rattle.itanium_syntax.specs.Cases.{ArgsSegment, ConstructorName, DestructorName, ArgsAttached, EndOfArguments}
 use Rattle.itanium_syntax.specs.Cases.{BuiltinType, ArrayType, FunctionType, MemberType, PointerType, CvFunction}
 use Rattle.itanium_syntax.specs.Cases.{NoParams, EndOfTypes}
-use Rattle.itanium_syntax.specs.Names.{begins_special, encoding_case, first_case, segment_case, unqualified_case, free_case, past_internal, past_initializer_letter, past_name_quals}
+use Rattle.itanium_syntax.specs.Names.{begins_special, encoding_case, first_case, segment_case, unqualified_case, ordinary_case, past_internal, past_initializer_letter, past_name_quals}
 use Rattle.std.specs.Str.{is_utf8}
 use Rattle.std.specs.Prelude.{take}
 use Rattle.itanium_syntax.specs.Expressions.{value_len, literal_value, expression_case}
@@ -238,23 +238,23 @@ cv_shorter (b ∷ bytes) e = go (b == 114) (b == 86) (b == 75) refl refl refl e
     go false false false er ev ek h = cc
 
 -- these names have a letter
-pub lambda_some : (bytes : List ℕ) → free_case bytes ≡ LambdaName → 0 < length bytes
+pub lambda_some : (bytes : List ℕ) → ordinary_case bytes ≡ LambdaName → 0 < length bytes
 lambda_some [] e = cc
 lambda_some (b ∷ bytes) e = omega arith
 
-pub conversion_some : (bytes : List ℕ) → free_case bytes ≡ ConversionName → 0 < length bytes
+pub conversion_some : (bytes : List ℕ) → ordinary_case bytes ≡ ConversionName → 0 < length bytes
 conversion_some [] e = cc
 conversion_some (b ∷ bytes) e = omega arith
 
-pub unnamed_type_some : (bytes : List ℕ) → free_case bytes ≡ UnnamedTypeName → 0 < length bytes
+pub unnamed_type_some : (bytes : List ℕ) → ordinary_case bytes ≡ UnnamedTypeName → 0 < length bytes
 unnamed_type_some [] e = cc
 unnamed_type_some (b ∷ bytes) e = omega arith
 
-pub literal_operator_some : (bytes : List ℕ) → free_case bytes ≡ LiteralOperatorName → 0 < length bytes
+pub literal_operator_some : (bytes : List ℕ) → ordinary_case bytes ≡ LiteralOperatorName → 0 < length bytes
 literal_operator_some [] e = cc
 literal_operator_some (b ∷ bytes) e = omega arith
 
-pub operator_some : (bytes : List ℕ) → free_case bytes ≡ OperatorName → 0 < length bytes
+pub operator_some : (bytes : List ℕ) → ordinary_case bytes ≡ OperatorName → 0 < length bytes
 operator_some [] e = cc
 operator_some (b ∷ bytes) e = omega arith
 

@@ -17,23 +17,23 @@ abbrev pub inside_type : Context → Context
 inside_type x = record x { in_type = true }
 
 -- the context inside an argument pack
-abbrev pub inside_pack : Context → Context
-inside_pack x = record x { pack = true }
+abbrev pub hiding_dots : Context → Context
+hiding_dots x = record x { dots_hidden = true }
 
 -- the context inside a lambda's signature
 abbrev pub inside_lambda : Context → Context
 inside_lambda x = record x { lambda = true }
 
 -- the context inside a local name: the words of qualifiers are shown
-abbrev pub inside_local : Context → Context
-inside_local x = record x { shown = true }
+abbrev pub showing_words : Context → Context
+showing_words x = record x { words_shown = true }
 
 -- the context inside the encoding of a local or an external name: no type is around it
 abbrev pub inside_encoding : Context → Context
-inside_encoding x = record x { shown = true; in_type = false }
+inside_encoding x = record x { words_shown = true; in_type = false }
 
 -- the context inside the parameters of an encoding that ends so: those of a signature have no dots where a pack is
 -- expanded, as if they were in an argument pack
 abbrev pub inside_params : EncodingEnd → Context → Context
-inside_params AtSymbolEnd x = inside_pack x
+inside_params AtSymbolEnd x = hiding_dots x
 inside_params end x = x

@@ -5,7 +5,7 @@ use Rattle.itanium_syntax.specs.declared.encodings.EncodingEnd.TheVariants.{Afte
 use Rattle.itanium_syntax.specs.Bytes.{begins, begins_digit, begins_between}
 use Rattle.itanium_syntax.specs.Cases.{ReturnCase, NoReturnType, SomeReturnType, EncodingParamsCase}
 use Rattle.itanium_syntax.specs.Cases.{NoEncodingParams, SomeEncodingParams, EntityCase, StringLiteralEntity}
-use Rattle.itanium_syntax.specs.Cases.{DefaultArgumentEntity, NameEntity, NoEntity}
+use Rattle.itanium_syntax.specs.Cases.{DefaultArgumentEntity, NameEntity, UnreadEntity}
 
 -- an ASCII letter, a digit or an underscore is next
 abbrev pub begins_identifier : List ℕ → Bool
@@ -14,25 +14,25 @@ begins_identifier bytes =
 
 -- whether an encoding that ends so is at its end before these bytes: right after its name, at the E of the name around
 -- it, or where a symbol ends
-abbrev pub is_here : EncodingEnd → List ℕ → Bool
-is_here AfterName bytes = true
-is_here AtE bytes = begins (codes "E") bytes
-is_here AtSymbolEnd bytes = not (begins_identifier bytes)
+abbrev pub ends_here : EncodingEnd → List ℕ → Bool
+ends_here AfterName bytes = true
+ends_here AtE bytes = begins (codes "E") bytes
+ends_here AtSymbolEnd bytes = not (begins_identifier bytes)
 
 -- how the encoding of a thunk ends: that of a signature's thunk where the symbol ends, else right after its name
-abbrev pub of_thunk : EncodingEnd → EncodingEnd
-of_thunk AtSymbolEnd = AtSymbolEnd
-of_thunk end = AfterName
+abbrev pub for_thunk : EncodingEnd → EncodingEnd
+for_thunk AtSymbolEnd = AtSymbolEnd
+for_thunk end = AfterName
 
 -- the return type in an encoding, or none: a template has one, unless it is a constructor, destructor or conversion, or
 -- its name is all of the encoding
 abbrev pub return_case : EncodingEnd → Bool → Bool → List ℕ → ReturnCase
 return_case end templ ctor bytes =
-    if templ && not ctor && not (is_here end bytes) then SomeReturnType else NoReturnType
+    if templ && not ctor && not (ends_here end bytes) then SomeReturnType else NoReturnType
 
 -- the parameters of an encoding, or its end
 abbrev pub encoding_params_case : EncodingEnd → List ℕ → EncodingParamsCase
-encoding_params_case end bytes = if is_here end bytes then NoEncodingParams else SomeEncodingParams
+encoding_params_case end bytes = if ends_here end bytes then NoEncodingParams else SomeEncodingParams
 
 -- what follows the encoding of a <local-name>: its E, and s for a string literal, d for a default argument, or a name
 abbrev pub entity_case : List ℕ → EntityCase
@@ -40,4 +40,4 @@ entity_case bytes =
     if begins (codes "Es") bytes then StringLiteralEntity else
     if begins (codes "Ed") bytes && (begins (codes "_") (drop 2 bytes) || begins_digit (drop 2 bytes))
     then DefaultArgumentEntity else
-    if begins (codes "E") bytes then NameEntity else NoEntity
+    if begins (codes "E") bytes then NameEntity else UnreadEntity

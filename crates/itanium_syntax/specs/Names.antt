@@ -10,8 +10,8 @@ use Rattle.itanium_syntax.specs.Cases.{EncodingCase, SpecialEncoding, NameEncodi
 use Rattle.itanium_syntax.specs.Cases.{LocalName, UnscopedName, UnscopedCase, StdName, SubstitutionName, PlainName, FirstCase}
 use Rattle.itanium_syntax.specs.Cases.{ParameterFirst, StdFirst, SubstitutionFirst, NameFirst, SegmentCase}
 use Rattle.itanium_syntax.specs.Cases.{EndOfSegments, ArgsSegment, NameSegment, UnqualifiedCase, ConstructorName}
-use Rattle.itanium_syntax.specs.Cases.{DestructorName, FreeName, FreeCase, SourceName, UnnamedTypeName, LambdaName}
-use Rattle.itanium_syntax.specs.Cases.{ConversionName, LiteralOperatorName, OperatorName, NoName, TagCase, NoTag}
+use Rattle.itanium_syntax.specs.Cases.{DestructorName, OrdinaryName, OrdinaryCase, SourceName, UnnamedTypeName, LambdaName}
+use Rattle.itanium_syntax.specs.Cases.{ConversionName, LiteralOperatorName, OperatorName, UnreadName, TagCase, NoTag}
 use Rattle.itanium_syntax.specs.Cases.{NextTag, SubstitutionCase, AbbreviationSubstitution, ComponentSubstitution}
 use Rattle.itanium_syntax.specs.Types.{cv_quals, past_cv, with_reference, past_reference}
 
@@ -68,22 +68,22 @@ abbrev pub begins_destructor : List ℕ → Bool
 begins_destructor bytes =
     begins (codes "D") bytes && (begins_between "0" "2" (drop 1 bytes) || begins_between "4" "5" (drop 1 bytes))
 
--- an <unqualified-name> that is no <ctor-dtor-name>, so it needs no parent. `NoName`: none, and this isn't read.
-abbrev pub free_case : List ℕ → FreeCase
-free_case bytes =
+-- an <unqualified-name> that is no <ctor-dtor-name>, so it needs no parent. `UnreadName`: none, and this isn't read.
+abbrev pub ordinary_case : List ℕ → OrdinaryCase
+ordinary_case bytes =
     if begins_between "1" "9" bytes then SourceName else
     if begins (codes "Ut") bytes then UnnamedTypeName else
     if begins (codes "Ul") bytes then LambdaName else
     if begins (codes "cv") bytes then ConversionName else
     if begins (codes "li") bytes then LiteralOperatorName else
-    if is_some (operator_here bytes) then OperatorName else NoName
+    if is_some (operator_here bytes) then OperatorName else UnreadName
 
 -- <unqualified-name>: constructors and destructors have a parent
 abbrev pub unqualified_case : Bool → List ℕ → UnqualifiedCase
 unqualified_case in_parent bytes =
     if in_parent && begins_constructor bytes then ConstructorName else
     if in_parent && begins_destructor bytes then DestructorName else
-    FreeName
+    OrdinaryName
 
 -- an <abi-tag>, or `NoTag`: the tags have ended
 abbrev pub tag_case : List ℕ → TagCase

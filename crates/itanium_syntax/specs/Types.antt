@@ -6,7 +6,7 @@ use Rattle.demangle_quals.specs.declared.quals.Pointer.TheVariants as Pointer
 use Rattle.demangle_quals.specs.declared.quals.Reference.{Reference}
 use Rattle.demangle_quals.specs.declared.quals.Reference.TheVariants.{Left, Right}
 use Rattle.itanium_syntax.specs.declared.encodings.EncodingEnd.{EncodingEnd}
-use Rattle.itanium_syntax.specs.Encodings.{is_here}
+use Rattle.itanium_syntax.specs.Encodings.{ends_here}
 use Rattle.itanium_syntax.specs.Bytes.{letter, is, begins, begins_one_of, past_letter}
 use Rattle.itanium_syntax.specs.Cases.{TypeCase, BuiltinType, ExpansionType, VendorType, ArrayType, FunctionType}
 use Rattle.itanium_syntax.specs.Cases.{MemberType, PointerType, CvType, ElaboratedType, ParameterType, SubstitutionType}
@@ -107,12 +107,12 @@ function_case bytes = if begins (codes "FY") bytes then ExternFunction else Plai
 
 -- `v` right before the end stands for no parameters
 abbrev pub params_case : EncodingEnd → List ℕ → ParamsCase
-params_case end bytes = if begins (codes "v") bytes && is_here end (drop 1 bytes) then NoParams else SomeParams
+params_case end bytes = if begins (codes "v") bytes && ends_here end (drop 1 bytes) then NoParams else SomeParams
 
 -- types go up to the end, those of a <function-type> also to a <ref-qualifier> in front of its E
 abbrev pub types_case : EncodingEnd → Bool → List ℕ → TypesCase
 types_case end of_function bytes =
-    if is_here end bytes then EndOfTypes else
+    if ends_here end bytes then EndOfTypes else
     if of_function && (begins (codes "RE") bytes || begins (codes "OE") bytes) then EndOfTypes else NextType
 
 -- the word in front of an elaborated type's name, and a space

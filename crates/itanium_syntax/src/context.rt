@@ -9,19 +9,19 @@ use crate::encodings::EncodingEnd;
 #[derive(Clone, Copy)]
 pub struct Context {
     /// Set inside a local or an external name, and in a signature: words such as ` const` after a name are printed.
-    pub shown: bool,
+    pub words_shown: bool,
     /// Set inside an argument pack, and in the parameters of a signature: a pack expansion prints no `...`.
-    pub pack: bool,
+    pub dots_hidden: bool,
     /// Set inside a lambda's parameters: a template parameter is printed as `auto`.
     pub lambda: bool,
     /// Set inside a type, except in an encoding inside that type: the template arguments of a name open no scope.
     pub in_type: bool,
 }
 
-/// The context at the start of a symbol's name. A signature starts with `INITIAL.inside_local()`.
+/// The context at the start of a symbol's name. A signature starts with `INITIAL.showing_words()`.
 pub const INITIAL: Context = Context {
-    shown: false,
-    pack: false,
+    words_shown: false,
+    dots_hidden: false,
     lambda: false,
     in_type: false,
 };
@@ -38,10 +38,13 @@ impl Context {
     }
 
     /// Returns the context inside an argument pack.
-    pub fn inside_pack(self) -> Context
-        ensures context { result ≡ spec.inside_pack self }
+    pub fn hiding_dots(self) -> Context
+        ensures context { result ≡ spec.hiding_dots self }
     {
-        Context { pack: true, ..self }
+        Context {
+            dots_hidden: true,
+            ..self
+        }
     }
 
     /// Returns the context inside a lambda's parameters.
@@ -55,11 +58,11 @@ impl Context {
     }
 
     /// Returns the context inside a local name, also for its entity.
-    pub fn inside_local(self) -> Context
-        ensures context { result ≡ spec.inside_local self }
+    pub fn showing_words(self) -> Context
+        ensures context { result ≡ spec.showing_words self }
     {
         Context {
-            shown: true,
+            words_shown: true,
             ..self
         }
     }
@@ -69,7 +72,7 @@ impl Context {
         ensures context { result ≡ spec.inside_encoding self }
     {
         Context {
-            shown: true,
+            words_shown: true,
             in_type: false,
             ..self
         }
@@ -81,7 +84,7 @@ impl Context {
         ensures context { result ≡ spec.inside_params end self }
     {
         match end {
-            EncodingEnd::AtSymbolEnd => self.inside_pack(),
+            EncodingEnd::AtSymbolEnd => self.hiding_dots(),
             _ => self,
         }
     }

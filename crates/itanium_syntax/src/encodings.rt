@@ -18,8 +18,8 @@ pub enum EncodingEnd {
 
 impl EncodingEnd {
     /// Returns where the encoding of a thunk ends. `self` is the end of the special name that is the thunk.
-    pub fn of_thunk(self) -> EncodingEnd
-        ensures end { result ≡ spec.of_thunk self }
+    pub fn for_thunk(self) -> EncodingEnd
+        ensures end { result ≡ spec.for_thunk self }
     {
         match self {
             EncodingEnd::AtSymbolEnd => EncodingEnd::AtSymbolEnd,
@@ -29,8 +29,8 @@ impl EncodingEnd {
 
     /// Returns whether an encoding with this end stops in front of these bytes. A symbol ends if no ASCII letter,
     /// digit or underscore is next.
-    pub fn is_here(self, bytes: &[u8]) -> bool
-        ensures value { result ≡ spec.is_here self bytes.now }
+    pub fn ends_here(self, bytes: &[u8]) -> bool
+        ensures value { result ≡ spec.ends_here self bytes.now }
     {
         match self {
             EncodingEnd::AfterName => true,
@@ -62,7 +62,7 @@ pub enum EntityCase {
     StringLiteralEntity,
     DefaultArgumentEntity,
     NameEntity,
-    NoEntity,
+    UnreadEntity,
 }
 
 /// Returns whether a return type is next, after a name with these flags. A template has one, unless it is a
@@ -70,7 +70,7 @@ pub enum EntityCase {
 pub fn return_case(end: EncodingEnd, templ: bool, ctor: bool, bytes: &[u8]) -> ReturnCase
     ensures case { result ≡ spec.return_case end templ ctor bytes.now }
 {
-    if templ && !ctor && !end.is_here(bytes) {
+    if templ && !ctor && !end.ends_here(bytes) {
         ReturnCase::SomeReturnType
     } else {
         ReturnCase::NoReturnType
@@ -81,7 +81,7 @@ pub fn return_case(end: EncodingEnd, templ: bool, ctor: bool, bytes: &[u8]) -> R
 pub fn encoding_params_case(end: EncodingEnd, bytes: &[u8]) -> EncodingParamsCase
     ensures case { result ≡ spec.encoding_params_case end bytes.now }
 {
-    if end.is_here(bytes) {
+    if end.ends_here(bytes) {
         EncodingParamsCase::NoEncodingParams
     } else {
         EncodingParamsCase::SomeEncodingParams
@@ -96,6 +96,6 @@ pub fn entity_case(bytes: &[u8]) -> EntityCase
         [b'E', b's', ..] => EntityCase::StringLiteralEntity,
         [b'E', b'd', b'_' | b'0'..=b'9', ..] => EntityCase::DefaultArgumentEntity,
         [b'E', ..] => EntityCase::NameEntity,
-        _ => EntityCase::NoEntity,
+        _ => EntityCase::UnreadEntity,
     }
 }

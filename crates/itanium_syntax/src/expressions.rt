@@ -11,7 +11,7 @@ use std::str::from_utf8;
 pub enum LiteralCase {
     ExternalName,
     ValueLiteral,
-    NoLiteral,
+    UnreadLiteral,
 }
 
 /// The cases of `<expression>`, by how each is printed.
@@ -33,7 +33,7 @@ pub enum ExpressionCase {
     ConditionalExpression,
     ParameterExpression,
     LiteralExpression,
-    NoExpression,
+    UnreadExpression,
 }
 
 /// Returns whether an external name is next.
@@ -49,7 +49,7 @@ pub fn literal_case(bytes: &[u8]) -> LiteralCase
 {
     match bytes {
         [b'L', b'_', b'Z', ..] => LiteralCase::ExternalName,
-        [b'L', b'_' | b'Z', ..] => LiteralCase::NoLiteral,
+        [b'L', b'_' | b'Z', ..] => LiteralCase::UnreadLiteral,
         _ => LiteralCase::ValueLiteral,
     }
 }
@@ -118,7 +118,7 @@ pub fn expression_case(bytes: &[u8]) -> ExpressionCase
         [first, second, rest @ ..] => (*first, *second, rest),
         [b'L'] => return ExpressionCase::LiteralExpression,
         [b'T'] => return ExpressionCase::ParameterExpression,
-        _ => return ExpressionCase::NoExpression,
+        _ => return ExpressionCase::UnreadExpression,
     };
     match (first, second) {
         (b'p', b'p') | (b'm', b'm') => match rest {
@@ -128,14 +128,14 @@ pub fn expression_case(bytes: &[u8]) -> ExpressionCase
         (b'a', b'd') if is_external(rest) => ExpressionCase::AddressExpression,
         (b'g', b't') => ExpressionCase::GreaterExpression,
         (b'L', _) => ExpressionCase::LiteralExpression,
-        (b'T', b's' | b'u' | b'e' | b'L') => ExpressionCase::NoExpression,
+        (b'T', b's' | b'u' | b'e' | b'L') => ExpressionCase::UnreadExpression,
         (b'T', _) => ExpressionCase::ParameterExpression,
-        _ if expression_refused(first, second) => ExpressionCase::NoExpression,
+        _ if expression_refused(first, second) => ExpressionCase::UnreadExpression,
         _ => match operator_arity(first, second) {
             Some(1) => ExpressionCase::UnaryExpression,
             Some(3) => ExpressionCase::ConditionalExpression,
             Some(_) => ExpressionCase::BinaryExpression,
-            None => ExpressionCase::NoExpression,
+            None => ExpressionCase::UnreadExpression,
         },
     }
 }

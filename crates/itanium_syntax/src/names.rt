@@ -58,19 +58,19 @@ pub enum SegmentCase {
 pub enum UnqualifiedCase {
     ConstructorName,
     DestructorName,
-    FreeName,
+    OrdinaryName,
 }
 
 /// The cases of an `<unqualified-name>` that needs no parent, which is any but a `<ctor-dtor-name>`.
 #[derive(Clone, Copy)]
-pub enum FreeCase {
+pub enum OrdinaryCase {
     SourceName,
     UnnamedTypeName,
     LambdaName,
     ConversionName,
     LiteralOperatorName,
     OperatorName,
-    NoName,
+    UnreadName,
 }
 
 /// Whether an `<abi-tag>` follows.
@@ -161,23 +161,23 @@ pub fn unqualified_case(in_parent: bool, bytes: &[u8]) -> UnqualifiedCase
     match bytes {
         [b'C', b'1'..=b'5', ..] if in_parent => UnqualifiedCase::ConstructorName,
         [b'D', b'0'..=b'2' | b'4' | b'5', ..] if in_parent => UnqualifiedCase::DestructorName,
-        _ => UnqualifiedCase::FreeName,
+        _ => UnqualifiedCase::OrdinaryName,
     }
 }
 
 /// Returns which `<unqualified-name>` that needs no parent is next.
-pub fn free_case(bytes: &[u8]) -> FreeCase
-    ensures case { result ≡ spec.free_case bytes.now }
+pub fn ordinary_case(bytes: &[u8]) -> OrdinaryCase
+    ensures case { result ≡ spec.ordinary_case bytes.now }
 {
     match bytes {
-        [b'1'..=b'9', ..] => FreeCase::SourceName,
-        [b'U', b't', ..] => FreeCase::UnnamedTypeName,
-        [b'U', b'l', ..] => FreeCase::LambdaName,
-        [b'c', b'v', ..] => FreeCase::ConversionName,
-        [b'l', b'i', ..] => FreeCase::LiteralOperatorName,
+        [b'1'..=b'9', ..] => OrdinaryCase::SourceName,
+        [b'U', b't', ..] => OrdinaryCase::UnnamedTypeName,
+        [b'U', b'l', ..] => OrdinaryCase::LambdaName,
+        [b'c', b'v', ..] => OrdinaryCase::ConversionName,
+        [b'l', b'i', ..] => OrdinaryCase::LiteralOperatorName,
         _ => match operator_here(bytes) {
-            Some(_) => FreeCase::OperatorName,
-            None => FreeCase::NoName,
+            Some(_) => OrdinaryCase::OperatorName,
+            None => OrdinaryCase::UnreadName,
         },
     }
 }

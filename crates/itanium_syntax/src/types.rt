@@ -105,7 +105,7 @@ pub fn params_case(end: EncodingEnd, bytes: &[u8]) -> ParamsCase
     ensures case { result ≡ spec.params_case end bytes.now }
 {
     match bytes {
-        [b'v', rest @ ..] if end.is_here(rest) => ParamsCase::NoParams,
+        [b'v', rest @ ..] if end.ends_here(rest) => ParamsCase::NoParams,
         _ => ParamsCase::SomeParams,
     }
 }
@@ -116,7 +116,7 @@ pub fn types_case(end: EncodingEnd, of_function: bool, bytes: &[u8]) -> TypesCas
     ensures case { result ≡ spec.types_case end of_function bytes.now }
 {
     match bytes {
-        _ if end.is_here(bytes) => TypesCase::EndOfTypes,
+        _ if end.ends_here(bytes) => TypesCase::EndOfTypes,
         [b'R' | b'O', b'E', ..] if of_function => TypesCase::EndOfTypes,
         _ => TypesCase::NextType,
     }

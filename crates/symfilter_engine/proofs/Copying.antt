@@ -9,7 +9,7 @@ use Rattle.symfilter_engine.specs.Fault.{IsRunOutcome}
 use Rattle.std.proofs.KnownBytes.{Consumes-nil, Consumes-trans, Consumes-kept, Keeps-refl}
 use Rattle.std.specs.Io.KnownBytes.{Consumes, IsAtEnd, Keeps}
 use Rattle.symfilter_engine.specs.Filtered.{WritesFiltered, WritesBeginning, FiltersFront, FiltersWhole}
-use Rattle.symfilter_engine.specs.Progress.{WritesLinesFront, WritesWholeLines, HasFiltered, HasCopied, ReadsMore}
+use Rattle.symfilter_engine.specs.Progress.{WritesWholeFront, WritesSomeWhole, HasFiltered, HasCopied, ReadsMore}
 use Rattle.symfilter_engine.proofs.Chunks.{nothing_read}
 use Rattle.symfilter_engine.proofs.FilteredText.{none_filtered, filtered_begins, piece_filtered, piece_begins, next_unwritten, lines_before, WritesFiltered-append, WritesBeginning-append}
 
@@ -48,7 +48,7 @@ turn_copied symbols kept end n old new lines rest s s' s'' t t' t'' so_far more 
 
 -- a fault came while they were written
 pub turn_fault : (symbols : Symbols) (kept end n : ℕ) (old new lines : List ℕ) (s s' s'' t t' t'' : Option (List ℕ))
-    → HasCopied symbols (take kept old) s s' t t' → ReadsMore kept end old new s' s'' → WritesLinesFront symbols lines t' t'' → lines ≡ take n (take end new)
+    → HasCopied symbols (take kept old) s s' t t' → ReadsMore kept end old new s' s'' → WritesWholeFront symbols lines t' t'' → lines ≡ take n (take end new)
     → FiltersFront symbols s s'' t t''
 turn_fault symbols kept end n old new lines s s' s'' t t' t'' so_far more begins lines_are =
     let all : List ℕ = take end new in
@@ -73,7 +73,7 @@ copied_lines symbols left s s' t t' so_far =
 
 -- memory was refused for a line of the next piece
 pub turn_refused : (symbols : Symbols) (kept end n : ℕ) (old new lines : List ℕ) (s s' s'' t t' t'' : Option (List ℕ))
-    → HasCopied symbols (take kept old) s s' t t' → ReadsMore kept end old new s' s'' → WritesWholeLines symbols lines t' t''
+    → HasCopied symbols (take kept old) s s' t t' → ReadsMore kept end old new s' s'' → WritesSomeWhole symbols lines t' t''
     → lines ≡ take n (take end new) → FiltersWhole symbols s s'' t t''
 turn_refused symbols kept end n old new lines s s' s'' t t' t'' so_far more (left, filtered) lines_are =
     let all : List ℕ = take end new in

@@ -15,10 +15,10 @@ use Rattle.symfilter_engine.specs.declared.symbols.Symbols.{Symbols}
 use Rattle.symfilter_engine.specs.declared.symbols.Symbols.TheVariants.{Lines, Words}
 use Rattle.symfilter_engine.specs.Replaced.{no_byte}
 use Rattle.symfilter_engine.specs.Filtered.{line_feed, HasNoLineFeed, AreLinesAnswered, no_line}
-use Rattle.symfilter_engine.specs.Filtered.{one_more, IsAnswered, ended, unended, AreLinesFiltered, IsFiltered, IsFront}
+use Rattle.symfilter_engine.specs.Filtered.{one_more, IsAnswered, ended, unended, AreWholeFiltered, IsFiltered, IsFront}
 use Rattle.symfilter_engine.specs.Filtered.{IsBeginning, IsLineAnswer, answered, unanswered, not_utf8, WritesFiltered}
 use Rattle.symfilter_engine.specs.Filtered.{WritesBeginning}
-use Rattle.symfilter_engine.specs.Progress.{AppendsReplaced, WritesFront, WritesLines, WritesLinesFront, HasFiltered}
+use Rattle.symfilter_engine.specs.Progress.{AppendsReplaced, WritesFront, WritesWhole, WritesWholeFront, HasFiltered}
 use Rattle.symfilter_engine.proofs.ReplacedText.{IsReplaced-append, whole_parted, whole-append, replaced_of}
 use Rattle.symfilter_engine.specs.declared.symbols.Replacement.{Replacement}
 use Rattle.symfilter_engine.specs.declared.symbols.Printing.{Printing}
@@ -41,23 +41,23 @@ IsAnswered-append printing {lines} {text} first (unended {lines = lines'} {text 
     (unended (AreLinesAnswered-append printing first before) some unended_line is_answer))
 
 -- no line
-pub no_lines : (symbols : Symbols) → AreLinesFiltered symbols [] []
+pub no_lines : (symbols : Symbols) → AreWholeFiltered symbols [] []
 no_lines (Lines printing) = no_line
-no_lines (Words how) = (refl, no_byte)
+no_lines (Words options) = (refl, no_byte)
 
 -- lines after lines
-pub AreLinesFiltered-append : (symbols : Symbols) (lines text lines' text' : List ℕ) → AreLinesFiltered symbols lines text → AreLinesFiltered symbols lines' text'
-    → AreLinesFiltered symbols (lines ++ lines') (text ++ text')
-AreLinesFiltered-append (Lines printing) lines text lines' text' first second = AreLinesAnswered-append printing first second
-AreLinesFiltered-append (Words how) lines text lines' text' first second =
-    (whole-append lines lines' second.0 (λ _. first.0), IsReplaced-append how first.1 second.1 (whole_parted lines lines' first.0))
+pub AreWholeFiltered-append : (symbols : Symbols) (lines text lines' text' : List ℕ) → AreWholeFiltered symbols lines text → AreWholeFiltered symbols lines' text'
+    → AreWholeFiltered symbols (lines ++ lines') (text ++ text')
+AreWholeFiltered-append (Lines printing) lines text lines' text' first second = AreLinesAnswered-append printing first second
+AreWholeFiltered-append (Words options) lines text lines' text' first second =
+    (whole-append lines lines' second.0 (λ _. first.0), IsReplaced-append options first.1 second.1 (whole_parted lines lines' first.0))
 
 -- bytes after lines
-IsFiltered-append : (symbols : Symbols) (lines text given text' : List ℕ) → AreLinesFiltered symbols lines text → IsFiltered symbols given text'
+IsFiltered-append : (symbols : Symbols) (lines text given text' : List ℕ) → AreWholeFiltered symbols lines text → IsFiltered symbols given text'
     → IsFiltered symbols (lines ++ given) (text ++ text')
 IsFiltered-append (Lines printing) lines text given text' first second = IsAnswered-append printing first second
-IsFiltered-append (Words how) lines text given text' first second =
-    IsReplaced-append how first.1 second (whole_parted lines given first.0)
+IsFiltered-append (Words options) lines text given text' first second =
+    IsReplaced-append options first.1 second (whole_parted lines given first.0)
 
 -- a front after a text
 pub IsFront-append : (text written more : List ℕ) → IsFront written more → IsFront (text ++ written) (text ++ more)
@@ -108,10 +108,10 @@ after_line printing line (byte ∷ bytes) unended_line =
 -- all bytes have a filtered text
 filtered_of : (symbols : Symbols) (bytes : List ℕ) → (text : List ℕ) × IsFiltered symbols bytes text
 filtered_of (Lines printing) bytes = after_line printing [] bytes (All-nil (λ byte. byte ≢ line_feed))
-filtered_of (Words how) bytes = replaced_of how bytes
+filtered_of (Words options) bytes = replaced_of options bytes
 
 -- a front of the filtered text of the first lines
-of_lines : (symbols : Symbols) (lines text given rest written : List ℕ) → given ≡ lines ++ rest → AreLinesFiltered symbols lines text → IsFront written text
+of_lines : (symbols : Symbols) (lines text given rest written : List ℕ) → given ≡ lines ++ rest → AreWholeFiltered symbols lines text → IsFront written text
     → IsBeginning symbols given written
 of_lines symbols lines text given rest written given_is filtered is_front =
     let more = filtered_of symbols rest in (
@@ -123,7 +123,7 @@ of_lines symbols lines text given rest written given_is filtered is_front =
 -- no byte
 nothing_filtered : (symbols : Symbols) → IsFiltered symbols [] []
 nothing_filtered (Lines printing) = ended no_line
-nothing_filtered (Words how) = no_byte
+nothing_filtered (Words options) = no_byte
 
 -- no last line was written
 pub no_last : (symbols : Symbols) (line : List ℕ) (at : Option (List ℕ)) → line ≡ [] → WritesFiltered symbols line at at
@@ -148,16 +148,16 @@ last_begins symbols printing line answer before after is some unended_line is_an
     (writes.front, (answer, unended no_line some unended_line is_answer, (rest, writes.bytes_are)), writes.written)
 
 -- a last line was written replaced
-pub last_replaced : (symbols : Symbols) (how : Replacement) (line old output bytes : List ℕ) (before after : Option (List ℕ)) → symbols ≡ Words how → old ≡ []
-    → AppendsReplaced how line old output → bytes ≡ output → Appends before after bytes → WritesFiltered symbols line before after
-last_replaced symbols how line old output bytes before after is none (text, replaced, output_is) bytes_are writes =
+pub last_replaced : (symbols : Symbols) (options : Replacement) (line old output bytes : List ℕ) (before after : Option (List ℕ)) → symbols ≡ Words options → old ≡ []
+    → AppendsReplaced options line old output → bytes ≡ output → Appends before after bytes → WritesFiltered symbols line before after
+last_replaced symbols options line old output bytes before after is none (text, replaced, output_is) bytes_are writes =
     subst (λ s. WritesFiltered s line before after) (sym is)
     (text, replaced, subst (Appends before after) (bytes_are ∙ output_is ∙ ap (λ l. l ++ text) none) writes)
 
 -- a front of its replaced text was written
-pub replaced_begins : (symbols : Symbols) (how : Replacement) (line old output bytes : List ℕ) (before after : Option (List ℕ)) → symbols ≡ Words how → old ≡ []
-    → AppendsReplaced how line old output → bytes ≡ output → WritesFront bytes before after → WritesBeginning symbols line before after
-replaced_begins symbols how line old output bytes before after is none (text, replaced, output_is) bytes_are (rest, writes) =
+pub replaced_begins : (symbols : Symbols) (options : Replacement) (line old output bytes : List ℕ) (before after : Option (List ℕ)) → symbols ≡ Words options → old ≡ []
+    → AppendsReplaced options line old output → bytes ≡ output → WritesFront bytes before after → WritesBeginning symbols line before after
+replaced_begins symbols options line old output bytes before after is none (text, replaced, output_is) bytes_are (rest, writes) =
     subst (λ s. WritesBeginning s line before after) (sym is)
     (writes.front, (text, replaced, (rest, sym (bytes_are ∙ output_is ∙ ap (λ l. l ++ text) none) ∙ writes.bytes_are)), writes.written)
 
@@ -167,13 +167,13 @@ none_filtered symbols given at = record { lines = []; text = []; given_is = refl
 
 -- lines of what was left were written too
 pub lines_filtered : (symbols : Symbols) (given rest : List ℕ) (n : ℕ) (before mid after : Option (List ℕ))
-    → HasFiltered symbols given rest before mid → WritesLines symbols (take n rest) mid after → HasFiltered symbols given (drop n rest) before after
+    → HasFiltered symbols given rest before mid → WritesWhole symbols (take n rest) mid after → HasFiltered symbols given (drop n rest) before after
 lines_filtered symbols given rest n before mid after so_far (text, filtered, writes) =
     record {
       lines = so_far.lines ++ take n rest;
       text = so_far.text ++ text;
       given_is = so_far.given_is ∙ ap (λ l. so_far.lines ++ l) (sym (take-append-drop n rest)) ∙ sym (append_assoc so_far.lines (take n rest) (drop n rest));
-      filtered = AreLinesFiltered-append symbols so_far.lines so_far.text (take n rest) text so_far.filtered filtered;
+      filtered = AreWholeFiltered-append symbols so_far.lines so_far.text (take n rest) text so_far.filtered filtered;
       written = Appends-trans before mid after so_far.text text so_far.written writes;
     }
 
@@ -211,12 +211,12 @@ filtered_begins symbols given left before after so_far = (
 )
 
 -- nothing of lines was written
-pub lines_unwritten : (symbols : Symbols) (lines : List ℕ) (at : Option (List ℕ)) → WritesLinesFront symbols lines at at
+pub lines_unwritten : (symbols : Symbols) (lines : List ℕ) (at : Option (List ℕ)) → WritesWholeFront symbols lines at at
 lines_unwritten symbols lines at rest = last_unwritten symbols (lines ++ rest) at
 
 -- a front of the text of the first lines was written
-pub lines_begin : (symbols : Symbols) (lines text : List ℕ) (n : ℕ) (before after : Option (List ℕ)) → AreLinesFiltered symbols (take n lines) text → WritesFront text before after
-    → WritesLinesFront symbols lines before after
+pub lines_begin : (symbols : Symbols) (lines text : List ℕ) (n : ℕ) (before after : Option (List ℕ)) → AreWholeFiltered symbols (take n lines) text → WritesFront text before after
+    → WritesWholeFront symbols lines before after
 lines_begin symbols lines text n before after filtered (left, writes) rest = (
   writes.front,
   of_lines symbols (take n lines) text (lines ++ rest) (drop n lines ++ rest) writes.front
@@ -234,7 +234,7 @@ piece_filtered symbols given piece left left' before mid after so_far more =
       lines = so_far.lines ++ more.lines;
       text = so_far.text ++ more.text;
       given_is = ap (λ l. l ++ piece) so_far.given_is ∙ append_assoc so_far.lines left piece ∙ ap (λ l. so_far.lines ++ l) more.given_is ∙ sym (append_assoc so_far.lines more.lines left');
-      filtered = AreLinesFiltered-append symbols so_far.lines so_far.text more.lines more.text so_far.filtered more.filtered;
+      filtered = AreWholeFiltered-append symbols so_far.lines so_far.text more.lines more.text so_far.filtered more.filtered;
       written = Appends-trans before mid after so_far.text more.text so_far.written more.written;
     }
 
@@ -249,7 +249,7 @@ WritesFiltered-append symbols given left before mid after so_far (text, filtered
 )
 
 -- a beginning after lines
-IsBeginning-append : (symbols : Symbols) (lines text given written : List ℕ) → AreLinesFiltered symbols lines text → IsBeginning symbols given written
+IsBeginning-append : (symbols : Symbols) (lines text given written : List ℕ) → AreWholeFiltered symbols lines text → IsBeginning symbols given written
     → IsBeginning symbols (lines ++ given) (text ++ written)
 IsBeginning-append symbols lines text given written first begins =
     (text ++ begins.0, IsFiltered-append symbols lines text given begins.0 first begins.1, IsFront-append text written begins.0 begins.2)
@@ -276,9 +276,9 @@ WritesBeginning-append symbols given left before mid after so_far (written, begi
 )
 
 -- a beginning of more lines
-pub WritesLinesFront-append : (symbols : Symbols) (given left : List ℕ) (before mid after : Option (List ℕ)) → HasFiltered symbols given left before mid
-    → WritesLinesFront symbols left mid after → WritesLinesFront symbols given before after
-WritesLinesFront-append symbols given left before mid after so_far begins rest =
+pub WritesWholeFront-append : (symbols : Symbols) (given left : List ℕ) (before mid after : Option (List ℕ)) → HasFiltered symbols given left before mid
+    → WritesWholeFront symbols left mid after → WritesWholeFront symbols given before after
+WritesWholeFront-append symbols given left before mid after so_far begins rest =
     WritesBeginning-append symbols (given ++ rest) (left ++ rest) before mid after
     (lines_before symbols given left rest before mid so_far)
     (begins rest)

@@ -11,10 +11,10 @@ use Rattle.std.specs.Simd.Lanes.{chunk}
 use Rattle.std.specs.List.{prefix_len}
 use Rattle.symfilter_engine.specs.declared.symbols.Symbols.{Symbols}
 use Rattle.symfilter_engine.specs.declared.symbols.Symbols.TheVariants.{Lines, Words}
-use Rattle.symfilter_engine.specs.Filtered.{line_feed, EndsInLineFeed, AreWhole, AreLinesAnswered, no_line, one_more, AreLinesFiltered, IsLineAnswer}
+use Rattle.symfilter_engine.specs.Filtered.{line_feed, EndsInLineFeed, AreWhole, AreLinesAnswered, no_line, one_more, AreWholeFiltered, IsLineAnswer}
 use Rattle.symfilter_engine.specs.Replaced.{ends_word}
-use Rattle.symfilter_engine.specs.Progress.{HasNone, IsFirst, EndsAt, HasNoPrefix, AppendsReplaced, AppendsLines}
-use Rattle.symfilter_engine.proofs.FilteredText.{AreLinesAnswered-append, AreLinesFiltered-append}
+use Rattle.symfilter_engine.specs.Progress.{HasNone, IsFirst, EndsAt, HasNoPrefix, AppendsReplaced, AppendsWhole}
+use Rattle.symfilter_engine.proofs.FilteredText.{AreLinesAnswered-append, AreWholeFiltered-append}
 use Rattle.symfilter_engine.proofs.ReplacedText.{unprefixed, whole-drop}
 use Rattle.symfilter_engine.proofs.LineAnswers.{other_line}
 use Rattle.symfilter_engine.specs.declared.symbols.Replacement.{Replacement}
@@ -67,15 +67,15 @@ ended_after lines n ended some =
 -- and what follows whole lines or words
 pub whole_after : (symbols : Symbols) (lines : List ℕ) (n : ℕ) → AreWhole symbols lines → AreWhole symbols (drop n lines)
 whole_after (Lines printing) lines n whole = ended_after lines n whole
-whole_after (Words how) lines n whole = whole-drop lines n whole
+whole_after (Words options) lines n whole = whole-drop lines n whole
 
 -- lines are whole
 pub whole_lines : (symbols : Symbols) (printing : Printing) (lines : List ℕ) → symbols ≡ Lines printing → AreWhole symbols lines → EndsInLineFeed lines
 whole_lines symbols printing lines is whole = subst (λ s. AreWhole s lines) is whole
 
 -- so are words
-pub whole_words : (symbols : Symbols) (how : Replacement) (text : List ℕ) → symbols ≡ Words how → AreWhole symbols text → ends_word text ≡ false
-whole_words symbols how text is whole = subst (λ s. AreWhole s text) is whole
+pub whole_words : (symbols : Symbols) (options : Replacement) (text : List ℕ) → symbols ≡ Words options → AreWhole symbols text → ends_word text ≡ false
+whole_words symbols options text is whole = subst (λ s. AreWhole s text) is whole
 
 -- the first line with its line feed
 pub with_feed : (lines : List ℕ) (end : ℕ) → EndsAt lines end → take (end + 1) lines ≡ take end lines ++ line_feed ∷ []
@@ -112,40 +112,40 @@ more_ordinary printing lines len end first ends ordinary =
     )
 
 -- whole words without a prefix
-pub unprefixed_words : (symbols : Symbols) (how : Replacement) (text : List ℕ) → symbols ≡ Words how → ends_word text ≡ false → HasNoPrefix text
-    → AreLinesFiltered symbols text text
-unprefixed_words symbols how text is whole none = subst (λ s. AreLinesFiltered s text text) (sym is) (whole, unprefixed how text none)
+pub unprefixed_words : (symbols : Symbols) (options : Replacement) (text : List ℕ) → symbols ≡ Words options → ends_word text ≡ false → HasNoPrefix text
+    → AreWholeFiltered symbols text text
+unprefixed_words symbols options text is whole none = subst (λ s. AreWholeFiltered s text text) (sym is) (whole, unprefixed options text none)
 
 -- whole words were appended replaced
-pub block_appended : (how : Replacement) (text before after : List ℕ) → ends_word text ≡ false → AppendsReplaced how text before after → AppendsLines (Words how) text before after
-block_appended how text before after whole (replaced, is_replaced, after_is) = (replaced, (whole, is_replaced), after_is)
+pub block_appended : (options : Replacement) (text before after : List ℕ) → ends_word text ≡ false → AppendsReplaced options text before after → AppendsWhole (Words options) text before after
+block_appended options text before after whole (replaced, is_replaced, after_is) = (replaced, (whole, is_replaced), after_is)
 
 -- one line was appended
 pub line_appended : (printing : Printing) (lines answer before after : List ℕ) (end : ℕ) → EndsAt lines end → IsLineAnswer printing (take end lines) answer → after ≡ before ++ (answer ++ line_feed ∷ [])
-    → AppendsLines (Lines printing) (take (end + 1) lines) before after
+    → AppendsWhole (Lines printing) (take (end + 1) lines) before after
 line_appended printing lines answer before after end ends is_answer after_is = (answer ++ line_feed ∷ [], first_line printing lines answer end ends is_answer, after_is)
 
 -- more lines were appended
-pub lines_appended : (symbols : Symbols) (lines rest before after : List ℕ) (n m : ℕ) → AreLinesFiltered symbols (take n lines) before → rest ≡ drop n lines
-    → AppendsLines symbols (take m rest) before after → AreLinesFiltered symbols (take (n + m) lines) after
+pub lines_appended : (symbols : Symbols) (lines rest before after : List ℕ) (n m : ℕ) → AreWholeFiltered symbols (take n lines) before → rest ≡ drop n lines
+    → AppendsWhole symbols (take m rest) before after → AreWholeFiltered symbols (take (n + m) lines) after
 lines_appended symbols lines rest before after n m first rest_is (text, filtered, after_is) =
-    subst (λ l. AreLinesFiltered symbols l after) (sym (take-add n m lines))
-    (subst (AreLinesFiltered symbols (take n lines ++ take m (drop n lines))) (sym after_is)
-    (AreLinesFiltered-append symbols (take n lines) before (take m (drop n lines)) text first
-    (subst (λ l. AreLinesFiltered symbols (take m l) text) rest_is filtered)))
+    subst (λ l. AreWholeFiltered symbols l after) (sym (take-add n m lines))
+    (subst (AreWholeFiltered symbols (take n lines ++ take m (drop n lines))) (sym after_is)
+    (AreWholeFiltered-append symbols (take n lines) before (take m (drop n lines)) text first
+    (subst (λ l. AreWholeFiltered symbols (take m l) text) rest_is filtered)))
 
 -- lines of the rest were appended, and this is left of it
 pub rest_appended : (symbols : Symbols) (lines rest left before after : List ℕ) (m : ℕ)
-    → length rest ≤ length lines → rest ≡ drop (length lines - length rest) lines → AreLinesFiltered symbols (take (length lines - length rest) lines) before
-    → m ≤ length rest → AppendsLines symbols (take m rest) before after → left ≡ drop m rest
-    → (length left ≤ length lines) × (left ≡ drop (length lines - length left) lines) × AreLinesFiltered symbols (take (length lines - length left) lines) after
+    → length rest ≤ length lines → rest ≡ drop (length lines - length rest) lines → AreWholeFiltered symbols (take (length lines - length rest) lines) before
+    → m ≤ length rest → AppendsWhole symbols (take m rest) before after → left ≡ drop m rest
+    → (length left ≤ length lines) × (left ≡ drop (length lines - length left) lines) × AreWholeFiltered symbols (take (length lines - length left) lines) after
 rest_appended symbols lines rest left before after m inside rest_is first bound appended left_is =
     let n : ℕ = length lines - length rest in
     let long : length left ≡ length rest - m = ap length left_is ∙ length-drop m rest in
     let more : n + m ≡ length lines - length left = omega arith in (
       omega arith,
       left_is ∙ ap (drop m) rest_is ∙ drop-drop m n lines ∙ ap (λ k. drop k lines) more,
-      subst (λ k. AreLinesFiltered symbols (take k lines) after) more (lines_appended symbols lines rest before after n m first rest_is appended),
+      subst (λ k. AreWholeFiltered symbols (take k lines) after) more (lines_appended symbols lines rest before after n m first rest_is appended),
     )
 
 -- a line feed is no part of a longer character
@@ -174,6 +174,6 @@ after_lines (byte ∷ bytes) rest ended utf8 =
     (IsUtf8-drop (lines ++ rest) (last + 1) utf8
     (IsCharBoundary-after_ascii (lines ++ rest) last utf8 (omega (arith, some, all)) (omega (arith, feed))))
 
-pub utf8_after : (symbols : Symbols) (lines text : List ℕ) (n : ℕ) (printing : Printing) → symbols ≡ Lines printing → AreLinesFiltered symbols (take n lines) text → IsUtf8 lines → IsUtf8 (drop n lines)
+pub utf8_after : (symbols : Symbols) (lines text : List ℕ) (n : ℕ) (printing : Printing) → symbols ≡ Lines printing → AreWholeFiltered symbols (take n lines) text → IsUtf8 lines → IsUtf8 (drop n lines)
 utf8_after symbols lines text n printing is filtered utf8 =
-    after_lines (take n lines) (drop n lines) (answered_ended (subst (λ s. AreLinesFiltered s (take n lines) text) is filtered)) (subst IsUtf8 (sym (take-append-drop n lines)) utf8)
+    after_lines (take n lines) (drop n lines) (answered_ended (subst (λ s. AreWholeFiltered s (take n lines) text) is filtered)) (subst IsUtf8 (sym (take-append-drop n lines)) utf8)

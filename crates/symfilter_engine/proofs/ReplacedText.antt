@@ -56,17 +56,17 @@ next_after word [] rest ends next parted = parted (subst (λ l. ends_word l ≡ 
 next_after word (byte ∷ bytes) rest ends next parted = next
 
 -- bytes after bytes, where no word goes on
-pub IsReplaced-append : (how : Replacement) {first text rest more : List ℕ} → IsReplaced how first text → IsReplaced how rest more
-    → (ends_word first ≡ true → begins_word rest ≡ false) → IsReplaced how (first ++ rest) (text ++ more)
-IsReplaced-append how no_byte second parted = second
-IsReplaced-append how (other {byte = byte} {bytes = bytes} no_word first) second parted =
-    other no_word (IsReplaced-append how first second (λ ends. parted (ends_word-cons byte bytes ends)))
-IsReplaced-append how {rest = rest} {more = more} (one_word {word = word} {bytes = bytes} {answer = answer} {text = text} dots some all dotted undotted is_answer next first) second parted =
-    subst (λ l. IsReplaced how l (((answer ++ dots) ++ text) ++ more)) (sym (append_assoc (word ++ dots) bytes rest))
-    (subst (IsReplaced how ((word ++ dots) ++ (bytes ++ rest))) (sym (append_assoc (answer ++ dots) text more))
+pub IsReplaced-append : (options : Replacement) {first text rest more : List ℕ} → IsReplaced options first text → IsReplaced options rest more
+    → (ends_word first ≡ true → begins_word rest ≡ false) → IsReplaced options (first ++ rest) (text ++ more)
+IsReplaced-append options no_byte second parted = second
+IsReplaced-append options (other {byte = byte} {bytes = bytes} no_word first) second parted =
+    other no_word (IsReplaced-append options first second (λ ends. parted (ends_word-cons byte bytes ends)))
+IsReplaced-append options {rest = rest} {more = more} (one_word {word = word} {bytes = bytes} {answer = answer} {text = text} dots some all dotted undotted is_answer next first) second parted =
+    subst (λ l. IsReplaced options l (((answer ++ dots) ++ text) ++ more)) (sym (append_assoc (word ++ dots) bytes rest))
+    (subst (IsReplaced options ((word ++ dots) ++ (bytes ++ rest))) (sym (append_assoc (answer ++ dots) text more))
     (one_word dots some all dotted undotted is_answer
     (next_after (word ++ dots) bytes rest (ends_word-all (word ++ dots) some all) next parted)
-    (IsReplaced-append how first second (λ ends. parted (ends_word-append (word ++ dots) bytes ends)))))
+    (IsReplaced-append options first second (λ ends. parted (ends_word-append (word ++ dots) bytes ends)))))
 
 -- no word goes on from whole words
 pub whole_parted : (words rest : List ℕ) → ends_word words ≡ false → ends_word words ≡ true → begins_word rest ≡ false
@@ -128,11 +128,11 @@ boundary_parted bytes n m inside boundary ends =
     begins_word-take m (drop n bytes) (begins_word-at (drop n bytes) ∙ ap is_word_byte after ∙ boundary some before)
 
 -- more bytes after a boundary
-pub more_replaced : (how : Replacement) (bytes text more : List ℕ) (n m : ℕ) → n ≤ length bytes → IsBoundary bytes n → IsReplaced how (take n bytes) text
-    → IsReplaced how (take m (drop n bytes)) more → IsReplaced how (take (n + m) bytes) (text ++ more)
-more_replaced how bytes text more n m inside boundary first second =
-    subst (λ l. IsReplaced how l (text ++ more)) (sym (take-add n m bytes))
-    (IsReplaced-append how first second (boundary_parted bytes n m inside boundary))
+pub more_replaced : (options : Replacement) (bytes text more : List ℕ) (n m : ℕ) → n ≤ length bytes → IsBoundary bytes n → IsReplaced options (take n bytes) text
+    → IsReplaced options (take m (drop n bytes)) more → IsReplaced options (take (n + m) bytes) (text ++ more)
+more_replaced options bytes text more n m inside boundary first second =
+    subst (λ l. IsReplaced options l (text ++ more)) (sym (take-add n m bytes))
+    (IsReplaced-append options first second (boundary_parted bytes n m inside boundary))
 
 -- a word is its stem and the dots at its end
 pub record Split (word : List ℕ) : Type 0 where
@@ -208,36 +208,36 @@ word_has_prefix : (strip : Bool) (word symbol : List ℕ) → symbol_in strip wo
 word_has_prefix strip word symbol is none = symbol_has_prefix strip (past_prefix_chars word) symbol is (no_prefix-drop (prefix_chars_len word) word none)
 
 -- what is written for a word: the word itself, where no prefix is in it
-record WordText (how : Replacement) (word : List ℕ) : Type 0 where
+record WordText (options : Replacement) (word : List ℕ) : Type 0 where
   answer : List ℕ
-  is_answer : IsWordAnswer how word answer
+  is_answer : IsWordAnswer options word answer
   same : HasNoPrefix word → answer ≡ word
 
-symbol_text : (how : Replacement) (word symbol : List ℕ) → symbol_in how.strip word ≡ Some symbol → (found : Option (List ℕ)) → IsShown how.printing symbol found → WordText how word
-symbol_text how word symbol is None none = record { answer = word; is_answer = unanswered is none; same = λ _. refl }
-symbol_text how word symbol is (Some text) has =
-    record { answer = prefix_chars word ++ text; is_answer = answered is has; same = λ none. absurd (word_has_prefix how.strip word symbol is none) }
+symbol_text : (options : Replacement) (word symbol : List ℕ) → symbol_in options.strip word ≡ Some symbol → (found : Option (List ℕ)) → IsShown options.printing symbol found → WordText options word
+symbol_text options word symbol is None none = record { answer = word; is_answer = unanswered is none; same = λ _. refl }
+symbol_text options word symbol is (Some text) has =
+    record { answer = prefix_chars word ++ text; is_answer = answered is has; same = λ none. absurd (word_has_prefix options.strip word symbol is none) }
 
-word_text : (how : Replacement) (word : List ℕ) (found : Option (List ℕ)) → symbol_in how.strip word ≡ found → WordText how word
-word_text how word None is = record { answer = word; is_answer = no_symbol is; same = λ _. refl }
-word_text how word (Some symbol) is = let found = each_shown how.printing symbol in symbol_text how word symbol is found.0 found.1
+word_text : (options : Replacement) (word : List ℕ) (found : Option (List ℕ)) → symbol_in options.strip word ≡ found → WordText options word
+word_text options word None is = record { answer = word; is_answer = no_symbol is; same = λ _. refl }
+word_text options word (Some symbol) is = let found = each_shown options.printing symbol in symbol_text options word symbol is found.0 found.1
 
 -- bytes have a replaced text: they themselves, where no prefix is in them
-record BytesText (how : Replacement) (bytes : List ℕ) : Type 0 where
+record BytesText (options : Replacement) (bytes : List ℕ) : Type 0 where
   text : List ℕ
-  replaced : IsReplaced how bytes text
+  replaced : IsReplaced options bytes text
   same : HasNoPrefix bytes → text ≡ bytes
 
 -- a word, and what follows it
-after_word : (how : Replacement) (word bytes : List ℕ) → word ≢ [] → All IsWordByte word → begins_word bytes ≡ false → BytesText how bytes → BytesText how (word ++ bytes)
-after_word how word bytes some all next rest =
+after_word : (options : Replacement) (word bytes : List ℕ) → word ≢ [] → All IsWordByte word → begins_word bytes ≡ false → BytesText options bytes → BytesText options (word ++ bytes)
+after_word options word bytes some all next rest =
     let split = split_of word in
-    let found = word_text how split.stem (symbol_in how.strip split.stem) refl in
+    let found = word_text options split.stem (symbol_in options.strip split.stem) refl in
     let text : List ℕ = (found.answer ++ split.dots) ++ rest.text in
     let back : split.stem ++ split.dots ≡ word = sym split.word_is in
     record {
       text = text;
-      replaced = subst (λ l. IsReplaced how (l ++ bytes) text) back
+      replaced = subst (λ l. IsReplaced options (l ++ bytes) text) back
           (one_word split.dots (λ e. some (split.word_is ∙ e)) (All-same IsWordByte (split.stem ++ split.dots) word back all) split.dotted split.undotted found.is_answer next rest.replaced);
       same = λ none.
           let in_word : HasNoPrefix (split.stem ++ split.dots) = subst HasNoPrefix split.word_is (no_prefix-left word bytes none) in
@@ -246,35 +246,35 @@ after_word how word bytes some all next rest =
     }
 
 -- there may be no byte of the word yet
-after_front : (how : Replacement) (word bytes : List ℕ) → All IsWordByte word → begins_word bytes ≡ false → BytesText how bytes → BytesText how (word ++ bytes)
-after_front how [] bytes all next rest = rest
-after_front how (byte ∷ word) bytes all next rest = after_word how (byte ∷ word) bytes (λ e. cc) all next rest
+after_front : (options : Replacement) (word bytes : List ℕ) → All IsWordByte word → begins_word bytes ≡ false → BytesText options bytes → BytesText options (word ++ bytes)
+after_front options [] bytes all next rest = rest
+after_front options (byte ∷ word) bytes all next rest = after_word options (byte ∷ word) bytes (λ e. cc) all next rest
 
-none_text : (how : Replacement) → BytesText how []
-none_text how = record { text = []; replaced = no_byte; same = λ _. refl }
+none_text : (options : Replacement) → BytesText options []
+none_text options = record { text = []; replaced = no_byte; same = λ _. refl }
 
 -- the next byte is in the word, or none of words
-at_byte : (how : Replacement) (word bytes : List ℕ) (byte : ℕ) → All IsWordByte word → (t : Bool) → is_word_byte byte ≡ t
-    → (All IsWordByte (word ++ byte ∷ []) → BytesText how ((word ++ byte ∷ []) ++ bytes)) → BytesText how bytes
-    → BytesText how (word ++ byte ∷ bytes)
-at_byte how word bytes byte all true is longer rest =
-    subst (BytesText how) (append_assoc word (byte ∷ []) bytes) (longer (All-push IsWordByte word byte all is))
-at_byte how word bytes byte all false is longer rest =
-    after_front how word (byte ∷ bytes) all is
+at_byte : (options : Replacement) (word bytes : List ℕ) (byte : ℕ) → All IsWordByte word → (t : Bool) → is_word_byte byte ≡ t
+    → (All IsWordByte (word ++ byte ∷ []) → BytesText options ((word ++ byte ∷ []) ++ bytes)) → BytesText options bytes
+    → BytesText options (word ++ byte ∷ bytes)
+at_byte options word bytes byte all true is longer rest =
+    subst (BytesText options) (append_assoc word (byte ∷ []) bytes) (longer (All-push IsWordByte word byte all is))
+at_byte options word bytes byte all false is longer rest =
+    after_front options word (byte ∷ bytes) all is
     (record { text = byte ∷ rest.text; replaced = other is rest.replaced; same = λ none. ap (λ l. byte ∷ l) (rest.same (no_prefix-right (byte ∷ []) bytes none)) })
 
-from_word : (how : Replacement) (word bytes : List ℕ) → All IsWordByte word → BytesText how (word ++ bytes)
-from_word how word [] all = after_front how word [] all refl (none_text how)
-from_word how word (byte ∷ bytes) all =
-    at_byte how word bytes byte all (is_word_byte byte) refl (λ longer. from_word how (word ++ byte ∷ []) bytes longer)
-    (from_word how [] bytes (All-nil IsWordByte))
+from_word : (options : Replacement) (word bytes : List ℕ) → All IsWordByte word → BytesText options (word ++ bytes)
+from_word options word [] all = after_front options word [] all refl (none_text options)
+from_word options word (byte ∷ bytes) all =
+    at_byte options word bytes byte all (is_word_byte byte) refl (λ longer. from_word options (word ++ byte ∷ []) bytes longer)
+    (from_word options [] bytes (All-nil IsWordByte))
 
 -- all bytes have a replaced text
-pub replaced_of : (how : Replacement) (bytes : List ℕ) → (text : List ℕ) × IsReplaced how bytes text
-replaced_of how bytes = let found = from_word how [] bytes (All-nil IsWordByte) in (found.text, found.replaced)
+pub replaced_of : (options : Replacement) (bytes : List ℕ) → (text : List ℕ) × IsReplaced options bytes text
+replaced_of options bytes = let found = from_word options [] bytes (All-nil IsWordByte) in (found.text, found.replaced)
 
 -- bytes without a prefix stay
-pub unprefixed : (how : Replacement) (bytes : List ℕ) → HasNoPrefix bytes → IsReplaced how bytes bytes
-unprefixed how bytes none =
-    let found = from_word how [] bytes (All-nil IsWordByte) in
-    subst (IsReplaced how bytes) (found.same none) found.replaced
+pub unprefixed : (options : Replacement) (bytes : List ℕ) → HasNoPrefix bytes → IsReplaced options bytes bytes
+unprefixed options bytes none =
+    let found = from_word options [] bytes (All-nil IsWordByte) in
+    subst (IsReplaced options bytes) (found.same none) found.replaced

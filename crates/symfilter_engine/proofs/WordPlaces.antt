@@ -10,7 +10,7 @@ use Rattle.std.proofs.lemmas.Str.{IsUtf8-from_ascii}
 use Rattle.std.specs.Prelude.{All, IsUtf8}
 use Rattle.itanium_syntax.specs.Bytes.{is, is_between, is_digit, one_of, begins}
 use Rattle.symfilter_engine.specs.Replaced.{is_word_byte, IsWordByte, IsDot, ends_in_dot, prefix_chars_len, past_prefix_chars, symbol_in, IsWordAnswer, IsReplaced, no_byte, one_word}
-use Rattle.symfilter_engine.specs.Progress.{underscore, capital_z, HasNone, IsFirst, HasNoPrefix, IsFirstPrefix, AreWordBytes, IsBoundary, IsPastWord, Extends, AppendsReplaced}
+use Rattle.symfilter_engine.specs.Progress.{underscore, capital_z, HasNone, IsFirst, HasNoPrefix, IsFirstPrefix, AreWordBytes, IsBoundary, IsFirstWordLen, Extends, AppendsReplaced}
 use Rattle.symfilter_engine.proofs.ReplacedText.{no_prefix-left, more_replaced, unprefixed}
 use Rattle.symfilter_engine.specs.declared.symbols.Replacement.{Replacement}
 
@@ -192,36 +192,36 @@ symbol_words strip word symbol is all =
     ]
 
 -- a word, and what is written for it
-pub word_replaced : (how : Replacement) (word answer : List ℕ) (stem : ℕ) → 0 < length word → All IsWordByte word → All IsDot (drop stem word)
-    → ends_in_dot (take stem word) ≡ false → IsWordAnswer how (take stem word) answer → IsReplaced how word (answer ++ drop stem word)
-word_replaced how word answer stem some all dotted undotted is_answer =
+pub word_replaced : (options : Replacement) (word answer : List ℕ) (stem : ℕ) → 0 < length word → All IsWordByte word → All IsDot (drop stem word)
+    → ends_in_dot (take stem word) ≡ false → IsWordAnswer options (take stem word) answer → IsReplaced options word (answer ++ drop stem word)
+word_replaced options word answer stem some all dotted undotted is_answer =
     let whole : take stem word ++ drop stem word ≡ word = take-append-drop stem word in
     let nonempty : take stem word ++ drop stem word ≢ [] = λ e. absurd (omega (arith, some, ap length (sym whole ∙ e))) in
-    subst (IsReplaced how word) (append-nil (answer ++ drop stem word))
-    (subst (λ l. IsReplaced how l ((answer ++ drop stem word) ++ [])) (append-nil (take stem word ++ drop stem word) ∙ whole)
+    subst (IsReplaced options word) (append-nil (answer ++ drop stem word))
+    (subst (λ l. IsReplaced options l ((answer ++ drop stem word) ++ [])) (append-nil (take stem word ++ drop stem word) ∙ whole)
     (one_word (drop stem word) nonempty (All-same IsWordByte (take stem word ++ drop stem word) word whole all) dotted undotted is_answer refl no_byte))
 
 -- the word itself
-pub word_stays : (how : Replacement) (word : List ℕ) (stem : ℕ) → 0 < length word → All IsWordByte word → All IsDot (drop stem word)
-    → ends_in_dot (take stem word) ≡ false → IsWordAnswer how (take stem word) (take stem word) → IsReplaced how word word
-word_stays how word stem some all dotted undotted is_answer =
-    subst (IsReplaced how word) (take-append-drop stem word) (word_replaced how word (take stem word) stem some all dotted undotted is_answer)
+pub word_stays : (options : Replacement) (word : List ℕ) (stem : ℕ) → 0 < length word → All IsWordByte word → All IsDot (drop stem word)
+    → ends_in_dot (take stem word) ≡ false → IsWordAnswer options (take stem word) (take stem word) → IsReplaced options word word
+word_stays options word stem some all dotted undotted is_answer =
+    subst (IsReplaced options word) (take-append-drop stem word) (word_replaced options word (take stem word) stem some all dotted undotted is_answer)
 
 -- after bytes without a prefix a word was replaced too
-pub turn_replaced : (how : Replacement) (text old before mid after : List ℕ) (done more start end : ℕ) → end ≤ length text → done ≤ start → start ≤ done + more → start ≤ end
-    → IsBoundary text done → IsBoundary text start → AppendsReplaced how (take done text) old before → HasNoPrefix (take more (drop done text))
-    → mid ≡ before ++ take (start - done) (drop done text) → AppendsReplaced how (take (end - start) (drop start text)) mid after
-    → AppendsReplaced how (take end text) old after
-turn_replaced how text old before mid after done more start end inside low high ordered first second (written, replaced, before_is) none mid_is (answer, is_answer, after_is) =
+pub turn_replaced : (options : Replacement) (text old before mid after : List ℕ) (done more start end : ℕ) → end ≤ length text → done ≤ start → start ≤ done + more → start ≤ end
+    → IsBoundary text done → IsBoundary text start → AppendsReplaced options (take done text) old before → HasNoPrefix (take more (drop done text))
+    → mid ≡ before ++ take (start - done) (drop done text) → AppendsReplaced options (take (end - start) (drop start text)) mid after
+    → AppendsReplaced options (take end text) old after
+turn_replaced options text old before mid after done more start end inside low high ordered first second (written, replaced, before_is) none mid_is (answer, is_answer, after_is) =
     let front : List ℕ = take (start - done) (drop done text) in
-    let stays : IsReplaced how front front = unprefixed how front (no_prefix-shorter (drop done text) (start - done) more (omega (arith, high)) none) in
-    let up_to : IsReplaced how (take (done + (start - done)) text) (written ++ front) =
-    more_replaced how text written front done (start - done) (omega (arith, inside, low, ordered)) first replaced stays in
-    let to_start : IsReplaced how (take start text) (written ++ front) = subst (λ n. IsReplaced how (take n text) (written ++ front)) (omega (arith, low)) up_to in
-    let to_end : IsReplaced how (take (start + (end - start)) text) ((written ++ front) ++ answer) =
-    more_replaced how text (written ++ front) answer start (end - start) (omega (arith, inside, ordered)) second to_start is_answer in (
+    let stays : IsReplaced options front front = unprefixed options front (no_prefix-shorter (drop done text) (start - done) more (omega (arith, high)) none) in
+    let up_to : IsReplaced options (take (done + (start - done)) text) (written ++ front) =
+    more_replaced options text written front done (start - done) (omega (arith, inside, low, ordered)) first replaced stays in
+    let to_start : IsReplaced options (take start text) (written ++ front) = subst (λ n. IsReplaced options (take n text) (written ++ front)) (omega (arith, low)) up_to in
+    let to_end : IsReplaced options (take (start + (end - start)) text) ((written ++ front) ++ answer) =
+    more_replaced options text (written ++ front) answer start (end - start) (omega (arith, inside, ordered)) second to_start is_answer in (
       (written ++ front) ++ answer,
-      subst (λ n. IsReplaced how (take n text) ((written ++ front) ++ answer)) (omega (arith, ordered)) to_end,
+      subst (λ n. IsReplaced options (take n text) ((written ++ front) ++ answer)) (omega (arith, ordered)) to_end,
       after_is ∙ ap (λ l. l ++ answer) (mid_is ∙ ap (λ l. l ++ front) before_is ∙ append_assoc old written front) ∙ append_assoc old (written ++ front) answer,
     )
 
@@ -243,12 +243,12 @@ more_parts output text low mid high first second =
     ap (λ l. output ++ l) (sym (parts_joined text low mid high first second)) ∙ sym (append_assoc output (part text low mid) (part text mid high))
 
 -- one more word stays, and is yet to be appended
-pub stays_replaced : (how : Replacement) (text old output : List ℕ) (done from more start end : ℕ) → done ≤ from → from ≤ start → start ≤ from + more → start ≤ end
-    → end ≤ length text → IsBoundary text from → IsBoundary text start → AppendsReplaced how (take from text) old (output ++ part text done from)
-    → HasNoPrefix (take more (drop from text)) → IsReplaced how (part text start end) (part text start end)
-    → AppendsReplaced how (take end text) old (output ++ part text done end)
-stays_replaced how text old output done from more start end kept low high ordered inside first second so_far none replaced =
-    turn_replaced how text old (output ++ part text done from) (output ++ part text done start) (output ++ part text done end) from more start end
+pub stays_replaced : (options : Replacement) (text old output : List ℕ) (done from more start end : ℕ) → done ≤ from → from ≤ start → start ≤ from + more → start ≤ end
+    → end ≤ length text → IsBoundary text from → IsBoundary text start → AppendsReplaced options (take from text) old (output ++ part text done from)
+    → HasNoPrefix (take more (drop from text)) → IsReplaced options (part text start end) (part text start end)
+    → AppendsReplaced options (take end text) old (output ++ part text done end)
+stays_replaced options text old output done from more start end kept low high ordered inside first second so_far none replaced =
+    turn_replaced options text old (output ++ part text done from) (output ++ part text done start) (output ++ part text done end) from more start end
     inside low high ordered first second so_far none (more_parts output text done from start kept low)
     (part text start end, replaced, more_parts output text done start end (omega (arith, kept, low)) ordered)
 
@@ -273,37 +273,37 @@ answer_placed output text answer done start chars stem end first second third =
     ∙ sym (append_assoc output before ((front ++ answer) ++ dots))
 
 -- one more word is answered
-pub answer_replaced : (how : Replacement) (text old output answer after : List ℕ) (done from more start chars stem end : ℕ) → done ≤ from → from ≤ start → start ≤ from + more
-    → start < end → end ≤ length text → IsBoundary text from → IsBoundary text start → AppendsReplaced how (take from text) old (output ++ part text done from)
+pub answer_replaced : (options : Replacement) (text old output answer after : List ℕ) (done from more start chars stem end : ℕ) → done ≤ from → from ≤ start → start ≤ from + more
+    → start < end → end ≤ length text → IsBoundary text from → IsBoundary text start → AppendsReplaced options (take from text) old (output ++ part text done from)
     → HasNoPrefix (take more (drop from text)) → All IsWordByte (part text start end) → All IsDot (drop stem (part text start end))
     → ends_in_dot (take stem (part text start end)) ≡ false → chars ≤ stem → start + stem ≤ end
-    → IsWordAnswer how (take stem (part text start end)) (take chars (take stem (part text start end)) ++ answer)
+    → IsWordAnswer options (take stem (part text start end)) (take chars (take stem (part text start end)) ++ answer)
     → after ≡ output ++ (part text done (start + chars) ++ answer)
-    → AppendsReplaced how (take end text) old (after ++ part text (start + stem) end)
-answer_replaced how text old output answer after done from more start chars stem end kept low high some inside first second so_far none all dotted undotted chars_in stem_in is_answer after_is =
+    → AppendsReplaced options (take end text) old (after ++ part text (start + stem) end)
+answer_replaced options text old output answer after done from more start chars stem end kept low high some inside first second so_far none all dotted undotted chars_in stem_in is_answer after_is =
     let word = part text start end in
     let front = take chars (take stem word) in
-    turn_replaced how text old (output ++ part text done from) (output ++ part text done start) (after ++ part text (start + stem) end) from more start end
+    turn_replaced options text old (output ++ part text done from) (output ++ part text done start) (after ++ part text (start + stem) end) from more start end
     inside low high (omega (arith, some)) first second so_far none (more_parts output text done from start kept low) (
       (front ++ answer) ++ drop stem word,
-      word_replaced how word (front ++ answer) stem (omega (arith, some, part_len text start end inside)) all dotted undotted is_answer,
+      word_replaced options word (front ++ answer) stem (omega (arith, some, part_len text start end inside)) all dotted undotted is_answer,
       ap (λ l. l ++ part text (start + stem) end) after_is
           ∙ answer_placed output text answer done start chars stem end (omega (arith, kept, low)) chars_in stem_in
           ∙ ap (λ l. (output ++ part text done start) ++ ((l ++ answer) ++ drop stem word)) (sym (take-take chars stem word chars_in)),
     )
 
 -- the byte at a word's end is in no word, and stays
-pub end_past : (how : Replacement) (text old output : List ℕ) (done end past : ℕ) → done ≤ end → end ≤ length text → past ≡ min (end + 1) (length text)
-    → is_word_byte (get_or text end 0) ≡ false → AppendsReplaced how (take end text) old (output ++ part text done end)
-    → AppendsReplaced how (take past text) old (output ++ part text done past)
-end_past how text old output done end past kept inside past_is ended (written, replaced, output_is) =
+pub end_past : (options : Replacement) (text old output : List ℕ) (done end past : ℕ) → done ≤ end → end ≤ length text → past ≡ min (end + 1) (length text)
+    → is_word_byte (get_or text end 0) ≡ false → AppendsReplaced options (take end text) old (output ++ part text done end)
+    → AppendsReplaced options (take past text) old (output ++ part text done past)
+end_past options text old output done end past kept inside past_is ended (written, replaced, output_is) =
     let rest : List ℕ = part text end past in
     let none : HasNoPrefix rest =
     no_prefix-take (drop end text) (past - end) (omega (arith, past_is, inside, length-drop end text)) (λ k low _ _. absurd (omega (arith, low, past_is))) in
-    let up_to : IsReplaced how (take (end + (past - end)) text) (written ++ rest) =
-    more_replaced how text written rest end (past - end) inside (λ _ _. ended) replaced (unprefixed how rest none) in (
+    let up_to : IsReplaced options (take (end + (past - end)) text) (written ++ rest) =
+    more_replaced options text written rest end (past - end) inside (λ _ _. ended) replaced (unprefixed options rest none) in (
       written ++ rest,
-      subst (λ n. IsReplaced how (take n text) (written ++ rest)) (omega (arith, past_is, inside)) up_to,
+      subst (λ n. IsReplaced options (take n text) (written ++ rest)) (omega (arith, past_is, inside)) up_to,
       more_parts output text done end past kept (omega (arith, past_is, inside)) ∙ ap (λ l. l ++ rest) output_is ∙ append_assoc old written rest,
     )
 
@@ -317,26 +317,26 @@ boundary_past text end past inside past_is ended some word =
     ]
 
 -- no prefix is left
-rest_replaced : (how : Replacement) (text old before after : List ℕ) (done : ℕ) → done ≤ length text → IsBoundary text done
-    → AppendsReplaced how (take done text) old before → HasNoPrefix (take (length text - done) (drop done text))
-    → after ≡ before ++ take (length text - done) (drop done text) → AppendsReplaced how text old after
-rest_replaced how text old before after done inside boundary (written, replaced, before_is) none after_is =
+rest_replaced : (options : Replacement) (text old before after : List ℕ) (done : ℕ) → done ≤ length text → IsBoundary text done
+    → AppendsReplaced options (take done text) old before → HasNoPrefix (take (length text - done) (drop done text))
+    → after ≡ before ++ take (length text - done) (drop done text) → AppendsReplaced options text old after
+rest_replaced options text old before after done inside boundary (written, replaced, before_is) none after_is =
     let rest : List ℕ = take (length text - done) (drop done text) in
     let all : take (done + (length text - done)) text ≡ text = take_all (done + (length text - done)) text (omega (arith, inside)) in (
       written ++ rest,
-      subst (λ l. IsReplaced how l (written ++ rest)) all (more_replaced how text written rest done (length text - done) inside boundary replaced (unprefixed how rest none)),
+      subst (λ l. IsReplaced options l (written ++ rest)) all (more_replaced options text written rest done (length text - done) inside boundary replaced (unprefixed options rest none)),
       after_is ∙ ap (λ l. l ++ rest) before_is ∙ append_assoc old written rest,
     )
 
 pub extended : (old output more after : List ℕ) → Extends old output → after ≡ output ++ more → Extends old after
 extended old output more after (front, output_is) after_is = (front ++ more, after_is ∙ ap (λ l. l ++ more) output_is ∙ append_assoc old front more)
 
-pub rest_appended : {T E : Type 0} (r : Result T E) (how : Replacement) (text old output after : List ℕ) (done from : ℕ) → done ≤ from → from ≤ length text → IsBoundary text from
-    → AppendsReplaced how (take from text) old (output ++ part text done from) → HasNoPrefix (part text from (length text))
-    → OnOk r (after ≡ output ++ part text done (length text)) → OnOk r (AppendsReplaced how text old after)
-rest_appended (Ok _) how text old output after done from kept inside boundary so_far none after_is =
-    rest_replaced how text old (output ++ part text done from) after from inside boundary so_far none (after_is ∙ more_parts output text done from (length text) kept inside)
-rest_appended (Err _) how text old output after done from kept inside boundary so_far none after_is = tt
+pub rest_appended : {T E : Type 0} (r : Result T E) (options : Replacement) (text old output after : List ℕ) (done from : ℕ) → done ≤ from → from ≤ length text → IsBoundary text from
+    → AppendsReplaced options (take from text) old (output ++ part text done from) → HasNoPrefix (part text from (length text))
+    → OnOk r (after ≡ output ++ part text done (length text)) → OnOk r (AppendsReplaced options text old after)
+rest_appended (Ok _) options text old output after done from kept inside boundary so_far none after_is =
+    rest_replaced options text old (output ++ part text done from) after from inside boundary so_far none (after_is ∙ more_parts output text done from (length text) kept inside)
+rest_appended (Err _) options text old output after done from kept inside boundary so_far none after_is = tt
 
 -- one byte more of a word, in front
 pub word_down : (bytes : List ℕ) (place : ℕ) → place < length bytes → is_word_byte (get_or bytes place 0) ≡ true → All IsWordByte (drop (suc place) bytes) → All IsWordByte (drop place bytes)
@@ -345,8 +345,8 @@ word_down bytes place inside is all =
     (All-cons IsWordByte (get_or bytes place 0) (drop (suc place) bytes) is all)
 
 -- a word, and the byte after it
-pub past_word : (bytes : List ℕ) (end : ℕ) → end < length bytes → AreWordBytes bytes 0 end → is_word_byte (get_or bytes end 0) ≡ false → IsPastWord bytes (end + 1)
-past_word bytes end inside word ended =
+pub first_word_len : (bytes : List ℕ) (end : ℕ) → end < length bytes → AreWordBytes bytes 0 end → is_word_byte (get_or bytes end 0) ≡ false → IsFirstWordLen bytes (end + 1)
+first_word_len bytes end inside word ended =
     record {
       within = omega (arith, inside);
       word = take end bytes;

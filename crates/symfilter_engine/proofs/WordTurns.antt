@@ -10,7 +10,7 @@ use Rattle.std.specs.Prelude.{All}
 use Rattle.symfilter_engine.specs.declared.symbols.Symbols.TheVariants.{Words}
 use Rattle.symfilter_engine.specs.Replaced.{is_word_byte, IsWordByte, begins_word, ends_word, IsHeld, may_hold_symbol, IsReplaced, no_byte, other, one_word, no_symbol}
 use Rattle.symfilter_engine.specs.Filtered.{IsFront, FiltersFront, FiltersWhole, ReplacesAllButHeld, WritesBeginning, WritesFiltered}
-use Rattle.symfilter_engine.specs.Progress.{GoesOn, HasCopiedWords, HasFiltered, HasReplaced, IsPastWord, IsReplacedIn, Leads, ReadsMore, ReplacesBeginning, ReplacesFront, ReplacesWhole, WritesFront, WritesLinesFront}
+use Rattle.symfilter_engine.specs.Progress.{GoesOn, HasCopiedWords, HasFiltered, HasReplaced, IsFirstWordLen, IsReplacedIn, Leads, ReadsMore, ReplacesBeginning, ReplacesFront, ReplacesWhole, WritesFront, WritesWholeFront}
 use Rattle.symfilter_engine.proofs.Chunks.{nothing_read}
 use Rattle.symfilter_engine.proofs.Copying.{all_read}
 use Rattle.symfilter_engine.proofs.ReplacedText.{IsReplaced-append, whole_parted, whole-append, replaced_of, split_of}
@@ -18,9 +18,9 @@ use Rattle.symfilter_engine.proofs.PrefixChars.{stem_plain, plain_some}
 use Rattle.symfilter_engine.specs.declared.symbols.Replacement.{Replacement}
 
 -- all bytes have a replaced text, also where a word goes on in them
-goes_at : (how : Replacement) (byte : ℕ) (bytes : List ℕ) (t : Bool) → is_word_byte byte ≡ t → ((text : List ℕ) × GoesOn how bytes text)
-    → (text : List ℕ) × GoesOn how (byte ∷ bytes) text
-goes_at how byte bytes true is rest = (
+goes_at : (options : Replacement) (byte : ℕ) (bytes : List ℕ) (t : Bool) → is_word_byte byte ≡ t → ((text : List ℕ) × GoesOn options bytes text)
+    → (text : List ℕ) × GoesOn options (byte ∷ bytes) text
+goes_at options byte bytes true is rest = (
   byte ∷ rest.0,
   record {
     word = byte ∷ rest.1.word;
@@ -33,8 +33,8 @@ goes_at how byte bytes true is rest = (
     replaced = rest.1.replaced;
   },
 )
-goes_at how byte bytes false is rest =
-    let found = replaced_of how (byte ∷ bytes) in (
+goes_at options byte bytes false is rest =
+    let found = replaced_of options (byte ∷ bytes) in (
       found.0,
       record {
         word = [];
@@ -49,8 +49,8 @@ goes_at how byte bytes false is rest =
     )
 
 -- no byte of the word
-not_gone_on : (how : Replacement) (bytes text : List ℕ) → begins_word bytes ≡ false → IsReplaced how bytes text → GoesOn how bytes text
-not_gone_on how bytes text next replaced =
+not_gone_on : (options : Replacement) (bytes text : List ℕ) → begins_word bytes ≡ false → IsReplaced options bytes text → GoesOn options bytes text
+not_gone_on options bytes text next replaced =
     record {
       word = [];
       more = bytes;
@@ -62,81 +62,81 @@ not_gone_on how bytes text next replaced =
       replaced = replaced;
     }
 
-goes_of : (how : Replacement) (bytes : List ℕ) → (text : List ℕ) × GoesOn how bytes text
-goes_of how [] = ([], not_gone_on how [] [] refl no_byte)
-goes_of how (byte ∷ bytes) = goes_at how byte bytes (is_word_byte byte) refl (goes_of how bytes)
+goes_of : (options : Replacement) (bytes : List ℕ) → (text : List ℕ) × GoesOn options bytes text
+goes_of options [] = ([], not_gone_on options [] [] refl no_byte)
+goes_of options (byte ∷ bytes) = goes_at options byte bytes (is_word_byte byte) refl (goes_of options bytes)
 
-replaced_in : (how : Replacement) (inside : Bool) (bytes : List ℕ) → (text : List ℕ) × IsReplacedIn how inside bytes text
-replaced_in how true bytes = goes_of how bytes
-replaced_in how false bytes = replaced_of how bytes
+replaced_in : (options : Replacement) (inside : Bool) (bytes : List ℕ) → (text : List ℕ) × IsReplacedIn options inside bytes text
+replaced_in options true bytes = goes_of options bytes
+replaced_in options false bytes = replaced_of options bytes
 
-nothing_in : (how : Replacement) (inside : Bool) → IsReplacedIn how inside [] []
-nothing_in how true = not_gone_on how [] [] refl no_byte
-nothing_in how false = no_byte
+nothing_in : (options : Replacement) (inside : Bool) → IsReplacedIn options inside [] []
+nothing_in options true = not_gone_on options [] [] refl no_byte
+nothing_in options false = no_byte
 
 -- what is left has one too, where no word goes on in it
-left_in : (how : Replacement) (inside : Bool) (left text : List ℕ) → (inside ≡ true → left ≡ []) → IsReplaced how left text → IsReplacedIn how inside left text
-left_in how true left text none replaced = not_gone_on how left text (ap begins_word (none refl)) replaced
-left_in how false left text none replaced = replaced
+left_in : (options : Replacement) (inside : Bool) (left text : List ℕ) → (inside ≡ true → left ≡ []) → IsReplaced options left text → IsReplacedIn options inside left text
+left_in options true left text none replaced = not_gone_on options left text (ap begins_word (none refl)) replaced
+left_in options false left text none replaced = replaced
 
 -- bytes after bytes
 none_before : (first second : List ℕ) → first ++ second ≡ [] → (first ≡ []) × (second ≡ [])
 none_before [] second none = (refl, none)
 none_before (byte ∷ bytes) second none = absurd (cc)
 
-leads_on : (how : Replacement) (inside mid after : Bool) (first text second more : List ℕ) → Leads how inside first text mid → Leads how mid second more after
-    → Leads how inside (first ++ second) (text ++ more) after
-leads_on how inside mid after first text second more one two =
+leads_on : (options : Replacement) (inside mid after : Bool) (first text second more : List ℕ) → Leads options inside first text mid → Leads options mid second more after
+    → Leads options inside (first ++ second) (text ++ more) after
+leads_on options inside mid after first text second more one two =
     record {
       goes = λ rest end replaced.
-          subst (λ l. IsReplacedIn how inside l ((text ++ more) ++ end)) (sym (append_assoc first second rest))
-          (subst (IsReplacedIn how inside (first ++ (second ++ rest))) (sym (append_assoc text more end))
+          subst (λ l. IsReplacedIn options inside l ((text ++ more) ++ end)) (sym (append_assoc first second rest))
+          (subst (IsReplacedIn options inside (first ++ (second ++ rest))) (sym (append_assoc text more end))
           (one.goes (second ++ rest) (more ++ end) (two.goes rest end replaced)));
       ended = λ is. whole-append first second (two.ended is) (λ none. one.ended (two.none is none));
       none = λ is all. let both = none_before first second all in one.none (two.none is both.1) both.0;
     }
 
 -- no bytes yet
-none_leads : (how : Replacement) → Leads how false [] [] false
-none_leads how = record { goes = λ rest more replaced. replaced; ended = λ _. refl; none = λ _ _. refl }
+none_leads : (options : Replacement) → Leads options false [] [] false
+none_leads options = record { goes = λ rest more replaced. replaced; ended = λ _. refl; none = λ _ _. refl }
 
 -- whole words
-whole_leads : (how : Replacement) (words text : List ℕ) → ends_word words ≡ false → IsReplaced how words text → Leads how false words text false
-whole_leads how words text whole replaced =
+whole_leads : (options : Replacement) (words text : List ℕ) → ends_word words ≡ false → IsReplaced options words text → Leads options false words text false
+whole_leads options words text whole replaced =
     record {
-      goes = λ rest more next. IsReplaced-append how replaced next (whole_parted words rest whole);
+      goes = λ rest more next. IsReplaced-append options replaced next (whole_parted words rest whole);
       ended = λ _. whole;
       none = λ _ _. refl;
     }
 
 -- a word whose front shows no symbol stays
-word_kept : (how : Replacement) (front rest bytes text : List ℕ) → All IsWordByte front → may_hold_symbol how.strip front ≡ false → All IsWordByte rest
-    → begins_word bytes ≡ false → IsReplaced how bytes text → IsReplaced how ((front ++ rest) ++ bytes) ((front ++ rest) ++ text)
-word_kept how front rest bytes text all plain more next replaced =
+word_kept : (options : Replacement) (front rest bytes text : List ℕ) → All IsWordByte front → may_hold_symbol options.strip front ≡ false → All IsWordByte rest
+    → begins_word bytes ≡ false → IsReplaced options bytes text → IsReplaced options ((front ++ rest) ++ bytes) ((front ++ rest) ++ text)
+word_kept options front rest bytes text all plain more next replaced =
     let word : List ℕ = front ++ rest in
     let split = split_of word in
     let back : split.stem ++ split.dots ≡ word = sym split.word_is in
-    let some : split.stem ++ split.dots ≢ [] = λ e. absurd (omega (arith, plain_some how.strip front plain, ap length ((none_before front rest (split.word_is ∙ e)).0))) in
-    subst (λ l. IsReplaced how (l ++ bytes) (l ++ text)) back
+    let some : split.stem ++ split.dots ≢ [] = λ e. absurd (omega (arith, plain_some options.strip front plain, ap length ((none_before front rest (split.word_is ∙ e)).0))) in
+    subst (λ l. IsReplaced options (l ++ bytes) (l ++ text)) back
     (one_word split.dots some (All-same IsWordByte (split.stem ++ split.dots) word back (All-append IsWordByte front rest all more)) split.dotted split.undotted
-    (no_symbol (stem_plain how.strip front rest split.stem split.dots plain split.word_is)) next replaced)
+    (no_symbol (stem_plain options.strip front rest split.stem split.dots plain split.word_is)) next replaced)
 
-plain_leads : (how : Replacement) (word : List ℕ) → All IsWordByte word → may_hold_symbol how.strip word ≡ false → Leads how false word word true
-plain_leads how word all plain =
+plain_leads : (options : Replacement) (word : List ℕ) → All IsWordByte word → may_hold_symbol options.strip word ≡ false → Leads options false word word true
+plain_leads options word all plain =
     record {
       goes = λ rest more goes.
-          subst (λ l. IsReplaced how (word ++ l) (word ++ more)) (sym goes.bytes_are)
-          (subst (λ l. IsReplaced how (word ++ (goes.word ++ goes.more)) (word ++ l)) (sym goes.text_is)
-          (subst (λ l. IsReplaced how l (word ++ (goes.word ++ goes.more_text))) (append_assoc word goes.word goes.more)
-          (subst (IsReplaced how ((word ++ goes.word) ++ goes.more)) (append_assoc word goes.word goes.more_text)
-          (word_kept how word goes.word goes.more goes.more_text all plain goes.all goes.next goes.replaced))));
+          subst (λ l. IsReplaced options (word ++ l) (word ++ more)) (sym goes.bytes_are)
+          (subst (λ l. IsReplaced options (word ++ (goes.word ++ goes.more)) (word ++ l)) (sym goes.text_is)
+          (subst (λ l. IsReplaced options l (word ++ (goes.word ++ goes.more_text))) (append_assoc word goes.word goes.more)
+          (subst (IsReplaced options ((word ++ goes.word) ++ goes.more)) (append_assoc word goes.word goes.more_text)
+          (word_kept options word goes.word goes.more goes.more_text all plain goes.all goes.next goes.replaced))));
       ended = λ is. absurd (false≢true (sym is));
       none = λ is _. absurd (false≢true (sym is));
     }
 
 -- more bytes of it
-on_leads : (how : Replacement) (word : List ℕ) → All IsWordByte word → Leads how true word word true
-on_leads how word all =
+on_leads : (options : Replacement) (word : List ℕ) → All IsWordByte word → Leads options true word word true
+on_leads options word all =
     record {
       goes = λ rest more goes.
           record {
@@ -154,8 +154,8 @@ on_leads how word all =
     }
 
 -- its last bytes, and the byte after it
-past_leads : (how : Replacement) (word : List ℕ) (byte : ℕ) → All IsWordByte word → is_word_byte byte ≡ false → Leads how true (word ++ byte ∷ []) (word ++ byte ∷ []) false
-past_leads how word byte all end =
+past_leads : (options : Replacement) (word : List ℕ) (byte : ℕ) → All IsWordByte word → is_word_byte byte ≡ false → Leads options true (word ++ byte ∷ []) (word ++ byte ∷ []) false
+past_leads options word byte all end =
     record {
       goes = λ rest more replaced.
           record {
@@ -173,25 +173,25 @@ past_leads how word byte all end =
     }
 
 -- nothing was given yet
-pub none_replaced : (how : Replacement) (given : List ℕ) (at : Option (List ℕ)) → HasReplaced how false given given false at at
-none_replaced how given at = record { done = []; text = []; given_is = refl; leads = none_leads how; written = Appends-nil at }
+pub none_replaced : (options : Replacement) (given : List ℕ) (at : Option (List ℕ)) → HasReplaced options false given given false at at
+none_replaced options given at = record { done = []; text = []; given_is = refl; leads = none_leads options; written = Appends-nil at }
 
 -- more of what was left was replaced
-pub replaced_on : (how : Replacement) (inside mid after : Bool) (given left left' : List ℕ) (t t' t'' : Option (List ℕ)) → HasReplaced how inside given left mid t t'
-    → HasReplaced how mid left left' after t' t'' → HasReplaced how inside given left' after t t''
-replaced_on how inside mid after given left left' t t' t'' one two =
+pub replaced_on : (options : Replacement) (inside mid after : Bool) (given left left' : List ℕ) (t t' t'' : Option (List ℕ)) → HasReplaced options inside given left mid t t'
+    → HasReplaced options mid left left' after t' t'' → HasReplaced options inside given left' after t t''
+replaced_on options inside mid after given left left' t t' t'' one two =
     record {
       done = one.done ++ two.done;
       text = one.text ++ two.text;
       given_is = one.given_is ∙ ap (λ l. one.done ++ l) two.given_is ∙ sym (append_assoc one.done two.done left');
-      leads = leads_on how inside mid after one.done one.text two.done two.text one.leads two.leads;
+      leads = leads_on options inside mid after one.done one.text two.done two.text one.leads two.leads;
       written = Appends-trans t t' t'' one.text two.text one.written two.written;
     }
 
 -- more was given
-pub given_more : (how : Replacement) (inside after : Bool) (given left piece : List ℕ) (t t' : Option (List ℕ)) → HasReplaced how inside given left after t t'
-    → HasReplaced how inside (given ++ piece) (left ++ piece) after t t'
-given_more how inside after given left piece t t' so_far =
+pub given_more : (options : Replacement) (inside after : Bool) (given left piece : List ℕ) (t t' : Option (List ℕ)) → HasReplaced options inside given left after t t'
+    → HasReplaced options inside (given ++ piece) (left ++ piece) after t t'
+given_more options inside after given left piece t t' so_far =
     record {
       done = so_far.done;
       text = so_far.text;
@@ -201,167 +201,167 @@ given_more how inside after given left piece t t' so_far =
     }
 
 -- whole words were written
-pub words_replaced : (how : Replacement) (given left : List ℕ) (t t' : Option (List ℕ)) → HasFiltered (Words how) given left t t' → HasReplaced how false given left false t t'
-words_replaced how given left t t' so_far =
+pub words_replaced : (options : Replacement) (given left : List ℕ) (t t' : Option (List ℕ)) → HasFiltered (Words options) given left t t' → HasReplaced options false given left false t t'
+words_replaced options given left t t' so_far =
     record {
       done = so_far.lines;
       text = so_far.text;
       given_is = so_far.given_is;
-      leads = whole_leads how so_far.lines so_far.text so_far.filtered.0 so_far.filtered.1;
+      leads = whole_leads options so_far.lines so_far.text so_far.filtered.0 so_far.filtered.1;
       written = so_far.written;
     }
 
 -- a front of the bytes was replaced
-pub front_replaced : (how : Replacement) (inside after : Bool) (bytes front left : List ℕ) (n : ℕ) (t t' : Option (List ℕ)) → HasReplaced how inside front left after t t' → front ≡ take n bytes
-    → HasReplaced how inside bytes (left ++ drop n bytes) after t t'
-front_replaced how inside after bytes front left n t t' so_far front_is =
-    subst (λ l. HasReplaced how inside l (left ++ drop n bytes) after t t') (ap (λ l. l ++ drop n bytes) front_is ∙ take-append-drop n bytes)
-    (given_more how inside after front left (drop n bytes) t t' so_far)
+pub front_replaced : (options : Replacement) (inside after : Bool) (bytes front left : List ℕ) (n : ℕ) (t t' : Option (List ℕ)) → HasReplaced options inside front left after t t' → front ≡ take n bytes
+    → HasReplaced options inside bytes (left ++ drop n bytes) after t t'
+front_replaced options inside after bytes front left n t t' so_far front_is =
+    subst (λ l. HasReplaced options inside l (left ++ drop n bytes) after t t') (ap (λ l. l ++ drop n bytes) front_is ∙ take-append-drop n bytes)
+    (given_more options inside after front left (drop n bytes) t t' so_far)
 
 -- a word was passed on
-pub word_passed : (how : Replacement) (word : List ℕ) (t t' : Option (List ℕ)) → All IsWordByte word → may_hold_symbol how.strip word ≡ false → Appends t t' word
-    → HasReplaced how false word [] true t t'
-word_passed how word t t' all plain writes =
-    record { done = word; text = word; given_is = sym (append-nil word); leads = plain_leads how word all plain; written = writes }
+pub word_passed : (options : Replacement) (word : List ℕ) (t t' : Option (List ℕ)) → All IsWordByte word → may_hold_symbol options.strip word ≡ false → Appends t t' word
+    → HasReplaced options false word [] true t t'
+word_passed options word t t' all plain writes =
+    record { done = word; text = word; given_is = sym (append-nil word); leads = plain_leads options word all plain; written = writes }
 
-pub more_passed : (how : Replacement) (word : List ℕ) (t t' : Option (List ℕ)) → All IsWordByte word → Appends t t' word → HasReplaced how true word [] true t t'
-more_passed how word t t' all writes =
-    record { done = word; text = word; given_is = sym (append-nil word); leads = on_leads how word all; written = writes }
+pub more_passed : (options : Replacement) (word : List ℕ) (t t' : Option (List ℕ)) → All IsWordByte word → Appends t t' word → HasReplaced options true word [] true t t'
+more_passed options word t t' all writes =
+    record { done = word; text = word; given_is = sym (append-nil word); leads = on_leads options word all; written = writes }
 
 -- with the byte after it
-pub rest_passed : (how : Replacement) (bytes : List ℕ) (n : ℕ) (t t' : Option (List ℕ)) → IsPastWord bytes n → Appends t t' (take n bytes)
-    → HasReplaced how true bytes (drop n bytes) false t t'
-rest_passed how bytes n t t' past writes =
+pub rest_passed : (options : Replacement) (bytes : List ℕ) (n : ℕ) (t t' : Option (List ℕ)) → IsFirstWordLen bytes n → Appends t t' (take n bytes)
+    → HasReplaced options true bytes (drop n bytes) false t t'
+rest_passed options bytes n t t' past writes =
     record {
       done = take n bytes;
       text = take n bytes;
       given_is = sym (take-append-drop n bytes);
-      leads = subst (λ l. Leads how true l l false) (sym past.front) (past_leads how past.word past.byte past.all past.ended);
+      leads = subst (λ l. Leads options true l l false) (sym past.front) (past_leads options past.word past.byte past.all past.ended);
       written = writes;
     }
 
 -- a front of what the bytes lead to
-front_of : (how : Replacement) (inside after : Bool) (bytes text rest written : List ℕ) → Leads how inside bytes text after → IsFront written text
-    → (all : List ℕ) × IsReplacedIn how inside (bytes ++ rest) all × IsFront written all
-front_of how inside after bytes text rest written leads is_front =
-    let found = replaced_in how after rest in (
+front_of : (options : Replacement) (inside after : Bool) (bytes text rest written : List ℕ) → Leads options inside bytes text after → IsFront written text
+    → (all : List ℕ) × IsReplacedIn options inside (bytes ++ rest) all × IsFront written all
+front_of options inside after bytes text rest written leads is_front =
+    let found = replaced_in options after rest in (
       text ++ found.0,
       leads.goes rest found.0 found.1,
       (is_front.0 ++ found.0, ap (λ l. l ++ found.0) is_front.1 ∙ append_assoc written is_front.0 found.0),
     )
 
 -- a front of bytes that stay was written
-stay_front : (how : Replacement) (inside after : Bool) (bytes front : List ℕ) (n : ℕ) (t t' : Option (List ℕ)) → Leads how inside front front after → front ≡ take n bytes
-    → WritesFront front t t' → ReplacesFront how inside bytes t t'
-stay_front how inside after bytes front n t t' leads front_is (left, writes) rest =
+stay_front : (options : Replacement) (inside after : Bool) (bytes front : List ℕ) (n : ℕ) (t t' : Option (List ℕ)) → Leads options inside front front after → front ≡ take n bytes
+    → WritesFront front t t' → ReplacesFront options inside bytes t t'
+stay_front options inside after bytes front n t t' leads front_is (left, writes) rest =
     let whole : bytes ++ rest ≡ front ++ (drop n bytes ++ rest) =
     ap (λ l. l ++ rest) (sym (take-append-drop n bytes) ∙ ap (λ l. l ++ drop n bytes) (sym front_is)) ∙ append_assoc front (drop n bytes) rest in
-    let found = front_of how inside after front front (drop n bytes ++ rest) writes.front leads (left, writes.bytes_are) in (
+    let found = front_of options inside after front front (drop n bytes ++ rest) writes.front leads (left, writes.bytes_are) in (
       writes.front,
-      (found.0, subst (λ l. IsReplacedIn how inside l found.0) (sym whole) found.1, found.2),
+      (found.0, subst (λ l. IsReplacedIn options inside l found.0) (sym whole) found.1, found.2),
       writes.written,
     )
 
-pub word_front : (how : Replacement) (word : List ℕ) (t t' : Option (List ℕ)) → All IsWordByte word → may_hold_symbol how.strip word ≡ false → WritesFront word t t'
-    → ReplacesFront how false word t t'
-word_front how word t t' all plain writes rest =
+pub word_front : (options : Replacement) (word : List ℕ) (t t' : Option (List ℕ)) → All IsWordByte word → may_hold_symbol options.strip word ≡ false → WritesFront word t t'
+    → ReplacesFront options false word t t'
+word_front options word t t' all plain writes rest =
     let front = writes.1 in
-    let found = front_of how false true word word rest front.front (plain_leads how word all plain) (writes.0, front.bytes_are) in
+    let found = front_of options false true word word rest front.front (plain_leads options word all plain) (writes.0, front.bytes_are) in
     (front.front, found, front.written)
 
-pub more_front : (how : Replacement) (word : List ℕ) (t t' : Option (List ℕ)) → All IsWordByte word → WritesFront word t t' → ReplacesFront how true word t t'
-more_front how word t t' all writes rest =
+pub more_front : (options : Replacement) (word : List ℕ) (t t' : Option (List ℕ)) → All IsWordByte word → WritesFront word t t' → ReplacesFront options true word t t'
+more_front options word t t' all writes rest =
     let front = writes.1 in
-    let found = front_of how true true word word rest front.front (on_leads how word all) (writes.0, front.bytes_are) in
+    let found = front_of options true true word word rest front.front (on_leads options word all) (writes.0, front.bytes_are) in
     (front.front, found, front.written)
 
-pub past_front : (how : Replacement) (bytes : List ℕ) (n : ℕ) (t t' : Option (List ℕ)) → IsPastWord bytes n → WritesFront (take n bytes) t t' → ReplacesFront how true bytes t t'
-past_front how bytes n t t' past writes =
-    stay_front how true false bytes (take n bytes) n t t'
-    (subst (λ l. Leads how true l l false) (sym past.front) (past_leads how past.word past.byte past.all past.ended)) refl writes
+pub past_front : (options : Replacement) (bytes : List ℕ) (n : ℕ) (t t' : Option (List ℕ)) → IsFirstWordLen bytes n → WritesFront (take n bytes) t t' → ReplacesFront options true bytes t t'
+past_front options bytes n t t' past writes =
+    stay_front options true false bytes (take n bytes) n t t'
+    (subst (λ l. Leads options true l l false) (sym past.front) (past_leads options past.word past.byte past.all past.ended)) refl writes
 
 -- a beginning of what was left
-begins_after : (how : Replacement) (inside mid : Bool) (given left rest : List ℕ) (t t' t'' : Option (List ℕ)) → HasReplaced how inside given left mid t t'
-    → ReplacesBeginning how mid (left ++ rest) t' t'' → ReplacesBeginning how inside (given ++ rest) t t''
-begins_after how inside mid given left rest t t' t'' so_far (written, (text, replaced, is_front), writes) = (
+begins_after : (options : Replacement) (inside mid : Bool) (given left rest : List ℕ) (t t' t'' : Option (List ℕ)) → HasReplaced options inside given left mid t t'
+    → ReplacesBeginning options mid (left ++ rest) t' t'' → ReplacesBeginning options inside (given ++ rest) t t''
+begins_after options inside mid given left rest t t' t'' so_far (written, (text, replaced, is_front), writes) = (
   so_far.text ++ written,
   (
     so_far.text ++ text,
-    subst (λ l. IsReplacedIn how inside l (so_far.text ++ text)) (sym (ap (λ l. l ++ rest) so_far.given_is ∙ append_assoc so_far.done left rest))
+    subst (λ l. IsReplacedIn options inside l (so_far.text ++ text)) (sym (ap (λ l. l ++ rest) so_far.given_is ∙ append_assoc so_far.done left rest))
         (so_far.leads.goes (left ++ rest) text replaced),
     (is_front.0, ap (λ l. so_far.text ++ l) is_front.1 ∙ sym (append_assoc so_far.text written is_front.0)),
   ),
   Appends-trans t t' t'' so_far.text written so_far.written writes,
 )
 
-pub front_after : (how : Replacement) (inside mid : Bool) (given left : List ℕ) (t t' t'' : Option (List ℕ)) → HasReplaced how inside given left mid t t'
-    → ReplacesFront how mid left t' t'' → ReplacesFront how inside given t t''
-front_after how inside mid given left t t' t'' so_far begins rest = begins_after how inside mid given left rest t t' t'' so_far (begins rest)
+pub front_after : (options : Replacement) (inside mid : Bool) (given left : List ℕ) (t t' t'' : Option (List ℕ)) → HasReplaced options inside given left mid t t'
+    → ReplacesFront options mid left t' t'' → ReplacesFront options inside given t t''
+front_after options inside mid given left t t' t'' so_far begins rest = begins_after options inside mid given left rest t t' t'' so_far (begins rest)
 
 -- a front of whole words, before other bytes
-pub words_front : (how : Replacement) (bytes words : List ℕ) (n : ℕ) (t t' : Option (List ℕ)) → WritesLinesFront (Words how) words t t' → words ≡ take n bytes
-    → ReplacesFront how false bytes t t'
-words_front how bytes words n t t' begins words_are rest =
+pub words_front : (options : Replacement) (bytes words : List ℕ) (n : ℕ) (t t' : Option (List ℕ)) → WritesWholeFront (Words options) words t t' → words ≡ take n bytes
+    → ReplacesFront options false bytes t t'
+words_front options bytes words n t t' begins words_are rest =
     let whole : words ++ (drop n bytes ++ rest) ≡ bytes ++ rest =
     sym (append_assoc words (drop n bytes) rest) ∙ ap (λ l. l ++ rest) (ap (λ l. l ++ drop n bytes) words_are ∙ take-append-drop n bytes) in
-    subst (λ l. ReplacesBeginning how false l t t') whole (begins (drop n bytes ++ rest))
+    subst (λ l. ReplacesBeginning options false l t t') whole (begins (drop n bytes ++ rest))
 
 -- nothing was read yet
-pub none_copied_words : (how : Replacement) (word : List ℕ) (source sink : Option (List ℕ)) → word ≡ [] → HasCopiedWords how false word source source sink sink
-none_copied_words how word source sink word_is =
+pub none_copied_words : (options : Replacement) (word : List ℕ) (source sink : Option (List ℕ)) → word ≡ [] → HasCopiedWords options false word source source sink sink
+none_copied_words options word source sink word_is =
     record {
       read = [];
       consumed = Consumes-nil source;
       none = λ _. word_is;
-      replaced = subst (λ l. HasReplaced how false [] l false sink sink) (sym word_is) (none_replaced how [] sink);
+      replaced = subst (λ l. HasReplaced options false [] l false sink sink) (sym word_is) (none_replaced options [] sink);
     }
 
 -- and nothing is held back
-pub none_held : (how : Replacement) (word : List ℕ) → word ≡ [] → IsHeld how.strip word
-none_held how word word_is = subst (IsHeld how.strip) (sym word_is) (record { word = All-nil IsWordByte; may_hold = refl })
+pub none_held : (options : Replacement) (word : List ℕ) → word ≡ [] → IsHeld options.strip word
+none_held options word word_is = subst (IsHeld options.strip) (sym word_is) (record { word = All-nil IsWordByte; may_hold = refl })
 
 -- what was read in one turn, after the word that was kept
-read_on : (how : Replacement) (inside : Bool) (word piece all : List ℕ) (s s' s'' t t' : Option (List ℕ)) (so_far : HasCopiedWords how inside word s s' t t')
+read_on : (options : Replacement) (inside : Bool) (word piece all : List ℕ) (s s' s'' t t' : Option (List ℕ)) (so_far : HasCopiedWords options inside word s s' t t')
     → Consumes s' s'' piece → all ≡ word ++ piece
-    → Consumes s s'' (so_far.read ++ piece) × HasReplaced how false (so_far.read ++ piece) all inside t t'
-read_on how inside word piece all s s' s'' t t' so_far consumed all_is = (
+    → Consumes s s'' (so_far.read ++ piece) × HasReplaced options false (so_far.read ++ piece) all inside t t'
+read_on options inside word piece all s s' s'' t t' so_far consumed all_is = (
   Consumes-trans s s' s'' so_far.read piece so_far.consumed consumed,
-  subst (λ l. HasReplaced how false (so_far.read ++ piece) l inside t t') (sym all_is)
-      (given_more how false inside so_far.read word piece t t' so_far.replaced),
+  subst (λ l. HasReplaced options false (so_far.read ++ piece) l inside t t') (sym all_is)
+      (given_more options false inside so_far.read word piece t t' so_far.replaced),
 )
 
 -- one turn more
-pub turn_copied : (how : Replacement) (inside after : Bool) (kept end : ℕ) (old new rest left : List ℕ) (s s' s'' t t' t'' : Option (List ℕ))
-    → HasCopiedWords how inside (take kept old) s s' t t' → ReadsMore kept end old new s' s'' → HasReplaced how inside (take end new) left after t' t'' → rest ≡ left
-    → (after ≡ true → left ≡ []) → HasCopiedWords how after rest s s'' t t''
-turn_copied how inside after kept end old new rest left s s' s'' t t' t'' so_far more replaced rest_is none =
-    let all = read_on how inside (take kept old) more.piece (take end new) s s' s'' t t' so_far more.consumed more.held in
-    subst (λ l. HasCopiedWords how after l s s'' t t'') (sym rest_is)
+pub turn_copied : (options : Replacement) (inside after : Bool) (kept end : ℕ) (old new rest left : List ℕ) (s s' s'' t t' t'' : Option (List ℕ))
+    → HasCopiedWords options inside (take kept old) s s' t t' → ReadsMore kept end old new s' s'' → HasReplaced options inside (take end new) left after t' t'' → rest ≡ left
+    → (after ≡ true → left ≡ []) → HasCopiedWords options after rest s s'' t t''
+turn_copied options inside after kept end old new rest left s s' s'' t t' t'' so_far more replaced rest_is none =
+    let all = read_on options inside (take kept old) more.piece (take end new) s s' s'' t t' so_far more.consumed more.held in
+    subst (λ l. HasCopiedWords options after l s s'' t t'') (sym rest_is)
     (record {
       read = so_far.read ++ more.piece;
       consumed = all.0;
       none = none;
-      replaced = replaced_on how false inside after (so_far.read ++ more.piece) (take end new) left t t' t'' all.1 replaced;
+      replaced = replaced_on options false inside after (so_far.read ++ more.piece) (take end new) left t t' t'' all.1 replaced;
     })
 
 -- a fault came in it
-pub turn_fault : (how : Replacement) (inside : Bool) (kept end : ℕ) (old new : List ℕ) (s s' s'' t t' t'' : Option (List ℕ))
-    → HasCopiedWords how inside (take kept old) s s' t t' → ReadsMore kept end old new s' s'' → ReplacesFront how inside (take end new) t' t''
-    → FiltersFront (Words how) s s'' t t''
-turn_fault how inside kept end old new s s' s'' t t' t'' so_far more begins =
-    let all = read_on how inside (take kept old) more.piece (take end new) s s' s'' t t' so_far more.consumed more.held in
+pub turn_fault : (options : Replacement) (inside : Bool) (kept end : ℕ) (old new : List ℕ) (s s' s'' t t' t'' : Option (List ℕ))
+    → HasCopiedWords options inside (take kept old) s s' t t' → ReadsMore kept end old new s' s'' → ReplacesFront options inside (take end new) t' t''
+    → FiltersFront (Words options) s s'' t t''
+turn_fault options inside kept end old new s s' s'' t t' t'' so_far more begins =
+    let all = read_on options inside (take kept old) more.piece (take end new) s s' s'' t t' so_far more.consumed more.held in
     let read : List ℕ = so_far.read ++ more.piece in
     record {
       read = read;
       consumed = all.0;
-      begins = subst (λ l. ReplacesBeginning how false l t t'') (append-nil read)
-          (front_after how false inside read (take end new) t t' t'' all.1 begins []);
+      begins = subst (λ l. ReplacesBeginning options false l t t'') (append-nil read)
+          (front_after options false inside read (take end new) t t' t'' all.1 begins []);
     }
 
 -- whole words were written of what was read
-whole_words : (how : Replacement) (read left : List ℕ) (s s' t t' : Option (List ℕ)) → Consumes s s' read → HasReplaced how false read left false t t'
-    → FiltersWhole (Words how) s s' t t'
-whole_words how read left s s' t t' consumed replaced =
+whole_words : (options : Replacement) (read left : List ℕ) (s s' t t' : Option (List ℕ)) → Consumes s s' read → HasReplaced options false read left false t t'
+    → FiltersWhole (Words options) s s' t t'
+whole_words options read left s s' t t' consumed replaced =
     let leads = replaced.leads in
     record {
       lines = replaced.done;
@@ -370,45 +370,45 @@ whole_words how read left s s' t t' consumed replaced =
       text = replaced.text;
       filtered = (
         leads.ended refl,
-        subst (λ l. IsReplaced how l replaced.text) (append-nil replaced.done)
-            (subst (IsReplaced how (replaced.done ++ [])) (append-nil replaced.text) (leads.goes [] [] no_byte)),
+        subst (λ l. IsReplaced options l replaced.text) (append-nil replaced.done)
+            (subst (IsReplaced options (replaced.done ++ [])) (append-nil replaced.text) (leads.goes [] [] no_byte)),
       );
       written = replaced.written;
     }
 
 -- memory was refused in it
-pub turn_refused : (how : Replacement) (inside : Bool) (kept end : ℕ) (old new : List ℕ) (s s' s'' t t' t'' : Option (List ℕ))
-    → HasCopiedWords how inside (take kept old) s s' t t' → ReadsMore kept end old new s' s'' → ReplacesWhole how inside (take end new) t' t''
-    → FiltersWhole (Words how) s s'' t t''
-turn_refused how inside kept end old new s s' s'' t t' t'' so_far more (left, replaced) =
-    let all = read_on how inside (take kept old) more.piece (take end new) s s' s'' t t' so_far more.consumed more.held in
+pub turn_refused : (options : Replacement) (inside : Bool) (kept end : ℕ) (old new : List ℕ) (s s' s'' t t' t'' : Option (List ℕ))
+    → HasCopiedWords options inside (take kept old) s s' t t' → ReadsMore kept end old new s' s'' → ReplacesWhole options inside (take end new) t' t''
+    → FiltersWhole (Words options) s s'' t t''
+turn_refused options inside kept end old new s s' s'' t t' t'' so_far more (left, replaced) =
+    let all = read_on options inside (take kept old) more.piece (take end new) s s' s'' t t' so_far more.consumed more.held in
     let read : List ℕ = so_far.read ++ more.piece in
-    whole_words how read left s s'' t t'' all.0 (replaced_on how false inside false read (take end new) left t t' t'' all.1 replaced)
+    whole_words options read left s s'' t t'' all.0 (replaced_on options false inside false read (take end new) left t t' t'' all.1 replaced)
 
 -- memory was refused for more room
-pub read_refused : (how : Replacement) (inside : Bool) (kept : ℕ) (old : List ℕ) (s s' s'' t t' : Option (List ℕ)) → HasCopiedWords how inside (take kept old) s s' t t'
-    → Keeps s' s'' → kept ≡ length old → 0 < length old → FiltersWhole (Words how) s s'' t t'
-read_refused how true kept old s s' s'' t t' so_far keeps full some =
+pub read_refused : (options : Replacement) (inside : Bool) (kept : ℕ) (old : List ℕ) (s s' s'' t t' : Option (List ℕ)) → HasCopiedWords options inside (take kept old) s s' t t'
+    → Keeps s' s'' → kept ≡ length old → 0 < length old → FiltersWhole (Words options) s s'' t t'
+read_refused options true kept old s s' s'' t t' so_far keeps full some =
     absurd (omega (arith, some, full, length-take-le kept old (omega (arith, full)), ap length (so_far.none refl)))
-read_refused how false kept old s s' s'' t t' so_far keeps full some =
-    whole_words how so_far.read (take kept old) s s'' t t' (Consumes-kept s s' s'' so_far.read so_far.consumed keeps) so_far.replaced
+read_refused options false kept old s s' s'' t t' so_far keeps full some =
+    whole_words options so_far.read (take kept old) s s'' t t' (Consumes-kept s s' s'' so_far.read so_far.consumed keeps) so_far.replaced
 
 -- what was held stands in front
-pub still_held : (how : Replacement) (kept end : ℕ) (old new : List ℕ) (s s' : Option (List ℕ)) → IsHeld how.strip (take kept old) → ReadsMore kept end old new s s' → kept ≤ length old
+pub still_held : (options : Replacement) (kept end : ℕ) (old new : List ℕ) (s s' : Option (List ℕ)) → IsHeld options.strip (take kept old) → ReadsMore kept end old new s s' → kept ≤ length old
     → All IsWordByte (take kept (take end new))
-still_held how kept end old new s s' held more within =
+still_held options kept end old new s s' held more within =
     let same : take kept (take end new) ≡ take kept old =
     ap (take kept) more.held ∙ take-append-le kept (take kept old) more.piece (omega (arith, length-take-le kept old within)) ∙ take-take kept kept old (omega arith) in
     All-same IsWordByte (take kept (take end new)) (take kept old) same held.word
 
 -- nothing more was read
-pub end_copied : (how : Replacement) (inside : Bool) (kept end : ℕ) (old new : List ℕ) (s s' s'' t t' : Option (List ℕ))
-    → HasCopiedWords how inside (take kept old) s s' t t' → ReadsMore kept end old new s' s'' → kept ≤ length old → end ≡ kept
-    → HasCopiedWords how inside (take kept new) s s'' t t'
-end_copied how inside kept end old new s s' s'' t t' so_far more within same =
+pub end_copied : (options : Replacement) (inside : Bool) (kept end : ℕ) (old new : List ℕ) (s s' s'' t t' : Option (List ℕ))
+    → HasCopiedWords options inside (take kept old) s s' t t' → ReadsMore kept end old new s' s'' → kept ≤ length old → end ≡ kept
+    → HasCopiedWords options inside (take kept new) s s'' t t'
+end_copied options inside kept end old new s s' s'' t t' so_far more within same =
     let none = nothing_read kept end old new s' s'' more within same in
     let held : take kept new ≡ take kept old = ap (λ n. take n new) (sym same) ∙ more.held ∙ ap (λ l. take kept old ++ l) none ∙ append-nil (take kept old) in
-    subst (λ l. HasCopiedWords how inside l s s'' t t') (sym held)
+    subst (λ l. HasCopiedWords options inside l s s'' t t') (sym held)
     (record {
       read = so_far.read;
       consumed = subst (Consumes s s'') (ap (λ l. so_far.read ++ l) none ∙ append-nil so_far.read)
@@ -418,10 +418,10 @@ end_copied how inside kept end old new s s' s'' t t' so_far more within same =
     })
 
 -- the replaced text of what was done
-done_replaced : (how : Replacement) (inside : Bool) (bytes text : List ℕ) → Leads how false bytes text inside → IsReplaced how bytes text
-done_replaced how inside bytes text leads =
-    subst (λ l. IsReplaced how l text) (append-nil bytes)
-    (subst (IsReplaced how (bytes ++ [])) (append-nil text) (leads.goes [] [] (nothing_in how inside)))
+done_replaced : (options : Replacement) (inside : Bool) (bytes text : List ℕ) → Leads options false bytes text inside → IsReplaced options bytes text
+done_replaced options inside bytes text leads =
+    subst (λ l. IsReplaced options l text) (append-nil bytes)
+    (subst (IsReplaced options (bytes ++ [])) (append-nil text) (leads.goes [] [] (nothing_in options inside)))
 
 -- what is held back begins a word
 held_begins : (inside : Bool) (done word : List ℕ) → (inside ≡ false → ends_word done ≡ false) → (inside ≡ true → word ≡ []) → ends_word done ≡ true → word ≡ []
@@ -429,9 +429,9 @@ held_begins true done word ended none ends = none refl
 held_begins false done word ended none ends = absurd (false≢true (sym (ended refl) ∙ ends))
 
 -- the source failed, and gave nothing
-pub read_put : (how : Replacement) (inside : Bool) (word : List ℕ) (s s' s'' t t' : Option (List ℕ)) → HasCopiedWords how inside word s s' t t' → IsHeld how.strip word → Keeps s' s''
-    → ReplacesAllButHeld how s s'' t t'
-read_put how inside word s s' s'' t t' so_far held keeps =
+pub read_put : (options : Replacement) (inside : Bool) (word : List ℕ) (s s' s'' t t' : Option (List ℕ)) → HasCopiedWords options inside word s s' t t' → IsHeld options.strip word → Keeps s' s''
+    → ReplacesAllButHeld options s s'' t t'
+read_put options inside word s s' s'' t t' so_far held keeps =
     let replaced = so_far.replaced in
     record {
       given = replaced.done;
@@ -440,15 +440,15 @@ read_put how inside word s s' s'' t t' so_far held keeps =
       is_held = held;
       begins = held_begins inside replaced.done word replaced.leads.ended so_far.none;
       text = replaced.text;
-      replaced = done_replaced how inside replaced.done replaced.text replaced.leads;
+      replaced = done_replaced options inside replaced.done replaced.text replaced.leads;
       written = replaced.written;
     }
 
-pub read_fault : (how : Replacement) (inside : Bool) (word : List ℕ) (s s' s'' t t' : Option (List ℕ)) → HasCopiedWords how inside word s s' t t' → Keeps s' s''
-    → FiltersFront (Words how) s s'' t t'
-read_fault how inside word s s' s'' t t' so_far keeps =
+pub read_fault : (options : Replacement) (inside : Bool) (word : List ℕ) (s s' s'' t t' : Option (List ℕ)) → HasCopiedWords options inside word s s' t t' → Keeps s' s''
+    → FiltersFront (Words options) s s'' t t'
+read_fault options inside word s s' s'' t t' so_far keeps =
     let replaced = so_far.replaced in
-    let found = replaced_in how inside word in
+    let found = replaced_in options inside word in
     record {
       read = so_far.read;
       consumed = Consumes-kept s s' s'' so_far.read so_far.consumed keeps;
@@ -456,7 +456,7 @@ read_fault how inside word s s' s'' t t' so_far keeps =
         replaced.text,
         (
           replaced.text ++ found.0,
-          subst (λ l. IsReplaced how l (replaced.text ++ found.0)) (sym replaced.given_is) (replaced.leads.goes word found.0 found.1),
+          subst (λ l. IsReplaced options l (replaced.text ++ found.0)) (sym replaced.given_is) (replaced.leads.goes word found.0 found.1),
           (found.0, refl),
         ),
         replaced.written,
@@ -464,21 +464,21 @@ read_fault how inside word s s' s'' t t' so_far keeps =
     }
 
 -- the last word was written too
-pub last_copied : (how : Replacement) (inside : Bool) (word : List ℕ) (s s' t t' t'' : Option (List ℕ)) → HasCopiedWords how inside word s s' t t' → IsAtEnd s'
-    → WritesFiltered (Words how) word t' t'' → IfSome s (λ given. WritesFiltered (Words how) given t t'')
-last_copied how inside word s s' t t' t'' so_far ends (text, is_replaced, writes) =
+pub last_copied : (options : Replacement) (inside : Bool) (word : List ℕ) (s s' t t' t'' : Option (List ℕ)) → HasCopiedWords options inside word s s' t t' → IsAtEnd s'
+    → WritesFiltered (Words options) word t' t'' → IfSome s (λ given. WritesFiltered (Words options) given t t'')
+last_copied options inside word s s' t t' t'' so_far ends (text, is_replaced, writes) =
     let replaced = so_far.replaced in
-    all_read (Words how) s s' t t'' so_far.read so_far.consumed ends (
+    all_read (Words options) s s' t t'' so_far.read so_far.consumed ends (
       replaced.text ++ text,
-      subst (λ l. IsReplaced how l (replaced.text ++ text)) (sym replaced.given_is)
-          (replaced.leads.goes word text (left_in how inside word text so_far.none is_replaced)),
+      subst (λ l. IsReplaced options l (replaced.text ++ text)) (sym replaced.given_is)
+          (replaced.leads.goes word text (left_in options inside word text so_far.none is_replaced)),
       Appends-trans t t' t'' replaced.text text replaced.written writes,
     )
 
 -- a fault came while it was written
-pub last_fault : (how : Replacement) (inside : Bool) (word : List ℕ) (s s' t t' t'' : Option (List ℕ)) → HasCopiedWords how inside word s s' t t'
-    → WritesBeginning (Words how) word t' t'' → FiltersFront (Words how) s s' t t''
-last_fault how inside word s s' t t' t'' so_far (written, (text, is_replaced, is_front), writes) =
+pub last_fault : (options : Replacement) (inside : Bool) (word : List ℕ) (s s' t t' t'' : Option (List ℕ)) → HasCopiedWords options inside word s s' t t'
+    → WritesBeginning (Words options) word t' t'' → FiltersFront (Words options) s s' t t''
+last_fault options inside word s s' t t' t'' so_far (written, (text, is_replaced, is_front), writes) =
     let replaced = so_far.replaced in
     record {
       read = so_far.read;
@@ -487,8 +487,8 @@ last_fault how inside word s s' t t' t'' so_far (written, (text, is_replaced, is
         replaced.text ++ written,
         (
           replaced.text ++ text,
-          subst (λ l. IsReplaced how l (replaced.text ++ text)) (sym replaced.given_is)
-              (replaced.leads.goes word text (left_in how inside word text so_far.none is_replaced)),
+          subst (λ l. IsReplaced options l (replaced.text ++ text)) (sym replaced.given_is)
+              (replaced.leads.goes word text (left_in options inside word text so_far.none is_replaced)),
           (is_front.0, ap (λ l. replaced.text ++ l) is_front.1 ∙ sym (append_assoc replaced.text written is_front.0)),
         ),
         Appends-trans t t' t'' replaced.text written replaced.written writes,
@@ -496,12 +496,12 @@ last_fault how inside word s s' t t' t'' so_far (written, (text, is_replaced, is
     }
 
 -- memory was refused for it
-pub last_refused : (how : Replacement) (inside : Bool) (word : List ℕ) (s s' t t' t'' : Option (List ℕ)) → HasCopiedWords how inside word s s' t t' → 0 < length word → Keeps t' t''
-    → FiltersWhole (Words how) s s' t t''
-last_refused how true word s s' t t' t'' so_far some keeps = absurd (omega (arith, some, ap length (so_far.none refl)))
-last_refused how false word s s' t t' t'' so_far some keeps =
+pub last_refused : (options : Replacement) (inside : Bool) (word : List ℕ) (s s' t t' t'' : Option (List ℕ)) → HasCopiedWords options inside word s s' t t' → 0 < length word → Keeps t' t''
+    → FiltersWhole (Words options) s s' t t''
+last_refused options true word s s' t t' t'' so_far some keeps = absurd (omega (arith, some, ap length (so_far.none refl)))
+last_refused options false word s s' t t' t'' so_far some keeps =
     let replaced = so_far.replaced in
-    whole_words how so_far.read word s s' t t'' so_far.consumed
+    whole_words options so_far.read word s s' t t'' so_far.consumed
     (record {
       done = replaced.done;
       text = replaced.text;

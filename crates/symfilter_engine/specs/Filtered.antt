@@ -50,17 +50,17 @@ EndsInLineFeed bytes = 0 < length bytes → slice_index bytes (length bytes - 1)
 -- bytes that were read, and their filtered text: where symbols stand in words, it is the replaced text
 abbrev pub IsFiltered : Symbols → List ℕ → List ℕ → Type 0
 IsFiltered (Lines printing) bytes text = IsAnswered printing bytes text
-IsFiltered (Words how) bytes text = IsReplaced how bytes text
+IsFiltered (Words options) bytes text = IsReplaced options bytes text
 
 -- whole lines; where symbols stand in words, whole words, after the last of which a byte that is in no word stands
 abbrev pub AreWhole : Symbols → List ℕ → Type 0
 AreWhole (Lines printing) bytes = EndsInLineFeed bytes
-AreWhole (Words how) bytes = ends_word bytes ≡ false
+AreWhole (Words options) bytes = ends_word bytes ≡ false
 
 -- whole lines or words, and their filtered text
-abbrev pub AreLinesFiltered : Symbols → List ℕ → List ℕ → Type 0
-AreLinesFiltered (Lines printing) lines text = AreLinesAnswered printing lines text
-AreLinesFiltered (Words how) lines text = (ends_word lines ≡ false) × IsReplaced how lines text
+abbrev pub AreWholeFiltered : Symbols → List ℕ → List ℕ → Type 0
+AreWholeFiltered (Lines printing) lines text = AreLinesAnswered printing lines text
+AreWholeFiltered (Words options) lines text = (ends_word lines ≡ false) × IsReplaced options lines text
 
 -- written is a front of the text
 abbrev pub IsFront : List ℕ → List ℕ → Type 0
@@ -94,7 +94,7 @@ pub record FiltersWhole (symbols : Symbols)
   pub left : List ℕ
   pub consumed : Consumes before after (lines ++ left)
   pub text : List ℕ
-  pub filtered : AreLinesFiltered symbols lines text
+  pub filtered : AreWholeFiltered symbols lines text
   pub written : Appends written_before written_after text
 
 -- the source gave whole lines and a part of one more, where its bytes are known, and the sink got the filtered text
@@ -105,19 +105,19 @@ pub record FiltersLines (symbols : Symbols) (before after written_before written
   pub consumed : Consumes before after (lines ++ line)
   pub unended : HasNoLineFeed line
   pub text : List ℕ
-  pub filtered : AreLinesFiltered symbols lines text
+  pub filtered : AreWholeFiltered symbols lines text
   pub written : Appends written_before written_after text
 
 -- the source gave these bytes and then those that are held back, where its bytes are known, and the sink got the
 -- replaced text of the former and nothing else
-pub record ReplacesAllButHeld (how : Replacement)
+pub record ReplacesAllButHeld (options : Replacement)
     (before after written_before written_after : Option (List ℕ)) : Type 0 where
   pub given : List ℕ
   pub held : List ℕ
   pub consumed : Consumes before after (given ++ held)
-  pub is_held : IsHeld how.strip held
+  pub is_held : IsHeld options.strip held
   -- what is held back begins a word
   pub begins : ends_word given ≡ true → held ≡ []
   pub text : List ℕ
-  pub replaced : IsReplaced how given text
+  pub replaced : IsReplaced options given text
   pub written : Appends written_before written_after text

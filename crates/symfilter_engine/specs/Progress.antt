@@ -3,7 +3,7 @@ use Rattle.std.specs.Prelude.{◌≡◌, ◌≢◌, ℕ, suc, ◌-◌, ◌<◌, 
 use Rattle.std.specs.Io.KnownBytes.{Appends, Consumes, IsAtEnd}
 use Rattle.symfilter_engine.specs.declared.symbols.Replacement.{Replacement}
 use Rattle.symfilter_engine.specs.declared.symbols.Symbols.{Symbols}
-use Rattle.symfilter_engine.specs.Filtered.{line_feed, AreLinesFiltered, IsFront, WritesBeginning}
+use Rattle.symfilter_engine.specs.Filtered.{line_feed, AreWholeFiltered, IsFront, WritesBeginning}
 use Rattle.symfilter_engine.specs.Replaced.{is_word_byte, IsWordByte, begins_word, ends_word, IsReplaced}
 
 -- no byte is this one
@@ -52,8 +52,8 @@ Extends before after = (more : List ℕ) × (after ≡ before ++ more)
 
 -- the replaced text of the bytes was appended
 abbrev pub AppendsReplaced : Replacement → List ℕ → List ℕ → List ℕ → Type 0
-AppendsReplaced how bytes before after =
-    (text : List ℕ) × IsReplaced how bytes text × (after ≡ before ++ text)
+AppendsReplaced options bytes before after =
+    (text : List ℕ) × IsReplaced options bytes text × (after ≡ before ++ text)
 
 -- these bytes were written up to the rest
 pub record WritesUpTo (bytes rest : List ℕ) (before after : Option (List ℕ)) : Type 0 where
@@ -66,30 +66,30 @@ abbrev pub WritesFront : List ℕ → Option (List ℕ) → Option (List ℕ) �
 WritesFront bytes before after = (rest : List ℕ) × WritesUpTo bytes rest before after
 
 -- the filtered text of the lines was appended
-abbrev pub AppendsLines : Symbols → List ℕ → List ℕ → List ℕ → Type 0
-AppendsLines symbols lines before after =
-    (text : List ℕ) × AreLinesFiltered symbols lines text × (after ≡ before ++ text)
+abbrev pub AppendsWhole : Symbols → List ℕ → List ℕ → List ℕ → Type 0
+AppendsWhole symbols lines before after =
+    (text : List ℕ) × AreWholeFiltered symbols lines text × (after ≡ before ++ text)
 
 -- whole lines of the bytes given were written filtered, and these bytes are left
 pub record HasFiltered (symbols : Symbols) (given left : List ℕ) (before after : Option (List ℕ)) : Type 0 where
   pub lines : List ℕ
   pub text : List ℕ
   pub given_is : given ≡ lines ++ left
-  pub filtered : AreLinesFiltered symbols lines text
+  pub filtered : AreWholeFiltered symbols lines text
   pub written : Appends before after text
 
 -- whole lines of the bytes given were written filtered, and nothing of the next line
-abbrev pub WritesWholeLines : Symbols → List ℕ → Option (List ℕ) → Option (List ℕ) → Type 0
-WritesWholeLines symbols given before after = (left : List ℕ) × HasFiltered symbols given left before after
+abbrev pub WritesSomeWhole : Symbols → List ℕ → Option (List ℕ) → Option (List ℕ) → Type 0
+WritesSomeWhole symbols given before after = (left : List ℕ) × HasFiltered symbols given left before after
 
 -- the filtered text of these lines was written
-abbrev pub WritesLines : Symbols → List ℕ → Option (List ℕ) → Option (List ℕ) → Type 0
-WritesLines symbols lines before after =
-    (text : List ℕ) × AreLinesFiltered symbols lines text × Appends before after text
+abbrev pub WritesWhole : Symbols → List ℕ → Option (List ℕ) → Option (List ℕ) → Type 0
+WritesWhole symbols lines before after =
+    (text : List ℕ) × AreWholeFiltered symbols lines text × Appends before after text
 
 -- whatever follows these lines, a beginning of the filtered text of all was written
-abbrev pub WritesLinesFront : Symbols → List ℕ → Option (List ℕ) → Option (List ℕ) → Type 0
-WritesLinesFront symbols lines before after = (rest : List ℕ) → WritesBeginning symbols (lines ++ rest) before after
+abbrev pub WritesWholeFront : Symbols → List ℕ → Option (List ℕ) → Option (List ℕ) → Type 0
+WritesWholeFront symbols lines before after = (rest : List ℕ) → WritesBeginning symbols (lines ++ rest) before after
 
 -- whole lines of what was read were written filtered, and these bytes of the next line were read
 pub record HasCopied (symbols : Symbols) (line : List ℕ)
@@ -108,7 +108,7 @@ pub record ReadsMore (kept end : ℕ) (old new : List ℕ) (before after : Optio
   pub ended : end ≡ kept → IsAtEnd after
 
 -- bytes in which a word that holds no symbol goes on, and their replaced text
-pub record GoesOn (how : Replacement) (bytes text : List ℕ) : Type 0 where
+pub record GoesOn (options : Replacement) (bytes text : List ℕ) : Type 0 where
   pub word : List ℕ
   pub more : List ℕ
   pub more_text : List ℕ
@@ -116,63 +116,64 @@ pub record GoesOn (how : Replacement) (bytes text : List ℕ) : Type 0 where
   pub text_is : text ≡ word ++ more_text
   pub all : All IsWordByte word
   pub next : begins_word more ≡ false
-  pub replaced : IsReplaced how more more_text
+  pub replaced : IsReplaced options more more_text
 
 -- bytes, and their replaced text, after a word that holds no symbol and goes on in them, or after none
 abbrev pub IsReplacedIn : Replacement → Bool → List ℕ → List ℕ → Type 0
-IsReplacedIn how true bytes text = GoesOn how bytes text
-IsReplacedIn how false bytes text = IsReplaced how bytes text
+IsReplacedIn options true bytes text = GoesOn options bytes text
+IsReplacedIn options false bytes text = IsReplaced options bytes text
 
 -- the replaced text of bytes that come after such a word or none, and whether such a word goes on after them
-pub record Leads (how : Replacement) (inside : Bool) (bytes text : List ℕ) (after : Bool) : Type 0 where
+pub record Leads (options : Replacement) (inside : Bool) (bytes text : List ℕ) (after : Bool) : Type 0 where
   pub goes :
       (rest more : List ℕ)
-      → IsReplacedIn how after rest more
-      → IsReplacedIn how inside (bytes ++ rest) (text ++ more)
+      → IsReplacedIn options after rest more
+      → IsReplacedIn options inside (bytes ++ rest) (text ++ more)
   pub ended : after ≡ false → ends_word bytes ≡ false
   pub none : after ≡ false → bytes ≡ [] → inside ≡ false
 
 -- of the bytes given the replaced text of all but those left was written
-pub record HasReplaced (how : Replacement) (inside : Bool) (given left : List ℕ) (after : Bool)
+pub record HasReplaced (options : Replacement) (inside : Bool) (given left : List ℕ) (after : Bool)
     (before_written after_written : Option (List ℕ)) : Type 0 where
   pub done : List ℕ
   pub text : List ℕ
   pub given_is : given ≡ done ++ left
-  pub leads : Leads how inside done text after
+  pub leads : Leads options inside done text after
   pub written : Appends before_written after_written text
 
 -- the replaced text of whole words was written, and nothing of the next word
 abbrev pub ReplacesWhole : Replacement → Bool → List ℕ → Option (List ℕ) → Option (List ℕ) → Type 0
-ReplacesWhole how inside given before after = (left : List ℕ) × HasReplaced how inside given left false before after
+ReplacesWhole options inside given before after =
+    (left : List ℕ) × HasReplaced options inside given left false before after
 
 -- a beginning of the replaced text of the bytes was written
 abbrev pub ReplacesBeginning : Replacement → Bool → List ℕ → Option (List ℕ) → Option (List ℕ) → Type 0
-ReplacesBeginning how inside given before after =
+ReplacesBeginning options inside given before after =
     (written : List ℕ)
-    × ((text : List ℕ) × IsReplacedIn how inside given text × IsFront written text)
+    × ((text : List ℕ) × IsReplacedIn options inside given text × IsFront written text)
     × Appends before after written
 
 -- whatever follows these bytes, a beginning of the replaced text of all was written
 abbrev pub ReplacesFront : Replacement → Bool → List ℕ → Option (List ℕ) → Option (List ℕ) → Type 0
-ReplacesFront how inside given before after =
-    (rest : List ℕ) → ReplacesBeginning how inside (given ++ rest) before after
+ReplacesFront options inside given before after =
+    (rest : List ℕ) → ReplacesBeginning options inside (given ++ rest) before after
 
 -- bytes were read, and the replaced text of all but a last word was written; none is left where a word goes on
-pub record HasCopiedWords (how : Replacement) (inside : Bool) (word : List ℕ)
+pub record HasCopiedWords (options : Replacement) (inside : Bool) (word : List ℕ)
     (before after written_before written_after : Option (List ℕ)) : Type 0 where
   pub read : List ℕ
   pub consumed : Consumes before after read
   pub none : inside ≡ true → word ≡ []
-  pub replaced : HasReplaced how false read word inside written_before written_after
+  pub replaced : HasReplaced options false read word inside written_before written_after
 
 -- the same, whether a word goes on or not
 abbrev pub CopiesWords : Replacement → List ℕ → Option (List ℕ) → Option (List ℕ) → Option (List ℕ)
     → Option (List ℕ) → Type 0
-CopiesWords how word before after written_before written_after =
-    (inside : Bool) × HasCopiedWords how inside word before after written_before written_after
+CopiesWords options word before after written_before written_after =
+    (inside : Bool) × HasCopiedWords options inside word before after written_before written_after
 
 -- a word has so many bytes, with one after it that is in no word
-pub record IsPastWord (bytes : List ℕ) (len : ℕ) : Type 0 where
+pub record IsFirstWordLen (bytes : List ℕ) (len : ℕ) : Type 0 where
   pub within : len ≤ length bytes
   pub word : List ℕ
   pub byte : ℕ

@@ -57,19 +57,19 @@ abbrev pub symbol_in : Bool → List ℕ → Option (List ℕ)
 symbol_in strip word = symbol_at strip (past_prefix_chars word)
 
 -- a word without the dots at its end, and what is written for it
-pub data IsWordAnswer (how : Replacement) (word : List ℕ) : List ℕ → Type 0 where
+pub data IsWordAnswer (options : Replacement) (word : List ℕ) : List ℕ → Type 0 where
   -- its prefix characters stay, and its symbol has a demangled name
   answered : {symbol text : List ℕ}
-      → symbol_in how.strip word ≡ Some symbol
-      → IsShown how.printing symbol (Some text)
-      → IsWordAnswer how word (prefix_chars word ++ text)
+      → symbol_in options.strip word ≡ Some symbol
+      → IsShown options.printing symbol (Some text)
+      → IsWordAnswer options word (prefix_chars word ++ text)
   -- it stays, where its symbol has none
   unanswered : {symbol : List ℕ}
-      → symbol_in how.strip word ≡ Some symbol
-      → IsShown how.printing symbol None
-      → IsWordAnswer how word word
+      → symbol_in options.strip word ≡ Some symbol
+      → IsShown options.printing symbol None
+      → IsWordAnswer options word word
   -- it stays, where it has no symbol
-  no_symbol : symbol_in how.strip word ≡ None → IsWordAnswer how word word
+  no_symbol : symbol_in options.strip word ≡ None → IsWordAnswer options word word
 
 -- a word that begins with these bytes may hold a symbol: it begins with one, or there are fewer than ten bytes. No more
 -- than ten are needed to see that it doesn't.
@@ -82,14 +82,14 @@ pub record IsHeld (strip : Bool) (bytes : List ℕ) : Type 0 where
   pub may_hold : IsTrue (may_hold_symbol strip bytes)
 
 -- bytes, and their replaced text
-pub data IsReplaced (how : Replacement) : List ℕ → List ℕ → Type 0 where
+pub data IsReplaced (options : Replacement) : List ℕ → List ℕ → Type 0 where
   -- there are none
-  no_byte : IsReplaced how [] []
+  no_byte : IsReplaced options [] []
   -- a byte that is in no word stays, and more bytes follow
   other : {byte : ℕ} {bytes text : List ℕ}
       → is_word_byte byte ≡ false
-      → IsReplaced how bytes text
-      → IsReplaced how (byte ∷ bytes) (byte ∷ text)
+      → IsReplaced options bytes text
+      → IsReplaced options (byte ∷ bytes) (byte ∷ text)
   -- a word, which has a byte at least
   one_word : {word bytes answer text : List ℕ} (dots : List ℕ)
       → word ++ dots ≢ []
@@ -97,8 +97,8 @@ pub data IsReplaced (how : Replacement) : List ℕ → List ℕ → Type 0 where
       -- all dots at its end stay
       → All IsDot dots
       → ends_in_dot word ≡ false
-      → IsWordAnswer how word answer
+      → IsWordAnswer options word answer
       -- no more bytes of the word follow
       → begins_word bytes ≡ false
-      → IsReplaced how bytes text
-      → IsReplaced how ((word ++ dots) ++ bytes) ((answer ++ dots) ++ text)
+      → IsReplaced options bytes text
+      → IsReplaced options ((word ++ dots) ++ bytes) ((answer ++ dots) ++ text)

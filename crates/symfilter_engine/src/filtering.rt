@@ -7,10 +7,10 @@ ghost use Rattle.symfilter_engine.specs.Fault.{IsRunOutcome, IsReadOutcome};
 ghost use Rattle.symfilter_engine.specs.Filtered.{HasNoLineFeed, FiltersFront, FiltersLines, FiltersWhole, WritesFiltered};
 ghost use Rattle.symfilter_engine.specs.Progress.{HasCopied, ReadsMore};
 
-use super::ends::{Failed, Sink, Source};
 use super::fault::FilterFault;
 use super::line_feeds::ended_len;
-use super::lines::{write_last, write_lines};
+use super::lines::{write_last, write_whole};
+use super::streams::{Failed, Sink, Source};
 use super::symbols::{Printing, Symbols};
 use growing_text::Text;
 use itanium_demangle::Demangler;
@@ -183,13 +183,13 @@ fn copy_lines<R: Source, W: Sink>(
 {
     let mut output = Text::new(alloc);
     let mut kept = 0;
-    'turns: loop {
+    'chunks: loop {
         let end = read_more(source, chunk, kept)?;
         if end == kept {
             return Ok(kept);
         }
         let ended = ended_len(&chunk[..end], kept);
-        write_lines(
+        write_whole(
             alloc,
             demangler,
             Symbols::Lines(printing),

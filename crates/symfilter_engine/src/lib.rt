@@ -11,23 +11,23 @@
 //! `replacing.rt`.
 #![tactic(auto)]
 
-mod bounds;
-mod ends;
+mod byte_search;
 mod fault;
 mod filtering;
 mod line_feeds;
 mod lines;
 mod output;
-mod places;
 mod prefixes;
 mod replacing;
+mod streams;
 mod symbols;
 mod tally;
+mod word_bounds;
 mod words;
 
-pub use ends::{Failed, Sink, Source};
 pub use fault::FilterFault;
 pub use filtering::{filter, filter_by};
 pub use replacing::replace;
+pub use streams::{Failed, Sink, Source};
 pub use symbols::{Printing, Replacement, prepare_shown};
 pub use tally::Tally;

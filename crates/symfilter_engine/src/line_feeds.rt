@@ -3,7 +3,7 @@ ghost use Rattle.std.specs.Prelude.{◌+◌, ◌≤◌, length, take, drop, IfSo
 ghost use Rattle.symfilter_engine.specs.Filtered.{HasNoLineFeed, EndsInLineFeed};
 ghost use Rattle.symfilter_engine.specs.Progress.{EndsAt};
 
-use super::places::first_place;
+use super::byte_search::first_place;
 
 const LINE_FEED: u8 = b'\n';
 

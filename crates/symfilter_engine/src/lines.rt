@@ -1,24 +1,24 @@
 //! Writes whole lines or words, and a last line or word.
 //!
-//! If lines are symbols, each call takes whole lines. If words hold symbols, each call takes text that ends in a byte
-//! that is no word byte; the names here call that text lines too. Ordinary text is written as it is: a line that
-//! doesn't begin with an underscore, or text that has no `_Z`.
+//! If lines are symbols, each call takes whole lines. If words hold symbols, each call takes whole words, that is, text
+//! that ends in a byte that is no word byte. The parameters that have either are called `whole`. Ordinary text is
+//! written as it is: a line that doesn't begin with an underscore, or text that has no `_Z`.
 ghost use Rattle.std.specs.Prelude.{◌≡◌, ◌<◌, ◌≤◌, [], false, length, take, IsTrue, IsErrOf, IsUtf8, IfOk, OnOk, OnErr};
 ghost use Rattle.std.specs.Io.KnownBytes.{Keeps};
 ghost use Rattle.symfilter_engine.specs.Fault.{IsWriteOutcome};
 ghost use Rattle.symfilter_engine.specs.Replaced.{ends_word};
 ghost use Rattle.symfilter_engine.specs.declared.symbols.Printing.{Printing};
 ghost use Rattle.symfilter_engine.specs.declared.symbols.Symbols.TheVariants.{Lines, Words};
-ghost use Rattle.symfilter_engine.specs.Filtered.{HasNoLineFeed, EndsInLineFeed, AreWhole, IsLineAnswer, AreLinesAnswered, AreLinesFiltered, WritesFiltered, WritesBeginning};
-ghost use Rattle.symfilter_engine.specs.Progress.{AppendsLines, HasFiltered, WritesLines, WritesLinesFront, WritesWholeLines};
+ghost use Rattle.symfilter_engine.specs.Filtered.{HasNoLineFeed, EndsInLineFeed, AreWhole, IsLineAnswer, AreLinesAnswered, AreWholeFiltered, WritesFiltered, WritesBeginning};
+ghost use Rattle.symfilter_engine.specs.Progress.{AppendsWhole, HasFiltered, WritesWhole, WritesWholeFront, WritesSomeWhole};
 
-use super::bounds::{whole_words_len, word_end};
-use super::ends::Sink;
 use super::fault::FilterFault;
 use super::line_feeds::line_end;
 use super::output::write_all;
 use super::prefixes::unprefixed_len;
+use super::streams::Sink;
 use super::symbols::{Printing, Replacement, Symbols, prepare_shown};
+use super::word_bounds::{whole_words_len, word_end};
 use super::words::append_words;
 use growing_text::Text;
 use itanium_demangle::{Demangler, is_utf8};
@@ -43,12 +43,12 @@ const UNDERSCORE: u8 = b'_';
 /// Returns the length in bytes of the first whole lines or words, up to one that isn't ordinary.
 #[inline(always)]
 fn ordinary_len(symbols: Symbols, lines: &[u8]) -> usize
-    ensures bound { result ≤ length lines.now }
-    ensures ordinary { AreLinesFiltered symbols (take result lines.now) (take result lines.now) }
+    ensures bound { result ≤ length whole.now }
+    ensures ordinary { AreWholeFiltered symbols (take result whole.now) (take result whole.now) }
 {
     match symbols {
-        Symbols::Lines(_) => unmangled_len(lines),
-        Symbols::Words(_) => unprefixed_len(lines),
+        Symbols::Lines(_) => unmangled_len(whole),
+        Symbols::Words(_) => unprefixed_len(whole),
     }
 }
 
@@ -109,7 +109,7 @@ fn append_line(
     requires known { IsTrue known_utf8 → IsUtf8 lines.now }
     ensures some { IfOk result (λ len. 0 < len) }
     ensures bound { IfOk result (λ len. len ≤ length lines.now) }
-    ensures ok { IfOk result (λ len. AppendsLines (Lines printing) (take len lines.now) output.old output.new) }
+    ensures ok { IfOk result (λ len. AppendsWhole (Lines printing) (take len lines.now) output.old output.new) }
     ensures err { OnErr result (output.new ≡ output.old) }
 {
     let Some(end) = line_end(lines) else {
@@ -143,7 +143,7 @@ fn block_len(text: &[u8], most: usize) -> usize
 fn append_block(
     alloc: Global,
     demangler: &mut Demangler,
-    how: Replacement,
+    options: Replacement,
     text: &[u8],
     output: &mut Text,
 ) -> Result<usize, AllocError>
@@ -151,15 +151,15 @@ fn append_block(
     requires whole { ends_word text.now ≡ false }
     ensures some { IfOk result (λ len. 0 < len) }
     ensures bound { IfOk result (λ len. len ≤ length text.now) }
-    ensures ok { IfOk result (λ len. AppendsLines (Words how) (take len text.now) output.old output.new) }
+    ensures ok { IfOk result (λ len. AppendsWhole (Words options) (take len text.now) output.old output.new) }
     ensures err { OnErr result (output.new ≡ output.old) }
 {
     let len = block_len(text, BLOCK_LEN);
-    if append_words(alloc, demangler, how, &text[..len], output).is_ok() {
+    if append_words(alloc, demangler, options, &text[..len], output).is_ok() {
         return Ok(len);
     }
     let first = block_len(text, 1);
-    append_words(alloc, demangler, how, &text[..first], output)?;
+    append_words(alloc, demangler, options, &text[..first], output)?;
     Ok(first)
 }
 
@@ -170,59 +170,59 @@ fn append_next(
     alloc: Global,
     demangler: &mut Demangler,
     symbols: Symbols,
-    lines: &[u8],
+    whole: &[u8],
     known_utf8: bool,
     output: &mut Text,
 ) -> Result<usize, AllocError>
-    requires some { 0 < length lines.now }
-    requires whole { AreWhole symbols lines.now }
-    requires known { (printing : Printing) → symbols ≡ Lines printing → IsTrue known_utf8 → IsUtf8 lines.now }
+    requires some { 0 < length whole.now }
+    requires whole { AreWhole symbols whole.now }
+    requires known { (printing : Printing) → symbols ≡ Lines printing → IsTrue known_utf8 → IsUtf8 whole.now }
     ensures some { IfOk result (λ len. 0 < len) }
-    ensures bound { IfOk result (λ len. len ≤ length lines.now) }
-    ensures ok { IfOk result (λ len. AppendsLines symbols (take len lines.now) output.old output.new) }
+    ensures bound { IfOk result (λ len. len ≤ length whole.now) }
+    ensures ok { IfOk result (λ len. AppendsWhole symbols (take len whole.now) output.old output.new) }
     ensures err { OnErr result (output.new ≡ output.old) }
 {
-    let ordinary = ordinary_len(symbols, lines);
+    let ordinary = ordinary_len(symbols, whole);
     if ordinary > 0 {
-        output.add(&lines[..ordinary])?;
+        output.add(&whole[..ordinary])?;
         return Ok(ordinary);
     }
     match symbols {
         Symbols::Lines(printing) => append_line(
-            alloc, demangler, printing, lines, known_utf8, output,
+            alloc, demangler, printing, whole, known_utf8, output,
         ),
-        Symbols::Words(how) => append_block(alloc, demangler, how, lines, output),
+        Symbols::Words(options) => append_block(alloc, demangler, options, whole, output),
     }
 }
 
 /// Appends what is written for the first lines to an empty output, and returns their length in bytes. Stops once the
 /// output has `OUTPUT_LEN` bytes, and in front of a line for which an allocation fails. Returns an error if that is
 /// the first line.
-fn gather_lines(
+fn gather_whole(
     alloc: Global,
     demangler: &mut Demangler,
     symbols: Symbols,
-    lines: &[u8],
+    whole: &[u8],
     known_utf8: bool,
     output: &mut Text,
 ) -> Result<usize, AllocError>
-    requires some { 0 < length lines.now }
-    requires whole { AreWhole symbols lines.now }
-    requires known { (printing : Printing) → symbols ≡ Lines printing → IsTrue known_utf8 → IsUtf8 lines.now }
+    requires some { 0 < length whole.now }
+    requires whole { AreWhole symbols whole.now }
+    requires known { (printing : Printing) → symbols ≡ Lines printing → IsTrue known_utf8 → IsUtf8 whole.now }
     requires empty { output.old ≡ [] }
     ensures some { IfOk result (λ len. 0 < len) }
-    ensures bound { IfOk result (λ len. len ≤ length lines.now) }
-    ensures filtered { IfOk result (λ len. AreLinesFiltered symbols (take len lines.now) output.new) }
+    ensures bound { IfOk result (λ len. len ≤ length whole.now) }
+    ensures filtered { IfOk result (λ len. AreWholeFiltered symbols (take len whole.now) output.new) }
 {
-    let mut rest = lines;
+    let mut rest = whole;
     while !rest.is_empty() && output.len() < OUTPUT_LEN {
         match append_next(alloc, demangler, symbols, rest, known_utf8, output) {
             Ok(more) => rest = &rest[more..],
-            Err(error) if rest.len() == lines.len() => return Err(error),
+            Err(error) if rest.len() == whole.len() => return Err(error),
             Err(_) => break,
         }
     }
-    Ok(lines.len() - rest.len())
+    Ok(whole.len() - rest.len())
 }
 
 /// Writes the text for the first lines, and returns their length in bytes. Ordinary lines of at least `LONG_LEN` bytes
@@ -231,57 +231,57 @@ fn write_next<W: Sink>(
     alloc: Global,
     demangler: &mut Demangler,
     symbols: Symbols,
-    lines: &[u8],
+    whole: &[u8],
     known_utf8: bool,
     output: &mut Text,
     sink: &mut W,
 ) -> Result<usize, FilterFault>
     requires not_failed { W.failed sink.old ≡ false }
-    requires some { 0 < length lines.now }
-    requires whole { AreWhole symbols lines.now }
-    requires known { (printing : Printing) → symbols ≡ Lines printing → IsTrue known_utf8 → IsUtf8 lines.now }
+    requires some { 0 < length whole.now }
+    requires whole { AreWhole symbols whole.now }
+    requires known { (printing : Printing) → symbols ≡ Lines printing → IsTrue known_utf8 → IsUtf8 whole.now }
     ensures outcome { IsWriteOutcome result (W.failed sink.new) }
     ensures in_time { W.called_late sink.new ≡ W.called_late sink.old }
     ensures some { IfOk result (λ len. 0 < len) }
-    ensures bound { IfOk result (λ len. len ≤ length lines.now) }
-    ensures ok { IfOk result (λ len. WritesLines symbols (take len lines.now)
+    ensures bound { IfOk result (λ len. len ≤ length whole.now) }
+    ensures ok { IfOk result (λ len. WritesWhole symbols (take len whole.now)
         (W.taken sink.old) (W.taken sink.new)) }
-    ensures err { OnErr result (WritesLinesFront symbols lines.now (W.taken sink.old) (W.taken sink.new)) }
+    ensures err { OnErr result (WritesWholeFront symbols whole.now (W.taken sink.old) (W.taken sink.new)) }
     ensures memory { IsErrOf result FilterFault.Memory →
         Keeps (W.taken sink.old) (W.taken sink.new) }
 {
-    let ordinary = ordinary_len(symbols, lines);
+    let ordinary = ordinary_len(symbols, whole);
     if ordinary >= LONG_LEN {
-        write_all(sink, &lines[..ordinary])?;
+        write_all(sink, &whole[..ordinary])?;
         return Ok(ordinary);
     }
     output.clear();
     output.reserve(OUTPUT_CAPACITY)?;
-    let len = gather_lines(alloc, demangler, symbols, lines, known_utf8, output)?;
+    let len = gather_whole(alloc, demangler, symbols, whole, known_utf8, output)?;
     write_all(sink, output.as_slice())?;
     Ok(len)
 }
 
 /// Writes the text for these whole lines or words.
-pub(crate) fn write_lines<W: Sink>(
+pub(crate) fn write_whole<W: Sink>(
     alloc: Global,
     demangler: &mut Demangler,
     symbols: Symbols,
-    lines: &[u8],
+    whole: &[u8],
     output: &mut Text,
     sink: &mut W,
 ) -> Result<(), FilterFault>
     requires not_failed { W.failed sink.old ≡ false }
-    requires whole { AreWhole symbols lines.now }
+    requires whole { AreWhole symbols whole.now }
     ensures outcome { IsWriteOutcome result (W.failed sink.new) }
     ensures in_time { W.called_late sink.new ≡ W.called_late sink.old }
-    ensures ok { OnOk result (HasFiltered symbols lines.now [] (W.taken sink.old) (W.taken sink.new)) }
-    ensures err { OnErr result (WritesLinesFront symbols lines.now (W.taken sink.old) (W.taken sink.new)) }
+    ensures ok { OnOk result (HasFiltered symbols whole.now [] (W.taken sink.old) (W.taken sink.new)) }
+    ensures err { OnErr result (WritesWholeFront symbols whole.now (W.taken sink.old) (W.taken sink.new)) }
     ensures memory { IsErrOf result FilterFault.Memory →
-        WritesWholeLines symbols lines.now (W.taken sink.old) (W.taken sink.new) }
+        WritesSomeWhole symbols whole.now (W.taken sink.old) (W.taken sink.new) }
 {
-    let known_utf8 = matches!(symbols, Symbols::Lines(_)) && is_utf8(lines);
-    let mut rest = lines;
+    let known_utf8 = matches!(symbols, Symbols::Lines(_)) && is_utf8(whole);
+    let mut rest = whole;
     while !rest.is_empty() {
         let len = write_next(alloc, demangler, symbols, rest, known_utf8, output, sink)?;
         rest = &rest[len..];
@@ -315,9 +315,9 @@ pub(crate) fn write_last<W: Sink>(
             let answer = line_answer(alloc, demangler, printing, line, false)?;
             write_all(sink, answer)
         }
-        Symbols::Words(how) => {
+        Symbols::Words(options) => {
             let mut output = Text::new(alloc);
-            append_words(alloc, demangler, how, line, &mut output)?;
+            append_words(alloc, demangler, options, line, &mut output)?;
             write_all(sink, output.as_slice())
         }
     }

@@ -4,8 +4,8 @@ ghost use Rattle.std.specs.Io.KnownBytes.{Appends};
 ghost use Rattle.symfilter_engine.specs.Fault.{IsWriteOutcome};
 ghost use Rattle.symfilter_engine.specs.Progress.{WritesFront};
 
-use super::ends::{Failed, Sink};
 use super::fault::FilterFault;
+use super::streams::{Failed, Sink};
 
 /// Writes all the bytes. Returns `FilterFault::Write` if the sink fails.
 pub(crate) fn write_all<W: Sink>(sink: &mut W, bytes: &[u8]) -> Result<(), FilterFault>

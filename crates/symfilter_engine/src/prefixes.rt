@@ -3,8 +3,8 @@ ghost use Rattle.std.specs.Prelude.{◌≡◌, ◌+◌, ◌≤◌, false, length
 ghost use Rattle.symfilter_engine.specs.Replaced.{ends_word};
 ghost use Rattle.symfilter_engine.specs.Progress.{HasNoPrefix, IsFirstPrefix};
 
-use super::bounds::whole_words_len;
-use super::places::first_place;
+use super::byte_search::first_place;
+use super::word_bounds::whole_words_len;
 
 const UNDERSCORE: u8 = b'_';
 

@@ -4,16 +4,16 @@ ghost use Rattle.std.specs.Io.KnownBytes.{IsAtEnd};
 ghost use Rattle.symfilter_engine.specs.declared.symbols.Symbols.TheVariants.{Words};
 ghost use Rattle.symfilter_engine.specs.Fault.{IsRunOutcome, IsWriteOutcome};
 ghost use Rattle.symfilter_engine.specs.Filtered.{FiltersFront, FiltersWhole, ReplacesAllButHeld, WritesFiltered};
-ghost use Rattle.symfilter_engine.specs.Progress.{CopiesWords, HasReplaced, IsPastWord, ReplacesFront, ReplacesWhole};
+ghost use Rattle.symfilter_engine.specs.Progress.{CopiesWords, HasReplaced, IsFirstWordLen, ReplacesFront, ReplacesWhole};
 ghost use Rattle.symfilter_engine.specs.Replaced.{IsHeld, IsWordByte};
 
-use super::bounds::{whole_words_len, word_end};
-use super::ends::{Sink, Source};
 use super::fault::FilterFault;
 use super::filtering::{CHUNK_LEN, read_more};
-use super::lines::{write_last, write_lines};
+use super::lines::{write_last, write_whole};
 use super::output::write_all;
+use super::streams::{Sink, Source};
 use super::symbols::{Replacement, Symbols};
+use super::word_bounds::{whole_words_len, word_end};
 use super::words::may_hold_symbol;
 use growing_text::Text;
 use itanium_demangle::Demangler;
@@ -31,7 +31,7 @@ use std::alloc::Global;
 /// the text of all but the word that is kept, and after `Memory` that of some whole words.
 pub fn replace<R: Source, W: Sink>(
     alloc: Global,
-    how: Replacement,
+    options: Replacement,
     source: &mut R,
     sink: &mut W,
 ) -> Result<(), FilterFault>
@@ -48,30 +48,30 @@ pub fn replace<R: Source, W: Sink>(
     ensures used_up { OnOk result (IfSome (R.remaining source.old) (λ _.
         R.remaining source.new ≡ Some [])) }
     ensures ok { OnOk result (IfSome (R.remaining source.old) (λ given.
-        WritesFiltered (Words how) given (W.taken sink.old) (W.taken sink.new))) }
-    ensures err { OnErr result (FiltersFront (Words how)
+        WritesFiltered (Words options) given (W.taken sink.old) (W.taken sink.new))) }
+    ensures err { OnErr result (FiltersFront (Words options)
         (R.remaining source.old) (R.remaining source.new)
         (W.taken sink.old) (W.taken sink.new)) }
 
     // Any call of the source may fail. All that the source gave is written before each call, except a word that may
     // hold a symbol.
-    ensures put { IsErrOf result FilterFault.Read → ReplacesAllButHeld how
+    ensures put { IsErrOf result FilterFault.Read → ReplacesAllButHeld options
         (R.remaining source.old) (R.remaining source.new)
         (W.taken sink.old) (W.taken sink.new) }
 
     // After a failed allocation whole words have been written, and nothing of the next word.
-    ensures memory { IsErrOf result FilterFault.Memory → FiltersWhole (Words how)
+    ensures memory { IsErrOf result FilterFault.Memory → FiltersWhole (Words options)
         (R.remaining source.old) (R.remaining source.new)
         (W.taken sink.old) (W.taken sink.new) }
 {
     let mut chunk = vec![in alloc; 0u8; CHUNK_LEN]?;
-    replace_by_chunks(alloc, how, source, sink, &mut chunk)
+    replace_by_chunks(alloc, options, source, sink, &mut chunk)
 }
 
 /// Reads to the end through the chunk, and writes the replaced text. The chunk keeps a word that may hold a symbol.
 fn replace_by_chunks<R: Source, W: Sink>(
     alloc: Global,
-    how: Replacement,
+    options: Replacement,
     source: &mut R,
     sink: &mut W,
     chunk: &mut Vec<u8>,
@@ -85,23 +85,23 @@ fn replace_by_chunks<R: Source, W: Sink>(
     ensures used_up { OnOk result (IfSome (R.remaining source.old) (λ _.
         R.remaining source.new ≡ Some [])) }
     ensures ok { OnOk result (IfSome (R.remaining source.old) (λ given.
-        WritesFiltered (Words how) given (W.taken sink.old) (W.taken sink.new))) }
-    ensures err { OnErr result (FiltersFront (Words how)
+        WritesFiltered (Words options) given (W.taken sink.old) (W.taken sink.new))) }
+    ensures err { OnErr result (FiltersFront (Words options)
         (R.remaining source.old) (R.remaining source.new)
         (W.taken sink.old) (W.taken sink.new)) }
-    ensures put { IsErrOf result FilterFault.Read → ReplacesAllButHeld how
+    ensures put { IsErrOf result FilterFault.Read → ReplacesAllButHeld options
         (R.remaining source.old) (R.remaining source.new)
         (W.taken sink.old) (W.taken sink.new) }
-    ensures memory { IsErrOf result FilterFault.Memory → FiltersWhole (Words how)
+    ensures memory { IsErrOf result FilterFault.Memory → FiltersWhole (Words options)
         (R.remaining source.old) (R.remaining source.new)
         (W.taken sink.old) (W.taken sink.new) }
 {
     let mut demangler = Demangler::new();
-    let kept = copy_words(alloc, &mut demangler, how, chunk, source, sink)?;
+    let kept = copy_words(alloc, &mut demangler, options, chunk, source, sink)?;
     write_last(
         alloc,
         &mut demangler,
-        Symbols::Words(how),
+        Symbols::Words(options),
         &chunk[..kept],
         sink,
     )
@@ -112,7 +112,7 @@ fn replace_by_chunks<R: Source, W: Sink>(
 fn copy_words<R: Source, W: Sink>(
     alloc: Global,
     demangler: &mut Demangler,
-    how: Replacement,
+    options: Replacement,
     chunk: &mut Vec<u8>,
     source: &mut R,
     sink: &mut W,
@@ -125,31 +125,31 @@ fn copy_words<R: Source, W: Sink>(
     ensures sink_in_time { W.called_late sink.new ≡ W.called_late sink.old }
     ensures bound { IfOk result (λ kept. kept ≤ length chunk.new.items) }
     ensures at_end { OnOk result (IsAtEnd (R.remaining source.new)) }
-    ensures ok { IfOk result (λ kept. CopiesWords how (take kept chunk.new.items)
+    ensures ok { IfOk result (λ kept. CopiesWords options (take kept chunk.new.items)
         (R.remaining source.old) (R.remaining source.new)
         (W.taken sink.old) (W.taken sink.new)) }
-    ensures err { OnErr result (FiltersFront (Words how)
+    ensures err { OnErr result (FiltersFront (Words options)
         (R.remaining source.old) (R.remaining source.new)
         (W.taken sink.old) (W.taken sink.new)) }
-    ensures put { IsErrOf result FilterFault.Read → ReplacesAllButHeld how
+    ensures put { IsErrOf result FilterFault.Read → ReplacesAllButHeld options
         (R.remaining source.old) (R.remaining source.new)
         (W.taken sink.old) (W.taken sink.new) }
-    ensures memory { IsErrOf result FilterFault.Memory → FiltersWhole (Words how)
+    ensures memory { IsErrOf result FilterFault.Memory → FiltersWhole (Words options)
         (R.remaining source.old) (R.remaining source.new)
         (W.taken sink.old) (W.taken sink.new) }
 {
     let mut output = Text::new(alloc);
     let mut kept = 0;
     let mut inside = false;
-    'turns: loop {
+    'chunks: loop {
         let end = read_more(source, chunk, kept)?;
         if end == kept {
             return Ok(kept);
         }
-        let turn = write_turn(
+        let written = write_chunk(
             alloc,
             demangler,
-            how,
+            options,
             &chunk[..end],
             kept,
             inside,
@@ -157,17 +157,17 @@ fn copy_words<R: Source, W: Sink>(
             sink,
         )?;
         // A word that may hold a symbol moves to the front.
-        if turn.done > 0 {
-            chunk.copy_within(turn.done..end, 0);
+        if written.done > 0 {
+            chunk.copy_within(written.done..end, 0);
         }
-        kept = end - turn.done;
-        inside = turn.inside;
+        kept = end - written.done;
+        inside = written.inside;
     }
 }
 
 /// What was written of a chunk.
 #[derive(Clone, Copy)]
-struct Turn {
+struct Written {
     /// The number of bytes that were written.
     done: usize,
     /// Whether the last word holds no symbol and may go on in the next chunk.
@@ -176,45 +176,45 @@ struct Turn {
 
 /// Writes the text for these bytes, up to a last word that may hold a symbol. If `inside` is true, the bytes begin
 /// inside a word that holds no symbol. The first `seen` bytes are of a word that was kept.
-fn write_turn<W: Sink>(
+fn write_chunk<W: Sink>(
     alloc: Global,
     demangler: &mut Demangler,
-    how: Replacement,
+    options: Replacement,
     bytes: &[u8],
     seen: usize,
     inside: bool,
     output: &mut Text,
     sink: &mut W,
-) -> Result<Turn, FilterFault>
+) -> Result<Written, FilterFault>
     requires not_failed { W.failed sink.old ≡ false }
     requires within { seen ≤ length bytes.now }
     requires before { All IsWordByte (take seen bytes.now) }
     ensures outcome { IsWriteOutcome result (W.failed sink.new) }
     ensures in_time { W.called_late sink.new ≡ W.called_late sink.old }
-    ensures bound { IfOk result (λ turn. turn.done ≤ length bytes.now) }
-    ensures held { IfOk result (λ turn. IsHeld how.strip (drop turn.done bytes.now)) }
-    ensures none { IfOk result (λ turn. turn.inside ≡ true → drop turn.done bytes.now ≡ []) }
-    ensures ok { IfOk result (λ turn. HasReplaced how inside bytes.now (drop turn.done bytes.now) turn.inside
-        (W.taken sink.old) (W.taken sink.new)) }
-    ensures err { OnErr result (ReplacesFront how inside bytes.now (W.taken sink.old) (W.taken sink.new)) }
+    ensures bound { IfOk result (λ written. written.done ≤ length bytes.now) }
+    ensures held { IfOk result (λ written. IsHeld options.strip (drop written.done bytes.now)) }
+    ensures none { IfOk result (λ written. written.inside ≡ true → drop written.done bytes.now ≡ []) }
+    ensures ok { IfOk result (λ written. HasReplaced options inside bytes.now
+        (drop written.done bytes.now) written.inside (W.taken sink.old) (W.taken sink.new)) }
+    ensures err { OnErr result (ReplacesFront options inside bytes.now (W.taken sink.old) (W.taken sink.new)) }
     ensures memory { IsErrOf result FilterFault.Memory →
-        ReplacesWhole how inside bytes.now (W.taken sink.old) (W.taken sink.new) }
+        ReplacesWhole options inside bytes.now (W.taken sink.old) (W.taken sink.new) }
 {
     if !inside {
-        return write_words(alloc, demangler, how, bytes, seen, output, sink);
+        return write_words(alloc, demangler, options, bytes, seen, output, sink);
     }
-    match past_word(bytes) {
+    match first_word_len(bytes) {
         Some(start) => {
             write_all(sink, &bytes[..start])?;
-            let turn = write_words(alloc, demangler, how, &bytes[start..], 0, output, sink)?;
-            Ok(Turn {
-                done: start + turn.done,
-                inside: turn.inside,
+            let written = write_words(alloc, demangler, options, &bytes[start..], 0, output, sink)?;
+            Ok(Written {
+                done: start + written.done,
+                inside: written.inside,
             })
         }
         None => {
             write_all(sink, bytes)?;
-            Ok(Turn {
+            Ok(Written {
                 done: bytes.len(),
                 inside: true,
             })
@@ -223,8 +223,8 @@ fn write_turn<W: Sink>(
 }
 
 /// Returns the length in bytes of the first word with the byte after it, or `None` if all bytes are of the word.
-fn past_word(bytes: &[u8]) -> Option<usize>
-    ensures some { IfSome result (IsPastWord bytes.now) }
+fn first_word_len(bytes: &[u8]) -> Option<usize>
+    ensures some { IfSome result (IsFirstWordLen bytes.now) }
     ensures none { IfNone result (All IsWordByte bytes.now) }
 {
     let end = word_end(bytes, 0);
@@ -238,44 +238,44 @@ fn past_word(bytes: &[u8]) -> Option<usize>
 fn write_words<W: Sink>(
     alloc: Global,
     demangler: &mut Demangler,
-    how: Replacement,
+    options: Replacement,
     bytes: &[u8],
     seen: usize,
     output: &mut Text,
     sink: &mut W,
-) -> Result<Turn, FilterFault>
+) -> Result<Written, FilterFault>
     requires not_failed { W.failed sink.old ≡ false }
     requires within { seen ≤ length bytes.now }
     requires before { All IsWordByte (take seen bytes.now) }
     ensures outcome { IsWriteOutcome result (W.failed sink.new) }
     ensures in_time { W.called_late sink.new ≡ W.called_late sink.old }
-    ensures bound { IfOk result (λ turn. turn.done ≤ length bytes.now) }
-    ensures held { IfOk result (λ turn. IsHeld how.strip (drop turn.done bytes.now)) }
-    ensures none { IfOk result (λ turn. turn.inside ≡ true → drop turn.done bytes.now ≡ []) }
-    ensures ok { IfOk result (λ turn. HasReplaced how false bytes.now (drop turn.done bytes.now) turn.inside
-        (W.taken sink.old) (W.taken sink.new)) }
-    ensures err { OnErr result (ReplacesFront how false bytes.now (W.taken sink.old) (W.taken sink.new)) }
+    ensures bound { IfOk result (λ written. written.done ≤ length bytes.now) }
+    ensures held { IfOk result (λ written. IsHeld options.strip (drop written.done bytes.now)) }
+    ensures none { IfOk result (λ written. written.inside ≡ true → drop written.done bytes.now ≡ []) }
+    ensures ok { IfOk result (λ written. HasReplaced options false bytes.now
+        (drop written.done bytes.now) written.inside (W.taken sink.old) (W.taken sink.new)) }
+    ensures err { OnErr result (ReplacesFront options false bytes.now (W.taken sink.old) (W.taken sink.new)) }
     ensures memory { IsErrOf result FilterFault.Memory →
-        ReplacesWhole how false bytes.now (W.taken sink.old) (W.taken sink.new) }
+        ReplacesWhole options false bytes.now (W.taken sink.old) (W.taken sink.new) }
 {
     let whole = whole_words_len(bytes, seen);
-    write_lines(
+    write_whole(
         alloc,
         demangler,
-        Symbols::Words(how),
+        Symbols::Words(options),
         &bytes[..whole],
         output,
         sink,
     )?;
     let word = &bytes[whole..];
-    if may_hold_symbol(how.strip, word) {
-        return Ok(Turn {
+    if may_hold_symbol(options.strip, word) {
+        return Ok(Written {
             done: whole,
             inside: false,
         });
     }
     write_all(sink, word)?;
-    Ok(Turn {
+    Ok(Written {
         done: bytes.len(),
         inside: true,
     })

@@ -3,7 +3,7 @@ ghost use Rattle.std.specs.Prelude.{◌≡◌, ◌≤◌, ◌<◌, true, false, 
 ghost use Rattle.std.specs.Io.{ReadsAtMost};
 ghost use Rattle.std.specs.Io.KnownBytes.{Appends, Keeps, ReadConsumes};
 
-use super::ends::{Failed, Sink, Source};
+use super::streams::{Failed, Sink, Source};
 use std::io::{Read, Write};
 
 /// Adapts a reader or a writer of std, and keeps whether a call has failed. A call fails if the inner call returns an

@@ -4,9 +4,9 @@ ghost use Rattle.symfilter_engine.specs.Replaced as spec;
 ghost use Rattle.symfilter_engine.specs.Replaced.{IsWordByte, IsDot, ends_in_dot, IsWordAnswer};
 ghost use Rattle.symfilter_engine.specs.Progress.{AppendsReplaced, Extends};
 
-use super::bounds::{word_end, word_start};
 use super::prefixes::first_prefix;
 use super::symbols::{Replacement, prepare_shown};
+use super::word_bounds::{word_end, word_start};
 use growing_text::Text;
 use itanium_demangle::Demangler;
 use std::alloc::{AllocError, Global};
@@ -93,20 +93,20 @@ pub(crate) fn may_hold_symbol(strip: bool, bytes: &[u8]) -> bool
 fn word_answer<'a>(
     alloc: Global,
     demangler: &'a mut Demangler,
-    how: Replacement,
+    options: Replacement,
     word: &'a [u8],
 ) -> Result<Option<(usize, &'a str)>, AllocError>
     requires { All IsWordByte word.now }
     ensures bound { IfOk result (λ found. IfSome found (λ answer. answer.0 ≤ length word.now)) }
     ensures some { IfOk result (λ found. IfSome found (λ answer.
-        IsWordAnswer how word.now (take answer.0 word.now ++ answer.1.now))) }
-    ensures none { IfOk result (λ found. IfNone found (IsWordAnswer how word.now word.now)) }
+        IsWordAnswer options word.now (take answer.0 word.now ++ answer.1.now))) }
+    ensures none { IfOk result (λ found. IfNone found (IsWordAnswer options word.now word.now)) }
 {
-    let Some((prefix_len, symbol)) = symbol_in(how.strip, word) else {
+    let Some((prefix_len, symbol)) = symbol_in(options.strip, word) else {
         return Ok(None);
     };
     let symbol = unsafe { str::from_utf8_unchecked(symbol) };
-    prepare_shown(alloc, demangler, how.printing, symbol)?;
+    prepare_shown(alloc, demangler, options.printing, symbol)?;
     match demangler.text() {
         Some(answer) => Ok(Some((prefix_len, answer))),
         None => Ok(None),
@@ -117,11 +117,11 @@ fn word_answer<'a>(
 fn append_each_word(
     alloc: Global,
     demangler: &mut Demangler,
-    how: Replacement,
+    options: Replacement,
     text: &[u8],
     output: &mut Text,
 ) -> Result<(), AllocError>
-    ensures ok { OnOk result (AppendsReplaced how text.now output.old output.new) }
+    ensures ok { OnOk result (AppendsReplaced options text.now output.old output.new) }
     ensures err { OnErr result (Extends output.old output.new) }
 {
     // The text up to `from` has been searched, and the replaced text up to `done` has been appended.
@@ -135,7 +135,7 @@ fn append_each_word(
         from = (end + 1).min(text.len());
         let word = &text[start..end];
         let stem = stem_len(word);
-        if let Some((prefix_len, answer)) = word_answer(alloc, demangler, how, &word[..stem])? {
+        if let Some((prefix_len, answer)) = word_answer(alloc, demangler, options, &word[..stem])? {
             output.add_pair(&text[done..start + prefix_len], answer.as_bytes())?;
             done = start + stem;
         }
@@ -147,15 +147,15 @@ fn append_each_word(
 pub(crate) fn append_words(
     alloc: Global,
     demangler: &mut Demangler,
-    how: Replacement,
+    options: Replacement,
     text: &[u8],
     output: &mut Text,
 ) -> Result<(), AllocError>
-    ensures ok { OnOk result (AppendsReplaced how text.now output.old output.new) }
+    ensures ok { OnOk result (AppendsReplaced options text.now output.old output.new) }
     ensures err { OnErr result (output.new ≡ output.old) }
 {
     let len = output.len();
-    match append_each_word(alloc, demangler, how, text, output) {
+    match append_each_word(alloc, demangler, options, text, output) {
         Ok(()) => Ok(()),
         Err(error) => {
             output.truncate(len);

@@ -195,8 +195,8 @@ types::read_params-returns-in_err-framed_type-in-NextType-clause-reads t c =
     rw (e.1, e.2) (stops _ _ (c.in_err-framed_type-in-NextType.ensures {u = tt}).reads
     (λ none. typed_fail _ _ _ c.loop-list.invariant.reads (sym c.in-NextType.ensures.case) (search rules)))
 
-pub types::read_params-returns-then-is_wide-clause-reads : goal.types::read_params-returns-then-is_wide-clause-reads
-types::read_params-returns-then-is_wide-clause-reads t c =
+pub types::read_params-returns-then-is_too_wide-clause-reads : goal.types::read_params-returns-then-is_too_wide-clause-reads
+types::read_params-returns-then-is_too_wide-clause-reads t c =
     typed_wide _ _ _ c.loop-list.invariant.reads {next = shape c.framed_type.new.reader.buffer.value c.framed_type.new.reader.found}
     {found = shape c.append_piece.new.buf c.in_ok-list-in-NextType-2.list} {after = state c.framed_type.new.reader}
     (sym c.in-NextType.ensures.case) (search rules) (search rules) (search rules)
@@ -212,23 +212,23 @@ types::read_params-loop-list-preserved t c = record {
   growth = grind (arith, common_steps);
 }
 
-pub args::read_argument_pack-returns-in_err-measure-in-EndOfArguments-clause-reads : goal.args::read_argument_pack-returns-in_err-measure-in-EndOfArguments-clause-reads
-args::read_argument_pack-returns-in_err-measure-in-EndOfArguments-clause-reads t c =
+pub args::read_argument_pack-returns-in_err-check_width-in-EndOfArguments-clause-reads : goal.args::read_argument_pack-returns-in_err-check_width-in-EndOfArguments-clause-reads
+args::read_argument_pack-returns-in_err-check_width-in-EndOfArguments-clause-reads t c =
     let list = shape c.skip-in-EndOfArguments.new.self.buffer.value c.whole-reader.result in
-    let r = c.from_residual-in_err-measure-in-EndOfArguments in
+    let r = c.from_residual-in_err-check_width-in-EndOfArguments in
     let e = err_from_is_err_and r.result r.ensures.1 in
-    rw (e.1, e.2) (too_long _ list _ (c.in_err-measure-in-EndOfArguments.ensures {u = tt}).fits
+    rw (e.1, e.2) (too_long _ list _ (c.in_err-check_width-in-EndOfArguments.ensures {u = tt}).fits
     (λ wide. pack_wide _ {found = list} c.loop-reader.invariant.reads (sym c.in-EndOfArguments.ensures.case) (search rules) wide))
 
-pub types::read_type-returns-in_err-measure-clause-reads : goal.types::read_type-returns-in_err-measure-clause-reads
-types::read_type-returns-in_err-measure-clause-reads t c =
-    let r = c.from_residual-in_err-measure in
+pub types::read_type-returns-in_err-check_width-clause-reads : goal.types::read_type-returns-in_err-check_width-clause-reads
+types::read_type-returns-in_err-check_width-clause-reads t c =
+    let r = c.from_residual-in_err-check_width in
     let e = err_from_is_err_and r.result r.ensures.1 in
     let read = c.match-type_case.reader in
-    rw (e.1, e.2) (too_long _ (shape read.buffer.value read.found) _ (c.in_err-measure.ensures {u = tt}).fits (λ wide. grind (arith, types)))
+    rw (e.1, e.2) (too_long _ (shape read.buffer.value read.found) _ (c.in_err-check_width.ensures {u = tt}).fits (λ wide. grind (arith, types)))
 
-pub args::read_argument_pack-returns-then-is_wide-clause-reads : goal.args::read_argument_pack-returns-then-is_wide-clause-reads
-args::read_argument_pack-returns-then-is_wide-clause-reads t c =
+pub args::read_argument_pack-returns-then-is_too_wide-clause-reads : goal.args::read_argument_pack-returns-then-is_too_wide-clause-reads
+args::read_argument_pack-returns-then-is_too_wide-clause-reads t c =
     items_wide _ _ _ c.loop-reader.invariant.reads {next = shape c.framed_template_arg.new.reader.buffer.value c.framed_template_arg.new.reader.found}
     {found = shape c.append_piece.new.buf c.in_ok-list-in-NextArgument-2.list} {mid = state c.framed_template_arg.new.reader}
     (sym c.in-NextArgument.ensures.case) (search rules) (search rules) (search rules)
@@ -270,8 +270,8 @@ names::read_prefix-returns-in_err-read_source_segment-clause-reads t c =
     rw (e.1, e.2) (stops _ _ (c.in_err-read_source_segment.ensures {u = tt}).reads
     (λ none. segments_none _ _ c.loop-reader.invariant.reads case.0 (case.1 ∙ none)))
 
-pub names::read_prefix-returns-in_err-measure-clause-reads : goal.names::read_prefix-returns-in_err-measure-clause-reads
-names::read_prefix-returns-in_err-measure-clause-reads t c =
+pub names::read_prefix-returns-in_err-check_width-clause-reads : goal.names::read_prefix-returns-in_err-check_width-clause-reads
+names::read_prefix-returns-in_err-check_width-clause-reads t c =
     let type = spec.parse_type c.args.depth c.args.context in
     let param = spec.parse_type c.args.depth (inside_lambda c.args.context) in
     let args = spec.parse_args c.args.depth c.args.context true in
@@ -280,9 +280,9 @@ names::read_prefix-returns-in_err-measure-clause-reads t c =
     let case = source_segment type param args name (spec.save_unsaved c.loop-reader.unsaved name (state r)) (search rules) in
     let new = c.read_source_segment.new.self in
     let read = (c.in_ok-read_source_segment.ensures {u = tt}) in
-    let f = c.from_residual-in_err-measure in
+    let f = c.from_residual-in_err-check_width in
     let e = err_from_is_err_and f.result f.ensures.1 in
-    rw (e.1, e.2) (too_long _ (shape new.buffer.value new.found) _ (c.in_err-measure.ensures {u = tt}).fits
+    rw (e.1, e.2) (too_long _ (shape new.buffer.value new.found) _ (c.in_err-check_width.ensures {u = tt}).fits
     (λ wide. segments_wide _ _ c.loop-reader.invariant.reads {next = shape new.buffer.value new.found} {mid = state new} case.0 (case.1 ∙ read.reads.1) wide))
 
 pub names::read_prefix-loop-reader-preserved-then-begins_source : goal.names::read_prefix-loop-reader-preserved-then-begins_source
@@ -349,8 +349,8 @@ names::read_prefix-returns-in_err-read_segment-in-NameSegment-clause-reads t c =
     (λ none. let later = is_later (spec.parse_unqualified type param) args name s NameSegment c.save_unsaved-in-NameSegment.new.self none (λ ended. cc ended) (search rules) (search rules) (search rules) in
     segments_none _ _ c.loop-reader.invariant.reads later.goes_on later.gives))
 
-pub names::read_prefix-returns-in_err-measure-2-clause-reads : goal.names::read_prefix-returns-in_err-measure-2-clause-reads
-names::read_prefix-returns-in_err-measure-2-clause-reads t c =
+pub names::read_prefix-returns-in_err-check_width-2-clause-reads : goal.names::read_prefix-returns-in_err-check_width-2-clause-reads
+names::read_prefix-returns-in_err-check_width-2-clause-reads t c =
     let type = spec.parse_type c.args.depth c.args.context in
     let param = spec.parse_type c.args.depth (inside_lambda c.args.context) in
     let args = spec.parse_args c.args.depth c.args.context true in
@@ -364,9 +364,9 @@ names::read_prefix-returns-in_err-measure-2-clause-reads t c =
       | names::read_prefix-in-NameSegment+in_ok-save_unsaved-in-NameSegment+in_ok-read_segment-in-NameSegment w ↦
           rw w.reader-is (is_later _ args name s NameSegment w.save_unsaved-in-NameSegment.new.self (w.in_ok-read_segment-in-NameSegment.ensures {u = tt}).reads.1 (λ ended. cc ended) (search rules) (search rules) (search rules))
     ] in
-    let f = c.from_residual-in_err-measure-2 in
+    let f = c.from_residual-in_err-check_width-2 in
     let e = err_from_is_err_and f.result f.ensures.1 in
-    rw (e.1, e.2) (too_long _ (shape m.buffer.value m.found) _ (c.in_err-measure-2.ensures {u = tt}).fits
+    rw (e.1, e.2) (too_long _ (shape m.buffer.value m.found) _ (c.in_err-check_width-2.ensures {u = tt}).fits
     (λ wide. segments_wide _ _ c.loop-reader.invariant.reads {next = shape m.buffer.value m.found} {mid = state m} later.goes_on later.gives wide))
 
 pub names::read_prefix-loop-reader-preserved : goal.names::read_prefix-loop-reader-preserved
@@ -436,9 +436,9 @@ specials::read_construction-returns-clause-saved t c =
       most = omega (arith, left, two, before, most, class.list, class.most, ap length pushed, base.list, base.most, ap length joined, c.in-Some.ensures.shorter);
     }
 
-pub specials::read_thunk-returns-in_err-measure-clause-reads : goal.specials::read_thunk-returns-in_err-measure-clause-reads
-specials::read_thunk-returns-in_err-measure-clause-reads t c =
-    let r = c.from_residual-in_err-measure in
+pub specials::read_thunk-returns-in_err-check_width-clause-reads : goal.specials::read_thunk-returns-in_err-check_width-clause-reads
+specials::read_thunk-returns-in_err-check_width-clause-reads t c =
+    let r = c.from_residual-in_err-check_width in
     let e = err_from_is_err_and r.result r.ensures.1 in
     let opened = c.open_thunk.new.self in
     let symbol = c.close_found.new.self in
@@ -447,7 +447,7 @@ specials::read_thunk-returns-in_err-measure-clause-reads t c =
     let words = kept.pieces opened.found (c.in_ok-open_thunk.ensures {u = tt}).reads.0 in
     let built = c.in_ok-print_worded.ensures.shape.shape_is
     ∙ ap (λ (s : Shape). worded_shape (text s) (shape symbol.buffer.value symbol.found) (codes ")}")) words.shape_is in
-    rw (e.1, e.2) (too_long _ found _ (c.in_err-measure.ensures {u = tt}).fits (λ wide.
+    rw (e.1, e.2) (too_long _ found _ (c.in_err-check_width.ensures {u = tt}).fits (λ wide.
     thunk_wide c.args.depth c.args.end c.args.context (state c.args.reader.now) {front = shape opened.buffer.value opened.found} {t = shape symbol.buffer.value symbol.found}
     {mid = state opened} {after = state symbol}
     (search rules) (search rules) (search (rules, buffers)) built wide))
@@ -463,7 +463,7 @@ specials::read_thunk-returns-clause-reads t c =
       search rules,
       thunk_read c.args.depth c.args.end c.args.context (state c.args.reader.now) {front = shape opened.buffer.value opened.found} {t = shape symbol.buffer.value symbol.found}
           {mid = state opened} {after = state c.print_worded.new.self}
-          (search rules) (search rules) (search (rules, buffers)) built (c.in_ok-measure.ensures {u = tt}).fits,
+          (search rules) (search rules) (search (rules, buffers)) built (c.in_ok-check_width.ensures {u = tt}).fits,
     )
 
 pub specials::read_thunk-print_worded-requires-clause-after : goal.specials::read_thunk-print_worded-requires-clause-after
@@ -479,13 +479,13 @@ specials::read_thunk-returns-clause-run t c =
     let kept : SameFrame c.open_thunk.new.self.buffer.value c.close_found.new.self.buffer.value = search (rules, runs) in
     search (rules, runs, kept)
 
-pub names::read_free_segment-returns-clause-run : goal.names::read_free_segment-returns-clause-run
-names::read_free_segment-returns-clause-run t c =
+pub names::read_ordinary_segment-returns-clause-run : goal.names::read_ordinary_segment-returns-clause-run
+names::read_ordinary_segment-returns-clause-run t c =
     let parent = c.open_parent.new.buf in
     let last = c.close_opened.new.buf in
     let opens : Opens parent c.open-mark.new.self c.open-mark.result =
     subst (λ (b : Buffer). Opens b c.open-mark.new.self c.open-mark.result) c.deref_mut-2.ensures.value c.open-mark.ensures.opens in
-    let since = IsSince-run _ _ _ _ (IsSince-opens _ _ _ opens) (c.in_ok-read_free_name.ensures {u = tt}).run in
+    let since = IsSince-run _ _ _ _ (IsSince-opens _ _ _ opens) (c.in_ok-read_ordinary_name.ensures {u = tt}).run in
     let kept : SameFrame parent c.close_found.new.self.buffer.value = SameFrame-closed _ _ _ _ since (c.in_ok-close_found.ensures {u = tt}).closed in
     let before : IsEdit c.args.reader.now.buffer.value parent =
     subst (λ (b : Buffer). IsEdit b parent) c.deref_mut.ensures.value (c.in_ok-opened.ensures {u = tt}).edit in
@@ -586,8 +586,8 @@ first_stops : (after : Reader) {inner whole : Option (Shape × spec.ParserState)
 first_stops after Unread none follows = follows none
 first_stops after Memory gives follows = tt
 
-pub names::read_first-returns-in_err-read_tags-clause-reads : goal.names::read_first-returns-in_err-read_tags-clause-reads
-names::read_first-returns-in_err-read_tags-clause-reads t c =
+pub names::read_first_segment-returns-in_err-read_tags-clause-reads : goal.names::read_first_segment-returns-in_err-read_tags-clause-reads
+names::read_first_segment-returns-in_err-read_tags-clause-reads t c =
     let r = c.from_residual-in_err-read_tags in
     let e = err_from_is_err_and r.result r.ensures.1 in
     let named = c.read_source_name.new.self in
@@ -613,8 +613,8 @@ types::read_elaborated-print_worded-requires-clause-after t c = grind (arith, wo
 pub types::read_expansion-returns-clause-saved : goal.types::read_expansion-returns-clause-saved
 types::read_expansion-returns-clause-saved t c = grind (arith, common_steps)
 
-pub types::read_params-returns-then-is_wide-clause-saved : goal.types::read_params-returns-then-is_wide-clause-saved
-types::read_params-returns-then-is_wide-clause-saved t c = grind (arith, typed_lists)
+pub types::read_params-returns-then-is_too_wide-clause-saved : goal.types::read_params-returns-then-is_too_wide-clause-saved
+types::read_params-returns-then-is_too_wide-clause-saved t c = grind (arith, typed_lists)
 
 pub types::read_pointer-returns-clause-saved : goal.types::read_pointer-returns-clause-saved
 types::read_pointer-returns-clause-saved t c = grind (arith, common_steps)
@@ -676,14 +676,14 @@ names::framed_name-read_name-requires t c = grind (arith, buffers)
 pub names::framed_name-returns-clause-kept : goal.names::framed_name-returns-clause-kept
 names::framed_name-returns-clause-kept t c = grind (arith, common_steps)
 
-pub names::read_first-returns-in_err-read_source_name-clause-reads : goal.names::read_first-returns-in_err-read_source_name-clause-reads
-names::read_first-returns-in_err-read_source_name-clause-reads t c = grind (arith, first_segments)
+pub names::read_first_segment-returns-in_err-read_source_name-clause-reads : goal.names::read_first_segment-returns-in_err-read_source_name-clause-reads
+names::read_first_segment-returns-in_err-read_source_name-clause-reads t c = grind (arith, first_segments)
 
-pub names::read_first-returns-in_ok-copy_found-in-ParameterFirst-clause-run : goal.names::read_first-returns-in_ok-copy_found-in-ParameterFirst-clause-run
-names::read_first-returns-in_ok-copy_found-in-ParameterFirst-clause-run t c = grind (arith, common_steps)
+pub names::read_first_segment-returns-in_ok-copy_found-in-ParameterFirst-clause-run : goal.names::read_first_segment-returns-in_ok-copy_found-in-ParameterFirst-clause-run
+names::read_first_segment-returns-in_ok-copy_found-in-ParameterFirst-clause-run t c = grind (arith, common_steps)
 
-pub names::read_first-returns-in_ok-reader-in-StdFirst-clause-last : goal.names::read_first-returns-in_ok-reader-in-StdFirst-clause-last
-names::read_first-returns-in_ok-reader-in-StdFirst-clause-last t c = grind (arith, first_segments)
+pub names::read_first_segment-returns-in_ok-reader-in-StdFirst-clause-last : goal.names::read_first_segment-returns-in_ok-reader-in-StdFirst-clause-last
+names::read_first_segment-returns-in_ok-reader-in-StdFirst-clause-last t c = grind (arith, first_segments)
 
 pub names::read_nested_name-returns-in_err-read_prefix-in-None-clause-reads : goal.names::read_nested_name-returns-in_err-read_prefix-in-None-clause-reads
 names::read_nested_name-returns-in_err-read_prefix-in-None-clause-reads t c = grind (arith, nested_names)
@@ -700,8 +700,8 @@ names::read_nested_name-returns-in_ok-read_prefix-in-Some-clause-reads t c = gri
 pub names::read_prefix-loop-reader-init : goal.names::read_prefix-loop-reader-init
 names::read_prefix-loop-reader-init t c = grind (arith, common_steps)
 
-pub names::read_segment-returns-in_err-read_free_segment-in-FreeName-clause-reads : goal.names::read_segment-returns-in_err-read_free_segment-in-FreeName-clause-reads
-names::read_segment-returns-in_err-read_free_segment-in-FreeName-clause-reads t c = grind (arith, unqualified_names)
+pub names::read_segment-returns-in_err-read_ordinary_segment-in-OrdinaryName-clause-reads : goal.names::read_segment-returns-in_err-read_ordinary_segment-in-OrdinaryName-clause-reads
+names::read_segment-returns-in_err-read_ordinary_segment-in-OrdinaryName-clause-reads t c = grind (arith, unqualified_names)
 
 pub names::read_segment-returns-clause-reads : goal.names::read_segment-returns-clause-reads
 names::read_segment-returns-clause-reads t c = grind (arith, unqualified_names)
@@ -709,14 +709,14 @@ names::read_segment-returns-clause-reads t c = grind (arith, unqualified_names)
 pub names::read_unqualified_name-returns-in_err-read_source_name-clause-reads : goal.names::read_unqualified_name-returns-in_err-read_source_name-clause-reads
 names::read_unqualified_name-returns-in_err-read_source_name-clause-reads t c = grind (arith, outer_names)
 
-pub names::read_unqualified_name-returns-in_err-read_free_name-clause-reads : goal.names::read_unqualified_name-returns-in_err-read_free_name-clause-reads
-names::read_unqualified_name-returns-in_err-read_free_name-clause-reads t c = grind (arith, outer_names)
+pub names::read_unqualified_name-returns-in_err-read_ordinary_name-clause-reads : goal.names::read_unqualified_name-returns-in_err-read_ordinary_name-clause-reads
+names::read_unqualified_name-returns-in_err-read_ordinary_name-clause-reads t c = grind (arith, outer_names)
 
 pub names::read_unqualified_name-returns-clause-reads : goal.names::read_unqualified_name-returns-clause-reads
 names::read_unqualified_name-returns-clause-reads t c = grind (arith, outer_names)
 
-pub names::read_first-returns-then-begins_source-clause-reads : goal.names::read_first-returns-then-begins_source-clause-reads
-names::read_first-returns-then-begins_source-clause-reads t c =
+pub names::read_first_segment-returns-then-begins_source-clause-reads : goal.names::read_first_segment-returns-then-begins_source-clause-reads
+names::read_first_segment-returns-then-begins_source-clause-reads t c =
     let named = c.read_source_name.new.self in (
       search rules,
       first_tagged (spec.parse_type c.args.depth c.args.context) (spec.parse_type c.args.depth (inside_lambda c.args.context)) c.args.context (state c.args.reader.now)
@@ -726,8 +726,8 @@ names::read_first-returns-then-begins_source-clause-reads t c =
 pub names::read_name-returns-then-bare-clause-reads : goal.names::read_name-returns-then-bare-clause-reads
 names::read_name-returns-then-bare-clause-reads t c = grind (arith, names)
 
-pub names::read_name-returns-in_ok-measure-2-clause-reads : goal.names::read_name-returns-in_ok-measure-2-clause-reads
-names::read_name-returns-in_ok-measure-2-clause-reads t c = grind (arith, names)
+pub names::read_name-returns-in_ok-check_width-2-clause-reads : goal.names::read_name-returns-in_ok-check_width-2-clause-reads
+names::read_name-returns-in_ok-check_width-2-clause-reads t c = grind (arith, names)
 
 pub names::read_name-returns-in_default-clause-reads : goal.names::read_name-returns-in_default-clause-reads
 names::read_name-returns-in_default-clause-reads t c = grind (arith, names)

@@ -36,8 +36,8 @@ abbrev ended : ℕ → ℕ
 ended d = 16 * d + 4
 
 -- an <unqualified-name> that asks for no parent
-abbrev free_name : ℕ → ℕ
-free_name d = 16 * d + 5
+abbrev ordinary_name : ℕ → ℕ
+ordinary_name d = 16 * d + 5
 
 -- one with its tags, or in its parent
 abbrev unqualified : ℕ → ℕ
@@ -155,7 +155,7 @@ abbrev pub decreases-types::read_function_type : goal.decreases-types::read_func
 decreases-types::read_function_type l = ended l.depth
 
 abbrev pub decreases-types::read_cv : goal.decreases-types::read_cv
-decreases-types::read_cv l = free_name l.depth
+decreases-types::read_cv l = ordinary_name l.depth
 
 abbrev pub decreases-types::read_pointer_to_member_type : goal.decreases-types::read_pointer_to_member_type
 decreases-types::read_pointer_to_member_type l = list l.depth
@@ -175,20 +175,20 @@ decreases-types::read_params l = list l.depth
 abbrev pub decreases-names::read_closure_type_name : goal.decreases-names::read_closure_type_name
 decreases-names::read_closure_type_name l = ended l.depth
 
-abbrev pub decreases-names::read_free_name : goal.decreases-names::read_free_name
-decreases-names::read_free_name l = free_name l.depth
+abbrev pub decreases-names::read_ordinary_name : goal.decreases-names::read_ordinary_name
+decreases-names::read_ordinary_name l = ordinary_name l.depth
 
 abbrev pub decreases-names::read_unqualified_name : goal.decreases-names::read_unqualified_name
 decreases-names::read_unqualified_name l = unqualified l.depth
 
-abbrev pub decreases-names::read_first : goal.decreases-names::read_first
-decreases-names::read_first l = segment l.depth
+abbrev pub decreases-names::read_first_segment : goal.decreases-names::read_first_segment
+decreases-names::read_first_segment l = segment l.depth
 
 abbrev pub decreases-names::read_segment : goal.decreases-names::read_segment
 decreases-names::read_segment l = segment l.depth
 
-abbrev pub decreases-names::read_free_segment : goal.decreases-names::read_free_segment
-decreases-names::read_free_segment l = unqualified l.depth
+abbrev pub decreases-names::read_ordinary_segment : goal.decreases-names::read_ordinary_segment
+decreases-names::read_ordinary_segment l = unqualified l.depth
 
 abbrev pub decreases-names::framed_name : goal.decreases-names::framed_name
 decreases-names::framed_name l = framed l.depth
@@ -286,4 +286,4 @@ abbrev pub decreases-specials::read_thunk : goal.decreases-specials::read_thunk
 decreases-specials::read_thunk l = production l.depth
 
 abbrev pub decreases-specials::read_special_name : goal.decreases-specials::read_special_name
-decreases-specials::read_special_name l = free_name l.depth
+decreases-specials::read_special_name l = ordinary_name l.depth

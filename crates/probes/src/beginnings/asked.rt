@@ -185,14 +185,14 @@ impl Asked {
         &mut self,
         rt: &impl Print,
         symbol: &str,
-        how: &str,
+        options: &str,
         found: Option<&'static str>,
     ) -> io::Result<()> {
         match found {
             None => self.passed = self.passed.saturating_add(1),
             Some(fault) => {
                 self.failed = self.failed.saturating_add(1);
-                println!(rt; "{symbol}{how}: {fault}")?;
+                println!(rt; "{symbol}{options}: {fault}")?;
             }
         }
         Ok(())

@@ -12,7 +12,7 @@ loop-at-preserved-in-Value c =
     let all = c.args.arguments.now in
     let at = c.loop-at.at in
     let inside : at < length all = omega arith in
-    value_turn all at _ _ c.loop-at.step c.format_step-step.result c.in-Value.flags _ _ inside c.in-Value.is c.format_step-step.ensures.value c.loop-at.invariant
+    value_turn all at _ _ c.loop-at.step c.after_format-step.result c.in-Value.flags _ _ inside c.in-Value.is c.after_format-step.ensures.value c.loop-at.invariant
 
 pub returns-in-Stop : goal.returns-in-Stop
 returns-in-Stop c =
@@ -46,10 +46,10 @@ loop-at-preserved c =
     let says = sym c.kind_of.ensures.value in
     elim c.match-kind_of.branch [
       | in-Name w ↦
-          rw (w.step-is, w.symbols-is, w.word-is, w.name_step-step.ensures.value, take_rest (get_or all at record { ref_ptr = (0, 0); now = [] }).now 2)
+          rw (w.step-is, w.symbols-is, w.word-is, w.after_name-step.ensures.value, take_rest (get_or all at record { ref_ptr = (0, 0); now = [] }).now 2)
           (go_turn all at _ _ c.loop-at.step c.in-Go.flags _ _ Name inside c.in-Go.is (says ∙ w.in-Name.is) c.loop-at.invariant)
       | in-Letters w ↦
-          rw (w.step-is, w.symbols-is, w.word-is, w.letters_step-step.ensures.value)
+          rw (w.step-is, w.symbols-is, w.word-is, w.after_letters-step.ensures.value)
           (go_turn all at _ _ c.loop-at.step c.in-Go.flags _ _ Letters inside c.in-Go.is (says ∙ w.in-Letters.is) c.loop-at.invariant)
       | in-Symbol+in_ok-push-in-Symbol w ↦
           rw (w.step-is, w.symbols-is, w.word-is, next_symbol _ _ _ w.in_ok-push-in-Symbol.ensures.items)

@@ -1,5 +1,5 @@
 use Rattle.std.proofs.Common.{◌≡◌, [], drop}
-use Rattle.cosvigle.specs.declared.options.Step.TheVariants.{Go}
+use Rattle.cosvigle.specs.declared.options.OptionState.TheVariants.{Go}
 use Rattle.cosvigle.specs.Options.{texts, read, reading, no_flags}
 use Rattle.cosvigle.proofs.options.read_arguments.Given as goal
 

@@ -10,8 +10,8 @@ use Rattle.symfilter_engine.proofs.Copying.{none_copied, turn_copied, turn_fault
 use Rattle.symfilter_engine.proofs.filtering.copy_lines.Goals as goal
 use Rattle.symfilter_engine.proofs.filtering.copy_lines.Goals.{then-ended-gt0, else-ended-gt0}
 
-pub turns-init : goal.turns-init
-turns-init g c = record {
+pub chunks-init : goal.chunks-init
+chunks-init g c = record {
   source_not_failed = c.requires.source_not_failed;
   sink_not_failed = c.requires.sink_not_failed;
   source_in_time = refl;
@@ -22,32 +22,32 @@ turns-init g c = record {
 }
 
 pub returns-in_err-end-clause-err : goal.returns-in_err-end-clause-err
-returns-in_err-end-clause-err g c = at_fault _ (read_fault (Lines c.args.printing) _ _ _ _ _ _ c.turns.invariant.so_far c.in_err-end.ensures.err)
+returns-in_err-end-clause-err g c = at_fault _ (read_fault (Lines c.args.printing) _ _ _ _ _ _ c.chunks.invariant.so_far c.in_err-end.ensures.err)
 
 pub returns-then-end-kept-clause-ok : goal.returns-then-end-kept-clause-ok
 returns-then-end-kept-clause-ok g c =
-    end_copied (Lines c.args.printing) _ _ _ _ _ _ _ _ _ c.turns.invariant.so_far c.in_ok-end.ensures.ok c.turns.invariant.inside c.if-end-kept.true
+    end_copied (Lines c.args.printing) _ _ _ _ _ _ _ _ _ c.chunks.invariant.so_far c.in_ok-end.ensures.ok c.chunks.invariant.inside c.if-end-kept.true
 
-pub returns-in_err-write_lines-clause-err : goal.returns-in_err-write_lines-clause-err
-returns-in_err-write_lines-clause-err g c =
+pub returns-in_err-write_whole-clause-err : goal.returns-in_err-write_whole-clause-err
+returns-in_err-write_whole-clause-err g c =
     let ended = c.ended_len-ended.result in
     let end = c.in_ok-end.end in
     let all = c.read_more.new.chunk.items in
     let within : ended ≤ end = omega (arith, c.ended_len-ended.ensures.bound, length-take end c.deref.result.now) in
-    at_fault _ (turn_fault (Lines c.args.printing) _ _ ended _ all _ _ _ _ _ _ _ c.turns.invariant.so_far c.in_ok-end.ensures.ok c.in_err-write_lines.ensures.err
-    (ap (take ended) c.deref-in-turns.ensures.value ∙ sym (take-take ended end all within)))
+    at_fault _ (turn_fault (Lines c.args.printing) _ _ ended _ all _ _ _ _ _ _ _ c.chunks.invariant.so_far c.in_ok-end.ensures.ok c.in_err-write_whole.ensures.err
+    (ap (take ended) c.deref-in-chunks.ensures.value ∙ sym (take-take ended end all within)))
 
-pub returns-in_err-write_lines-clause-memory : goal.returns-in_err-write_lines-clause-memory
-returns-in_err-write_lines-clause-memory g c = λ refused.
+pub returns-in_err-write_whole-clause-memory : goal.returns-in_err-write_whole-clause-memory
+returns-in_err-write_whole-clause-memory g c = λ refused.
     let ended = c.ended_len-ended.result in
     let end = c.in_ok-end.end in
     let all = c.read_more.new.chunk.items in
     let within : ended ≤ end = omega (arith, c.ended_len-ended.ensures.bound, length-take end c.deref.result.now) in
-    turn_refused (Lines c.args.printing) _ _ ended _ all _ _ _ _ _ _ _ c.turns.invariant.so_far c.in_ok-end.ensures.ok (c.in_err-write_lines.ensures.memory (search rules))
-    (ap (take ended) c.deref-in-turns.ensures.value ∙ sym (take-take ended end all within))
+    turn_refused (Lines c.args.printing) _ _ ended _ all _ _ _ _ _ _ _ c.chunks.invariant.so_far c.in_ok-end.ensures.ok (c.in_err-write_whole.ensures.memory (search rules))
+    (ap (take ended) c.deref-in-chunks.ensures.value ∙ sym (take-take ended end all within))
 
-pub turns-preserved : goal.turns-preserved
-turns-preserved g c =
+pub chunks-preserved : goal.chunks-preserved
+chunks-preserved g c =
     let ended = c.ended_len-ended.result in
     let end = c.in_ok-end.end in
     let all = c.read_more.new.chunk.items in
@@ -65,13 +65,13 @@ turns-preserved g c =
     ] in
     record {
       source_not_failed = c.in_ok-end.ensures.outcome;
-      sink_not_failed = c.in_ok-write_lines.ensures.outcome;
-      source_in_time = c.in_ok-end.ensures.in_time ∙ c.turns.invariant.source_in_time;
-      sink_in_time = c.in_ok-write_lines.ensures.in_time ∙ c.turns.invariant.sink_in_time;
+      sink_not_failed = c.in_ok-write_whole.ensures.outcome;
+      source_in_time = c.in_ok-end.ensures.in_time ∙ c.chunks.invariant.source_in_time;
+      sink_in_time = c.in_ok-write_whole.ensures.in_time ∙ c.chunks.invariant.sink_in_time;
       inside = omega (arith, inside, same);
       unended = All-same is_other _ _ (moved ∙ ap (λ l. drop ended (take end l)) (sym c.deref.ensures.value)) c.ended_len-ended.ensures.unended;
-      so_far = turn_copied (Lines c.args.printing) _ end ended _ all _ _ _ _ _ _ _ _ c.turns.invariant.so_far c.in_ok-end.ensures.ok c.in_ok-write_lines.ensures.ok
-          (ap (take ended) c.deref-in-turns.ensures.value ∙ sym (take-take ended end all within)) moved;
+      so_far = turn_copied (Lines c.args.printing) _ end ended _ all _ _ _ _ _ _ _ _ c.chunks.invariant.so_far c.in_ok-end.ensures.ok c.in_ok-write_whole.ensures.ok
+          (ap (take ended) c.deref-in-chunks.ensures.value ∙ sym (take-take ended end all within)) moved;
     }
 
 pub read_more-requires-clause-not_failed : goal.read_more-requires-clause-not_failed
@@ -89,11 +89,11 @@ slice_bounds-ended_len-end g c = grind (arith, common_steps)
 pub ended_len-ended-requires-clause-before : goal.ended_len-ended-requires-clause-before
 ended_len-ended-requires-clause-before g c = grind (arith, common_steps)
 
-pub slice_bounds-write_lines-end : goal.slice_bounds-write_lines-end
-slice_bounds-write_lines-end g c = grind (arith, common_steps)
+pub slice_bounds-write_whole-end : goal.slice_bounds-write_whole-end
+slice_bounds-write_whole-end g c = grind (arith, common_steps)
 
-pub write_lines-requires-clause-whole : goal.write_lines-requires-clause-whole
-write_lines-requires-clause-whole g c = grind (arith, common_steps)
+pub write_whole-requires-clause-whole : goal.write_whole-requires-clause-whole
+write_whole-requires-clause-whole g c = grind (arith, common_steps)
 
 pub copy_within-requires-clause-start_le_end : goal.copy_within-requires-clause-start_le_end
 copy_within-requires-clause-start_le_end g c = grind (arith, common_steps)

@@ -4,8 +4,8 @@ use Rattle.symfilter_engine.specs.Filtered.{HasNoLineFeed}
 use Rattle.symfilter_engine.specs.Progress.{HasCopied}
 use Rattle.symfilter_engine.proofs.filtering.copy_lines.Given as goal
 
-abbrev pub invariant-turns : goal.invariant-turns
-invariant-turns g l =
+abbrev pub invariant-chunks : goal.invariant-chunks
+invariant-chunks g l =
     record {
       source_not_failed : g.R.Source.failed l.source ≡ false;
       sink_not_failed : g.W.Sink.failed l.sink ≡ false;
@@ -16,5 +16,5 @@ invariant-turns g l =
       so_far : HasCopied (Lines l.printing) (take l.kept l.chunk.items) (g.R.Source.remaining l.fn.source) (g.R.Source.remaining l.source) (g.W.Sink.taken l.fn.sink) (g.W.Sink.taken l.sink);
     }
 
-abbrev pub decreases-turns : goal.decreases-turns
-decreases-turns g l = g.R.Source.calls_left l.source
+abbrev pub decreases-chunks : goal.decreases-chunks
+decreases-chunks g l = g.R.Source.calls_left l.source

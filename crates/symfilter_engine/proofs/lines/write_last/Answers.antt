@@ -30,12 +30,12 @@ returns-in_err-append_words-in-Words-clause-err g c = at_fault _ (last_unwritten
 
 pub returns-in_ok-append_words-in-Words-clause-ok : goal.returns-in_ok-append_words-in-Words-clause-ok
 returns-in_ok-append_words-in-Words-clause-ok g c =
-    on_ok_weaker _ (λ writes. last_replaced c.args.symbols c.in-Words.how c.args.line.now _ _ c.as_slice.result.now
+    on_ok_weaker _ (λ writes. last_replaced c.args.symbols c.in-Words.options c.args.line.now _ _ c.as_slice.result.now
     (g.W.Sink.taken c.args.sink.now) (g.W.Sink.taken c.write_all-in-Words.new.sink) c.in-Words.is c.new-output.ensures.empty c.in_ok-append_words-in-Words.ensures.ok c.as_slice.ensures.value writes)
     c.write_all-in-Words.ensures.ok
 
 pub returns-in_ok-append_words-in-Words-clause-err : goal.returns-in_ok-append_words-in-Words-clause-err
 returns-in_ok-append_words-in-Words-clause-err g c =
-    on_err_weaker _ (λ writes. replaced_begins c.args.symbols c.in-Words.how c.args.line.now _ _ c.as_slice.result.now
+    on_err_weaker _ (λ writes. replaced_begins c.args.symbols c.in-Words.options c.args.line.now _ _ c.as_slice.result.now
     (g.W.Sink.taken c.args.sink.now) (g.W.Sink.taken c.write_all-in-Words.new.sink) c.in-Words.is c.new-output.ensures.empty c.in_ok-append_words-in-Words.ensures.ok c.as_slice.ensures.value writes)
     c.write_all-in-Words.ensures.err

@@ -3,8 +3,8 @@ use Rattle.symfilter_engine.specs.Progress.{HasCopiedWords}
 use Rattle.symfilter_engine.specs.Replaced.{IsHeld}
 use Rattle.symfilter_engine.proofs.replacing.copy_words.Given as goal
 
-abbrev pub invariant-turns : goal.invariant-turns
-invariant-turns g l =
+abbrev pub invariant-chunks : goal.invariant-chunks
+invariant-chunks g l =
     record {
       source_not_failed : g.R.Source.failed l.source ≡ false;
       sink_not_failed : g.W.Sink.failed l.sink ≡ false;
@@ -12,9 +12,9 @@ invariant-turns g l =
       sink_in_time : g.W.Sink.called_late l.sink ≡ g.W.Sink.called_late l.fn.sink;
       room : 0 < length l.chunk.items;
       within : l.kept ≤ length l.chunk.items;
-      held : IsHeld l.how.strip (take l.kept l.chunk.items);
-      so_far : HasCopiedWords l.how l.inside (take l.kept l.chunk.items) (g.R.Source.remaining l.fn.source) (g.R.Source.remaining l.source) (g.W.Sink.taken l.fn.sink) (g.W.Sink.taken l.sink);
+      held : IsHeld l.options.strip (take l.kept l.chunk.items);
+      so_far : HasCopiedWords l.options l.inside (take l.kept l.chunk.items) (g.R.Source.remaining l.fn.source) (g.R.Source.remaining l.source) (g.W.Sink.taken l.fn.sink) (g.W.Sink.taken l.sink);
     }
 
-abbrev pub decreases-turns : goal.decreases-turns
-decreases-turns g l = g.R.Source.calls_left l.source
+abbrev pub decreases-chunks : goal.decreases-chunks
+decreases-chunks g l = g.R.Source.calls_left l.source

@@ -39,17 +39,17 @@ loop-more-preserved-in-Some-2 c =
     let stem_in : start + stem ≤ end = omega (arith, c.stem_len-stem.ensures.bound, part_len text start end c.word_end-end.ensures.high) in
     let front_in : front ≤ stem =
     omega (arith, subst (λ found. IfSome found (λ a. a.0 ≤ length (take stem word))) c.in-Some-2.is c.in_ok-prefix_len.ensures.bound, length-take-le stem word c.stem_len-stem.ensures.bound) in
-    let is_answer : IsWordAnswer c.args.how (take stem word) (take front (take stem word) ++ answer) =
-    subst (λ l. IsWordAnswer c.args.how (take stem word) (take front (take stem word) ++ l)) (sym c.as_bytes.ensures.value)
-    (subst (λ found. IfSome found (λ a. IsWordAnswer c.args.how (take stem word) (take a.0 (take stem word) ++ a.1.now))) c.in-Some-2.is c.in_ok-prefix_len.ensures.some) in
+    let is_answer : IsWordAnswer c.args.options (take stem word) (take front (take stem word) ++ answer) =
+    subst (λ l. IsWordAnswer c.args.options (take stem word) (take front (take stem word) ++ l)) (sym c.as_bytes.ensures.value)
+    (subst (λ found. IfSome found (λ a. IsWordAnswer c.args.options (take stem word) (take a.0 (take stem word) ++ a.1.now))) c.in-Some-2.is c.in_ok-prefix_len.ensures.some) in
     let past_is : c.min-from.result ≡ min (end + 1) (length text) = omega (arith, c.min-from.ensures) in
     record {
       ordered = omega (arith, stem_in, past_is, c.word_end-end.ensures.high);
       inside = omega (arith, past_is);
       boundary = boundary_past text end c.min-from.result c.word_end-end.ensures.high past_is c.word_end-end.ensures.ended;
       extends = extended c.args.output.now c.loop-more.output _ c.add_pair.new.self c.loop-more.invariant.extends c.in_ok-add_pair.ensures.ok;
-      so_far = end_past c.args.how text c.args.output.now c.add_pair.new.self (start + stem) end c.min-from.result stem_in c.word_end-end.ensures.high past_is c.word_end-end.ensures.ended
-          (answer_replaced c.args.how text c.args.output.now c.loop-more.output answer c.add_pair.new.self c.loop-more.done c.loop-more.from c.in-Some.more
+      so_far = end_past c.args.options text c.args.output.now c.add_pair.new.self (start + stem) end c.min-from.result stem_in c.word_end-end.ensures.high past_is c.word_end-end.ensures.ended
+          (answer_replaced c.args.options text c.args.output.now c.loop-more.output answer c.add_pair.new.self c.loop-more.done c.loop-more.from c.in-Some.more
           start front stem end c.loop-more.invariant.ordered c.word_start-start.ensures.low c.word_start-start.ensures.high (omega (arith, some, c.word_start-start.ensures.high)) c.word_end-end.ensures.high
           c.loop-more.invariant.boundary c.word_start-start.ensures.boundary c.loop-more.invariant.so_far
           (no_prefix-rest text c.loop-more.from c.in-Some.more c.in-Some.ensures.found.before) all c.stem_len-stem.ensures.dots c.stem_len-stem.ensures.stem
@@ -66,8 +66,8 @@ loop-more-preserved c =
     let all = word_slice text start end (omega arith) c.word_end-end.ensures.high
     (words_joined text start (c.loop-more.from + c.in-Some.more) end c.word_start-start.ensures.word c.word_end-end.ensures.word) in
     let some = some_word text c.loop-more.from c.in-Some.more end c.in-Some.ensures.found c.word_end-end.ensures.low c.word_end-end.ensures.ended in
-    let is_answer : IsWordAnswer c.args.how (take stem word) (take stem word) =
-    subst (λ found. IfNone found (IsWordAnswer c.args.how (take stem word) (take stem word))) c.in_default-2.is c.in_ok-prefix_len.ensures.none in
+    let is_answer : IsWordAnswer c.args.options (take stem word) (take stem word) =
+    subst (λ found. IfNone found (IsWordAnswer c.args.options (take stem word) (take stem word))) c.in_default-2.is c.in_ok-prefix_len.ensures.none in
     let past_is : c.min-from.result ≡ min (end + 1) (length text) = omega (arith, c.min-from.ensures) in
     let kept : c.loop-more.done ≤ end = omega (arith, c.loop-more.invariant.ordered, c.word_end-end.ensures.low) in
     record {
@@ -75,17 +75,17 @@ loop-more-preserved c =
       inside = omega (arith, past_is);
       boundary = boundary_past text end c.min-from.result c.word_end-end.ensures.high past_is c.word_end-end.ensures.ended;
       extends = c.loop-more.invariant.extends;
-      so_far = end_past c.args.how text c.args.output.now c.loop-more.output c.loop-more.done end c.min-from.result kept c.word_end-end.ensures.high past_is c.word_end-end.ensures.ended
-          (stays_replaced c.args.how text c.args.output.now c.loop-more.output c.loop-more.done c.loop-more.from c.in-Some.more start end
+      so_far = end_past c.args.options text c.args.output.now c.loop-more.output c.loop-more.done end c.min-from.result kept c.word_end-end.ensures.high past_is c.word_end-end.ensures.ended
+          (stays_replaced c.args.options text c.args.output.now c.loop-more.output c.loop-more.done c.loop-more.from c.in-Some.more start end
           c.loop-more.invariant.ordered c.word_start-start.ensures.low c.word_start-start.ensures.high (omega arith) c.word_end-end.ensures.high
           c.loop-more.invariant.boundary c.word_start-start.ensures.boundary c.loop-more.invariant.so_far
           (no_prefix-rest text c.loop-more.from c.in-Some.more c.in-Some.ensures.found.before)
-          (word_stays c.args.how word stem (omega (arith, some, c.word_start-start.ensures.high, part_len text start end c.word_end-end.ensures.high)) all c.stem_len-stem.ensures.dots c.stem_len-stem.ensures.stem is_answer));
+          (word_stays c.args.options word stem (omega (arith, some, c.word_start-start.ensures.high, part_len text start end c.word_end-end.ensures.high)) all c.stem_len-stem.ensures.dots c.stem_len-stem.ensures.stem is_answer));
     }
 
 pub returns-clause-ok : goal.returns-clause-ok
 returns-clause-ok c =
-    rest_appended c.add.result c.args.how c.args.text.now c.args.output.now c.loop-more.output c.add.new.self c.loop-more.done c.loop-more.from
+    rest_appended c.add.result c.args.options c.args.text.now c.args.output.now c.loop-more.output c.add.new.self c.loop-more.done c.loop-more.from
     c.loop-more.invariant.ordered c.loop-more.invariant.inside c.loop-more.invariant.boundary c.loop-more.invariant.so_far c.in_default.ensures.none c.add.ensures.ok
 
 pub loop-more-smaller-in-Some-2 : goal.loop-more-smaller-in-Some-2

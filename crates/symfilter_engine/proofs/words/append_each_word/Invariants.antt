@@ -10,7 +10,7 @@ invariant-loop-more l =
       boundary : IsBoundary l.text l.from;
       extends : Extends l.fn.output l.output;
       -- what stands from `done` on is yet to be appended
-      so_far : AppendsReplaced l.how (take l.from l.text) l.fn.output (l.output ++ take (l.from - l.done) (drop l.done l.text));
+      so_far : AppendsReplaced l.options (take l.from l.text) l.fn.output (l.output ++ take (l.from - l.done) (drop l.done l.text));
     }
 
 abbrev pub decreases-loop-more : goal.decreases-loop-more

@@ -10,11 +10,11 @@ pub returns-clause-output : goal.returns-clause-output
 unfolding main_bytes frame_start inside Frame
 returns-clause-output c =
     ap (λ (b : Store). b.output_text) c.self.view_is ∙ c.in_ok-keep_only.ensures.output
-    ∙ ap (λ (v : List ℕ). take c.args.mark.inside_main c.args.self.now.output_text ++ v) (sym (text_is c.args.self.now c.args.piece.now c.requires.living))
+    ∙ ap (λ (v : List ℕ). take c.args.mark.inside_len c.args.self.now.output_text ++ v) (sym (text_is c.args.self.now c.args.piece.now c.requires.living))
 
 pub returns-clause-shape : goal.returns-clause-shape
 returns-clause-shape c =
-    let at = c.args.mark.inside_main in
+    let at = c.args.mark.inside_len in
     let output = ap (λ (b : Store). b.output_text) c.self.view_is in
     let q = c.keep_only.new.piece in
     Lives-kept_only c.args.self.now _ c.args.piece.now q at c.requires.living c.in_ok-keep_only.ensures.within

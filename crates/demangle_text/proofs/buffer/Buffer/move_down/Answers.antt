@@ -41,7 +41,7 @@ part s spilled from to = slice_range (home_bytes s.output_text s.spill_text spil
 block : (c : goal.After-carry-2) → IsBlock (store_of c.self.inside) (store_of c.if-spilled.self-inside) (part (store_of c.self.inside) c.args.spilled c.args.from c.args.to) c.args.at c.if-spilled.from c.if-spilled.to
 block c =
     let s = store_of c.self.inside in
-    let mark : s.frame_main ≡ c.args.at = ap (λ (b : Store). b.frame_main) c.self.view_is ∙ c.requires.mark in
+    let mark : s.marked_len ≡ c.args.at = ap (λ (b : Store). b.marked_len) c.self.view_is ∙ c.requires.mark in
     let within = subst (λ (b : Store). c.args.to ≤ length (home_bytes b.output_text b.spill_text c.args.spilled)) (sym c.self.view_is) c.requires.within in
     elim c.if-spilled.branch [
       | then-spilled+in_ok-add_text+else-from-at-2 w ↦ rw (w.self-inside-is, w.from-is, w.to-is) (

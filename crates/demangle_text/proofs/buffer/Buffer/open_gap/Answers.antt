@@ -35,8 +35,8 @@ returns-in_err-open_room-clause-err c =
 place : (s b : Store) (at : ℕ) → s ≡ b → at ≤ length b.output_text → at ≤ length s.output_text
 place s b at same within = omega (arith, ap (λ (v : Store). length v.output_text) same, within)
 
-low : (s b : Store) (at : ℕ) → s ≡ b → b.frame_main ≤ at → s.frame_main ≤ at
-low s b at same inner = omega (arith, ap (λ (v : Store). v.frame_main) same, inner)
+low : (s b : Store) (at : ℕ) → s ≡ b → b.marked_len ≤ at → s.marked_len ≤ at
+low s b at same inner = omega (arith, ap (λ (v : Store). v.marked_len) same, inner)
 
 -- the text is longer by the gap
 longer : (s b : Store) (output : List ℕ) (at n : ℕ) → s ≡ b → at ≤ length b.output_text

@@ -40,7 +40,7 @@ invariant_of-self-2 c =
     let text = piece_text s.output_text s.spill_text p in
     let lies = subst (λ (b : Store). IsLiving b p) (sym c.self.view_is) c.requires.living in
     let apart = λ (h : IsTail s p).
-    let t = c.is_tail.ensures.other (subst (λ (k : ℕ). IsTailAt s.frame_main k p) (sym c.len.ensures.value) h) in
+    let t = c.is_tail.ensures.other (subst (λ (k : ℕ). IsTailAt s.marked_len k p) (sym c.len.ensures.value) h) in
     let f = c.if-is_tail.false in let k : ⊥ = cc (t, f) in k in
     let copied = c.in_ok-add_text.ensures.ok in
     let place = c.len-2.result - (c.text_len.result - at) in
@@ -63,7 +63,7 @@ returns-clause-opened c =
     let text = piece_text s.output_text s.spill_text p in
     let lies = subst (λ (b : Store). IsLiving b p) (sym c.self.view_is) c.requires.living in
     let apart = λ (h : IsTail s p).
-    let t = c.is_tail.ensures.other (subst (λ (k : ℕ). IsTailAt s.frame_main k p) (sym c.len.ensures.value) h) in
+    let t = c.is_tail.ensures.other (subst (λ (k : ℕ). IsTailAt s.marked_len k p) (sym c.len.ensures.value) h) in
     let f = c.if-is_tail.false in let k : ⊥ = cc (t, f) in k in
     let copied = c.in_ok-add_text.ensures.ok in
     let place = c.len-2.result - (c.text_len.result - at) in

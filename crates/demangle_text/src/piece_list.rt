@@ -1,0 +1,230 @@
+//! A list of pieces that grows: the front of a vector that is as long as what is reserved.
+ghost use Rattle.std.specs.Prelude.{◌≡◌, ℕ, ◌+◌, ◌-◌, ◌^◌, ◌<◌, ◌≤◌, List, [], ◌∷◌, ◌++◌, length, take, slice_get};
+ghost use Rattle.std.specs.Prelude.{OnOk, OnErr, All, map, slice_set, slice_index_or};
+ghost use Rattle.std.specs.List.{AllWithin, HoldsAt};
+ghost use Rattle.demangle_text.specs.Pieces.{EndsBy, IsApart, AreReached, carried, pieces_of, reaches_of};
+
+use crate::shape::Piece;
+use std::alloc::{AllocError, Global};
+use std::marker::Model;
+
+// The number of pieces for which the first allocation has capacity.
+const FIRST_ROOM: usize = 16;
+
+// A piece and its reach: a byte of the output by which this piece and all that were kept before it end.
+#[derive(Clone, Copy)]
+pub(crate) struct Entry {
+    piece: Piece,
+    reach: usize,
+}
+
+#[derive(Drop)]
+pub(crate) struct PieceList {
+    kept: Vec<Entry>,
+    count: usize,
+}
+
+// A block of the output that is moved, from the byte `from` up to `end`. What ends by the byte `low` stays.
+#[derive(Clone, Copy)]
+pub(crate) struct Block {
+    pub(crate) low: usize,
+    pub(crate) from: usize,
+    pub(crate) end: usize,
+}
+
+impl Model for PieceList {
+    ghost use Rattle.std.specs.Prelude.{List, take};
+    ghost use Rattle.demangle_text.specs.declared.shape.Piece.{Piece};
+
+    ghost Value = { List Piece };
+
+    ghost use Rattle.demangle_text.specs.Pieces.{AreReached, pieces_of, reaches_of};
+
+    ghost view = { λ r. take r.count (pieces_of r.kept.items) };
+
+    ghost invariant = { λ r. AreReached (pieces_of r.kept.items) (reaches_of r.kept.items) r.count };
+}
+
+impl PieceList {
+    pub(crate) fn new(alloc: Global) -> Self
+        ensures empty { result ≡ [] }
+    {
+        PieceList {
+            kept: Vec::new(alloc),
+            count: 0,
+        }
+    }
+
+    #[inline(always)]
+    pub(crate) fn len(&self) -> usize
+        ensures value { result ≡ length self.now }
+        ensures fits { result + 1 < 2 ^ 64 }
+    {
+        self.count
+    }
+
+    // Returns a byte of the output by which the first n pieces end.
+    #[inline(always)]
+    fn reach(&self, n: usize) -> usize
+        requires within { n ≤ length self.now }
+        ensures ends { AllWithin (EndsBy result) self.now 0 n }
+        ensures none { n ≡ 0 → result ≡ 0 }
+    {
+        if n == 0 { 0 } else { self.kept[n - 1].reach }
+    }
+
+    // Returns how many of the first pieces stay where they are if all after the byte `low` of the output is moved.
+    #[inline(always)]
+    pub(crate) fn count_by(&self, low: usize) -> usize
+        ensures within { result ≤ length self.now }
+        ensures ends { AllWithin (EndsBy low) self.now 0 result }
+    {
+        let mut n = self.count;
+        while low < self.reach(n) {
+            n -= 1;
+        }
+        n
+    }
+
+    // Keeps the first n pieces.
+    #[inline(always)]
+    pub(crate) fn truncate(&mut self, n: usize)
+        requires within { n ≤ length self.old }
+        ensures value { self.new ≡ take n self.old }
+    {
+        self.count = n;
+    }
+
+    #[inline(always)]
+    pub(crate) fn piece_at(&self, i: usize) -> Piece
+        requires within { i < length self.now }
+        ensures value { result ≡ slice_index_or self.now i result }
+    {
+        self.kept[i].piece
+    }
+
+    #[inline(always)]
+    pub(crate) fn get(&self, i: usize) -> Option<Piece>
+        ensures value { result ≡ slice_get self.now i }
+    {
+        if i < self.count {
+            Some(self.kept[i].piece)
+        } else {
+            None
+        }
+    }
+
+    // Replaces the piece with the index `i`. The new piece ends by each byte by which the old one ends.
+    pub(crate) fn set(&mut self, i: usize, piece: Piece)
+        requires within { i < length self.old }
+        requires ends { (end : ℕ) → HoldsAt (EndsBy end) self.old i → EndsBy end piece }
+        ensures value { self.new ≡ slice_set self.old i piece }
+    {
+        self.kept[i].piece = piece;
+    }
+
+    // Appends a piece. All pieces must end by the byte `end` of the output.
+    #[inline(always)]
+    pub(crate) fn push(&mut self, piece: &Piece, end: usize) -> Result<(), AllocError>
+        requires ends { All (EndsBy end) self.old }
+        requires last { EndsBy end piece.now }
+        ensures ok { OnOk result (self.new ≡ self.old ++ piece.now ∷ []) }
+        ensures err { OnErr result (self.new ≡ self.old) }
+    {
+        let at = self.count;
+        if at == self.kept.len() {
+            grow(&mut self.kept)?;
+        }
+        self.kept[at] = Entry {
+            piece: *piece,
+            reach: end,
+        };
+        self.count = at + 1;
+        Ok(())
+    }
+
+    // Moves the pieces that lie in a block along, when the block is moved to `dest`.
+    #[inline(always)]
+    pub(crate) fn carry(&mut self, block: Block, dest: usize)
+        requires ordered { All (λ p. p.from_byte ≤ p.to_byte) self.old }
+        requires block { block.from ≤ block.end }
+        requires apart { All (IsApart block.low block.from block.end) self.old }
+        requires fits { dest + (block.end - block.from) < 2 ^ 64 }
+        ensures value { self.new ≡ map (carried block.low block.from dest) self.old }
+    {
+        let first = self.count_by(block.low);
+        if first == self.count {
+            return;
+        }
+        let reach = self.reach(first);
+        carry_each(&mut self.kept, first, self.count, reach, block, dest);
+    }
+}
+
+// Moves the pieces from `first` on along with the block, and computes their reaches anew.
+fn carry_each(
+    kept: &mut Vec<Entry>,
+    first: usize,
+    count: usize,
+    reach: usize,
+    block: Block,
+    dest: usize,
+)
+    requires first { first ≤ count }
+    requires reached { AreReached (pieces_of kept.old.items) (reaches_of kept.old.items) count }
+    requires below { AllWithin (EndsBy block.low) (pieces_of kept.old.items) 0 first }
+    requires ends { AllWithin (EndsBy reach) (pieces_of kept.old.items) 0 first }
+    requires ordered { All (λ p. p.from_byte ≤ p.to_byte) (take count (pieces_of kept.old.items)) }
+    requires block { block.from ≤ block.end }
+    requires apart { All (IsApart block.low block.from block.end) (take count (pieces_of kept.old.items)) }
+    requires fits { dest + (block.end - block.from) < 2 ^ 64 }
+    ensures reached { AreReached (pieces_of kept.new.items) (reaches_of kept.new.items) count }
+    ensures value { take count (pieces_of kept.new.items)
+        ≡ map (carried block.low block.from dest) (take count (pieces_of kept.old.items)) }
+{
+    let mut reach = reach;
+    for i in first..count {
+        let piece = carry_alone(kept[i].piece, block, dest);
+        if !piece.spilled {
+            reach = reach.max(piece.to_byte);
+        }
+        kept[i] = Entry { piece, reach };
+    }
+}
+
+// Returns a kept piece after the block was moved to `dest`.
+fn carry_alone(piece: Piece, block: Block, dest: usize) -> Piece
+    requires ordered { piece.from_byte ≤ piece.to_byte }
+    requires block { block.from ≤ block.end }
+    requires apart { IsApart block.low block.from block.end piece }
+    requires fits { dest + (block.end - block.from) < 2 ^ 64 }
+    ensures value { result ≡ carried block.low block.from dest piece }
+{
+    if piece.spilled || piece.to_byte <= block.low {
+        return piece;
+    }
+    Piece {
+        from_byte: dest + (piece.from_byte - block.from),
+        to_byte: dest + (piece.to_byte - block.from),
+        ..piece
+    }
+}
+
+// Grows the list, and fills it up with pieces of no bytes.
+#[cold]
+#[inline(never)]
+fn grow(kept: &mut Vec<Entry>) -> Result<(), AllocError>
+    ensures pieces { take (length kept.old.items) (pieces_of kept.new.items) ≡ pieces_of kept.old.items }
+    ensures reaches { take (length kept.old.items) (reaches_of kept.new.items) ≡ reaches_of kept.old.items }
+    ensures within { length kept.old.items ≤ length kept.new.items }
+    ensures room { OnOk result (length kept.old.items < length kept.new.items) }
+{
+    let Some(want) = kept.len().checked_mul(2) else {
+        return Err(AllocError);
+    };
+    let none = Entry {
+        piece: Piece::whole_at(0, 0),
+        reach: 0,
+    };
+    kept.resize(want.max(FIRST_ROOM), none)
+}
