@@ -6,9 +6,9 @@ use Rattle.demangle_text.specs.Pieces.{Store, IsStore}
 abbrev pub store_of : Inside → Store
 store_of a = record {
   output_text = a.output;
-  spill_text = a.lists.spill;
-  saved_pieces = a.lists.saved;
-  arg_pieces = a.lists.args;
+  spill_text = a.kept.spill;
+  saved_pieces = a.kept.saved;
+  arg_pieces = a.kept.args;
   scope_starts = a.starts.items;
   marked_len = a.marked_len;
 }

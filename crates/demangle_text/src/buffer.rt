@@ -18,7 +18,7 @@ pub struct Buffer {
     pub(crate) output: Text,
     // The saved shapes and the arguments of all scopes, and the spill with those of their texts that a move would have
     // torn.
-    pub(crate) lists: KeptPieces,
+    pub(crate) kept: KeptPieces,
     // The index at which the arguments of each scope begin.
     pub(crate) starts: Vec<usize>,
     // The length of the output at the innermost mark, in bytes.
@@ -70,7 +70,7 @@ impl Buffer {
     {
         Buffer {
             output: Text::new(alloc),
-            lists: KeptPieces {
+            kept: KeptPieces {
                 spill: Text::new(alloc),
                 saved: PieceList::new(alloc),
                 args: PieceList::new(alloc),
@@ -90,11 +90,11 @@ impl Buffer {
         ensures no_spill { self.new.spill_text ≡ [] }
         ensures from_start { frame_start (frame self.new) ≡ 0 }
     {
-        self.lists.saved.truncate(0);
-        self.lists.args.truncate(0);
+        self.kept.saved.truncate(0);
+        self.kept.args.truncate(0);
         self.starts.clear();
         self.output.clear();
-        self.lists.spill.clear();
+        self.kept.spill.clear();
         self.marked_len = 0;
     }
 
@@ -206,7 +206,7 @@ impl Buffer {
         let from = self.output.len();
         add_text(
             &mut self.output,
-            &self.lists.spill,
+            &self.kept.spill,
             piece.spilled,
             piece.from_byte,
             piece.to_byte,
@@ -436,7 +436,7 @@ impl Buffer {
         ensures older { (f : Frame) (from to : ℕ) → IsOlder piece f → Stands piece from to → to ≤ frame_start f }
     {
         if piece.spilled {
-            self.lists.spill.part(piece.from_byte, piece.to_byte)
+            self.kept.spill.part(piece.from_byte, piece.to_byte)
         } else {
             self.output.part(piece.from_byte, piece.to_byte)
         }

@@ -46,7 +46,7 @@ impl Buffer {
         ensures output { main_bytes self.new ≡ main_bytes self.old }
         ensures err { OnErr result (KeepsAll self.old self.new) }
     {
-        self.lists.saved.push(piece, self.output.len())?;
+        self.kept.saved.push(piece, self.output.len())?;
         Ok(())
     }
 
@@ -60,7 +60,7 @@ impl Buffer {
         ensures output { main_bytes self.new ≡ main_bytes self.old }
     {
         let last = self.saved_len() - 1;
-        self.lists.saved.truncate(last);
+        self.kept.saved.truncate(last);
     }
 
     /// Returns a piece of the entry of the substitution table with the index `i`, from 0 on, or `None` past the last
@@ -70,7 +70,7 @@ impl Buffer {
         ensures shape { option_map (shape self.now) result ≡ slice_get (saved self.now) i }
         ensures living { IfSome result (IsLiving self.now) }
     {
-        self.lists.saved.get(i)
+        self.kept.saved.get(i)
     }
 
     /// Returns the length of the substitution table.
@@ -79,7 +79,7 @@ impl Buffer {
         ensures value { result ≡ length (saved self.now) }
         ensures fits { result + 1 < 2 ^ 64 }
     {
-        self.lists.saved.len()
+        self.kept.saved.len()
     }
 
     /// Opens a scope without arguments, which becomes the last one. After `AllocError` nothing has changed.
@@ -90,7 +90,7 @@ impl Buffer {
         ensures output { main_bytes self.new ≡ main_bytes self.old }
         ensures err { OnErr result (KeepsAll self.old self.new) }
     {
-        let start = self.lists.args.len();
+        let start = self.kept.args.len();
         self.starts.push(start)?;
         Ok(())
     }
@@ -106,7 +106,7 @@ impl Buffer {
         ensures output { main_bytes self.new ≡ main_bytes self.old }
         ensures err { OnErr result (KeepsAll self.old self.new) }
     {
-        self.lists.args.push(&piece, self.output.len())?;
+        self.kept.args.push(&piece, self.output.len())?;
         Ok(())
     }
 
@@ -122,7 +122,7 @@ impl Buffer {
             return None;
         }
         let start = self.starts[count - 1];
-        let args = &self.lists.args;
+        let args = &self.kept.args;
         if i < args.len() - start {
             args.get(start + i)
         } else {
@@ -148,7 +148,7 @@ impl Buffer {
     {
         if n < self.scopes() {
             let start = self.starts[n];
-            self.lists.args.truncate(start);
+            self.kept.args.truncate(start);
             self.starts.truncate(n);
         }
     }

@@ -20,7 +20,7 @@ pub(crate) struct Entry {
 
 #[derive(Drop)]
 pub(crate) struct PieceList {
-    kept: Vec<Entry>,
+    entries: Vec<Entry>,
     count: usize,
 }
 
@@ -40,9 +40,9 @@ impl Model for PieceList {
 
     ghost use Rattle.demangle_text.specs.Pieces.{AreReached, pieces_of, reaches_of};
 
-    ghost view = { λ r. take r.count (pieces_of r.kept.items) };
+    ghost view = { λ r. take r.count (pieces_of r.entries.items) };
 
-    ghost invariant = { λ r. AreReached (pieces_of r.kept.items) (reaches_of r.kept.items) r.count };
+    ghost invariant = { λ r. AreReached (pieces_of r.entries.items) (reaches_of r.entries.items) r.count };
 }
 
 impl PieceList {
@@ -50,7 +50,7 @@ impl PieceList {
         ensures empty { result ≡ [] }
     {
         PieceList {
-            kept: Vec::new(alloc),
+            entries: Vec::new(alloc),
             count: 0,
         }
     }
@@ -70,7 +70,7 @@ impl PieceList {
         ensures ends { AllWithin (EndsBy result) self.now 0 n }
         ensures none { n ≡ 0 → result ≡ 0 }
     {
-        if n == 0 { 0 } else { self.kept[n - 1].reach }
+        if n == 0 { 0 } else { self.entries[n - 1].reach }
     }
 
     // Returns how many of the first pieces stay where they are if all after the byte `low` of the output is moved.
@@ -100,7 +100,7 @@ impl PieceList {
         requires within { i < length self.now }
         ensures value { result ≡ slice_index_or self.now i result }
     {
-        self.kept[i].piece
+        self.entries[i].piece
     }
 
     #[inline(always)]
@@ -108,7 +108,7 @@ impl PieceList {
         ensures value { result ≡ slice_get self.now i }
     {
         if i < self.count {
-            Some(self.kept[i].piece)
+            Some(self.entries[i].piece)
         } else {
             None
         }
@@ -120,7 +120,7 @@ impl PieceList {
         requires ends { (end : ℕ) → HoldsAt (EndsBy end) self.old i → EndsBy end piece }
         ensures value { self.new ≡ slice_set self.old i piece }
     {
-        self.kept[i].piece = piece;
+        self.entries[i].piece = piece;
     }
 
     // Appends a piece. All pieces must end by the byte `end` of the output.
@@ -132,10 +132,10 @@ impl PieceList {
         ensures err { OnErr result (self.new ≡ self.old) }
     {
         let at = self.count;
-        if at == self.kept.len() {
-            grow(&mut self.kept)?;
+        if at == self.entries.len() {
+            grow(&mut self.entries)?;
         }
-        self.kept[at] = Entry {
+        self.entries[at] = Entry {
             piece: *piece,
             reach: end,
         };
@@ -157,13 +157,13 @@ impl PieceList {
             return;
         }
         let reach = self.reach(first);
-        carry_each(&mut self.kept, first, self.count, reach, block, dest);
+        carry_each(&mut self.entries, first, self.count, reach, block, dest);
     }
 }
 
 // Moves the pieces from `first` on along with the block, and computes their reaches anew.
 fn carry_each(
-    kept: &mut Vec<Entry>,
+    entries: &mut Vec<Entry>,
     first: usize,
     count: usize,
     reach: usize,
@@ -171,24 +171,24 @@ fn carry_each(
     dest: usize,
 )
     requires first { first ≤ count }
-    requires reached { AreReached (pieces_of kept.old.items) (reaches_of kept.old.items) count }
-    requires below { AllWithin (EndsBy block.low) (pieces_of kept.old.items) 0 first }
-    requires ends { AllWithin (EndsBy reach) (pieces_of kept.old.items) 0 first }
-    requires ordered { All (λ p. p.from_byte ≤ p.to_byte) (take count (pieces_of kept.old.items)) }
+    requires reached { AreReached (pieces_of entries.old.items) (reaches_of entries.old.items) count }
+    requires below { AllWithin (EndsBy block.low) (pieces_of entries.old.items) 0 first }
+    requires ends { AllWithin (EndsBy reach) (pieces_of entries.old.items) 0 first }
+    requires ordered { All (λ p. p.from_byte ≤ p.to_byte) (take count (pieces_of entries.old.items)) }
     requires block { block.from ≤ block.end }
-    requires apart { All (IsApart block.low block.from block.end) (take count (pieces_of kept.old.items)) }
+    requires apart { All (IsApart block.low block.from block.end) (take count (pieces_of entries.old.items)) }
     requires fits { dest + (block.end - block.from) < 2 ^ 64 }
-    ensures reached { AreReached (pieces_of kept.new.items) (reaches_of kept.new.items) count }
-    ensures value { take count (pieces_of kept.new.items)
-        ≡ map (carried block.low block.from dest) (take count (pieces_of kept.old.items)) }
+    ensures reached { AreReached (pieces_of entries.new.items) (reaches_of entries.new.items) count }
+    ensures value { take count (pieces_of entries.new.items)
+        ≡ map (carried block.low block.from dest) (take count (pieces_of entries.old.items)) }
 {
     let mut reach = reach;
     for i in first..count {
-        let piece = carry_alone(kept[i].piece, block, dest);
+        let piece = carry_alone(entries[i].piece, block, dest);
         if !piece.spilled {
             reach = reach.max(piece.to_byte);
         }
-        kept[i] = Entry { piece, reach };
+        entries[i] = Entry { piece, reach };
     }
 }
 
@@ -213,18 +213,18 @@ fn carry_alone(piece: Piece, block: Block, dest: usize) -> Piece
 // Grows the list, and fills it up with pieces of no bytes.
 #[cold]
 #[inline(never)]
-fn grow(kept: &mut Vec<Entry>) -> Result<(), AllocError>
-    ensures pieces { take (length kept.old.items) (pieces_of kept.new.items) ≡ pieces_of kept.old.items }
-    ensures reaches { take (length kept.old.items) (reaches_of kept.new.items) ≡ reaches_of kept.old.items }
-    ensures within { length kept.old.items ≤ length kept.new.items }
-    ensures room { OnOk result (length kept.old.items < length kept.new.items) }
+fn grow(entries: &mut Vec<Entry>) -> Result<(), AllocError>
+    ensures pieces { take (length entries.old.items) (pieces_of entries.new.items) ≡ pieces_of entries.old.items }
+    ensures reaches { take (length entries.old.items) (reaches_of entries.new.items) ≡ reaches_of entries.old.items }
+    ensures within { length entries.old.items ≤ length entries.new.items }
+    ensures room { OnOk result (length entries.old.items < length entries.new.items) }
 {
-    let Some(want) = kept.len().checked_mul(2) else {
+    let Some(want) = entries.len().checked_mul(2) else {
         return Err(AllocError);
     };
     let none = Entry {
         piece: Piece::whole_at(0, 0),
         reach: 0,
     };
-    kept.resize(want.max(FIRST_ROOM), none)
+    entries.resize(want.max(FIRST_ROOM), none)
 }

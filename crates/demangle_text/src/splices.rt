@@ -72,7 +72,7 @@ impl Buffer {
         let mut to = to;
         if spilled || from < at {
             let copied = self.output.len();
-            add_text(&mut self.output, &self.lists.spill, spilled, from, to)?;
+            add_text(&mut self.output, &self.kept.spill, spilled, from, to)?;
             from = copied;
             to = self.output.len();
             if from == at {
@@ -84,10 +84,10 @@ impl Buffer {
             from,
             end: to,
         };
-        self.lists.set_apart(self.output.as_slice(), block)?;
+        self.kept.set_apart(self.output.as_slice(), block)?;
         self.output.keep(at, from, to);
-        self.lists.saved.carry(block, at);
-        self.lists.args.carry(block, at);
+        self.kept.saved.carry(block, at);
+        self.kept.args.carry(block, at);
         Ok(())
     }
 
@@ -127,15 +127,15 @@ impl Buffer {
             end: len,
         };
         // All memory is reserved before anything changes.
-        let torn = torn_len(&self.lists.saved, rest);
-        let torn = torn.saturating_add(torn_len(&self.lists.args, rest));
+        let torn = torn_len(&self.kept.saved, rest);
+        let torn = torn.saturating_add(torn_len(&self.kept.args, rest));
         self.output.reserve(n)?;
-        self.lists.spill.reserve(torn)?;
-        self.lists.set_apart(self.output.as_slice(), rest)?;
+        self.kept.spill.reserve(torn)?;
+        self.kept.set_apart(self.output.as_slice(), rest)?;
         self.output.open_room(at, n)?;
         let dest = at + (self.output.len() - len);
-        self.lists.saved.carry(rest, dest);
-        self.lists.args.carry(rest, dest);
+        self.kept.saved.carry(rest, dest);
+        self.kept.args.carry(rest, dest);
         Ok(())
     }
 
@@ -157,7 +157,7 @@ impl Buffer {
         let rest = piece.text_len() - at;
         add_text(
             &mut self.output,
-            &self.lists.spill,
+            &self.kept.spill,
             piece.spilled,
             piece.from_byte,
             piece.to_byte,
@@ -177,7 +177,7 @@ impl Buffer {
         ensures main_err { OnErr result (self.new.output_text ≡ self.old.output_text) }
     {
         let len = self.output.len();
-        let from = at_end(&mut self.output, &self.lists.spill, self.marked_len, piece)?;
+        let from = at_end(&mut self.output, &self.kept.spill, self.marked_len, piece)?;
         let added = self.output.add(bytes);
         taken_back(&mut self.output, len, added)?;
         Ok(from)
@@ -201,12 +201,12 @@ impl Buffer {
         ensures main_err { OnErr result (self.new.output_text ≡ self.old.output_text) }
     {
         let len = self.output.len();
-        let from = at_end(&mut self.output, &self.lists.spill, self.marked_len, piece)?;
+        let from = at_end(&mut self.output, &self.kept.spill, self.marked_len, piece)?;
         let added = self.output.add(bytes);
         taken_back(&mut self.output, len, added)?;
         let added = add_text(
             &mut self.output,
-            &self.lists.spill,
+            &self.kept.spill,
             other.spilled,
             other.from_byte,
             other.to_byte,
@@ -239,7 +239,7 @@ impl Buffer {
         };
         self.open_gap(at, n)?;
         let middle = if first.spilled {
-            let text = self.lists.spill.part(first.from_byte, first.to_byte);
+            let text = self.kept.spill.part(first.from_byte, first.to_byte);
             self.output.put(at, text)
         } else {
             self.output.put_part(at, first.from_byte, first.to_byte)

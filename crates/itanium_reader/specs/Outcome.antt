@@ -87,7 +87,7 @@ OnlyTakes (Err Unread) before after = after ≡ before
 OnlyTakes (Err Memory) before after = Unit {0}
 
 -- What a successful reading costs.
-pub record Cost (least slack : ℕ) (before after : ParserState) : Type 0 where
+pub record CostBounds (least slack : ℕ) (before after : ParserState) : Type 0 where
   -- it takes at least so many bytes
   pub taken : length after.rest + least ≤ length before.rest
   -- it enters at most two counted productions for each byte that it takes, less the slack
@@ -98,7 +98,7 @@ pub record Cost (least slack : ℕ) (before after : ParserState) : Type 0 where
 -- What a call costs. A run that fails enters at most two productions for each byte that was left, and `more`. After an
 -- allocation failure nothing is said.
 abbrev pub Bounds : {A : Type 0} → ℕ → ℕ → ℕ → Result A Stop → ParserState → ParserState → Type 0
-Bounds least slack more (Ok a) before after = Cost least slack before after
+Bounds least slack more (Ok a) before after = CostBounds least slack before after
 Bounds least slack more (Err Unread) before after = after.entered ≤ before.entered + 2 * length before.rest + more
 Bounds least slack more (Err Memory) before after = Unit {0}
 

@@ -441,7 +441,7 @@ encoding_end end type param name s =
 
 -- the words of a name's own qualifiers are shown inside a local name, so also of its entity
 abbrev pub shows_words : NameCase → Bool → Bool
-shows_words LocalName words_shown = true
+shows_words LocalName shown = true
 shows_words case shown = shown
 
 -- a name with its own qualifiers

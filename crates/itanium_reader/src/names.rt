@@ -200,7 +200,7 @@ impl<'a> Reader<'a> {
     /// qualifier is set, `found` becomes a plain piece. The method isn't inlined, to keep the stack frame of names
     /// small.
     #[inline(never)]
-    pub fn print_quals(&mut self, quals: Quals, words_shown: bool) -> Result<(), AllocError>
+    pub fn print_quals(&mut self, quals: Quals, shown: bool) -> Result<(), AllocError>
         requires living { IsLiving self.old.buffer.value self.old.found }
         ensures shape { OnOk result (Lives self.new.buffer.value self.new.found
             (with_name_qualifiers (shape self.old.buffer.value self.old.found) quals shown)) }

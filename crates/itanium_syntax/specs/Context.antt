@@ -1,6 +1,7 @@
 -- What a production hands down to those inside it: four flags, all off at the start of a symbol's name.
---   shown: words such as ` const` are printed after a name. On in a local or an external name, and in a signature.
---   pack: a pack expansion prints no `...`. On in an argument pack, and in the parameters of a signature.
+--   words_shown: words such as ` const` are printed after a name. On in a local or an external name, and in a
+--     signature.
+--   dots_hidden: a pack expansion prints no `...`. On in an argument pack, and in the parameters of a signature.
 --   lambda: a template parameter prints `auto`. On in the parameters of a lambda.
 --   in_type: the template arguments of a name open no scope. On in a type, but not in an encoding inside it.
 use Rattle.std.specs.Prelude.{Bool, true, false, not, ◌&&◌}
@@ -16,7 +17,7 @@ opens_scope of_name x = of_name && not x.in_type
 abbrev pub inside_type : Context → Context
 inside_type x = record x { in_type = true }
 
--- the context inside an argument pack
+-- the context in which a pack expansion prints no dots, as inside an argument pack
 abbrev pub hiding_dots : Context → Context
 hiding_dots x = record x { dots_hidden = true }
 
@@ -24,7 +25,7 @@ hiding_dots x = record x { dots_hidden = true }
 abbrev pub inside_lambda : Context → Context
 inside_lambda x = record x { lambda = true }
 
--- the context inside a local name: the words of qualifiers are shown
+-- the context in which the words of qualifiers are shown, as inside a local name
 abbrev pub showing_words : Context → Context
 showing_words x = record x { words_shown = true }
 

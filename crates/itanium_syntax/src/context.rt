@@ -5,7 +5,7 @@ ghost use Rattle.itanium_syntax.specs.Context as spec;
 use crate::encodings::EncodingEnd;
 
 /// Four flags that each reader passes to the readers inside it. All are off at the start of a symbol's name. At the
-/// start of a signature `shown` is on.
+/// start of a signature `words_shown` is on.
 #[derive(Clone, Copy)]
 pub struct Context {
     /// Set inside a local or an external name, and in a signature: words such as ` const` after a name are printed.
@@ -37,7 +37,7 @@ impl Context {
         }
     }
 
-    /// Returns the context inside an argument pack.
+    /// Returns the context in which a pack expansion prints no `...`: that of an argument pack.
     pub fn hiding_dots(self) -> Context
         ensures context { result ≡ spec.hiding_dots self }
     {
@@ -57,7 +57,8 @@ impl Context {
         }
     }
 
-    /// Returns the context inside a local name, also for its entity.
+    /// Returns the context in which words such as ` const` are printed after a name: that of a local name and its
+    /// entity, and that at the start of a signature.
     pub fn showing_words(self) -> Context
         ensures context { result ≡ spec.showing_words self }
     {
@@ -78,8 +79,8 @@ impl Context {
         }
     }
 
-    /// Returns the context for the parameters of an encoding with this `end`. In a signature `pack` is set, so an
-    /// expansion prints its arguments without `...`.
+    /// Returns the context for the parameters of an encoding with this `end`. In a signature `dots_hidden` is set, so
+    /// an expansion prints its arguments without `...`.
     pub fn inside_params(self, end: EncodingEnd) -> Context
         ensures context { result ≡ spec.inside_params end self }
     {

@@ -42,7 +42,7 @@ const UNDERSCORE: u8 = b'_';
 
 /// Returns the length in bytes of the first whole lines or words, up to one that isn't ordinary.
 #[inline(always)]
-fn ordinary_len(symbols: Symbols, lines: &[u8]) -> usize
+fn ordinary_len(symbols: Symbols, whole: &[u8]) -> usize
     ensures bound { result ≤ length whole.now }
     ensures ordinary { AreWholeFiltered symbols (take result whole.now) (take result whole.now) }
 {

@@ -4,7 +4,7 @@ use Rattle.demangle_text.specs.Calls.{IsInner, text_after}
 use Rattle.demangle_edit.specs.Built.{arguments_opened}
 use Rattle.demangle_text.specs.Calls.{IsLast}
 use Rattle.itanium_reader.specs.Parser as spec
-use Rattle.itanium_reader.specs.Outcome.{state, LoopSoFar, Cost, Growth}
+use Rattle.itanium_reader.specs.Outcome.{state, LoopSoFar, CostBounds, Growth}
 use Rattle.itanium_syntax.specs.Types.{params_case}
 use Rattle.itanium_grammar.specs.Answer.{max_text}
 use Rattle.itanium_reader.proofs.Loops.{ListSoFar}
@@ -114,7 +114,7 @@ invariant-names::read_prefix-loop-reader l = record {
   living : IsLiving l.reader.buffer.value l.reader.found;
   last : IsLast l.reader.buffer.value l.reader.found;
   run : IsRun l.fn.reader.buffer.value l.reader.buffer.value;
-  cost : Cost 1 1 (state l.fn.reader) (state l.reader);
+  cost : CostBounds 1 1 (state l.fn.reader) (state l.reader);
   list : length (saved_so_far l.unsaved l.reader).saved + length l.reader.rest.now ≤ length (saved l.fn.reader.buffer.value) + length l.fn.reader.rest.now;
   most : (saved_so_far l.unsaved l.reader).most_saved ≤ max (state l.fn.reader).most_saved (length (saved l.fn.reader.buffer.value) + length l.fn.reader.rest.now);
 }
@@ -207,7 +207,7 @@ invariant-args::read_argument_pack-loop-reader l = record {
       pack_end (l.first, shape l.reader.buffer.value l.list) (state l.reader);
   living : IsLiving l.reader.buffer.value l.list;
   run : IsRun l.fn.reader.buffer.value l.reader.buffer.value;
-  cost : Cost 1 1 (state l.fn.reader) (state l.reader);
+  cost : CostBounds 1 1 (state l.fn.reader) (state l.reader);
   growth : Growth 1 (state l.fn.reader) (state l.reader);
 }
 
@@ -221,7 +221,7 @@ invariant-types::read_params-loop-list l = record {
       (spec.typed_turn l.end l.of_function (spec.parse_type l.depth l.context)) (l.first, shape l.reader.buffer.value l.list) (state l.reader);
   living : IsLiving l.reader.buffer.value l.list;
   run : IsRun l.fn.reader.buffer.value l.reader.buffer.value;
-  cost : Cost 0 0 (state l.fn.reader) (state l.reader);
+  cost : CostBounds 0 0 (state l.fn.reader) (state l.reader);
   growth : Growth 0 (state l.fn.reader) (state l.reader);
 }
 

@@ -10,24 +10,24 @@ use Rattle.demangle_text.proofs.piece_list.carry_each.Goals.{then-not-piece, els
 
 pub loop-i-init : goal.loop-i-init
 loop-i-init c =
-    let xs = pieces_of c.args.kept.now.items in
+    let xs = pieces_of c.args.entries.now.items in
     record {
       value = over_start c.args.block.low c.args.block.from c.args.dest xs c.args.first c.requires.below;
-      reached = reached-fewer xs (reaches_of c.args.kept.now.items) c.args.count c.args.first c.requires.first c.requires.reached;
+      reached = reached-fewer xs (reaches_of c.args.entries.now.items) c.args.count c.args.first c.requires.first c.requires.reached;
       ends = c.requires.ends;
       long = refl;
     }
 
 pub carry_alone-piece-requires-clause-ordered : goal.carry_alone-piece-requires-clause-ordered
 carry_alone-piece-requires-clause-ordered c =
-    let xs = pieces_of c.args.kept.now.items in
-    let ks = c.loop-i.kept.items in
+    let xs = pieces_of c.args.entries.now.items in
+    let ks = c.loop-i.entries.items in
     let k = c.index.result.now in
     let i = c.loop-i.i in
     let r = c.requires.reached in
     let lt : i < c.args.count = omega (arith, c.loop-i-test.true) in
     let there : i < length xs = omega (arith, lt, r.within, r.room) in
-    let here : i < length ks = omega (arith, there, c.loop-i.invariant.long, length-map c.args.kept.now.items (λ (k : Entry). k.piece)) in
+    let here : i < length ks = omega (arith, there, c.loop-i.invariant.long, length-map c.args.entries.now.items (λ (k : Entry). k.piece)) in
     let is : k.piece ≡ get_or (pieces_of ks) i k.piece = ap (λ (k : Entry). k.piece) c.index.ensures ∙ sym (get_or-map (λ (k : Entry). k.piece) ks i k k.piece here) in
     let was = is ∙ over_at (carried c.args.block.low c.args.block.from c.args.dest) xs (pieces_of ks) i
     k.piece there c.loop-i.invariant.value ∙ sym (get_or-take c.args.count xs i k.piece lt) in
@@ -36,14 +36,14 @@ carry_alone-piece-requires-clause-ordered c =
 
 pub carry_alone-piece-requires-clause-apart : goal.carry_alone-piece-requires-clause-apart
 carry_alone-piece-requires-clause-apart c =
-    let xs = pieces_of c.args.kept.now.items in
-    let ks = c.loop-i.kept.items in
+    let xs = pieces_of c.args.entries.now.items in
+    let ks = c.loop-i.entries.items in
     let k = c.index.result.now in
     let i = c.loop-i.i in
     let r = c.requires.reached in
     let lt : i < c.args.count = omega (arith, c.loop-i-test.true) in
     let there : i < length xs = omega (arith, lt, r.within, r.room) in
-    let here : i < length ks = omega (arith, there, c.loop-i.invariant.long, length-map c.args.kept.now.items (λ (k : Entry). k.piece)) in
+    let here : i < length ks = omega (arith, there, c.loop-i.invariant.long, length-map c.args.entries.now.items (λ (k : Entry). k.piece)) in
     let is : k.piece ≡ get_or (pieces_of ks) i k.piece = ap (λ (k : Entry). k.piece) c.index.ensures ∙ sym (get_or-map (λ (k : Entry). k.piece) ks i k k.piece here) in
     let was = is ∙ over_at (carried c.args.block.low c.args.block.from c.args.dest) xs (pieces_of ks) i
     k.piece there c.loop-i.invariant.value ∙ sym (get_or-take c.args.count xs i k.piece lt) in
@@ -51,13 +51,13 @@ carry_alone-piece-requires-clause-apart c =
     subst (IsApart c.args.block.low c.args.block.from c.args.block.end) (sym was) (c.requires.apart i k.piece all)
 
 -- the new byte is one for all that were kept before, and for the piece
-longer : (c : goal.After-kept-1) → c.loop-i.reach ≤ c.if-not-piece.reach
+longer : (c : goal.After-entries-1) → c.loop-i.reach ≤ c.if-not-piece.reach
 longer c = elim c.if-not-piece.branch [
   | else-not-piece w ↦ omega (arith, w.reach-is)
   | then-not-piece w ↦ omega (arith, w.reach-is, w.max-reach.ensures)
 ]
 
-last : (c : goal.After-kept-1) → EndsBy c.if-not-piece.reach c.carry_alone-piece.result
+last : (c : goal.After-entries-1) → EndsBy c.if-not-piece.reach c.carry_alone-piece.result
 last c = λ home. elim c.if-not-piece.branch [
   | else-not-piece w ↦ let no : true ≡ false = sym (ap not home) ∙ w.if-not-piece.false in let k : ⊥ = cc in absurd k
   | then-not-piece w ↦ omega (arith, w.reach-is, w.max-reach.ensures)
@@ -65,15 +65,15 @@ last c = λ home. elim c.if-not-piece.branch [
 
 pub loop-i-preserved : goal.loop-i-preserved
 loop-i-preserved c =
-    let xs = pieces_of c.args.kept.now.items in
-    let ks = c.loop-i.kept.items in
+    let xs = pieces_of c.args.entries.now.items in
+    let ks = c.loop-i.entries.items in
     let ys = pieces_of ks in
     let k = c.index.result.now in
     let i = c.loop-i.i in
     let r = c.requires.reached in
     let lt : i < c.args.count = omega (arith, c.loop-i-test.true) in
     let there : i < length xs = omega (arith, lt, r.within, r.room) in
-    let here : i < length ks = omega (arith, there, c.loop-i.invariant.long, length-map c.args.kept.now.items (λ (k : Entry). k.piece)) in
+    let here : i < length ks = omega (arith, there, c.loop-i.invariant.long, length-map c.args.entries.now.items (λ (k : Entry). k.piece)) in
     let within : i < length ys = omega (arith, here, length-map ks (λ (k : Entry). k.piece)) in
     let room : i < length (reaches_of ks) = omega (arith, here, length-map ks (λ (k : Entry). k.reach)) in
     let is : k.piece ≡ get_or ys i k.piece = ap (λ (k : Entry). k.piece) c.index.ensures ∙ sym (get_or-map (λ (k : Entry). k.piece) ks i k k.piece here) in

@@ -5,8 +5,8 @@ use Rattle.demangle_text.proofs.piece_list.carry_each.Given as goal
 
 abbrev pub invariant-loop-i : goal.invariant-loop-i
 invariant-loop-i l = record {
-  value : pieces_of l.kept.items ≡ map (carried l.block.low l.block.from l.dest) (take l.i (pieces_of l.fn.kept.items)) ++ drop l.i (pieces_of l.fn.kept.items);
-  reached : AreReached (pieces_of l.kept.items) (reaches_of l.kept.items) l.i;
-  ends : AllWithin (EndsBy l.reach) (pieces_of l.kept.items) 0 l.i;
-  long : length l.kept.items ≡ length l.fn.kept.items;
+  value : pieces_of l.entries.items ≡ map (carried l.block.low l.block.from l.dest) (take l.i (pieces_of l.fn.entries.items)) ++ drop l.i (pieces_of l.fn.entries.items);
+  reached : AreReached (pieces_of l.entries.items) (reaches_of l.entries.items) l.i;
+  ends : AllWithin (EndsBy l.reach) (pieces_of l.entries.items) 0 l.i;
+  long : length l.entries.items ≡ length l.fn.entries.items;
 }

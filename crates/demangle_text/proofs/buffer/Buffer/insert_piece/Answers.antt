@@ -35,7 +35,7 @@ module _ (c : goal.After-put) where
   all = c.self.inside.output
 
   abbrev spill : List ℕ
-  spill = c.self.inside.lists.spill
+  spill = c.self.inside.kept.spill
 
   kept : piece_text all spill p ≡ piece_text c.args.self.now.output_text c.args.self.now.spill_text p
   kept = text-kept c.args.self.now (store_of c.self.inside) c.args.at c.in-Some.n (gap c) c.requires.within p c.requires.living c.requires.before

@@ -15,9 +15,9 @@ record HasFront (xs ys : List Entry) (n : ℕ) : Type 0 where
   reaches : take n (reaches_of ys) ≡ take n (reaches_of xs)
   room : n < length ys
 
-front : (c : goal.After-self-2-1) → HasFront c.self.inside.kept.items c.if-at-len.self-inside.kept.items c.self.inside.count
+front : (c : goal.After-self-2-1) → HasFront c.self.inside.entries.items c.if-at-len.self-inside.entries.items c.self.inside.count
 front c =
-    let xs = c.self.inside.kept.items in
+    let xs = c.self.inside.entries.items in
     let n = c.self.inside.count in
     let p = length-map xs (λ (k : Entry). k.piece) in
     let r = length-map xs (λ (k : Entry). k.reach) in
@@ -26,8 +26,8 @@ front c =
           let all : n ≡ length xs = omega (arith, c.len.ensures, w.if-at-len.true) in
           let e = w.in_ok-grow.ensures in
           rw w.self-inside-is (record {
-            pieces = ap (λ (k : ℕ). take k (pieces_of w.grow.new.kept.items)) all ∙ e.pieces ∙ sym (take_all n (pieces_of xs) (omega (arith, all, p)));
-            reaches = ap (λ (k : ℕ). take k (reaches_of w.grow.new.kept.items)) all ∙ e.reaches ∙ sym (take_all n (reaches_of xs) (omega (arith, all, r)));
+            pieces = ap (λ (k : ℕ). take k (pieces_of w.grow.new.entries.items)) all ∙ e.pieces ∙ sym (take_all n (pieces_of xs) (omega (arith, all, p)));
+            reaches = ap (λ (k : ℕ). take k (reaches_of w.grow.new.entries.items)) all ∙ e.reaches ∙ sym (take_all n (reaches_of xs) (omega (arith, all, r)));
             room = omega (arith, all, e.room);
           })
       | else-at-len w ↦
@@ -37,8 +37,8 @@ front c =
 
 pub invariant_of-self-2 : goal.invariant_of-self-2
 invariant_of-self-2 c =
-    let xs = c.self.inside.kept.items in
-    let ys = c.if-at-len.self-inside.kept.items in
+    let xs = c.self.inside.entries.items in
+    let ys = c.if-at-len.self-inside.entries.items in
     let n = c.self.inside.count in
     let f = front c in
     let k : Entry = record { piece = c.args.piece.now; reach = c.args.end } in
@@ -55,7 +55,7 @@ invariant_of-self-2 c =
 
 pub returns-clause-ok : goal.returns-clause-ok
 returns-clause-ok c =
-    let ys = c.if-at-len.self-inside.kept.items in
+    let ys = c.if-at-len.self-inside.entries.items in
     let n = c.self.inside.count in
     let f = front c in
     let k : Entry = record { piece = c.args.piece.now; reach = c.args.end } in

@@ -7,7 +7,7 @@ use Rattle.demangle_text.proofs.piece_list.PieceList.reach.Goals as goal
 
 pub returns-else-n-eq0-clause-ends : goal.returns-else-n-eq0-clause-ends
 returns-else-n-eq0-clause-ends c k d a b =
-    let xs = c.self.inside.kept.items in
+    let xs = c.self.inside.entries.items in
     let n = c.args.n in
     let count = c.self.inside.count in
     let r = c.self.invariant in

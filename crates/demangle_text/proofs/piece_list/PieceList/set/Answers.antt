@@ -9,7 +9,7 @@ use Rattle.demangle_text.proofs.piece_list.PieceList.set.Goals as goal
 
 pub invariant_of-self : goal.invariant_of-self
 invariant_of-self c =
-    let ks = c.self.inside.kept.items in
+    let ks = c.self.inside.entries.items in
     let xs = pieces_of ks in
     let n = c.self.inside.count in
     let old = c.index_mut.result.now in
@@ -23,7 +23,7 @@ invariant_of-self c =
 
 pub returns : goal.returns
 returns c =
-    let ks = c.self.inside.kept.items in
+    let ks = c.self.inside.entries.items in
     let xs = pieces_of ks in
     let n = c.self.inside.count in
     let new : Entry = record { piece = c.args.piece; reach = c.index_mut.result.now.reach } in
