@@ -1,6 +1,5 @@
 -- What a production hands down to those inside it: four flags, all off at the start of a symbol's name.
---   words_shown: words such as ` const` are printed after a name. On in a local or an external name, and in a
---     signature.
+--   words_shown: words such as ` const` are printed after a name. On in a local or external name, and in a signature.
 --   dots_hidden: a pack expansion prints no `...`. On in an argument pack, and in the parameters of a signature.
 --   lambda: a template parameter prints `auto`. On in the parameters of a lambda.
 --   in_type: the template arguments of a name open no scope. On in a type, but not in an encoding inside it.
