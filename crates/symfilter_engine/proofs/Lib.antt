@@ -6,7 +6,7 @@ pub mod Writing
 pub mod LineAnswers
 pub mod LineEnds
 pub mod Chunks
-pub mod Copying
+pub mod Copied
 mod Shown
 mod PrefixChars
 mod WordTurns

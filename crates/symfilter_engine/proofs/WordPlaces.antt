@@ -2,7 +2,7 @@
 use Rattle.std.proofs.Common.{◌≡◌, ◌≢◌, ℕ, suc, ◌+◌, ◌-◌, min, ◌<◌, ◌≤◌, List, [], ◌∷◌, ◌++◌, Bool, true, false, ◌&&◌, ◌||◌}
 use Rattle.std.proofs.Common.{◌==◌, Some, None, Result, Ok, Err, OnOk, ◌⊎◌, inl, inr, if◌then◌else◌, nat_le, codes}
 use Rattle.std.proofs.Common.{length, take, drop, get_or, refl, sym, ap, subst, ◌∙◌, arith, append_assoc, append-nil}
-use Rattle.std.proofs.lemmas.List.{length-drop, length-take-le, get_or-take, get_or-drop, get_or_past, take-append-drop, take-take, take_all, take_rest, take_more, drop-take, drop-drop}
+use Rattle.std.proofs.lemmas.List.{length-drop, length-take-le, get_or-take, get_or-drop, get_or_past, take-append-drop, take-take, take_all, take_rest, drop-take, drop-drop}
 use Rattle.std.proofs.Math.Seq.{take-add, drop-cons}
 use Rattle.std.proofs.lemmas.List.Elements.{All-cons, All-get_or, All-from_get_or, All-drop, All-same}
 use Rattle.std.proofs.lemmas.Bool.{false≢true, and_parts, or_cases, eqb-true, leb-true, cases_lt, cases_Bool}
@@ -10,7 +10,7 @@ use Rattle.std.proofs.lemmas.Str.{IsUtf8-from_ascii}
 use Rattle.std.specs.Prelude.{All, IsUtf8}
 use Rattle.itanium_syntax.specs.Bytes.{is, is_between, is_digit, one_of, begins}
 use Rattle.symfilter_engine.specs.Replaced.{is_word_byte, IsWordByte, IsDot, ends_in_dot, prefix_chars_len, past_prefix_chars, symbol_in, IsWordAnswer, IsReplaced, no_byte, one_word}
-use Rattle.symfilter_engine.specs.Progress.{underscore, capital_z, HasNone, IsFirst, HasNoPrefix, IsFirstPrefix, AreWordBytes, IsBoundary, IsFirstWordLen, Extends, AppendsReplaced}
+use Rattle.symfilter_engine.specs.Progress.{underscore, capital_z, HasNone, IsFirst, HasNoPrefix, IsFirstPrefix, AreWordBytes, IsBoundary, Extends, AppendsReplaced}
 use Rattle.symfilter_engine.proofs.ReplacedText.{no_prefix-left, more_replaced, unprefixed}
 use Rattle.symfilter_engine.specs.declared.symbols.Replacement.{Replacement}
 
@@ -344,14 +344,6 @@ word_down bytes place inside is all =
     All-same IsWordByte (drop place bytes) (get_or bytes place 0 ∷ drop (suc place) bytes) (drop-cons bytes place 0 inside)
     (All-cons IsWordByte (get_or bytes place 0) (drop (suc place) bytes) is all)
 
--- a word, and the byte after it
-pub first_word_len : (bytes : List ℕ) (end : ℕ) → end < length bytes → AreWordBytes bytes 0 end → is_word_byte (get_or bytes end 0) ≡ false → IsFirstWordLen bytes (end + 1)
-first_word_len bytes end inside word ended =
-    record {
-      within = omega (arith, inside);
-      word = take end bytes;
-      byte = get_or bytes end 0;
-      front = take_more bytes end 0 inside;
-      all = subst (λ n. All IsWordByte (take n bytes)) (omega arith) (word_slice bytes 0 end (omega arith) (omega (arith, inside)) word);
-      ended = ended;
-    }
+-- a word at the front
+pub first_word : (bytes : List ℕ) (end : ℕ) → end ≤ length bytes → AreWordBytes bytes 0 end → All IsWordByte (take end bytes)
+first_word bytes end inside word = subst (λ n. All IsWordByte (take n bytes)) (omega arith) (word_slice bytes 0 end (omega arith) inside word)

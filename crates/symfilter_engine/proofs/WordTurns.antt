@@ -1,19 +1,18 @@
 -- What was read and written, word by word.
-use Rattle.std.proofs.Common.{◌≡◌, ◌≢◌, ℕ, ◌<◌, ◌≤◌, List, [], ◌∷◌, ◌++◌, Bool, true, false, Option, length, take, drop}
-use Rattle.std.proofs.Common.{IfSome, refl, sym, ap, subst, ◌∙◌, arith, append_assoc, append-nil}
+use Rattle.std.proofs.Common.{◌≡◌, ◌≢◌, ℕ, ◌+◌, ◌<◌, List, [], ◌∷◌, ◌++◌, Bool, true, false, Option, length, take, drop, get_or}
+use Rattle.std.proofs.Common.{refl, sym, ap, subst, ◌∙◌, arith, append_assoc, append-nil}
 use Rattle.std.proofs.lemmas.Bool.{false≢true}
-use Rattle.std.proofs.lemmas.List.{length-take-le, take-append-drop, take-append-le, take-take}
+use Rattle.std.proofs.lemmas.List.{take-append-drop, take_more}
 use Rattle.std.proofs.lemmas.List.Elements.{All-nil, All-cons, All-append, All-same}
-use Rattle.std.proofs.KnownBytes.{Appends-nil, Appends-trans, Appends-kept, Consumes-nil, Consumes-trans, Consumes-kept}
-use Rattle.std.specs.Io.KnownBytes.{Appends, Consumes, IsAtEnd, Keeps}
+use Rattle.std.proofs.KnownBytes.{Appends-nil, Appends-trans, Appends-kept}
+use Rattle.std.specs.Io.KnownBytes.{Appends, Consumes, Keeps}
 use Rattle.std.specs.Prelude.{All}
 use Rattle.symfilter_engine.specs.declared.symbols.Symbols.TheVariants.{Words}
 use Rattle.symfilter_engine.specs.Replaced.{is_word_byte, IsWordByte, begins_word, ends_word, IsHeld, may_hold_symbol, IsReplaced, no_byte, other, one_word, no_symbol}
 use Rattle.symfilter_engine.specs.Filtered.{IsFront, FiltersFront, FiltersWhole, ReplacesAllButHeld, WritesBeginning, WritesFiltered}
-use Rattle.symfilter_engine.specs.Progress.{GoesOn, HasCopiedWords, HasFiltered, HasReplaced, IsFirstWordLen, IsReplacedIn, Leads, ReadsMore, ReplacesBeginning, ReplacesFront, ReplacesWhole, WritesFront, WritesWholeFront}
-use Rattle.symfilter_engine.proofs.Chunks.{nothing_read}
-use Rattle.symfilter_engine.proofs.Copying.{all_read}
+use Rattle.symfilter_engine.specs.Progress.{AreWordBytes, GoesOn, HasFiltered, HasReplaced, IsReplacedIn, Leads, ReplacesBeginning, ReplacesFront, WritesFront, WritesWholeFront}
 use Rattle.symfilter_engine.proofs.ReplacedText.{IsReplaced-append, whole_parted, whole-append, replaced_of, split_of}
+use Rattle.symfilter_engine.proofs.WordPlaces.{first_word}
 use Rattle.symfilter_engine.proofs.PrefixChars.{stem_plain, plain_some}
 use Rattle.symfilter_engine.specs.declared.symbols.Replacement.{Replacement}
 
@@ -97,7 +96,7 @@ leads_on options inside mid after first text second more one two =
     }
 
 -- no bytes yet
-none_leads : (options : Replacement) → Leads options false [] [] false
+pub none_leads : (options : Replacement) → Leads options false [] [] false
 none_leads options = record { goes = λ rest more replaced. replaced; ended = λ _. refl; none = λ _ _. refl }
 
 -- whole words
@@ -135,7 +134,7 @@ plain_leads options word all plain =
     }
 
 -- more bytes of it
-on_leads : (options : Replacement) (word : List ℕ) → All IsWordByte word → Leads options true word word true
+pub on_leads : (options : Replacement) (word : List ℕ) → All IsWordByte word → Leads options true word word true
 on_leads options word all =
     record {
       goes = λ rest more goes.
@@ -171,6 +170,13 @@ past_leads options word byte all end =
       ended = λ _. whole-append word (byte ∷ []) end (λ e. absurd (cc));
       none = λ _ all_none. absurd (let both = none_before word (byte ∷ []) all_none in let e = both.1 in cc);
     }
+
+-- the first word of bytes in which it goes on, and the byte after it
+pub first_leads : (options : Replacement) (bytes : List ℕ) (end : ℕ) → end < length bytes → AreWordBytes bytes 0 end → is_word_byte (get_or bytes end 0) ≡ false
+    → Leads options true (take (end + 1) bytes) (take (end + 1) bytes) false
+first_leads options bytes end inside word ended =
+    subst (λ l. Leads options true l l false) (sym (take_more bytes end 0 inside))
+    (past_leads options (take end bytes) (get_or bytes end 0) (first_word bytes end (omega (arith, inside)) word) ended)
 
 -- nothing was given yet
 pub none_replaced : (options : Replacement) (given : List ℕ) (at : Option (List ℕ)) → HasReplaced options false given given false at at
@@ -224,21 +230,11 @@ pub word_passed : (options : Replacement) (word : List ℕ) (t t' : Option (List
 word_passed options word t t' all plain writes =
     record { done = word; text = word; given_is = sym (append-nil word); leads = plain_leads options word all plain; written = writes }
 
-pub more_passed : (options : Replacement) (word : List ℕ) (t t' : Option (List ℕ)) → All IsWordByte word → Appends t t' word → HasReplaced options true word [] true t t'
-more_passed options word t t' all writes =
-    record { done = word; text = word; given_is = sym (append-nil word); leads = on_leads options word all; written = writes }
-
--- with the byte after it
-pub rest_passed : (options : Replacement) (bytes : List ℕ) (n : ℕ) (t t' : Option (List ℕ)) → IsFirstWordLen bytes n → Appends t t' (take n bytes)
-    → HasReplaced options true bytes (drop n bytes) false t t'
-rest_passed options bytes n t t' past writes =
-    record {
-      done = take n bytes;
-      text = take n bytes;
-      given_is = sym (take-append-drop n bytes);
-      leads = subst (λ l. Leads options true l l false) (sym past.front) (past_leads options past.word past.byte past.all past.ended);
-      written = writes;
-    }
+-- bytes that stay were written
+pub front_passed : (options : Replacement) (inside after : Bool) (bytes : List ℕ) (n : ℕ) (t t' : Option (List ℕ)) → Leads options inside (take n bytes) (take n bytes) after
+    → Appends t t' (take n bytes) → HasReplaced options inside bytes (drop n bytes) after t t'
+front_passed options inside after bytes n t t' leads writes =
+    record { done = take n bytes; text = take n bytes; given_is = sym (take-append-drop n bytes); leads = leads; written = writes }
 
 -- a front of what the bytes lead to
 front_of : (options : Replacement) (inside after : Bool) (bytes text rest written : List ℕ) → Leads options inside bytes text after → IsFront written text
@@ -251,7 +247,7 @@ front_of options inside after bytes text rest written leads is_front =
     )
 
 -- a front of bytes that stay was written
-stay_front : (options : Replacement) (inside after : Bool) (bytes front : List ℕ) (n : ℕ) (t t' : Option (List ℕ)) → Leads options inside front front after → front ≡ take n bytes
+pub stay_front : (options : Replacement) (inside after : Bool) (bytes front : List ℕ) (n : ℕ) (t t' : Option (List ℕ)) → Leads options inside front front after → front ≡ take n bytes
     → WritesFront front t t' → ReplacesFront options inside bytes t t'
 stay_front options inside after bytes front n t t' leads front_is (left, writes) rest =
     let whole : bytes ++ rest ≡ front ++ (drop n bytes ++ rest) =
@@ -268,17 +264,6 @@ word_front options word t t' all plain writes rest =
     let front = writes.1 in
     let found = front_of options false true word word rest front.front (plain_leads options word all plain) (writes.0, front.bytes_are) in
     (front.front, found, front.written)
-
-pub more_front : (options : Replacement) (word : List ℕ) (t t' : Option (List ℕ)) → All IsWordByte word → WritesFront word t t' → ReplacesFront options true word t t'
-more_front options word t t' all writes rest =
-    let front = writes.1 in
-    let found = front_of options true true word word rest front.front (on_leads options word all) (writes.0, front.bytes_are) in
-    (front.front, found, front.written)
-
-pub past_front : (options : Replacement) (bytes : List ℕ) (n : ℕ) (t t' : Option (List ℕ)) → IsFirstWordLen bytes n → WritesFront (take n bytes) t t' → ReplacesFront options true bytes t t'
-past_front options bytes n t t' past writes =
-    stay_front options true false bytes (take n bytes) n t t'
-    (subst (λ l. Leads options true l l false) (sym past.front) (past_leads options past.word past.byte past.all past.ended)) refl writes
 
 -- a beginning of what was left
 begins_after : (options : Replacement) (inside mid : Bool) (given left rest : List ℕ) (t t' t'' : Option (List ℕ)) → HasReplaced options inside given left mid t t'
@@ -306,60 +291,12 @@ words_front options bytes words n t t' begins words_are rest =
     sym (append_assoc words (drop n bytes) rest) ∙ ap (λ l. l ++ rest) (ap (λ l. l ++ drop n bytes) words_are ∙ take-append-drop n bytes) in
     subst (λ l. ReplacesBeginning options false l t t') whole (begins (drop n bytes ++ rest))
 
--- nothing was read yet
-pub none_copied_words : (options : Replacement) (word : List ℕ) (source sink : Option (List ℕ)) → word ≡ [] → HasCopiedWords options false word source source sink sink
-none_copied_words options word source sink word_is =
-    record {
-      read = [];
-      consumed = Consumes-nil source;
-      none = λ _. word_is;
-      replaced = subst (λ l. HasReplaced options false [] l false sink sink) (sym word_is) (none_replaced options [] sink);
-    }
-
--- and nothing is held back
+-- nothing is held back
 pub none_held : (options : Replacement) (word : List ℕ) → word ≡ [] → IsHeld options.strip word
 none_held options word word_is = subst (IsHeld options.strip) (sym word_is) (record { word = All-nil IsWordByte; may_hold = refl })
 
--- what was read in one turn, after the word that was kept
-read_on : (options : Replacement) (inside : Bool) (word piece all : List ℕ) (s s' s'' t t' : Option (List ℕ)) (so_far : HasCopiedWords options inside word s s' t t')
-    → Consumes s' s'' piece → all ≡ word ++ piece
-    → Consumes s s'' (so_far.read ++ piece) × HasReplaced options false (so_far.read ++ piece) all inside t t'
-read_on options inside word piece all s s' s'' t t' so_far consumed all_is = (
-  Consumes-trans s s' s'' so_far.read piece so_far.consumed consumed,
-  subst (λ l. HasReplaced options false (so_far.read ++ piece) l inside t t') (sym all_is)
-      (given_more options false inside so_far.read word piece t t' so_far.replaced),
-)
-
--- one turn more
-pub turn_copied : (options : Replacement) (inside after : Bool) (kept end : ℕ) (old new rest left : List ℕ) (s s' s'' t t' t'' : Option (List ℕ))
-    → HasCopiedWords options inside (take kept old) s s' t t' → ReadsMore kept end old new s' s'' → HasReplaced options inside (take end new) left after t' t'' → rest ≡ left
-    → (after ≡ true → left ≡ []) → HasCopiedWords options after rest s s'' t t''
-turn_copied options inside after kept end old new rest left s s' s'' t t' t'' so_far more replaced rest_is none =
-    let all = read_on options inside (take kept old) more.piece (take end new) s s' s'' t t' so_far more.consumed more.held in
-    subst (λ l. HasCopiedWords options after l s s'' t t'') (sym rest_is)
-    (record {
-      read = so_far.read ++ more.piece;
-      consumed = all.0;
-      none = none;
-      replaced = replaced_on options false inside after (so_far.read ++ more.piece) (take end new) left t t' t'' all.1 replaced;
-    })
-
--- a fault came in it
-pub turn_fault : (options : Replacement) (inside : Bool) (kept end : ℕ) (old new : List ℕ) (s s' s'' t t' t'' : Option (List ℕ))
-    → HasCopiedWords options inside (take kept old) s s' t t' → ReadsMore kept end old new s' s'' → ReplacesFront options inside (take end new) t' t''
-    → FiltersFront (Words options) s s'' t t''
-turn_fault options inside kept end old new s s' s'' t t' t'' so_far more begins =
-    let all = read_on options inside (take kept old) more.piece (take end new) s s' s'' t t' so_far more.consumed more.held in
-    let read : List ℕ = so_far.read ++ more.piece in
-    record {
-      read = read;
-      consumed = all.0;
-      begins = subst (λ l. ReplacesBeginning options false l t t'') (append-nil read)
-          (front_after options false inside read (take end new) t t' t'' all.1 begins []);
-    }
-
 -- whole words were written of what was read
-whole_words : (options : Replacement) (read left : List ℕ) (s s' t t' : Option (List ℕ)) → Consumes s s' read → HasReplaced options false read left false t t'
+pub whole_words : (options : Replacement) (read left : List ℕ) (s s' t t' : Option (List ℕ)) → Consumes s s' read → HasReplaced options false read left false t t'
     → FiltersWhole (Words options) s s' t t'
 whole_words options read left s s' t t' consumed replaced =
     let leads = replaced.leads in
@@ -376,47 +313,6 @@ whole_words options read left s s' t t' consumed replaced =
       written = replaced.written;
     }
 
--- memory was refused in it
-pub turn_refused : (options : Replacement) (inside : Bool) (kept end : ℕ) (old new : List ℕ) (s s' s'' t t' t'' : Option (List ℕ))
-    → HasCopiedWords options inside (take kept old) s s' t t' → ReadsMore kept end old new s' s'' → ReplacesWhole options inside (take end new) t' t''
-    → FiltersWhole (Words options) s s'' t t''
-turn_refused options inside kept end old new s s' s'' t t' t'' so_far more (left, replaced) =
-    let all = read_on options inside (take kept old) more.piece (take end new) s s' s'' t t' so_far more.consumed more.held in
-    let read : List ℕ = so_far.read ++ more.piece in
-    whole_words options read left s s'' t t'' all.0 (replaced_on options false inside false read (take end new) left t t' t'' all.1 replaced)
-
--- memory was refused for more room
-pub read_refused : (options : Replacement) (inside : Bool) (kept : ℕ) (old : List ℕ) (s s' s'' t t' : Option (List ℕ)) → HasCopiedWords options inside (take kept old) s s' t t'
-    → Keeps s' s'' → kept ≡ length old → 0 < length old → FiltersWhole (Words options) s s'' t t'
-read_refused options true kept old s s' s'' t t' so_far keeps full some =
-    absurd (omega (arith, some, full, length-take-le kept old (omega (arith, full)), ap length (so_far.none refl)))
-read_refused options false kept old s s' s'' t t' so_far keeps full some =
-    whole_words options so_far.read (take kept old) s s'' t t' (Consumes-kept s s' s'' so_far.read so_far.consumed keeps) so_far.replaced
-
--- what was held stands in front
-pub still_held : (options : Replacement) (kept end : ℕ) (old new : List ℕ) (s s' : Option (List ℕ)) → IsHeld options.strip (take kept old) → ReadsMore kept end old new s s' → kept ≤ length old
-    → All IsWordByte (take kept (take end new))
-still_held options kept end old new s s' held more within =
-    let same : take kept (take end new) ≡ take kept old =
-    ap (take kept) more.held ∙ take-append-le kept (take kept old) more.piece (omega (arith, length-take-le kept old within)) ∙ take-take kept kept old (omega arith) in
-    All-same IsWordByte (take kept (take end new)) (take kept old) same held.word
-
--- nothing more was read
-pub end_copied : (options : Replacement) (inside : Bool) (kept end : ℕ) (old new : List ℕ) (s s' s'' t t' : Option (List ℕ))
-    → HasCopiedWords options inside (take kept old) s s' t t' → ReadsMore kept end old new s' s'' → kept ≤ length old → end ≡ kept
-    → HasCopiedWords options inside (take kept new) s s'' t t'
-end_copied options inside kept end old new s s' s'' t t' so_far more within same =
-    let none = nothing_read kept end old new s' s'' more within same in
-    let held : take kept new ≡ take kept old = ap (λ n. take n new) (sym same) ∙ more.held ∙ ap (λ l. take kept old ++ l) none ∙ append-nil (take kept old) in
-    subst (λ l. HasCopiedWords options inside l s s'' t t') (sym held)
-    (record {
-      read = so_far.read;
-      consumed = subst (Consumes s s'') (ap (λ l. so_far.read ++ l) none ∙ append-nil so_far.read)
-          (Consumes-trans s s' s'' so_far.read more.piece so_far.consumed more.consumed);
-      none = so_far.none;
-      replaced = so_far.replaced;
-    })
-
 -- the replaced text of what was done
 done_replaced : (options : Replacement) (inside : Bool) (bytes text : List ℕ) → Leads options false bytes text inside → IsReplaced options bytes text
 done_replaced options inside bytes text leads =
@@ -428,84 +324,67 @@ held_begins : (inside : Bool) (done word : List ℕ) → (inside ≡ false → e
 held_begins true done word ended none ends = none refl
 held_begins false done word ended none ends = absurd (false≢true (sym (ended refl) ∙ ends))
 
--- the source failed, and gave nothing
-pub read_put : (options : Replacement) (inside : Bool) (word : List ℕ) (s s' s'' t t' : Option (List ℕ)) → HasCopiedWords options inside word s s' t t' → IsHeld options.strip word → Keeps s' s''
-    → ReplacesAllButHeld options s s'' t t'
-read_put options inside word s s' s'' t t' so_far held keeps =
-    let replaced = so_far.replaced in
+-- the source gave these bytes, and all were written but those held back
+pub all_but_held : (options : Replacement) (inside : Bool) (read word : List ℕ) (s s' t t' : Option (List ℕ)) → Consumes s s' read → HasReplaced options false read word inside t t'
+    → (inside ≡ true → word ≡ []) → IsHeld options.strip word → ReplacesAllButHeld options s s' t t'
+all_but_held options inside read word s s' t t' consumed replaced none held =
     record {
       given = replaced.done;
       held = word;
-      consumed = subst (Consumes s s'') replaced.given_is (Consumes-kept s s' s'' so_far.read so_far.consumed keeps);
+      consumed = subst (Consumes s s') replaced.given_is consumed;
       is_held = held;
-      begins = held_begins inside replaced.done word replaced.leads.ended so_far.none;
+      begins = held_begins inside replaced.done word replaced.leads.ended none;
       text = replaced.text;
       replaced = done_replaced options inside replaced.done replaced.text replaced.leads;
       written = replaced.written;
     }
 
-pub read_fault : (options : Replacement) (inside : Bool) (word : List ℕ) (s s' s'' t t' : Option (List ℕ)) → HasCopiedWords options inside word s s' t t' → Keeps s' s''
-    → FiltersFront (Words options) s s'' t t'
-read_fault options inside word s s' s'' t t' so_far keeps =
-    let replaced = so_far.replaced in
-    let found = replaced_in options inside word in
-    record {
-      read = so_far.read;
-      consumed = Consumes-kept s s' s'' so_far.read so_far.consumed keeps;
-      begins = (
-        replaced.text,
-        (
-          replaced.text ++ found.0,
-          subst (λ l. IsReplaced options l (replaced.text ++ found.0)) (sym replaced.given_is) (replaced.leads.goes word found.0 found.1),
-          (found.0, refl),
-        ),
-        replaced.written,
-      );
-    }
-
--- the last word was written too
-pub last_copied : (options : Replacement) (inside : Bool) (word : List ℕ) (s s' t t' t'' : Option (List ℕ)) → HasCopiedWords options inside word s s' t t' → IsAtEnd s'
-    → WritesFiltered (Words options) word t' t'' → IfSome s (λ given. WritesFiltered (Words options) given t t'')
-last_copied options inside word s s' t t' t'' so_far ends (text, is_replaced, writes) =
-    let replaced = so_far.replaced in
-    all_read (Words options) s s' t t'' so_far.read so_far.consumed ends (
-      replaced.text ++ text,
-      subst (λ l. IsReplaced options l (replaced.text ++ text)) (sym replaced.given_is)
-          (replaced.leads.goes word text (left_in options inside word text so_far.none is_replaced)),
-      Appends-trans t t' t'' replaced.text text replaced.written writes,
+-- what is written stays a beginning
+pub replaced_begun : (options : Replacement) (inside : Bool) (read word : List ℕ) (t t' : Option (List ℕ)) → HasReplaced options false read word inside t t'
+    → WritesBeginning (Words options) read t t'
+replaced_begun options inside read word t t' replaced =
+    let found = replaced_in options inside word in (
+      replaced.text,
+      (
+        replaced.text ++ found.0,
+        subst (λ l. IsReplaced options l (replaced.text ++ found.0)) (sym replaced.given_is) (replaced.leads.goes word found.0 found.1),
+        (found.0, refl),
+      ),
+      replaced.written,
     )
 
--- a fault came while it was written
-pub last_fault : (options : Replacement) (inside : Bool) (word : List ℕ) (s s' t t' t'' : Option (List ℕ)) → HasCopiedWords options inside word s s' t t'
-    → WritesBeginning (Words options) word t' t'' → FiltersFront (Words options) s s' t t''
-last_fault options inside word s s' t t' t'' so_far (written, (text, is_replaced, is_front), writes) =
-    let replaced = so_far.replaced in
-    record {
-      read = so_far.read;
-      consumed = so_far.consumed;
-      begins = (
-        replaced.text ++ written,
-        (
-          replaced.text ++ text,
-          subst (λ l. IsReplaced options l (replaced.text ++ text)) (sym replaced.given_is)
-              (replaced.leads.goes word text (left_in options inside word text so_far.none is_replaced)),
-          (is_front.0, ap (λ l. replaced.text ++ l) is_front.1 ∙ sym (append_assoc replaced.text written is_front.0)),
-        ),
-        Appends-trans t t' t'' replaced.text written replaced.written writes,
-      );
-    }
+-- the last word was written too
+pub last_on : (options : Replacement) (inside : Bool) (read word : List ℕ) (t t' t'' : Option (List ℕ)) → HasReplaced options false read word inside t t'
+    → (inside ≡ true → word ≡ []) → WritesFiltered (Words options) word t' t'' → WritesFiltered (Words options) read t t''
+last_on options inside read word t t' t'' replaced none (text, is_replaced, writes) = (
+  replaced.text ++ text,
+  subst (λ l. IsReplaced options l (replaced.text ++ text)) (sym replaced.given_is)
+      (replaced.leads.goes word text (left_in options inside word text none is_replaced)),
+  Appends-trans t t' t'' replaced.text text replaced.written writes,
+)
 
--- memory was refused for it
-pub last_refused : (options : Replacement) (inside : Bool) (word : List ℕ) (s s' t t' t'' : Option (List ℕ)) → HasCopiedWords options inside word s s' t t' → 0 < length word → Keeps t' t''
-    → FiltersWhole (Words options) s s' t t''
-last_refused options true word s s' t t' t'' so_far some keeps = absurd (omega (arith, some, ap length (so_far.none refl)))
-last_refused options false word s s' t t' t'' so_far some keeps =
-    let replaced = so_far.replaced in
-    whole_words options so_far.read word s s' t t'' so_far.consumed
-    (record {
+-- a beginning of it was
+pub last_begun : (options : Replacement) (inside : Bool) (read word : List ℕ) (t t' t'' : Option (List ℕ)) → HasReplaced options false read word inside t t'
+    → (inside ≡ true → word ≡ []) → WritesBeginning (Words options) word t' t'' → WritesBeginning (Words options) read t t''
+last_begun options inside read word t t' t'' replaced none (written, (text, is_replaced, is_front), writes) = (
+  replaced.text ++ written,
+  (
+    replaced.text ++ text,
+    subst (λ l. IsReplaced options l (replaced.text ++ text)) (sym replaced.given_is)
+        (replaced.leads.goes word text (left_in options inside word text none is_replaced)),
+    (is_front.0, ap (λ l. replaced.text ++ l) is_front.1 ∙ sym (append_assoc replaced.text written is_front.0)),
+  ),
+  Appends-trans t t' t'' replaced.text written replaced.written writes,
+)
+
+-- nothing more was written
+pub replaced_kept : (options : Replacement) (inside after : Bool) (given left : List ℕ) (t t' t'' : Option (List ℕ)) → HasReplaced options inside given left after t t' → Keeps t' t''
+    → HasReplaced options inside given left after t t''
+replaced_kept options inside after given left t t' t'' replaced keeps =
+    record {
       done = replaced.done;
       text = replaced.text;
       given_is = replaced.given_is;
       leads = replaced.leads;
       written = Appends-kept t t' t'' replaced.text replaced.written keeps;
-    })
+    }

@@ -3,8 +3,9 @@ use Rattle.std.specs.Prelude.{◌≡◌, ◌≢◌, ℕ, suc, ◌-◌, ◌<◌, 
 use Rattle.std.specs.Io.KnownBytes.{Appends, Consumes, IsAtEnd}
 use Rattle.symfilter_engine.specs.declared.symbols.Replacement.{Replacement}
 use Rattle.symfilter_engine.specs.declared.symbols.Symbols.{Symbols}
-use Rattle.symfilter_engine.specs.Filtered.{line_feed, AreWholeFiltered, IsFront, WritesBeginning}
-use Rattle.symfilter_engine.specs.Replaced.{is_word_byte, IsWordByte, begins_word, ends_word, IsReplaced}
+use Rattle.symfilter_engine.specs.declared.symbols.Symbols.TheVariants.{Lines, Words}
+use Rattle.symfilter_engine.specs.Filtered.{line_feed, HasNoLineFeed, AreWholeFiltered, IsFront, WritesBeginning, FiltersLines, ReplacesAllButHeld}
+use Rattle.symfilter_engine.specs.Replaced.{is_word_byte, IsWordByte, begins_word, ends_word, IsHeld, IsReplaced}
 
 -- no byte is this one
 abbrev pub HasNone : ℕ → List ℕ → Type 0
@@ -91,13 +92,6 @@ WritesWhole symbols lines before after =
 abbrev pub WritesWholeFront : Symbols → List ℕ → Option (List ℕ) → Option (List ℕ) → Type 0
 WritesWholeFront symbols lines before after = (rest : List ℕ) → WritesBeginning symbols (lines ++ rest) before after
 
--- whole lines of what was read were written filtered, and these bytes of the next line were read
-pub record HasCopied (symbols : Symbols) (line : List ℕ)
-    (before after written_before written_after : Option (List ℕ)) : Type 0 where
-  pub read : List ℕ
-  pub consumed : Consumes before after read
-  pub filtered : HasFiltered symbols read line written_before written_after
-
 -- a chunk holds what was read between the bytes kept and this place, and the source is at its end if that is nothing
 pub record ReadsMore (kept end : ℕ) (old new : List ℕ) (before after : Option (List ℕ)) : Type 0 where
   pub piece : List ℕ
@@ -141,11 +135,6 @@ pub record HasReplaced (options : Replacement) (inside : Bool) (given left : Lis
   pub leads : Leads options inside done text after
   pub written : Appends before_written after_written text
 
--- the replaced text of whole words was written, and nothing of the next word
-abbrev pub ReplacesWhole : Replacement → Bool → List ℕ → Option (List ℕ) → Option (List ℕ) → Type 0
-ReplacesWhole options inside given before after =
-    (left : List ℕ) × HasReplaced options inside given left false before after
-
 -- a beginning of the replaced text of the bytes was written
 abbrev pub ReplacesBeginning : Replacement → Bool → List ℕ → Option (List ℕ) → Option (List ℕ) → Type 0
 ReplacesBeginning options inside given before after =
@@ -158,25 +147,39 @@ abbrev pub ReplacesFront : Replacement → Bool → List ℕ → Option (List �
 ReplacesFront options inside given before after =
     (rest : List ℕ) → ReplacesBeginning options inside (given ++ rest) before after
 
--- bytes were read, and the replaced text of all but a last word was written; none is left where a word goes on
-pub record HasCopiedWords (options : Replacement) (inside : Bool) (word : List ℕ)
+-- bytes that are kept: the beginning of a line, or of a word that may hold a symbol, or none
+abbrev pub AreKept : Symbols → List ℕ → Type 0
+AreKept (Lines printing) bytes = HasNoLineFeed bytes
+AreKept (Words options) bytes = IsHeld options.strip bytes
+
+-- of the bytes given the filtered text of all but those left was written; only in words a word may go on
+abbrev pub HasWritten : Symbols → Bool → List ℕ → List ℕ → Bool → Option (List ℕ) → Option (List ℕ) → Type 0
+HasWritten (Lines printing) inside given left after before_written after_written =
+    HasFiltered (Lines printing) given left before_written after_written
+HasWritten (Words options) inside given left after before_written after_written =
+    HasReplaced options inside given left after before_written after_written
+
+-- the filtered text of whole lines or words was written, and nothing of the next
+abbrev pub WritesSomeIn : Symbols → Bool → List ℕ → Option (List ℕ) → Option (List ℕ) → Type 0
+WritesSomeIn symbols inside given before after =
+    (left : List ℕ) × HasWritten symbols inside given left false before after
+
+-- whatever follows these bytes, a beginning of the filtered text of all was written
+abbrev pub WritesFrontIn : Symbols → Bool → List ℕ → Option (List ℕ) → Option (List ℕ) → Type 0
+WritesFrontIn (Lines printing) inside given before after = WritesWholeFront (Lines printing) given before after
+WritesFrontIn (Words options) inside given before after = ReplacesFront options inside given before after
+
+-- bytes were read, and the filtered text of all but those left was written; none is left where a word goes on
+pub record HasCopied (symbols : Symbols) (inside : Bool) (left : List ℕ)
     (before after written_before written_after : Option (List ℕ)) : Type 0 where
   pub read : List ℕ
   pub consumed : Consumes before after read
-  pub none : inside ≡ true → word ≡ []
-  pub replaced : HasReplaced options false read word inside written_before written_after
+  pub none : inside ≡ true → left ≡ []
+  pub written : HasWritten symbols false read left inside written_before written_after
 
--- the same, whether a word goes on or not
-abbrev pub CopiesWords : Replacement → List ℕ → Option (List ℕ) → Option (List ℕ) → Option (List ℕ)
-    → Option (List ℕ) → Type 0
-CopiesWords options word before after written_before written_after =
-    (inside : Bool) × HasCopiedWords options inside word before after written_before written_after
-
--- a word has so many bytes, with one after it that is in no word
-pub record IsFirstWordLen (bytes : List ℕ) (len : ℕ) : Type 0 where
-  pub within : len ≤ length bytes
-  pub word : List ℕ
-  pub byte : ℕ
-  pub front : take len bytes ≡ word ++ byte ∷ []
-  pub all : All IsWordByte word
-  pub ended : is_word_byte byte ≡ false
+-- the filtered text of all that was read was written, but for bytes that are kept
+abbrev pub WritesAllButKept : Symbols → Option (List ℕ) → Option (List ℕ) → Option (List ℕ) → Option (List ℕ) → Type 0
+WritesAllButKept (Lines printing) before after written_before written_after =
+    FiltersLines (Lines printing) before after written_before written_after
+WritesAllButKept (Words options) before after written_before written_after =
+    ReplacesAllButHeld options before after written_before written_after

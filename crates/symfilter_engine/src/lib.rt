@@ -12,6 +12,7 @@
 #![tactic(auto)]
 
 mod byte_search;
+mod copying;
 mod fault;
 mod filtering;
 mod line_feeds;

@@ -44,21 +44,9 @@ fn prefix_chars_len(word: &[u8]) -> usize
     }
 }
 
-/// Returns the bytes if they begin as a symbol does, with `_Z` or `__Z`. If `strip` is true and they begin with
-/// `___Z`, returns them without the first underscore. Otherwise returns `None`.
-#[inline(always)]
-fn symbol_at(strip: bool, bytes: &[u8]) -> Option<&[u8]>
-    ensures value { option_map (λ symbol. symbol.now) result ≡ spec.symbol_at strip bytes.now }
-{
-    match bytes {
-        [b'_', b'Z', ..] | [b'_', b'_', b'Z', ..] => Some(bytes),
-        [b'_', b'_', b'_', b'Z', ..] if strip => Some(&bytes[1..]),
-        _ => None,
-    }
-}
-
-/// Returns the symbol in a word, and the length in bytes of the prefix characters in front of it. Returns `None` if the
-/// word has no symbol. The word has no dots at its end.
+/// Returns the symbol in a word, and the length in bytes of the prefix characters in front of it. The symbol begins
+/// with `_Z` or `__Z`. If `strip` is true, it may begin with `___Z`, and is returned without the first underscore.
+/// Returns `None` if the word has no symbol. The word has no dots at its end.
 #[inline(always)]
 fn symbol_in(strip: bool, word: &[u8]) -> Option<(usize, &[u8])>
     ensures bound { IfSome result (λ found. found.0 ≤ length word.now) }
@@ -70,9 +58,11 @@ fn symbol_in(strip: bool, word: &[u8]) -> Option<(usize, &[u8])>
         return Some((0, word));
     }
     let prefix_len = prefix_chars_len(word);
-    match symbol_at(strip, &word[prefix_len..]) {
-        Some(symbol) => Some((prefix_len, symbol)),
-        None => None,
+    let bytes = &word[prefix_len..];
+    match bytes {
+        [b'_', b'Z', ..] | [b'_', b'_', b'Z', ..] => Some((prefix_len, bytes)),
+        [b'_', b'_', b'_', b'Z', ..] if strip => Some((prefix_len, &bytes[1..])),
+        _ => None,
     }
 }
 

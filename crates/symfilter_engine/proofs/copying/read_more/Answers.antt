@@ -1,8 +1,8 @@
 use Rattle.std.proofs.Common.{◌≡◌, ◌+◌, ◌<◌, ◌≤◌, length, take, arith, ap, sym, subst, ◌∙◌}
 use Rattle.std.proofs.lemmas.Grind.{common_steps}
 use Rattle.symfilter_engine.proofs.Chunks.{read_held, read_inside}
-use Rattle.symfilter_engine.proofs.filtering.read_more.Goals as goal
-use Rattle.symfilter_engine.proofs.filtering.read_more.Goals.{then-kept-len+in_ok-resize, else-kept-len}
+use Rattle.symfilter_engine.proofs.copying.read_more.Goals as goal
+use Rattle.symfilter_engine.proofs.copying.read_more.Goals.{then-kept-len+in_ok-resize, else-kept-len}
 
 pub returns-in-Ok-clause-ok : goal.returns-in-Ok-clause-ok
 returns-in-Ok-clause-ok g c =

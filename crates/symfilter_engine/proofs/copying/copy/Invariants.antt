@@ -1,7 +1,6 @@
 use Rattle.std.proofs.Common.{◌≡◌, ◌<◌, ◌≤◌, false, length, take}
-use Rattle.symfilter_engine.specs.Progress.{HasCopiedWords}
-use Rattle.symfilter_engine.specs.Replaced.{IsHeld}
-use Rattle.symfilter_engine.proofs.replacing.copy_words.Given as goal
+use Rattle.symfilter_engine.specs.Progress.{AreKept, HasCopied}
+use Rattle.symfilter_engine.proofs.copying.copy.Given as goal
 
 abbrev pub invariant-chunks : goal.invariant-chunks
 invariant-chunks g l =
@@ -12,8 +11,8 @@ invariant-chunks g l =
       sink_in_time : g.W.Sink.called_late l.sink ≡ g.W.Sink.called_late l.fn.sink;
       room : 0 < length l.chunk.items;
       within : l.kept ≤ length l.chunk.items;
-      held : IsHeld l.options.strip (take l.kept l.chunk.items);
-      so_far : HasCopiedWords l.options l.inside (take l.kept l.chunk.items) (g.R.Source.remaining l.fn.source) (g.R.Source.remaining l.source) (g.W.Sink.taken l.fn.sink) (g.W.Sink.taken l.sink);
+      held : AreKept l.symbols (take l.kept l.chunk.items);
+      so_far : HasCopied l.symbols l.inside (take l.kept l.chunk.items) (g.R.Source.remaining l.fn.source) (g.R.Source.remaining l.source) (g.W.Sink.taken l.fn.sink) (g.W.Sink.taken l.sink);
     }
 
 abbrev pub decreases-chunks : goal.decreases-chunks

@@ -1,0 +1,198 @@
+//! Copies the input to the output in chunks, and filters it on the way.
+ghost use Rattle.std.specs.Prelude.{◌≡◌, ◌<◌, ◌≤◌, true, false, [], length, take, drop, IsErrOf, IfOk, IfSome, Some, OnOk, OnErr};
+ghost use Rattle.std.specs.Io.KnownBytes.{Keeps};
+ghost use Rattle.symfilter_engine.specs.declared.symbols.Replacement.{Replacement};
+ghost use Rattle.symfilter_engine.specs.Fault.{IsRunOutcome, IsReadOutcome, IsWriteOutcome};
+ghost use Rattle.symfilter_engine.specs.Filtered.{FiltersFront, FiltersWhole, WritesFiltered};
+ghost use Rattle.symfilter_engine.specs.Progress.{AreKept, HasWritten, Leads, ReadsMore, WritesAllButKept, WritesFrontIn, WritesSomeIn};
+
+use super::fault::FilterFault;
+use super::line_feeds::ended_len;
+use super::lines::{write_last, write_whole};
+use super::output::write_all;
+use super::streams::{Failed, Sink, Source};
+use super::symbols::{Replacement, Symbols};
+use super::word_bounds::{whole_words_len, word_end};
+use super::words::may_hold_symbol;
+use growing_text::Text;
+use itanium_demangle::Demangler;
+use std::alloc::Global;
+
+/// The length of a chunk in bytes. A chunk grows by as many bytes if a longer line or word must be kept.
+const CHUNK_LEN: usize = 131072;
+
+/// Reads to the end in chunks, and writes the filtered text. The front of the chunk keeps the beginning of a line that
+/// isn't whole, or of a word that may hold a symbol.
+pub(crate) fn copy<R: Source, W: Sink>(
+    alloc: Global,
+    symbols: Symbols,
+    source: &mut R,
+    sink: &mut W,
+) -> Result<(), FilterFault>
+    requires source_not_failed { R.failed source.old ≡ false }
+    requires sink_not_failed { W.failed sink.old ≡ false }
+    ensures outcome { IsRunOutcome result (R.failed source.new) (W.failed sink.new) }
+    ensures source_in_time { R.called_late source.new ≡ R.called_late source.old }
+    ensures sink_in_time { W.called_late sink.new ≡ W.called_late sink.old }
+    ensures used_up { OnOk result (IfSome (R.remaining source.old) (λ _. R.remaining source.new ≡ Some [])) }
+    ensures ok { OnOk result (IfSome (R.remaining source.old) (λ given.
+        WritesFiltered symbols given (W.taken sink.old) (W.taken sink.new))) }
+    ensures err { OnErr result (FiltersFront symbols
+        (R.remaining source.old) (R.remaining source.new) (W.taken sink.old) (W.taken sink.new)) }
+    ensures put { IsErrOf result FilterFault.Read → WritesAllButKept symbols
+        (R.remaining source.old) (R.remaining source.new) (W.taken sink.old) (W.taken sink.new) }
+    ensures memory { IsErrOf result FilterFault.Memory → FiltersWhole symbols
+        (R.remaining source.old) (R.remaining source.new) (W.taken sink.old) (W.taken sink.new) }
+{
+    let mut chunk = vec![in alloc; 0u8; CHUNK_LEN]?;
+    let mut demangler = Demangler::new();
+    let mut output = Text::new(alloc);
+    let mut kept = 0;
+    let mut inside = false;
+    'chunks: loop {
+        let end = read_more(source, &mut chunk, kept)?;
+        if end == kept {
+            return write_last(alloc, &mut demangler, symbols, &chunk[..kept], sink);
+        }
+        let written = write_chunk(
+            alloc,
+            &mut demangler,
+            symbols,
+            &chunk[..end],
+            kept,
+            inside,
+            &mut output,
+            sink,
+        )?;
+        // What isn't written moves to the front.
+        if written.done > 0 {
+            chunk.copy_within(written.done..end, 0);
+        }
+        kept = end - written.done;
+        inside = written.inside;
+    }
+}
+
+/// Reads more bytes after the first `kept` bytes of the chunk, and returns the number of both. If the chunk is full,
+/// it grows first. The number is `kept` only at the end of the input.
+fn read_more<R: Source>(
+    source: &mut R,
+    chunk: &mut Vec<u8>,
+    kept: usize,
+) -> Result<usize, FilterFault>
+    requires not_failed { R.failed source.old ≡ false }
+    requires inside { kept ≤ length chunk.old.items }
+    ensures outcome { IsReadOutcome result (R.failed source.new) }
+    ensures in_time { R.called_late source.new ≡ R.called_late source.old }
+    ensures ok { IfOk result (λ end. ReadsMore kept end chunk.old.items chunk.new.items
+        (R.remaining source.old) (R.remaining source.new)) }
+    ensures fewer { IfOk result (λ end. kept < end → R.calls_left source.new < R.calls_left source.old) }
+    ensures err { OnErr result (Keeps (R.remaining source.old) (R.remaining source.new)) }
+    ensures full { IsErrOf result FilterFault.Memory → kept ≡ length chunk.old.items }
+{
+    if kept == chunk.len() {
+        chunk.resize(kept + CHUNK_LEN, 0)?;
+    }
+    match source.take(&mut chunk[kept..]) {
+        Ok(count) => Ok(kept + count),
+        Err(Failed) => Err(FilterFault::Read),
+    }
+}
+
+/// How many bytes were written, and how the text goes on after them.
+#[derive(Clone, Copy)]
+struct Written {
+    /// The number of bytes that were written.
+    done: usize,
+    /// Whether the last word holds no symbol and may go on in the next chunk.
+    inside: bool,
+}
+
+/// Writes the text for these bytes, up to a last line that isn't whole, or up to a last word that may hold a symbol. If
+/// `inside` is true, the bytes begin inside a word that holds no symbol. The first `seen` bytes were kept.
+fn write_chunk<W: Sink>(
+    alloc: Global,
+    demangler: &mut Demangler,
+    symbols: Symbols,
+    bytes: &[u8],
+    seen: usize,
+    inside: bool,
+    output: &mut Text,
+    sink: &mut W,
+) -> Result<Written, FilterFault>
+    requires not_failed { W.failed sink.old ≡ false }
+    requires within { seen ≤ length bytes.now }
+    requires kept { AreKept symbols (take seen bytes.now) }
+    requires none { inside ≡ true → seen ≡ 0 }
+    ensures outcome { IsWriteOutcome result (W.failed sink.new) }
+    ensures in_time { W.called_late sink.new ≡ W.called_late sink.old }
+    ensures bound { IfOk result (λ written. written.done ≤ length bytes.now) }
+    ensures held { IfOk result (λ written. AreKept symbols (drop written.done bytes.now)) }
+    ensures none { IfOk result (λ written. written.inside ≡ true → drop written.done bytes.now ≡ []) }
+    ensures ok { IfOk result (λ written. HasWritten symbols inside bytes.now
+        (drop written.done bytes.now) written.inside (W.taken sink.old) (W.taken sink.new)) }
+    ensures err { OnErr result (WritesFrontIn symbols inside bytes.now (W.taken sink.old) (W.taken sink.new)) }
+    ensures memory { IsErrOf result FilterFault.Memory →
+        WritesSomeIn symbols inside bytes.now (W.taken sink.old) (W.taken sink.new) }
+{
+    match symbols {
+        Symbols::Lines(_) => {
+            let ended = ended_len(bytes, seen);
+            write_whole(alloc, demangler, symbols, &bytes[..ended], output, sink)?;
+            Ok(Written {
+                done: ended,
+                inside: false,
+            })
+        }
+        Symbols::Words(options) => {
+            let first = first_word(inside, bytes);
+            write_all(sink, &bytes[..first.done])?;
+            if first.inside {
+                return Ok(first);
+            }
+            let rest = &bytes[first.done..];
+            let whole = whole_words_len(rest, seen);
+            write_whole(alloc, demangler, symbols, &rest[..whole], output, sink)?;
+            let word = &rest[whole..];
+            if may_hold_symbol(options.strip, word) {
+                return Ok(Written {
+                    done: first.done + whole,
+                    inside: false,
+                });
+            }
+            write_all(sink, word)?;
+            Ok(Written {
+                done: bytes.len(),
+                inside: true,
+            })
+        }
+    }
+}
+
+/// Returns what is written as it is at the front of the bytes: if they begin inside a word that holds no symbol, that
+/// word and the byte after it, otherwise nothing.
+fn first_word(inside: bool, bytes: &[u8]) -> Written
+    ensures bound { result.done ≤ length bytes.now }
+    ensures outside { inside ≡ false → result.done ≡ 0 }
+    ensures goes_on { result.inside ≡ true → result.done ≡ length bytes.now }
+    ensures leads { (options : Replacement) →
+        Leads options inside (take result.done bytes.now) (take result.done bytes.now) result.inside }
+{
+    if !inside {
+        return Written {
+            done: 0,
+            inside: false,
+        };
+    }
+    let end = word_end(bytes, 0);
+    if end == bytes.len() {
+        return Written {
+            done: end,
+            inside: true,
+        };
+    }
+    Written {
+        done: end + 1,
+        inside: false,
+    }
+}
