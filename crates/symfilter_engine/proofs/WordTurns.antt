@@ -9,7 +9,7 @@ use Rattle.std.specs.Io.KnownBytes.{Appends, Consumes, Keeps}
 use Rattle.std.specs.Prelude.{All}
 use Rattle.symfilter_engine.specs.declared.symbols.Symbols.TheVariants.{Words}
 use Rattle.symfilter_engine.specs.Replaced.{is_word_byte, IsWordByte, begins_word, ends_word, IsHeld, may_hold_symbol, IsReplaced, no_byte, other, one_word, no_symbol}
-use Rattle.symfilter_engine.specs.Filtered.{IsFront, FiltersFront, FiltersWhole, ReplacesAllButHeld, WritesBeginning, WritesFiltered}
+use Rattle.symfilter_engine.specs.Filtered.{IsFront, FiltersWhole, ReplacesAllButHeld, WritesBeginning, WritesFiltered}
 use Rattle.symfilter_engine.specs.Progress.{AreWordBytes, GoesOn, HasFiltered, HasReplaced, IsReplacedIn, Leads, ReplacesBeginning, ReplacesFront, WritesFront, WritesWholeFront}
 use Rattle.symfilter_engine.proofs.ReplacedText.{IsReplaced-append, whole_parted, whole-append, replaced_of, split_of}
 use Rattle.symfilter_engine.proofs.WordPlaces.{first_word}

@@ -7,8 +7,7 @@ ghost use Rattle.symfilter_engine.specs.Filtered.{FiltersFront, FiltersWhole, Wr
 ghost use Rattle.symfilter_engine.specs.Progress.{AreKept, HasWritten, Leads, ReadsMore, WritesAllButKept, WritesFrontIn, WritesSomeIn};
 
 use super::fault::FilterFault;
-use super::line_feeds::ended_len;
-use super::lines::{write_last, write_whole};
+use super::lines::{ended_len, write_last, write_whole};
 use super::output::write_all;
 use super::streams::{Failed, Sink, Source};
 use super::symbols::{Replacement, Symbols};
@@ -54,7 +53,7 @@ pub(crate) fn copy<R: Source, W: Sink>(
         if end == kept {
             return write_last(alloc, &mut demangler, symbols, &chunk[..kept], sink);
         }
-        let written = write_chunk(
+        let (done, goes_on) = write_chunk(
             alloc,
             &mut demangler,
             symbols,
@@ -65,11 +64,11 @@ pub(crate) fn copy<R: Source, W: Sink>(
             sink,
         )?;
         // What isn't written moves to the front.
-        if written.done > 0 {
-            chunk.copy_within(written.done..end, 0);
+        if done > 0 {
+            chunk.copy_within(done..end, 0);
         }
-        kept = end - written.done;
-        inside = written.inside;
+        kept = end - done;
+        inside = goes_on;
     }
 }
 
@@ -99,17 +98,9 @@ fn read_more<R: Source>(
     }
 }
 
-/// How many bytes were written, and how the text goes on after them.
-#[derive(Clone, Copy)]
-struct Written {
-    /// The number of bytes that were written.
-    done: usize,
-    /// Whether the last word holds no symbol and may go on in the next chunk.
-    inside: bool,
-}
-
 /// Writes the text for these bytes, up to a last line that isn't whole, or up to a last word that may hold a symbol. If
-/// `inside` is true, the bytes begin inside a word that holds no symbol. The first `seen` bytes were kept.
+/// `inside` is true, the bytes begin inside a word that holds no symbol. The first `seen` bytes were kept. Returns the
+/// number of bytes that were written, and whether they end inside a word that holds no symbol.
 fn write_chunk<W: Sink>(
     alloc: Global,
     demangler: &mut Demangler,
@@ -119,18 +110,18 @@ fn write_chunk<W: Sink>(
     inside: bool,
     output: &mut Text,
     sink: &mut W,
-) -> Result<Written, FilterFault>
+) -> Result<(usize, bool), FilterFault>
     requires not_failed { W.failed sink.old ≡ false }
     requires within { seen ≤ length bytes.now }
     requires kept { AreKept symbols (take seen bytes.now) }
     requires none { inside ≡ true → seen ≡ 0 }
     ensures outcome { IsWriteOutcome result (W.failed sink.new) }
     ensures in_time { W.called_late sink.new ≡ W.called_late sink.old }
-    ensures bound { IfOk result (λ written. written.done ≤ length bytes.now) }
-    ensures held { IfOk result (λ written. AreKept symbols (drop written.done bytes.now)) }
-    ensures none { IfOk result (λ written. written.inside ≡ true → drop written.done bytes.now ≡ []) }
+    ensures bound { IfOk result (λ written. written.0 ≤ length bytes.now) }
+    ensures held { IfOk result (λ written. AreKept symbols (drop written.0 bytes.now)) }
+    ensures none { IfOk result (λ written. written.1 ≡ true → drop written.0 bytes.now ≡ []) }
     ensures ok { IfOk result (λ written. HasWritten symbols inside bytes.now
-        (drop written.done bytes.now) written.inside (W.taken sink.old) (W.taken sink.new)) }
+        (drop written.0 bytes.now) written.1 (W.taken sink.old) (W.taken sink.new)) }
     ensures err { OnErr result (WritesFrontIn symbols inside bytes.now (W.taken sink.old) (W.taken sink.new)) }
     ensures memory { IsErrOf result FilterFault.Memory →
         WritesSomeIn symbols inside bytes.now (W.taken sink.old) (W.taken sink.new) }
@@ -139,60 +130,43 @@ fn write_chunk<W: Sink>(
         Symbols::Lines(_) => {
             let ended = ended_len(bytes, seen);
             write_whole(alloc, demangler, symbols, &bytes[..ended], output, sink)?;
-            Ok(Written {
-                done: ended,
-                inside: false,
-            })
+            Ok((ended, false))
         }
         Symbols::Words(options) => {
-            let first = first_word(inside, bytes);
-            write_all(sink, &bytes[..first.done])?;
-            if first.inside {
-                return Ok(first);
+            let (first, goes_on) = first_word(inside, bytes);
+            write_all(sink, &bytes[..first])?;
+            if goes_on {
+                return Ok((first, goes_on));
             }
-            let rest = &bytes[first.done..];
+            let rest = &bytes[first..];
             let whole = whole_words_len(rest, seen);
             write_whole(alloc, demangler, symbols, &rest[..whole], output, sink)?;
             let word = &rest[whole..];
             if may_hold_symbol(options.strip, word) {
-                return Ok(Written {
-                    done: first.done + whole,
-                    inside: false,
-                });
+                return Ok((first + whole, false));
             }
             write_all(sink, word)?;
-            Ok(Written {
-                done: bytes.len(),
-                inside: true,
-            })
+            Ok((bytes.len(), true))
         }
     }
 }
 
-/// Returns what is written as it is at the front of the bytes: if they begin inside a word that holds no symbol, that
-/// word and the byte after it, otherwise nothing.
-fn first_word(inside: bool, bytes: &[u8]) -> Written
-    ensures bound { result.done ≤ length bytes.now }
-    ensures outside { inside ≡ false → result.done ≡ 0 }
-    ensures goes_on { result.inside ≡ true → result.done ≡ length bytes.now }
+/// Returns the length in bytes of what is written as it is at the front of the bytes: if they begin inside a word that
+/// holds no symbol, that word and the byte after it, otherwise nothing. Also returns whether the word goes on after
+/// the bytes.
+fn first_word(inside: bool, bytes: &[u8]) -> (usize, bool)
+    ensures bound { result.0 ≤ length bytes.now }
+    ensures outside { inside ≡ false → result.0 ≡ 0 }
+    ensures goes_on { result.1 ≡ true → result.0 ≡ length bytes.now }
     ensures leads { (options : Replacement) →
-        Leads options inside (take result.done bytes.now) (take result.done bytes.now) result.inside }
+        Leads options inside (take result.0 bytes.now) (take result.0 bytes.now) result.1 }
 {
     if !inside {
-        return Written {
-            done: 0,
-            inside: false,
-        };
+        return (0, false);
     }
     let end = word_end(bytes, 0);
     if end == bytes.len() {
-        return Written {
-            done: end,
-            inside: true,
-        };
+        return (end, true);
     }
-    Written {
-        done: end + 1,
-        inside: false,
-    }
+    (end + 1, false)
 }

@@ -15,7 +15,6 @@ mod byte_search;
 mod copying;
 mod fault;
 mod filtering;
-mod line_feeds;
 mod lines;
 mod output;
 mod prefixes;

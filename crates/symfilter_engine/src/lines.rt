@@ -3,7 +3,7 @@
 //! If lines are symbols, each call takes whole lines. If words hold symbols, each call takes whole words, that is, text
 //! that ends in a byte that is no word byte. The parameters that have either are called `whole`. Ordinary text is
 //! written as it is: a line that doesn't begin with an underscore, or text that has no `_Z`.
-ghost use Rattle.std.specs.Prelude.{◌≡◌, ◌<◌, ◌≤◌, [], false, length, take, IsTrue, IsErrOf, IsUtf8, IfOk, OnOk, OnErr};
+ghost use Rattle.std.specs.Prelude.{◌≡◌, ◌<◌, ◌≤◌, [], false, length, take, drop, IsTrue, IsErrOf, IsUtf8, IfOk, OnOk, OnErr};
 ghost use Rattle.std.specs.Io.KnownBytes.{Keeps};
 ghost use Rattle.symfilter_engine.specs.Fault.{IsWriteOutcome};
 ghost use Rattle.symfilter_engine.specs.Replaced.{ends_word};
@@ -12,8 +12,8 @@ ghost use Rattle.symfilter_engine.specs.declared.symbols.Symbols.TheVariants.{Li
 ghost use Rattle.symfilter_engine.specs.Filtered.{HasNoLineFeed, EndsInLineFeed, AreWhole, IsLineAnswer, AreLinesAnswered, AreWholeFiltered, WritesFiltered, WritesBeginning};
 ghost use Rattle.symfilter_engine.specs.Progress.{AppendsWhole, HasFiltered, WritesWhole, WritesWholeFront, WritesSomeWhole};
 
+use super::byte_search::first_place;
 use super::fault::FilterFault;
-use super::line_feeds::line_end;
 use super::output::write_all;
 use super::prefixes::unprefixed_len;
 use super::streams::Sink;
@@ -40,6 +40,25 @@ const BLOCK_LEN: usize = 4096;
 /// The first byte of each symbol.
 const UNDERSCORE: u8 = b'_';
 
+const LINE_FEED: u8 = b'\n';
+
+/// Returns the length in bytes of the whole lines, up to the last line feed and with it. The first `seen` bytes have
+/// no line feed.
+pub(crate) fn ended_len(bytes: &[u8], seen: usize) -> usize
+    requires inside { seen ≤ length bytes.now }
+    requires before { HasNoLineFeed (take seen bytes.now) }
+    ensures bound { result ≤ length bytes.now }
+    ensures ended { EndsInLineFeed (take result bytes.now) }
+    ensures unended { HasNoLineFeed (drop result bytes.now) }
+{
+    for place in (seen..bytes.len()).rev() {
+        if bytes[place] == LINE_FEED {
+            return place + 1;
+        }
+    }
+    0
+}
+
 /// Returns the length in bytes of the first whole lines or words, up to one that isn't ordinary.
 #[inline(always)]
 fn ordinary_len(symbols: Symbols, whole: &[u8]) -> usize
@@ -60,7 +79,7 @@ fn unmangled_len(lines: &[u8]) -> usize
 {
     let mut len = 0;
     while len < lines.len() && lines[len] != UNDERSCORE {
-        let Some(end) = line_end(&lines[len..]) else {
+        let Some(end) = first_place(&lines[len..], LINE_FEED) else {
             return len;
         };
         len += end + 1;
@@ -112,7 +131,7 @@ fn append_line(
     ensures ok { IfOk result (λ len. AppendsWhole (Lines printing) (take len lines.now) output.old output.new) }
     ensures err { OnErr result (output.new ≡ output.old) }
 {
-    let Some(end) = line_end(lines) else {
+    let Some(end) = first_place(lines, LINE_FEED) else {
         unreachable!()
     };
     let answer = line_answer(alloc, demangler, printing, &lines[..end], known_utf8)?;
@@ -244,11 +263,9 @@ fn write_next<W: Sink>(
     ensures in_time { W.called_late sink.new ≡ W.called_late sink.old }
     ensures some { IfOk result (λ len. 0 < len) }
     ensures bound { IfOk result (λ len. len ≤ length whole.now) }
-    ensures ok { IfOk result (λ len. WritesWhole symbols (take len whole.now)
-        (W.taken sink.old) (W.taken sink.new)) }
+    ensures ok { IfOk result (λ len. WritesWhole symbols (take len whole.now) (W.taken sink.old) (W.taken sink.new)) }
     ensures err { OnErr result (WritesWholeFront symbols whole.now (W.taken sink.old) (W.taken sink.new)) }
-    ensures memory { IsErrOf result FilterFault.Memory →
-        Keeps (W.taken sink.old) (W.taken sink.new) }
+    ensures memory { IsErrOf result FilterFault.Memory → Keeps (W.taken sink.old) (W.taken sink.new) }
 {
     let ordinary = ordinary_len(symbols, whole);
     if ordinary >= LONG_LEN {
@@ -303,8 +320,7 @@ pub(crate) fn write_last<W: Sink>(
     ensures in_time { W.called_late sink.new ≡ W.called_late sink.old }
     ensures ok { OnOk result (WritesFiltered symbols line.now (W.taken sink.old) (W.taken sink.new)) }
     ensures err { OnErr result (WritesBeginning symbols line.now (W.taken sink.old) (W.taken sink.new)) }
-    ensures memory { IsErrOf result FilterFault.Memory →
-        Keeps (W.taken sink.old) (W.taken sink.new) }
+    ensures memory { IsErrOf result FilterFault.Memory → Keeps (W.taken sink.old) (W.taken sink.new) }
     ensures some { IsErrOf result FilterFault.Memory → 0 < length line.now }
 {
     if line.is_empty() {

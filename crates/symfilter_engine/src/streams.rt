@@ -26,12 +26,9 @@ pub trait Source {
     /// the end. A failed call gives no byte.
     fn take(&mut self, into: &mut [u8]) -> Result<usize, Failed>
         ensures bound { IfOk result (λ count. count ≤ length into.new) }
-        ensures gives { IfOk result (λ count.
-            Consumes (remaining self.old) (remaining self.new) (take count into.new)) }
-        ensures end { IfOk result (λ count.
-            count ≡ 0 → 0 < length into.new → IsAtEnd (remaining self.new)) }
-        ensures fewer { IfOk result (λ count.
-            0 < count → calls_left self.new < calls_left self.old) }
+        ensures gives { IfOk result (λ count. Consumes (remaining self.old) (remaining self.new) (take count into.new)) }
+        ensures end { IfOk result (λ count. count ≡ 0 → 0 < length into.new → IsAtEnd (remaining self.new)) }
+        ensures fewer { IfOk result (λ count. 0 < count → calls_left self.new < calls_left self.old) }
         ensures fails { OnErr result (failed self.new ≡ true) }
         ensures gives_none { OnErr result (Keeps (remaining self.old) (remaining self.new)) }
         ensures stays { OnOk result (failed self.new ≡ failed self.old) }
@@ -59,8 +56,7 @@ pub trait Sink {
     fn put(&mut self, bytes: &[u8]) -> Result<usize, Failed>
         ensures bound { IfOk result (λ count. count ≤ length bytes.now) }
         ensures some { IfOk result (λ count. 0 < length bytes.now → 0 < count) }
-        ensures takes { IfOk result (λ count.
-            Appends (taken self.old) (taken self.new) (take count bytes.now)) }
+        ensures takes { IfOk result (λ count. Appends (taken self.old) (taken self.new) (take count bytes.now)) }
         ensures fails { OnErr result (failed self.new ≡ true) }
         ensures takes_none { OnErr result (Keeps (taken self.old) (taken self.new)) }
         ensures stays { OnOk result (failed self.new ≡ failed self.old) }

@@ -89,8 +89,7 @@ impl<D: Write> Sink for Tally<D> {
         ensures takes { IfOk result (λ count. Appends
             (D.contents (inner_of self.old)) (D.contents (inner_of self.new)) (take count bytes.now)) }
         ensures fails { OnErr result (has_failed self.new ≡ true) }
-        ensures takes_none { OnErr result (Keeps
-            (D.contents (inner_of self.old)) (D.contents (inner_of self.new))) }
+        ensures takes_none { OnErr result (Keeps (D.contents (inner_of self.old)) (D.contents (inner_of self.new))) }
         ensures stays { OnOk result (has_failed self.new ≡ has_failed self.old) }
         ensures reads { reads_left self.new ≡ reads_left self.old }
     {

@@ -1,15 +1,14 @@
-use Rattle.std.proofs.Common.{◌≡◌, ℕ, ◌-◌, ◌<◌, ◌≤◌, length, take, drop, arith, rules, refl, sym, ap, subst, ◌∙◌}
+use Rattle.std.proofs.Common.{◌≡◌, ℕ, Bool, ◌-◌, ◌<◌, ◌≤◌, length, take, drop, arith, rules, refl, sym, ap, subst, ◌∙◌}
 use Rattle.std.proofs.lemmas.List.{length-take-le}
 use Rattle.std.proofs.lemmas.Result.{on_ok_weaker, on_err_weaker}
 use Rattle.std.proofs.lemmas.Grind.{common_steps}
-use Rattle.symfilter_engine.specs.declared.copying.Written.{Written}
 use Rattle.symfilter_engine.specs.Filtered.{WritesFiltered, WritesBeginning}
 use Rattle.symfilter_engine.specs.Progress.{AreKept, HasWritten, WritesFrontIn, WritesSomeIn}
 use Rattle.symfilter_engine.proofs.Chunks.{front_moved, none_moved}
 use Rattle.symfilter_engine.proofs.FilteredText.{at_fault}
 use Rattle.symfilter_engine.proofs.Copied.{run_read, run_written, run_last, none_read, at_end, none_whole, none_copied, none_kept, still_kept, none_seen, turn_copied, turn_fault, turn_refused, end_copied, read_fault, read_put, read_refused, last_copied, last_fault, last_refused}
 use Rattle.symfilter_engine.proofs.copying.copy.Goals as goal
-use Rattle.symfilter_engine.proofs.copying.copy.Goals.{then-written-gt0, else-written-gt0}
+use Rattle.symfilter_engine.proofs.copying.copy.Goals.{then-done-gt0, else-done-gt0}
 
 pub returns-in_err-chunk-clause-err : goal.returns-in_err-chunk-clause-err
 returns-in_err-chunk-clause-err g c = at_fault _ (none_read c.args.symbols _ _)
@@ -49,56 +48,56 @@ write_chunk-requires-clause-kept g c =
 pub write_chunk-requires-clause-none : goal.write_chunk-requires-clause-none
 write_chunk-requires-clause-none g c = none_seen c.args.symbols _ _ _ _ _ _ _ c.chunks.invariant.so_far c.chunks.invariant.within
 
-pub returns-in_err-written-clause-err : goal.returns-in_err-written-clause-err
-returns-in_err-written-clause-err g c =
+pub returns-in_err-done-clause-err : goal.returns-in_err-done-clause-err
+returns-in_err-done-clause-err g c =
     let end = c.in_ok-end.end in
     at_fault _ (turn_fault c.args.symbols c.chunks.inside _ end _ _ _ _ _ _ _ _ c.chunks.invariant.so_far c.in_ok-end.ensures.ok
-    (subst (λ l. WritesFrontIn c.args.symbols c.chunks.inside (take end l) (g.W.Sink.taken c.chunks.sink) (g.W.Sink.taken c.write_chunk.new.sink)) c.deref-in-chunks.ensures.value c.in_err-written.ensures.err))
+    (subst (λ l. WritesFrontIn c.args.symbols c.chunks.inside (take end l) (g.W.Sink.taken c.chunks.sink) (g.W.Sink.taken c.write_chunk.new.sink)) c.deref-in-chunks.ensures.value c.in_err-done.ensures.err))
 
-pub returns-in_err-written-clause-memory : goal.returns-in_err-written-clause-memory
-returns-in_err-written-clause-memory g c = λ refused.
+pub returns-in_err-done-clause-memory : goal.returns-in_err-done-clause-memory
+returns-in_err-done-clause-memory g c = λ refused.
     let end = c.in_ok-end.end in
     turn_refused c.args.symbols c.chunks.inside _ end _ _ _ _ _ _ _ _ c.chunks.invariant.so_far c.in_ok-end.ensures.ok
     (subst (λ l. WritesSomeIn c.args.symbols c.chunks.inside (take end l) (g.W.Sink.taken c.chunks.sink) (g.W.Sink.taken c.write_chunk.new.sink)) c.deref-in-chunks.ensures.value
-    (c.in_err-written.ensures.memory (search rules)))
+    (c.in_err-done.ensures.memory (search rules)))
 
 pub chunks-preserved : goal.chunks-preserved
 chunks-preserved g c =
     let end = c.in_ok-end.end in
-    let done = c.in_ok-written.written.done in
-    let after = c.in_ok-written.written.inside in
+    let done = c.in_ok-done.done in
+    let after = c.in_ok-done.goes_on in
     let all = c.read_more.new.chunk.items in
     let same : c.deref-in-chunks.result.now ≡ all = c.deref-in-chunks.ensures.value in
     let inside : end ≤ length all = c.in_ok-end.ensures.ok.inside in
-    let within : done ≤ end = omega (arith, c.in_ok-written.ensures.bound, ap (λ l. length (take end l)) same, length-take-le end all inside) in
-    let long : length c.if-written-gt0.chunk.items ≡ length all =
-    elim c.if-written-gt0.branch [
-      | then-written-gt0 w ↦ subst (λ v. length v.items ≡ length all) (sym w.chunk-is) (grind (arith, common_steps))
-      | else-written-gt0 w ↦ ap (λ v. length v.items) w.chunk-is
+    let within : done ≤ end = omega (arith, c.in_ok-done.ensures.bound, ap (λ l. length (take end l)) same, length-take-le end all inside) in
+    let long : length c.if-done-gt0.chunk.items ≡ length all =
+    elim c.if-done-gt0.branch [
+      | then-done-gt0 w ↦ subst (λ v. length v.items ≡ length all) (sym w.chunk-is) (grind (arith, common_steps))
+      | else-done-gt0 w ↦ ap (λ v. length v.items) w.chunk-is
     ] in
-    let moved : take (end - done) c.if-written-gt0.chunk.items ≡ drop done (take end all) =
-    elim c.if-written-gt0.branch [
-      | then-written-gt0 w ↦ subst (λ v. take (end - done) v.items ≡ drop done (take end all)) (sym w.chunk-is) (front_moved all _ end done within inside w.copy_within.ensures.items)
-      | else-written-gt0 w ↦ ap (λ v. take (end - done) v.items) w.chunk-is ∙ none_moved all end done w.if-written-gt0.false
+    let moved : take (end - done) c.if-done-gt0.chunk.items ≡ drop done (take end all) =
+    elim c.if-done-gt0.branch [
+      | then-done-gt0 w ↦ subst (λ v. take (end - done) v.items ≡ drop done (take end all)) (sym w.chunk-is) (front_moved all _ end done within inside w.copy_within.ensures.items)
+      | else-done-gt0 w ↦ ap (λ v. take (end - done) v.items) w.chunk-is ∙ none_moved all end done w.if-done-gt0.false
     ] in
     record {
       source_not_failed = c.in_ok-end.ensures.outcome;
-      sink_not_failed = c.in_ok-written.ensures.outcome;
+      sink_not_failed = c.in_ok-done.ensures.outcome;
       source_in_time = c.in_ok-end.ensures.in_time ∙ c.chunks.invariant.source_in_time;
-      sink_in_time = c.in_ok-written.ensures.in_time ∙ c.chunks.invariant.sink_in_time;
+      sink_in_time = c.in_ok-done.ensures.in_time ∙ c.chunks.invariant.sink_in_time;
       room = omega (arith, inside, long, c.in_ok-end.ensures.ok.low, c.if-end-kept.false);
       within = omega (arith, inside, long);
-      held = subst (AreKept c.args.symbols) (ap (λ l. drop done (take end l)) same ∙ sym moved) c.in_ok-written.ensures.held;
+      held = subst (AreKept c.args.symbols) (ap (λ l. drop done (take end l)) same ∙ sym moved) c.in_ok-done.ensures.held;
       so_far = turn_copied c.args.symbols c.chunks.inside after c.chunks.kept end _ all _ (drop done (take end all)) _ _ _ _ _ _ c.chunks.invariant.so_far c.in_ok-end.ensures.ok
-          (subst (λ l. HasWritten c.args.symbols c.chunks.inside (take end l) (drop done (take end l)) after (g.W.Sink.taken c.chunks.sink) (g.W.Sink.taken c.write_chunk.new.sink)) same c.in_ok-written.ensures.ok)
-          moved (λ is. ap (λ l. drop done (take end l)) (sym same) ∙ c.in_ok-written.ensures.none is);
+          (subst (λ l. HasWritten c.args.symbols c.chunks.inside (take end l) (drop done (take end l)) after (g.W.Sink.taken c.chunks.sink) (g.W.Sink.taken c.write_chunk.new.sink)) same c.in_ok-done.ensures.ok)
+          moved (λ is. ap (λ l. drop done (take end l)) (sym same) ∙ c.in_ok-done.ensures.none is);
     }
 
 pub returns-in_err-end-clause-outcome : goal.returns-in_err-end-clause-outcome
 returns-in_err-end-clause-outcome g c = run_read _ ℕ _ _ _ _ c.chunks.invariant.sink_not_failed c.in_err-end.ensures.outcome c.from_residual-in_err-end.ensures.1
 
-pub returns-in_err-written-clause-outcome : goal.returns-in_err-written-clause-outcome
-returns-in_err-written-clause-outcome g c = run_written _ Written _ _ _ _ c.in_ok-end.ensures.outcome c.in_err-written.ensures.outcome c.from_residual-in_err-written.ensures.1
+pub returns-in_err-done-clause-outcome : goal.returns-in_err-done-clause-outcome
+returns-in_err-done-clause-outcome g c = run_written _ (ℕ × Bool) _ _ _ _ c.in_ok-end.ensures.outcome c.in_err-done.ensures.outcome c.from_residual-in_err-done.ensures.1
 
 pub returns-then-end-kept-clause-outcome : goal.returns-then-end-kept-clause-outcome
 returns-then-end-kept-clause-outcome g c = run_last _ _ _ c.in_ok-end.ensures.outcome c.write_last.ensures.outcome
