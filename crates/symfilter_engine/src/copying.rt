@@ -10,7 +10,7 @@ use super::fault::FilterFault;
 use super::lines::{ended_len, write_last, write_whole};
 use super::output::write_all;
 use super::streams::{Failed, Sink, Source};
-use super::symbols::{Replacement, Symbols};
+use super::symbols::Symbols;
 use super::word_bounds::{whole_words_len, word_end};
 use super::words::may_hold_symbol;
 use growing_text::Text;
@@ -98,9 +98,9 @@ fn read_more<R: Source>(
     }
 }
 
-/// Writes the text for these bytes, up to a last line that isn't whole, or up to a last word that may hold a symbol. If
-/// `inside` is true, the bytes begin inside a word that holds no symbol. The first `seen` bytes were kept. Returns the
-/// number of bytes that were written, and whether they end inside a word that holds no symbol.
+/// Writes the text for these bytes, up to a last line that isn't whole or a last word that may hold a symbol. Returns
+/// the number of bytes that were written, and whether they end inside a word that holds no symbol. If `inside` is true,
+/// the bytes begin inside such a word. The first `seen` bytes were kept.
 fn write_chunk<W: Sink>(
     alloc: Global,
     demangler: &mut Demangler,
@@ -151,9 +151,8 @@ fn write_chunk<W: Sink>(
     }
 }
 
-/// Returns the length in bytes of what is written as it is at the front of the bytes: if they begin inside a word that
-/// holds no symbol, that word and the byte after it, otherwise nothing. Also returns whether the word goes on after
-/// the bytes.
+/// Returns how many bytes at the front are written as they are: if `inside` is true, those of the first word and the
+/// byte after it, otherwise none. Also returns whether the word may go on after the bytes.
 fn first_word(inside: bool, bytes: &[u8]) -> (usize, bool)
     ensures bound { result.0 ≤ length bytes.now }
     ensures outside { inside ≡ false → result.0 ≡ 0 }

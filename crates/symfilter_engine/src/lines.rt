@@ -1,7 +1,7 @@
 //! Writes whole lines or words, and a last line or word.
 //!
-//! If lines are symbols, each call takes whole lines. If words hold symbols, each call takes whole words, that is, text
-//! that ends in a byte that is no word byte. The parameters that have either are called `whole`. Ordinary text is
+//! If lines are symbols, each call takes whole lines. If words hold symbols, each call takes whole words, that is,
+//! text that ends in a byte that is no word byte. The parameters that have either are called `whole`. Ordinary text is
 //! written as it is: a line that doesn't begin with an underscore, or text that has no `_Z`.
 ghost use Rattle.std.specs.Prelude.{◌≡◌, ◌<◌, ◌≤◌, [], false, length, take, drop, IsTrue, IsErrOf, IsUtf8, IfOk, OnOk, OnErr};
 ghost use Rattle.std.specs.Io.KnownBytes.{Keeps};

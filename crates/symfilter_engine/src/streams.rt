@@ -26,7 +26,8 @@ pub trait Source {
     /// the end. A failed call gives no byte.
     fn take(&mut self, into: &mut [u8]) -> Result<usize, Failed>
         ensures bound { IfOk result (λ count. count ≤ length into.new) }
-        ensures gives { IfOk result (λ count. Consumes (remaining self.old) (remaining self.new) (take count into.new)) }
+        ensures gives { IfOk result (λ count.
+            Consumes (remaining self.old) (remaining self.new) (take count into.new)) }
         ensures end { IfOk result (λ count. count ≡ 0 → 0 < length into.new → IsAtEnd (remaining self.new)) }
         ensures fewer { IfOk result (λ count. 0 < count → calls_left self.new < calls_left self.old) }
         ensures fails { OnErr result (failed self.new ≡ true) }
