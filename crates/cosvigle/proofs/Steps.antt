@@ -1,5 +1,5 @@
 -- Steps through the letters and names of options.
-use Rattle.std.proofs.Common.{◌≡◌, ◌≢◌, ℕ, suc, ◌+◌, ◌<◌, ◌≤◌, List, [], ◌∷◌, Bool, true, false, ◌&&◌, ◌==◌, if◌then◌else◌, length, drop, get_or, refl, sym, ap, ◌∙◌, arith}
+use Rattle.std.proofs.Common.{◌≡◌, ◌≢◌, ℕ, suc, ◌+◌, ◌<◌, ◌≤◌, List, [], ◌∷◌, Bool, true, false, ◌&&◌, ◌==◌, if◌then◌else◌, length, take, drop, get_or, refl, sym, ap, ◌∙◌, arith}
 use Rattle.std.proofs.lemmas.Bool.{ne_eqb, eq-eqb, and_left}
 use Rattle.std.proofs.lemmas.List.{length-drop, drop_all}
 use Rattle.std.proofs.Math.Seq.{drop-cons}
@@ -8,7 +8,8 @@ use Rattle.cosvigle.specs.declared.options.Flags.{Flags}
 use Rattle.cosvigle.specs.declared.options.EarlyExit.TheVariants as instead
 use Rattle.cosvigle.specs.declared.options.OptionState.{OptionState}
 use Rattle.cosvigle.specs.declared.options.OptionState.TheVariants.{Go, Value, Stop as Stopping}
-use Rattle.cosvigle.specs.Options.{after_letter, after_format, letters, with_value, after_valued}
+use Rattle.cosvigle.specs.declared.option_names.Found.{Found}
+use Rattle.cosvigle.specs.Options.{after_letter, after_format, letters, with_value, after_valued, name_len, find_option, after_found, after_name}
 
 -- one byte more of a front
 begins_at : (front bytes : List ℕ) (at : ℕ) → at < length front → at < length bytes
@@ -74,3 +75,9 @@ pub valued_none : (flags : Flags) (letter len : ℕ) (bytes : List ℕ) → len 
 valued_none flags letter len bytes more none =
     ap (λ t. if t then after_letter flags letter else with_value (after_letter flags letter) (drop (len + 1) bytes)) (ne_eqb len (length bytes) more)
     ∙ no_value (after_letter flags letter) (drop (len + 1) bytes) none
+
+-- the option found, and the length of its name
+pub after_name-found : (flags : Flags) (bytes : List ℕ) (len : ℕ) (found : Found) → len ≡ name_len bytes → found ≡ find_option (take len bytes)
+    → after_found flags found len bytes ≡ after_name flags bytes
+after_name-found flags bytes len found by_len by_name =
+    ap (λ f. after_found flags f len bytes) by_name ∙ ap (λ n. after_found flags (find_option (take n bytes)) n bytes) by_len

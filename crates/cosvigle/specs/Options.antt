@@ -120,15 +120,15 @@ after_valued flags letter len bytes =
     with_value (after_letter flags letter) (drop (len + 1) bytes)
 
 -- what the option found asks for
-abbrev pub found_step : Flags → Found → ℕ → List ℕ → OptionState
-found_step flags Nothing len bytes = Stopping instead.UnknownOption
-found_step flags Several len bytes = Stopping instead.AmbiguousOption
-found_step flags (Front letter) len bytes = after_valued flags letter len bytes
-found_step flags (Whole letter) len bytes = after_valued flags letter len bytes
+abbrev pub after_found : Flags → Found → ℕ → List ℕ → OptionState
+after_found flags Nothing len bytes = Stopping instead.UnknownOption
+after_found flags Several len bytes = Stopping instead.AmbiguousOption
+after_found flags (Front letter) len bytes = after_valued flags letter len bytes
+after_found flags (Whole letter) len bytes = after_valued flags letter len bytes
 
 -- what follows `--`: a name, and a value after `=`
 abbrev pub after_name : Flags → List ℕ → OptionState
-after_name flags bytes = found_step flags (find_option (take (name_len bytes) bytes)) (name_len bytes) bytes
+after_name flags bytes = after_found flags (find_option (take (name_len bytes) bytes)) (name_len bytes) bytes
 
 -- the argument begins with `-`, and isn't that alone
 abbrev pub begins_option : List ℕ → Bool

@@ -146,7 +146,7 @@ fn refuse(rt: &HostRuntime, before: &str, argument: &[u8], after: &str) -> u8 {
 }
 
 /// Does what an option asks instead of reading symbols, and returns the exit status.
-fn do_instead(
+fn exit_early(
     rt: &HostRuntime,
     output: &mut Output<Stdout>,
     instead: EarlyExit,
@@ -178,7 +178,7 @@ fn execute(
     asked: &Asked,
 ) -> Result<u8, FilterFault> {
     match asked {
-        Asked::Stopped(by, argument) => return do_instead(rt, output, *by, argument),
+        Asked::Stopped(by, argument) => return exit_early(rt, output, *by, argument),
         Asked::Symbols(flags, symbols) if symbols.is_empty() => replace_input(rt, output, *flags)?,
         Asked::Symbols(flags, symbols) => print_symbols(rt, output, *flags, symbols)?,
     }

@@ -180,19 +180,19 @@ impl Asked {
         self.note(rt, symbol, " as a signature", found)
     }
 
-    /// Counts a test, and writes what is wrong, if anything is. `how` says what was demangled.
+    /// Counts a test, and writes what is wrong, if anything is. `asked` says what was asked for.
     fn note(
         &mut self,
         rt: &impl Print,
         symbol: &str,
-        options: &str,
+        asked: &str,
         found: Option<&'static str>,
     ) -> io::Result<()> {
         match found {
             None => self.passed = self.passed.saturating_add(1),
             Some(fault) => {
                 self.failed = self.failed.saturating_add(1);
-                println!(rt; "{symbol}{options}: {fault}")?;
+                println!(rt; "{symbol}{asked}: {fault}")?;
             }
         }
         Ok(())
