@@ -37,19 +37,7 @@ impl Model for Buffer {
     ghost invariant = { IsConsistent };
 }
 
-#[tactic(auto,
-// The lemmas for what is kept.
-using(crate::proofs::States::states), unfolding(
-// Pieces.
-crate::specs::State::IsLiving, crate::specs::State::shape,
-// Where they stand.
-crate::specs::State::main_bytes, crate::specs::State::Stands, crate::specs::State::frame_start,
-// How old they are.
-crate::specs::State::frame, crate::specs::State::outermost, crate::specs::State::IsOlder, crate::specs::State::IsAsOld,
-// Marks.
-crate::specs::State::inside, crate::specs::State::outside,
-// Lists.
-crate::specs::State::saved, crate::specs::State::scopes,),)]
+#[tactic(auto, using(crate::proofs::States::states), unfolding(crate::proofs::States::internals))]
 impl Buffer {
     ghost use Rattle.demangle_text.specs.State.{IsLiving, shape, saved, scopes, frame, inside, outermost, Lives};
     ghost use Rattle.demangle_text.specs.State.{KeepsAll, IsEdit, Opens, Closes, IsAsOld, main_bytes, Stands};
