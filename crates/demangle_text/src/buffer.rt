@@ -192,13 +192,7 @@ impl Buffer {
         ensures same { OnErr result (piece.new ≡ piece.old) }
     {
         let from = self.output.len();
-        add_text(
-            &mut self.output,
-            &self.kept.spill,
-            piece.spilled,
-            piece.from_byte,
-            piece.to_byte,
-        )?;
+        add_text(&mut self.output, &self.kept.spill, *piece)?;
         piece.from_byte = from;
         piece.to_byte = self.output.len();
         piece.spilled = false;
@@ -218,7 +212,8 @@ impl Buffer {
         ensures main_err { OnErr result (main_bytes self.new ≡ main_bytes self.old) }
     {
         let from = self.extend(piece, bytes)?;
-        Ok(piece.extended(bytes.len(), from, self.output.len()))
+        let (at, n) = (piece.text_len(), bytes.len());
+        Ok(piece.with_bytes(Place::End, at, n, from, self.output.len()))
     }
 
     /// Appends two texts to the piece, and makes it plain. The second text is its base name, and both flags are off.
@@ -269,7 +264,7 @@ impl Buffer {
         let from = self.extend_by(piece, between, self.own(piece))?;
         let to = self.output.len();
         let n = between.len() + (piece.own_end - piece.own_start);
-        Ok(piece.extended(n, from, to))
+        Ok(piece.with_bytes(Place::End, piece.text_len(), n, from, to))
     }
 
     /// Inserts the bytes at a place of the piece's text. `Close` needs a group, and `Suffix` a declarator without one.
@@ -402,7 +397,8 @@ impl Buffer {
         ensures stands { (from to : ℕ) → Stands piece from to → Stands result from (length (main_bytes self.now)) }
     {
         let to = self.output.len();
-        piece.extended(to - piece.to_byte, piece.from_byte, to)
+        let n = to - piece.to_byte;
+        piece.with_bytes(Place::End, piece.text_len(), n, piece.from_byte, to)
     }
 
     /// Returns the output.

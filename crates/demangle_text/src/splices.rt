@@ -60,7 +60,9 @@ impl Buffer {
         let mut to = to;
         if spilled || from < at {
             let copied = self.output.len();
-            add_text(&mut self.output, &self.kept.spill, spilled, from, to)?;
+            let mut part = Piece::whole_at(from, to);
+            part.spilled = spilled;
+            add_text(&mut self.output, &self.kept.spill, part)?;
             from = copied;
             to = self.output.len();
             if from == at {
@@ -143,13 +145,7 @@ impl Buffer {
         }
         let from = self.output.len();
         let rest = piece.text_len() - at;
-        add_text(
-            &mut self.output,
-            &self.kept.spill,
-            piece.spilled,
-            piece.from_byte,
-            piece.to_byte,
-        )?;
+        add_text(&mut self.output, &self.kept.spill, piece)?;
         let opened = self.output.open_room(self.output.len() - rest, n);
         taken_back(&mut self.output, from, opened)?;
         Ok(from)
@@ -192,13 +188,7 @@ impl Buffer {
         let from = at_end(&mut self.output, &self.kept.spill, self.marked_len, piece)?;
         let added = self.output.add(bytes);
         taken_back(&mut self.output, len, added)?;
-        let added = add_text(
-            &mut self.output,
-            &self.kept.spill,
-            other.spilled,
-            other.from_byte,
-            other.to_byte,
-        );
+        let added = add_text(&mut self.output, &self.kept.spill, other);
         taken_back(&mut self.output, len, added)?;
         Ok(from)
     }
