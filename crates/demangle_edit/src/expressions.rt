@@ -192,8 +192,7 @@ pub fn write_opened_literal(
 /// name is the whole text, with no flag set. Otherwise it is the piece itself.
 pub fn subexpr(buf: &mut Buffer, piece: Piece, paren: bool) -> Result<Piece, AllocError>
     requires piece { IsLiving buf.old piece }
-    ensures shape { IfOk result (λ p. Lives buf.new p
-        (spec.operand_shape paren (shape buf.old piece))) }
+    ensures shape { IfOk result (λ p. Lives buf.new p (spec.operand_shape paren (shape buf.old piece))) }
     ensures edit { OnOk result (IsEdit buf.old buf.new) }
     ensures in_place { IfOk result (λ p. IsLeftOrStays buf.old buf.new piece p) }
     ensures same { paren ≡ false → (result ≡ Ok piece) × (buf.new ≡ buf.old) }

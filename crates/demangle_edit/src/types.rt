@@ -79,12 +79,10 @@ pub fn collapse_ref(
     ensures none_main { OnNone result (main_bytes buf.new ≡ main_bytes buf.old) }
     ensures in_place { is_cut rvalue (shape buf.old inner) ≡ false
         → IfFound result (λ p. IsLeftOrStays buf.old buf.new inner p) }
-    ensures same { is_kept rvalue (shape buf.old inner) ≡ true
-        → (result ≡ Ok (Some inner)) × (buf.new ≡ buf.old) }
+    ensures same { is_kept rvalue (shape buf.old inner) ≡ true → (result ≡ Ok (Some inner)) × (buf.new ≡ buf.old) }
     ensures cut_main { is_cut rvalue (shape buf.old inner) ≡ true
         → OnOk result (main_bytes buf.new ≡ main_bytes buf.old) }
-    ensures cut_stands { is_cut rvalue (shape buf.old inner) ≡ true
-        → IfFound result (λ p. StandsShortened 1 inner p) }
+    ensures cut_stands { is_cut rvalue (shape buf.old inner) ≡ true → IfFound result (λ p. StandsShortened 1 inner p) }
 {
     if buf.kind(inner).is_some() || !buf.bytes(inner).ends_with(b"&") {
         return Ok(None);
@@ -299,8 +297,7 @@ pub fn wrap_member_pointer(
 ) -> Result<Option<Piece>, AllocError>
     requires class { IsLiving buf.old class }
     requires member { IsLiving buf.old member }
-    ensures shape { Answers result buf.new
-        (member_pointer_step (shape buf.old class) (shape buf.old member)) }
+    ensures shape { Answers result buf.new (member_pointer_step (shape buf.old class) (shape buf.old member)) }
     ensures edit { OnOk result (IsEdit buf.old buf.new) }
     ensures none { OnNone result (KeepsAll buf.old buf.new) }
     ensures none_main { OnNone result (main_bytes buf.new ≡ main_bytes buf.old) }
@@ -336,8 +333,7 @@ pub fn function_type(
 ) -> Result<Option<Piece>, AllocError>
     requires ret { IsLiving buf.old ret }
     requires params { All (IsLiving buf.old) params.now }
-    ensures shape { Answers result buf.new
-        (function_step (shape buf.old ret) (map (shape buf.old) params.now) quals) }
+    ensures shape { Answers result buf.new (function_step (shape buf.old ret) (map (shape buf.old) params.now) quals) }
     ensures edit { OnOk result (IsEdit buf.old buf.new) }
     ensures none { OnNone result (KeepsAll buf.old buf.new) }
     ensures none_main { OnNone result (main_bytes buf.new ≡ main_bytes buf.old) }
