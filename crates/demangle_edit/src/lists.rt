@@ -67,11 +67,8 @@ pub fn open_arguments(buf: &mut Buffer, name: Piece) -> Result<Piece, AllocError
     ensures in_place { IfOk result (λ p. StaysInPlace buf.old buf.new name p) }
 {
     let ctor = buf.ctor(name);
-    let opening: &[u8] = if buf.bytes(name).ends_with(b"<") {
-        b" <"
-    } else {
-        b"<"
-    };
+    let angle = buf.bytes(name).ends_with(b"<");
+    let opening: &[u8] = if angle { b" <" } else { b"<" };
     let plain = buf.plain(name);
     let opened = buf.append(plain, opening)?;
     Ok(buf.with_flags(opened, true, ctor))
@@ -94,11 +91,8 @@ pub fn close_arguments(buf: &mut Buffer, list: Piece) -> Result<Piece, AllocErro
     ensures in_place { (from to : ℕ) → Stands list from to
         → IfOk result (λ p. Stands p from (length (main_bytes buf.new))) }
 {
-    let end: &[u8] = if buf.main_bytes().ends_with(b">") {
-        b" >"
-    } else {
-        b">"
-    };
+    let angle = buf.main_bytes().ends_with(b">");
+    let end: &[u8] = if angle { b" >" } else { b">" };
     buf.push(end)?;
     Ok(buf.up_to_end(list))
 }

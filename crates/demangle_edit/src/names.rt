@@ -143,11 +143,8 @@ pub fn attach_template_args(buf: &mut Buffer, name: Piece, args: Piece) -> Resul
     ensures in_place { IfOk result (λ p. JoinsInPlace buf.old buf.new name args p) }
 {
     let ctor = buf.ctor(name);
-    let gap: &[u8] = if buf.bytes(name).ends_with(b"<") {
-        b" "
-    } else {
-        b""
-    };
+    let angle = buf.bytes(name).ends_with(b"<");
+    let gap: &[u8] = if angle { b" " } else { b"" };
     let whole = append_piece(buf, name, gap, args)?;
     Ok(buf.with_flags(whole, true, ctor))
 }
