@@ -81,6 +81,14 @@ IsSplice-extended s t p mid bytes from lies b is =
           (stays.0, longer ∙ ap (λ (v : List ℕ). length v + length bytes) stays.1);
     }
 
+-- the same for the buffer that these fields are
+pub IsSplice-added : (s b : Store) (output : List ℕ) (p : Piece) (mid bytes : List ℕ) (from : ℕ) → s ≡ b → IsLiving b p
+    → IsBrought s.output_text s.spill_text s.marked_len p mid from → output ≡ mid ++ bytes
+    → IsSplice b (record s { output_text = output }) p (p.to_byte - p.from_byte) bytes from
+IsSplice-added s b output p mid bytes from same lies brought is =
+    subst (λ (v : Store). IsSplice v (record s { output_text = output }) p (p.to_byte - p.from_byte) bytes from) same
+    (IsSplice-extended s (record s { output_text = output }) p mid bytes from (subst (λ (v : Store). IsLiving v p) (sym same) lies) brought is)
+
 -- a part stays when the output grows
 part-longer : (output spill more : List ℕ) (h : Bool) (a b : ℕ) → a ≤ b → b ≤ length (home_bytes output spill h)
     → slice_range (home_bytes (output ++ more) spill h) a b ≡ slice_range (home_bytes output spill h) a b

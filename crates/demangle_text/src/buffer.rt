@@ -4,7 +4,7 @@ ghost use Rattle.std.specs.Prelude.{OnOk, OnErr, slice_range, slice_index, is_so
 ghost use Rattle.demangle_text.specs.Shape.{gap_after};
 
 use crate::moves::KeptPieces;
-use crate::parts::add_text;
+use crate::parts::{add_text, at_end, taken_back};
 use crate::piece_list::PieceList;
 use crate::shape::{Kind, Mark, Piece, Place};
 use growing_text::Text;
@@ -131,7 +131,15 @@ impl Buffer {
             ≡ take (frame_start (inside mark)) (main_bytes self.old) ++ text (shape self.old piece.old)) }
         ensures stands { OnOk result (Stands piece.new (frame_start (inside mark)) (length (main_bytes self.new))) }
     {
-        self.keep_only(mark.inside_len, piece)?;
+        let at = mark.inside_len;
+        if !piece.spilled && piece.from_byte == at && piece.to_byte == self.output.len() {
+            self.marked_len = mark.outside_len;
+            return Ok(());
+        }
+        self.move_down(at, piece.spilled, piece.from_byte, piece.to_byte)?;
+        piece.from_byte = at;
+        piece.to_byte = self.output.len();
+        piece.spilled = false;
         self.marked_len = mark.outside_len;
         Ok(())
     }
@@ -211,7 +219,10 @@ impl Buffer {
         ensures edit_of { IfOk result (λ p. IsEditOf self.old self.new piece p (length bytes.now)) }
         ensures main_err { OnErr result (main_bytes self.new ≡ main_bytes self.old) }
     {
-        let from = self.extend(piece, bytes)?;
+        let len = self.output.len();
+        let from = at_end(&mut self.output, &self.kept.spill, self.marked_len, piece)?;
+        let added = self.output.add(bytes);
+        taken_back(&mut self.output, len, added)?;
         let (at, n) = (piece.text_len(), bytes.len());
         Ok(piece.with_bytes(Place::End, at, n, from, self.output.len()))
     }

@@ -105,11 +105,7 @@ impl Buffer {
         ensures shape { option_map (shape self.now) result ≡ slice_get (last_args (scopes self.now)) i }
         ensures living { IfSome result (IsLiving self.now) }
     {
-        let count = self.scopes();
-        if count == 0 {
-            return None;
-        }
-        let start = self.starts[count - 1];
+        let start = *self.starts.last()?;
         let args = &self.kept.args;
         if i < args.len() - start {
             args.get(start + i)

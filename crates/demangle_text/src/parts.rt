@@ -33,13 +33,10 @@ pub(crate) fn taken_back(
     ensures ok { OnOk result (output.new ≡ output.old) }
     ensures err { OnErr result (output.new ≡ take len output.old) }
 {
-    match added {
-        Ok(()) => Ok(()),
-        Err(error) => {
-            output.truncate(len);
-            Err(error)
-        }
+    if added.is_err() {
+        output.truncate(len);
     }
+    added
 }
 
 // Brings the text of a piece to the end of the output, and returns where it begins there. The text is copied, unless
