@@ -18,6 +18,20 @@ tail-is s b p len same by h = subst (λ (v : Store). IsTail v p) same (subst (λ
 pub is-tail : (s b : Store) (p : Piece) (len : ℕ) → s ≡ b → len ≡ length s.output_text → IsTail b p → IsTailAt s.marked_len len p
 is-tail s b p len same by h = subst (λ (k : ℕ). IsTailAt s.marked_len k p) (sym by) (subst (λ (v : Store). IsTail v p) (sym same) h)
 
+-- a piece that ends where one at the end begins
+pub adjacent-is : (s b : Store) (first second : Piece) → s ≡ b → IsTailAt s.marked_len second.from_byte first → IsTail b second → IsAdjacent b first second
+adjacent-is s b first second same h tail =
+    let k = subst (λ (v : Store). IsTailAt v.marked_len second.from_byte first) same h in
+    record { first_in_main = k.in_main; second_in_main = tail.in_main; inner = k.inner; meets = k.ends; ends = tail.ends }
+
+pub is-adjacent : (s b : Store) (first second : Piece) → s ≡ b → IsAdjacent b first second → IsTailAt s.marked_len second.from_byte first
+is-adjacent s b first second same h =
+    subst (λ (v : Store). IsTailAt v.marked_len second.from_byte first) (sym same) (record { in_main = h.first_in_main; inner = h.inner; ends = h.meets })
+
+pub adjacent-tail : (b : Store) (first second : Piece) → IsLiving b first → IsAdjacent b first second → IsTail b second
+unfolding IsLiving
+adjacent-tail b first second lies h = record { in_main = h.second_in_main; inner = omega (arith, h.inner, h.meets, lies.ordered); ends = h.ends }
+
 -- one that ends it already
 pub IsBrought-stays : (output spill : List ℕ) (mark : ℕ) (p : Piece) → p.from_byte ≤ p.to_byte → IsTailAt mark (length output) p → IsBrought output spill mark p output p.from_byte
 IsBrought-stays output spill mark p ordered h = record {

@@ -383,15 +383,15 @@ impl Buffer {
         ensures join_of { IfOk result (λ p. IsJoinOf self.old self.new first second p (length bytes.now)) }
         ensures main_err { OnErr result (main_bytes self.new ≡ main_bytes self.old) }
     {
-        if self.are_adjacent(first, second) {
-            self.insert_at(second.from_byte, bytes)?;
-            return Ok(Piece::whole_at(first.from_byte, self.output.len()));
-        }
-        if second.is_tail(self.marked_len, self.output.len())
-            && (first.spilled || first.to_byte <= second.from_byte)
-        {
-            self.insert_piece(second.from_byte, first, bytes)?;
-            return Ok(Piece::whole_at(second.from_byte, self.output.len()));
+        if second.is_tail(self.marked_len, self.output.len()) {
+            if first.is_tail(self.marked_len, second.from_byte) {
+                self.insert_at(second.from_byte, bytes)?;
+                return Ok(Piece::whole_at(first.from_byte, self.output.len()));
+            }
+            if first.spilled || first.to_byte <= second.from_byte {
+                self.insert_piece(second.from_byte, first, bytes)?;
+                return Ok(Piece::whole_at(second.from_byte, self.output.len()));
+            }
         }
         let from = self.extend_by(first, bytes, second)?;
         Ok(Piece::whole_at(from, self.output.len()))

@@ -91,7 +91,7 @@ impl Piece {
         self.to_byte - self.from_byte
     }
 
-    // Returns whether the piece ends the output, which has `end` bytes, and begins at the mark's byte or later.
+    // Returns whether the piece is in the output, begins at the mark's byte or later, and ends at the byte `end`.
     #[inline(always)]
     pub(crate) fn is_tail(self, mark: usize, end: usize) -> bool
         ensures tail { result ≡ true → IsTailAt mark end self }

@@ -186,18 +186,4 @@ impl Buffer {
         self.output.put(middle, bytes);
         Ok(())
     }
-
-    // Returns whether the second piece begins where the first ends, the second ends the output, and the first begins
-    // at the innermost mark or later.
-    #[inline(always)]
-    pub(crate) fn are_adjacent(&self, first: Piece, second: Piece) -> bool
-        ensures adjacent { result ≡ true → IsAdjacent self.now first second }
-        ensures other { IsAdjacent self.now first second → result ≡ true }
-    {
-        !first.spilled
-            && self.marked_len <= first.from_byte
-            && first.to_byte == second.from_byte
-            && !second.spilled
-            && second.to_byte == self.output.len()
-    }
 }
