@@ -153,8 +153,7 @@ pub fn write_opened_literal(
             let opened = buf.join(paren, b"", ty)?;
             let closed = buf.append(opened, b")")?;
             let cast = buf.whole(closed);
-            let literal = append_value(buf, cast, bytes)?;
-            Ok(Some(literal))
+            Ok(Some(append_value(buf, cast, bytes)?))
         }
         _ => write_literal(buf, ty, value),
     }

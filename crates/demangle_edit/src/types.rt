@@ -162,6 +162,7 @@ pub fn wrap_array(
             let array = insert_dimension(buf, elem, Place::Close, b" [", dimension)?;
             Ok(Some(array))
         }
+        // The dimension goes in front of the others: after the first byte of `after`.
         Some(Kind::Array) => {
             let at = buf.after_at(elem).unwrap();
             let len = buf.len(elem);
@@ -218,8 +219,7 @@ pub fn wrap_member_pointer(
             let gapless = bytes.ends_with(b"(") || bytes.ends_with(b" ");
             let gap: &[u8] = if gapless { b"" } else { b" " };
             let begun = append_piece(buf, member, gap, class)?;
-            let pointer = buf.append(begun, b"::*")?;
-            Ok(Some(pointer))
+            Ok(Some(buf.append(begun, b"::*")?))
         }
         Some(Kind::Function) => {
             let (templ, ctor) = (buf.templ(member), buf.ctor(member));

@@ -67,16 +67,16 @@ returns-in_ok-whole-in-Some-Function-clause-appends c = λ e.
     Appends-named _ _ _ c.with_flags.result declared c.with_flags.ensures.stands
 
 -- a class after a plain text
-pub returns-in_ok-pointer-in-None-clause-shape : goal.returns-in_ok-pointer-in-None-clause-shape
-returns-in_ok-pointer-in-None-clause-shape c =
+pub returns-in_ok-append-in-None-clause-shape : goal.returns-in_ok-append-in-None-clause-shape
+returns-in_ok-append-in-None-clause-shape c =
     let old = c.args.buf.now in
     let plain : kind_of (shape old c.args.member).form ≡ None = search rules in
     let is = member_pointer_after (shape old c.args.class) (shape old c.args.member) _ _ (plain_form _ plain)
     (search rules) c.in_ok-begun-in-None.ensures.shape.shape_is in
-    let made = c.in_ok-pointer-in-None.ensures.shape in
+    let made = c.in_ok-append-in-None.ensures.shape in
     (made.living, member_found (shape old c.args.class) (shape old c.args.member) _ (plain_member _ plain) (made.shape_is ∙ is))
 
 -- the class stays after the member
-pub returns-in_ok-pointer-in-None-clause-in_place : goal.returns-in_ok-pointer-in-None-clause-in_place
-returns-in_ok-pointer-in-None-clause-in_place c = λ e.
-    JoinsInPlace-trans _ _ _ _ _ _ _ c.in_ok-begun-in-None.ensures.edit c.in_ok-begun-in-None.ensures.in_place (StaysInPlace-edit _ _ _ _ _ c.in_ok-pointer-in-None.ensures.edit_of)
+pub returns-in_ok-append-in-None-clause-in_place : goal.returns-in_ok-append-in-None-clause-in_place
+returns-in_ok-append-in-None-clause-in_place c = λ e.
+    JoinsInPlace-trans _ _ _ _ _ _ _ c.in_ok-begun-in-None.ensures.edit c.in_ok-begun-in-None.ensures.in_place (StaysInPlace-edit _ _ _ _ _ c.in_ok-append-in-None.ensures.edit_of)
